@@ -1,0 +1,59 @@
+//! What a call on the outside answers where it doesn't succeed.
+
+ghost use Rattle.std.specs.Prelude.{◌≡◌};
+ghost use Rattle.fwd_outside.specs.declared.errors.FileErr.TheVariants as file_err;
+ghost use Rattle.fwd_outside.specs.declared.errors.SinkErr.TheVariants as sink_err;
+
+use fwd_base::Memory;
+use std::alloc::{AllocError, AllocFailed};
+use thiserror::Error;
+
+/// A call on files that gave nothing.
+#[derive(Clone, Copy, Debug, PartialEq, Eq, Error)]
+pub enum FileErr {
+    #[error("the file can't be read")]
+    Failed,
+    #[error("out of memory")]
+    Memory,
+}
+
+impl From<Memory> for FileErr {
+    ghost from_gives = { λ _ e. e ≡ file_err.Memory };
+
+    fn from(_: Memory) -> Self {
+        FileErr::Memory
+    }
+}
+
+impl From<AllocError> for FileErr {
+    ghost from_gives = { λ _ e. e ≡ file_err.Memory };
+
+    fn from(_: AllocError) -> Self {
+        FileErr::Memory
+    }
+}
+
+impl<T: Drop> From<AllocFailed<T>> for FileErr {
+    ghost from_gives = { λ _ e. e ≡ file_err.Memory };
+
+    fn from(_: AllocFailed<T>) -> Self {
+        FileErr::Memory
+    }
+}
+
+/// A write to a sink that was not made to its end.
+#[derive(Clone, Copy, Debug, PartialEq, Eq, Error)]
+pub enum SinkErr {
+    #[error("the output can't be written")]
+    Failed,
+    #[error("out of memory")]
+    Memory,
+}
+
+impl From<Memory> for SinkErr {
+    ghost from_gives = { λ _ e. e ≡ sink_err.Memory };
+
+    fn from(_: Memory) -> Self {
+        SinkErr::Memory
+    }
+}

@@ -1,0 +1,4 @@
+pub mod Program
+pub mod Told
+pub mod Cause
+pub mod Moments

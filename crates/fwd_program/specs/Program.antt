@@ -1,0 +1,27 @@
+-- Programs that make calls, and the calls that lead through one. `C` is the type of the calls, and `A` gives each call
+-- the type of its answers.
+use Rattle.std.specs.Prelude.{◌≡◌, List, [], ◌∷◌}
+
+-- a call with its answer
+pub record Entry (C : Type 0) (A : C → Type 0) : Type 0 where
+  pub call : C
+  pub answer : A call
+
+abbrev pub entry : {C : Type 0} {A : C → Type 0} (call : C) → A call → Entry C A
+entry call answer = record { call = call; answer = answer }
+
+-- a program ends with a result, or makes a call and goes on with the answer
+pub data Program (C : Type 0) (A : C → Type 0) (R : Type 0) : Type 0 where
+  Return : R → Program C A R
+  Ask : (call : C) → (A call → Program C A R) → Program C A R
+
+-- a program, and then the one that its result gives
+abbrev pub bind : {C : Type 0} {A : C → Type 0} {R S : Type 0} → Program C A R → (R → Program C A S) → Program C A S
+bind (Return x) next = next x
+bind (Ask call go) next = Ask call (λ answer. bind (go answer) next)
+
+-- these calls, with these answers, lead from the one program to what is left of it
+abbrev pub Way : {C : Type 0} {A : C → Type 0} {R : Type 0} → Program C A R → List (Entry C A) → Program C A R → Type 0
+Way from [] to = to ≡ from
+Way (Return x) (e ∷ es) to = ⊥
+Way {A = A} (Ask call go) (e ∷ es) to = (answer : A call) × (e ≡ entry call answer) × Way (go answer) es to
