@@ -4,6 +4,7 @@ ghost use Rattle.std.specs.Prelude.{◌≡◌, ℕ, ◌≤◌, length, IfOk, IsE
 ghost use Rattle.fwd_program.specs.Told.{Grew, Makes, asking};
 ghost use Rattle.fwd_program.specs.Cause.{HasCause};
 ghost use Rattle.fwd_outside.specs.Files.{FilesTold, Length, ReadAt, outcome, reads_whole};
+ghost use Rattle.fwd_outside.specs.Honest.{WholeIsFound};
 ghost use Rattle.fwd_outside.specs.declared.errors.FileErr.TheVariants.{Failed};
 
 use crate::FileErr;
@@ -37,7 +38,7 @@ pub fn read_whole<F: Files>(alloc: Global, files: &mut F, path: &[u8]) -> Result
 {
     let length = files.length(path)?;
     let mut bytes = Bytes::new(alloc);
-    while (bytes.len() as u64) < length {
+    'reading: while (bytes.len() as u64) < length {
         let at = bytes.len() as u64;
         let part = files.read_at(alloc, path, at, length - at)?;
         if part.is_empty() {
@@ -47,3 +48,8 @@ pub fn read_whole<F: Files>(alloc: Global, files: &mut F, path: &[u8]) -> Result
     }
     Ok(bytes)
 }
+
+/// Over files that give what stands there, a file that was read whole is as it stands there.
+pub fn whole_is_found()
+    ensures { WholeIsFound }
+{}

@@ -9,9 +9,14 @@ use std::alloc::Global;
 #[derive(Debug, Drop, PartialEq, Eq)]
 pub enum Happening {
     /// The clock reads so many milliseconds.
-    Tick { now: u64 },
+    Tick {
+        now: u64,
+    },
     /// A peer has connected to an input.
-    Joined { input: InputId, conn: ConnId },
+    Joined {
+        input: InputId,
+        conn: ConnId,
+    },
     /// Bytes came over a connection, 1 to 65,536 of them.
     Piece {
         input: InputId,
@@ -19,15 +24,27 @@ pub enum Happening {
         bytes: Bytes,
     },
     /// A peer's connection is over.
-    Gone { input: InputId, conn: ConnId },
+    Gone {
+        input: InputId,
+        conn: ConnId,
+    },
     /// A link takes bytes again.
-    Room { link: LinkId },
+    Room {
+        link: LinkId,
+    },
     /// Bytes came back over a link.
-    Back { link: LinkId, bytes: Bytes },
+    Back {
+        link: LinkId,
+        bytes: Bytes,
+    },
     /// A link broke.
-    Broken { link: LinkId },
+    Broken {
+        link: LinkId,
+    },
     /// An input has come to its end.
-    InputEnd { input: InputId },
+    InputEnd {
+        input: InputId,
+    },
     /// No further input is to be taken, and the run ends once nothing is owed.
     Stop,
     /// Nothing more comes.

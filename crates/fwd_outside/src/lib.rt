@@ -8,7 +8,7 @@ mod happening;
 mod sink;
 
 pub use errors::{FileErr, SinkErr};
-pub use files::{Files, read_whole};
+pub use files::{Files, read_whole, whole_is_found};
 pub use fwd_base::{Bytes, ChunkId, ConnId, InputId, Items, LinkId, Memory, Names, OutputId};
 pub use happening::Happening;
 pub use sink::Sink;
