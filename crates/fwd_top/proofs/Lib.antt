@@ -1,0 +1,5 @@
+pub mod Chunks
+pub mod Lives
+pub mod Lines
+pub mod Taking
+pub mod Reporting
