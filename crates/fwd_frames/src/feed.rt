@@ -1,0 +1,74 @@
+//! The steps of a reader, over bytes that are there.
+
+ghost use Rattle.std.specs.Prelude.{◌≡◌, ◌≤◌, ◌++◌, length, IfOk, OnOk, OnErr};
+ghost use Rattle.std.specs.Str.Lines.{strip_carriage_return};
+ghost use Rattle.fwd_frames.specs.Lines.{lines as lines_of, rest, unless_empty};
+ghost use Rattle.fwd_frames.specs.Feed.{IsFirstFeed, kept_with, with_more};
+
+use crate::{Frames, Line, Lines, MAX_LINE};
+use fwd_base::{Bytes, Memory};
+use memchr::memchr;
+use std::alloc::Global;
+
+/// Where the first line feed stands.
+pub fn first_feed(bytes: &[u8]) -> Option<usize>
+    ensures { IsFirstFeed bytes.now result }
+{
+    memchr(b'\n', bytes)
+}
+
+/// The bytes without the carriage return at their end, if they have one.
+pub fn without_return(mut bytes: Bytes) -> Bytes
+    ensures { result ≡ strip_carriage_return bytes }
+{
+    let len = bytes.len();
+    if len > 0 && bytes.get(len - 1) == Some(b'\r') {
+        bytes.truncate(len - 1);
+    }
+    bytes
+}
+
+/// Puts bytes at the end, as many as a line may have, and says whether there were more of them.
+pub fn put_within(bytes: &mut Bytes, cut: bool, more: &[u8]) -> Result<bool, Memory>
+    requires { length bytes.old ≤ MAX_LINE }
+    ensures ok { IfOk result (λ over. kept_with bytes.new over ≡ with_more (kept_with bytes.old cut) more.now) }
+    ensures within { OnOk result (length bytes.new ≤ MAX_LINE) }
+    ensures err { OnErr result (bytes.new ≡ bytes.old) }
+{
+    let room = MAX_LINE - bytes.len();
+    if room < more.len() {
+        bytes.extend_from_slice(&more[..room])?;
+        return Ok(true);
+    }
+    bytes.extend_from_slice(more)?;
+    Ok(cut)
+}
+
+/// Puts a line at the end, unless it is empty.
+pub fn push_unless_empty(lines: &mut Lines, line: Line) -> Result<(), Memory>
+    ensures { OnOk result (lines.new ≡ lines.old ++ unless_empty line) }
+{
+    if !line.bytes.is_empty() {
+        lines.push(line)?;
+    }
+    Ok(())
+}
+
+/// Puts the lines of a stream at the end, and gives what stands behind its last line feed.
+pub fn push_lines<'s>(
+    alloc: Global,
+    lines: &mut Lines,
+    stream: &'s [u8],
+) -> Result<&'s [u8], Memory>
+    ensures lines { OnOk result (lines.new ≡ lines.old ++ lines_of stream.now) }
+    ensures rest { IfOk result (λ left. left.now ≡ rest stream.now) }
+{
+    let whole = Frames::new(alloc);
+    let mut from = 0;
+    while let Some(end) = first_feed(&stream[from..]) {
+        let line = whole.line_with(&stream[from..from + end])?;
+        push_unless_empty(lines, line)?;
+        from += end + 1;
+    }
+    Ok(&stream[from..])
+}
