@@ -1,0 +1,4 @@
+pub mod FilesHeld
+pub mod MemFiles
+pub mod SinkHeld
+pub mod MemSink

@@ -1,0 +1,18 @@
+//! A run of the engine in memory, written down as a text: what comes from the outside, what the outside answers, and
+//! where it fails. Here are the text of a schedule with its reading and writing, and the devices that stand for the
+//! outside while a schedule is run.
+#![tactic(auto)]
+
+mod files;
+mod schedule;
+mod sink;
+#[cfg(test)]
+mod tests;
+
+pub use files::{FilesNote, MemFiles};
+pub use fwd_base::{Bytes, Items, Memory};
+pub use schedule::{
+    Calls, Cut, FileChange, FileChanges, Given, GivenList, Life, Lives, Plan, Planned, PushWord,
+    Schedule, Stored, StoredList,
+};
+pub use sink::{MemSink, SinkNote};
