@@ -1,3 +1,4 @@
+pub mod Disk
 pub mod Files
 pub mod Sink
 pub mod Honest

@@ -1,12 +1,46 @@
 //! What a call on the outside answers where it doesn't succeed.
 
 ghost use Rattle.std.specs.Prelude.{◌≡◌};
+ghost use Rattle.fwd_outside.specs.declared.errors.DiskErr.TheVariants as disk_err;
 ghost use Rattle.fwd_outside.specs.declared.errors.FileErr.TheVariants as file_err;
 ghost use Rattle.fwd_outside.specs.declared.errors.SinkErr.TheVariants as sink_err;
 
 use fwd_base::Memory;
 use std::alloc::{AllocError, AllocFailed};
 use thiserror::Error;
+
+/// A call on a disk that was not made to its end.
+#[derive(Clone, Copy, Debug, PartialEq, Eq, Error)]
+pub enum DiskErr {
+    #[error("the disk has failed")]
+    Failed,
+    #[error("out of memory")]
+    Memory,
+}
+
+impl From<Memory> for DiskErr {
+    ghost from_gives = { λ _ e. e ≡ disk_err.Memory };
+
+    fn from(_: Memory) -> Self {
+        DiskErr::Memory
+    }
+}
+
+impl From<AllocError> for DiskErr {
+    ghost from_gives = { λ _ e. e ≡ disk_err.Memory };
+
+    fn from(_: AllocError) -> Self {
+        DiskErr::Memory
+    }
+}
+
+impl<T: Drop> From<AllocFailed<T>> for DiskErr {
+    ghost from_gives = { λ _ e. e ≡ disk_err.Memory };
+
+    fn from(_: AllocFailed<T>) -> Self {
+        DiskErr::Memory
+    }
+}
 
 /// A call on files that gave nothing.
 #[derive(Clone, Copy, Debug, PartialEq, Eq, Error)]

@@ -2,12 +2,14 @@
 //! faults, and an implementation may tell the calls that were made of it.
 #![tactic(auto)]
 
+mod disk;
 mod errors;
 mod files;
 mod happening;
 mod sink;
 
-pub use errors::{FileErr, SinkErr};
+pub use disk::Disk;
+pub use errors::{DiskErr, FileErr, SinkErr};
 pub use files::{Files, read_whole, whole_is_found};
 pub use fwd_base::{Bytes, ChunkId, ConnId, InputId, Items, LinkId, Memory, Names, OutputId};
 pub use happening::Happening;

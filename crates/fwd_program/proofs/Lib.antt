@@ -1,3 +1,5 @@
 pub mod Grown
 pub mod Leading
 pub mod Holding
+pub mod Going
+pub mod Promised

@@ -1,6 +1,6 @@
 -- Programs that make calls, and the calls that lead through one. `C` is the type of the calls, and `A` gives each call
 -- the type of its answers.
-use Rattle.std.specs.Prelude.{◌≡◌, List, [], ◌∷◌}
+use Rattle.std.specs.Prelude.{◌≡◌, List, [], ◌∷◌, Option, Some, None}
 
 -- a call with its answer
 pub record Entry (C : Type 0) (A : C → Type 0) : Type 0 where
@@ -25,3 +25,12 @@ abbrev pub Way : {C : Type 0} {A : C → Type 0} {R : Type 0} → Program C A R 
 Way from [] to = to ≡ from
 Way (Return x) (e ∷ es) to = ⊥
 Way {A = A} (Ask call go) (e ∷ es) to = (answer : A call) × (e ≡ entry call answer) × Way (go answer) es to
+
+-- goes on with the value that was given, and ends where there is none
+abbrev pub with_value : {C : Type 0} {A : C → Type 0} {R S : Type 0} → (R → Program C A (Option S)) → Option R → Program C A (Option S)
+with_value next (Some x) = next x
+with_value next None = Return None
+
+-- A program that may fail, and then the one that its value gives. A failure ends it.
+abbrev pub and_then : {C : Type 0} {A : C → Type 0} {R S : Type 0} → Program C A (Option R) → (R → Program C A (Option S)) → Program C A (Option S)
+and_then first next = bind first (with_value next)

@@ -1,0 +1,100 @@
+-- What writes behind and beside them leave of some bytes of a file.
+use Rattle.std.proofs.Common.{◌≡◌, ◌⊎◌, inl, inr, ℕ, ◌+◌, ◌<◌, ◌≤◌, max, Bool, true, false, Option, Some, None, List, [], ◌∷◌, length, get_or, refl, sym, ◌∙◌, ap, subst, arith}
+use Rattle.std.proofs.lemmas.Grind.{common_steps}
+use Rattle.std.proofs.lemmas.List.{ext_get_or}
+use Rattle.fwd_image.specs.File.{FileState, InDoubt, IsLeft, IsImage, gone, whole, whole_or_gone, overwritten, written}
+use Rattle.fwd_image.specs.Disk.{CanWrite}
+
+pub length-overwritten : (old : List ℕ) (at : ℕ) (bytes : List ℕ) → at ≤ length old → length (overwritten old at bytes) ≡ max (length old) (at + length bytes)
+length-overwritten old at bytes le = grind (arith, common_steps)
+
+pub get_or-overwritten : (old : List ℕ) (at : ℕ) (bytes : List ℕ) (i : ℕ) → at ≤ length old → (i < at) ⊎ (at + length bytes ≤ i) → get_or (overwritten old at bytes) i 0 ≡ get_or old i 0
+get_or-overwritten old at bytes i le (inl before) = grind (arith, common_steps)
+get_or-overwritten old at bytes i le (inr behind) = grind (arith, common_steps)
+
+pub get_or-overwritten_in : (old : List ℕ) (at : ℕ) (bytes : List ℕ) (i : ℕ) → at ≤ length old → i < length bytes → get_or (overwritten old at bytes) (at + i) 0 ≡ get_or bytes i 0
+get_or-overwritten_in old at bytes i le lt = grind (arith, common_steps)
+
+-- an offset below the end, and not in the zone
+pub record Kept (from to end i : ℕ) : Type 0 where
+  pub below : i < end
+  pub beside : (i < from) ⊎ (to ≤ i)
+
+-- the file has its first bytes up to the end, on the disk and without doubt, but for a zone of them
+pub record Keeps (from to end : ℕ) (first : List ℕ) (s : FileState) : Type 0 where
+  pub long : s.synced ≤ length s.bytes
+  pub stays : s.may_go ≡ false
+  pub covers : end ≤ s.synced
+  pub same : (i : ℕ) → Kept from to end i → get_or s.bytes i 0 ≡ get_or first i 0
+  pub sure : (i : ℕ) → Kept from to end i → InDoubt s.doubt i → ⊥
+
+-- some bytes are the same
+pub record Agrees (from to end : ℕ) (first image : List ℕ) : Type 0 where
+  pub covers : end ≤ length image
+  pub same : (i : ℕ) → Kept from to end i → get_or image i 0 ≡ get_or first i 0
+
+-- a write in the zone, or behind the end
+abbrev pub IsBeside : ℕ → ℕ → ℕ → ℕ → ℕ → Type 0
+IsBeside from to end at n = (end ≤ at) ⊎ ((from ≤ at) × (at + n ≤ to))
+
+module _ (from to end : ℕ) (first : List ℕ) where
+  pub keeps_first : end ≤ length first → Keeps from to end first (whole first)
+  keeps_first within = record { long = omega arith; stays = refl; covers = within; same = λ i kept. refl; sure = λ i kept no. no }
+
+  pub keeps_whole : (s : FileState) → Keeps from to end first s → Keeps from to end first (whole s.bytes)
+  keeps_whole s keeps = record { long = omega arith; stays = refl; covers = omega (arith, keeps.long, keeps.covers); same = keeps.same; sure = λ i kept no. no }
+
+  pub keeps_written : (s : FileState) (at count : ℕ) (left : List ℕ) → Keeps from to end first s → CanWrite s at → length left ≤ count → IsBeside from to end at count → Keeps from to end first (written s at count left)
+  keeps_written s at count left keeps can le beside = record {
+    long = omega (arith, keeps.long, length-overwritten s.bytes at left can.within);
+    stays = keeps.stays;
+    covers = keeps.covers;
+    same = λ i kept. get_or-overwritten s.bytes at left i can.within (short i (out i kept beside kept.beside)) ∙ keeps.same i kept;
+    sure = λ i kept doubt. no i (out i kept beside kept.beside) (keeps.sure i kept) doubt;
+  }
+    where
+      out : (i : ℕ) → Kept from to end i → IsBeside from to end at count → (i < from) ⊎ (to ≤ i) → (i < at) ⊎ (at + count ≤ i)
+      out i kept (inl behind) where_ = inl (omega (arith, kept.below))
+      out i kept (inr zone) (inl before) = inl (omega (arith, zone.0))
+      out i kept (inr zone) (inr after) = inr (omega (arith, zone.1))
+
+      short : (i : ℕ) → (i < at) ⊎ (at + count ≤ i) → (i < at) ⊎ (at + length left ≤ i)
+      short i (inl b) = inl b
+      short i (inr b) = inr (omega arith)
+
+      no : (i : ℕ) → (i < at) ⊎ (at + count ≤ i) → (InDoubt s.doubt i → ⊥) → InDoubt ((at, at + count) ∷ s.doubt) i → ⊥
+      no i (inl b) none (inl range) = omega (arith, b, range.0)
+      no i (inr b) none (inl range) = omega (arith, b, range.1)
+      no i b none (inr old) = none old
+
+  pub whole_agrees : (bytes : List ℕ) → Keeps from to end first (whole bytes) → Agrees from to end first bytes
+  whole_agrees bytes keeps = record { covers = keeps.covers; same = keeps.same }
+
+  -- each image has them
+  pub image_agrees : (s : FileState) (image : Option (List ℕ)) → Keeps from to end first s → IsImage s image → (c : List ℕ) × (image ≡ Some c) × Agrees from to end first c
+  image_agrees s None keeps is = let no : false ≡ true = sym keeps.stays ∙ is in absurd cc
+  image_agrees s (Some c) keeps is = (
+    c,
+    refl,
+    record {
+      covers = omega (arith, keeps.covers, is.1.no_shorter);
+      same = λ i kept. is.1.same i (omega (arith, kept.below, keeps.covers)) (keeps.sure i kept) ∙ keeps.same i kept;
+    },
+  )
+
+-- without doubt there is one image
+pub only_image : (s : FileState) (image : List ℕ) → s.synced ≡ length s.bytes → s.reached ≡ length s.bytes → s.doubt ≡ [] → IsLeft s image → image ≡ s.bytes
+only_image s image synced reached none left =
+    ext_get_or 0 image s.bytes (omega (arith, left.no_shorter, left.no_longer)) (λ i lt. left.same i (omega (arith, left.no_longer)) (λ doubt. subst (λ (r : List (ℕ × ℕ)). InDoubt r i) none doubt))
+
+pub whole_image : (bytes : List ℕ) (image : Option (List ℕ)) → IsImage (whole bytes) image → image ≡ Some bytes
+whole_image bytes None is = absurd cc
+whole_image bytes (Some image) is = ap (λ (l : List ℕ). Some l) (only_image (whole bytes) image refl refl refl is.1)
+
+pub whole_or_gone_image : (bytes : List ℕ) (there : Bool) (image : Option (List ℕ)) → IsImage (whole_or_gone bytes there) image → (image ≡ Some bytes) ⊎ (image ≡ None)
+whole_or_gone_image bytes there None is = inr refl
+whole_or_gone_image bytes there (Some image) is = inl (ap (λ (l : List ℕ). Some l) (only_image (whole_or_gone bytes there) image refl refl refl is.1))
+
+pub gone_image : (image : Option (List ℕ)) → IsImage gone image → image ≡ None
+gone_image None is = refl
+gone_image (Some image) is = let no : false ≡ true = is.0 in absurd cc

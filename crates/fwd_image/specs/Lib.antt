@@ -1,0 +1,3 @@
+pub mod File
+pub mod Disk
+pub mod Crash
