@@ -4,3 +4,4 @@ pub mod Text
 pub mod Shown
 pub mod Reported
 pub mod Words
+pub mod Built

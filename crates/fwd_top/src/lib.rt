@@ -1,6 +1,7 @@
 //! The program: from the words of the command line to the text and the status.
 #![tactic(auto)]
 
+mod built;
 mod chunk;
 mod ended;
 mod life;
