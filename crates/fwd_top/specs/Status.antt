@@ -1,0 +1,52 @@
+-- The line and the number of each status.
+use Rattle.std.specs.Prelude.{ℕ, List, [], ◌++◌, codes, decimal}
+use Rattle.fwd_config.specs.declared.fault.ConfigKind.{ConfigKind}
+use Rattle.fwd_config.specs.declared.fault.ConfigKind.TheVariants as config_kind
+use Rattle.fwd_script.specs.declared.refused.ScheduleKind.{ScheduleKind}
+use Rattle.fwd_script.specs.declared.refused.ScheduleKind.TheVariants as schedule_kind
+use Rattle.fwd_top.specs.declared.status.ConfigRefusal.TheVariants.{Load}
+use Rattle.fwd_top.specs.declared.status.Status.{Status}
+use Rattle.fwd_top.specs.declared.status.Status.TheVariants as status
+
+-- the names of the refusals
+abbrev pub config_kind_name : ConfigKind → List ℕ
+config_kind_name config_kind.EntryOutsideSection = codes "EntryOutsideSection"
+config_kind_name config_kind.NoValue = codes "NoValue"
+config_kind_name config_kind.BadSection = codes "BadSection"
+config_kind_name config_kind.IncludeTooDeep = codes "IncludeTooDeep"
+config_kind_name config_kind.BadSet = codes "BadSet"
+config_kind_name config_kind.OpenBrace = codes "OpenBrace"
+config_kind_name config_kind.NotUtf8 = codes "NotUtf8"
+config_kind_name config_kind.FileFault = codes "FileFault"
+config_kind_name config_kind.Memory = codes "Memory"
+
+abbrev pub schedule_kind_name : ScheduleKind → List ℕ
+schedule_kind_name schedule_kind.UnknownWord = codes "UnknownWord"
+schedule_kind_name schedule_kind.BadNumber = codes "BadNumber"
+schedule_kind_name schedule_kind.BadHex = codes "BadHex"
+schedule_kind_name schedule_kind.BadOrder = codes "BadOrder"
+schedule_kind_name schedule_kind.Memory = codes "Memory"
+
+-- the line that says how the program ended, without a line feed
+abbrev pub line_of : Status → List ℕ
+line_of status.Done = []
+line_of status.Usage = codes "usage: fwd run -c FILE [-n TICKS] | replay -c FILE -s FILE | list -p FOLDER | gen -n COUNT"
+line_of (status.ConfigRefused (Load kind) place) = codes "config refused: " ++ config_kind_name kind ++ codes " at " ++ place.file ++ codes ":" ++ decimal place.line
+line_of status.FileFault = codes "file fault"
+line_of (status.ScheduleRefused kind line) = codes "schedule refused: " ++ schedule_kind_name kind ++ codes " at line " ++ decimal line
+line_of status.OutFault = codes "output fault"
+line_of status.Memory = codes "out of memory"
+line_of status.LoopFault = codes "loop fault"
+line_of status.NotBuilt = codes "not built yet"
+
+-- the number with which the program ends
+abbrev pub number_of : Status → ℕ
+number_of status.Done = 0
+number_of status.Usage = 1
+number_of (status.ConfigRefused kind place) = 2
+number_of status.FileFault = 3
+number_of (status.ScheduleRefused kind line) = 5
+number_of status.OutFault = 6
+number_of status.Memory = 8
+number_of status.LoopFault = 9
+number_of status.NotBuilt = 10

@@ -1,0 +1,133 @@
+//! How a run of the program ended.
+
+ghost use Rattle.std.specs.Prelude.{◌≡◌, ◌++◌, IfOk, OnOk, decimal, codes};
+ghost use Rattle.fwd_top.specs.Status.{config_kind_name, schedule_kind_name, line_of, number_of};
+
+use crate::chunk::push_number;
+use fwd_config::{ConfigKind, Place};
+use fwd_outside::{Bytes, Memory};
+use fwd_script::ScheduleKind;
+use std::alloc::Global;
+
+/// Why a configuration is refused: its text, when it is loaded.
+#[derive(Clone, Copy, Debug, PartialEq, Eq)]
+pub enum ConfigRefusal {
+    Load(ConfigKind),
+}
+
+/// How a run of the program ended.
+#[derive(Debug, Drop, PartialEq, Eq)]
+pub enum Status {
+    /// The run is over and its text was written to its end.
+    Done,
+    /// The words aren't those of a command.
+    Usage,
+    /// The configuration is refused, at this place.
+    ConfigRefused { kind: ConfigRefusal, place: Place },
+    /// A file can't be read.
+    FileFault,
+    /// The schedule is refused, at this line.
+    ScheduleRefused { kind: ScheduleKind, line: u64 },
+    /// The text can't be written.
+    OutFault,
+    /// Memory was wanting.
+    Memory,
+    /// The outside couldn't go on.
+    LoopFault,
+    /// The program doesn't run this yet.
+    NotBuilt,
+}
+
+impl Status {
+    /// The number with which the program ends.
+    pub fn number(&self) -> u8
+        ensures { result ≡ number_of self.now }
+    {
+        match self {
+            Status::Done => 0,
+            Status::Usage => 1,
+            Status::ConfigRefused { .. } => 2,
+            Status::FileFault => 3,
+            Status::ScheduleRefused { .. } => 5,
+            Status::OutFault => 6,
+            Status::Memory => 8,
+            Status::LoopFault => 9,
+            Status::NotBuilt => 10,
+        }
+    }
+}
+
+fn config_kind_name(kind: ConfigKind) -> &'static [u8]
+    ensures { result.now ≡ config_kind_name kind }
+{
+    match kind {
+        ConfigKind::EntryOutsideSection => b"EntryOutsideSection",
+        ConfigKind::NoValue => b"NoValue",
+        ConfigKind::BadSection => b"BadSection",
+        ConfigKind::IncludeTooDeep => b"IncludeTooDeep",
+        ConfigKind::BadSet => b"BadSet",
+        ConfigKind::OpenBrace => b"OpenBrace",
+        ConfigKind::NotUtf8 => b"NotUtf8",
+        ConfigKind::FileFault => b"FileFault",
+        ConfigKind::Memory => b"Memory",
+    }
+}
+
+fn schedule_kind_name(kind: ScheduleKind) -> &'static [u8]
+    ensures { result.now ≡ schedule_kind_name kind }
+{
+    match kind {
+        ScheduleKind::UnknownWord => b"UnknownWord",
+        ScheduleKind::BadNumber => b"BadNumber",
+        ScheduleKind::BadHex => b"BadHex",
+        ScheduleKind::BadOrder => b"BadOrder",
+        ScheduleKind::Memory => b"Memory",
+    }
+}
+
+fn push_config_refused(text: &mut Bytes, kind: ConfigKind, place: &Place) -> Result<(), Memory>
+    ensures { OnOk result (text.new ≡ text.old ++ (codes "config refused: " ++ config_kind_name kind ++ codes " at " ++ place.now.file ++ codes ":" ++ decimal place.now.line)) }
+{
+    text.extend_from_slice(b"config refused: ")?;
+    text.extend_from_slice(config_kind_name(kind))?;
+    text.extend_from_slice(b" at ")?;
+    text.extend_from_slice(place.file.as_slice())?;
+    text.extend_from_slice(b":")?;
+    push_number(text, place.line)?;
+    Ok(())
+}
+
+fn push_schedule_refused(text: &mut Bytes, kind: ScheduleKind, line: u64) -> Result<(), Memory>
+    ensures { OnOk result (text.new ≡ text.old ++ (codes "schedule refused: " ++ schedule_kind_name kind ++ codes " at line " ++ decimal line)) }
+{
+    text.extend_from_slice(b"schedule refused: ")?;
+    text.extend_from_slice(schedule_kind_name(kind))?;
+    text.extend_from_slice(b" at line ")?;
+    push_number(text, line)?;
+    Ok(())
+}
+
+const USAGE: &[u8] =
+    b"usage: fwd run -c FILE [-n TICKS] | replay -c FILE -s FILE | list -p FOLDER | gen -n COUNT";
+
+/// The line that says how the program ended, without a line feed. It is empty where all went well.
+pub fn status_line(alloc: Global, status: &Status) -> Result<Bytes, Memory>
+    ensures { IfOk result (λ line. line ≡ line_of status.now) }
+{
+    let mut text = Bytes::new(alloc);
+    match status {
+        Status::Done => {}
+        Status::Usage => text.extend_from_slice(USAGE)?,
+        Status::ConfigRefused { kind, place } => {
+            let ConfigRefusal::Load(kind) = *kind;
+            push_config_refused(&mut text, kind, place)?;
+        }
+        Status::FileFault => text.extend_from_slice(b"file fault")?,
+        Status::ScheduleRefused { kind, line } => push_schedule_refused(&mut text, *kind, *line)?,
+        Status::OutFault => text.extend_from_slice(b"output fault")?,
+        Status::Memory => text.extend_from_slice(b"out of memory")?,
+        Status::LoopFault => text.extend_from_slice(b"loop fault")?,
+        Status::NotBuilt => text.extend_from_slice(b"not built yet")?,
+    }
+    Ok(text)
+}
