@@ -1,8 +1,0 @@
-pub mod Places
-pub mod Lines
-pub mod Keyed
-pub mod Replacing
-pub mod Growing
-pub mod Judging
-pub mod Stepping
-pub mod Standing
