@@ -5,3 +5,7 @@ pub mod Shown
 pub mod Reported
 pub mod Words
 pub mod Built
+pub mod Configured
+pub mod Status
+pub mod Answered
+pub mod Judged
