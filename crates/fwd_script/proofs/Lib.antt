@@ -1,3 +1,6 @@
 pub mod Placing
 pub mod Keeping
 pub mod Sinking
+pub mod Parting
+pub mod Escaping
+pub mod Lining

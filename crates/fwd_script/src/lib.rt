@@ -4,13 +4,20 @@
 #![tactic(auto)]
 
 mod files;
+mod keywords;
+mod meaning;
+mod reading;
+mod refused;
 mod schedule;
 mod sink;
 #[cfg(test)]
 mod tests;
+mod words;
 
 pub use files::{FilesNote, MemFiles};
 pub use fwd_base::{Bytes, Items, Memory};
+pub use reading::read_schedule;
+pub use refused::{ScheduleKind, ScheduleRefused};
 pub use schedule::{
     Calls, Cut, FileChange, FileChanges, Given, GivenList, Life, Lives, Plan, Planned, PushWord,
     Schedule, Stored, StoredList,

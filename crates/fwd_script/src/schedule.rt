@@ -1,6 +1,7 @@
 //! The types of a schedule.
 
 ghost use Rattle.std.specs.Prelude.{◌≡◌, IfOk};
+ghost use Rattle.fwd_script.specs.Schedule.{no_life};
 
 use fwd_base::{Bytes, Items, Memory, OutputId};
 use fwd_outside::Happening;
@@ -29,6 +30,22 @@ pub struct Life {
     pub store: StoredList,
     /// The crash that ends this life.
     pub cut: Option<Cut>,
+}
+
+impl Life {
+    /// A life without lines.
+    pub fn new(alloc: Global) -> Self
+        ensures { result ≡ no_life }
+    {
+        Life {
+            lines: Items::new(alloc),
+            answers: Items::new(alloc),
+            disk_fails: Items::new(alloc),
+            file_fails: Items::new(alloc),
+            store: Items::new(alloc),
+            cut: None,
+        }
+    }
 }
 
 /// A crash: the image of the disk after so many calls of the last happening, by the pick of that number.

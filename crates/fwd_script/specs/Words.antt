@@ -1,0 +1,116 @@
+-- The words of a line, from left to right.
+use Rattle.std.specs.Prelude.{◌≡◌, ◌≢◌, ℕ, ◌==◌, ◌&&◌, nat_lt, nat_le, if◌then◌else◌, List, [], ◌∷◌, length, drop, codes, Option, Some, None, Result, Ok, Err, nat_eq}
+use Rattle.std.specs.List.{list_all, starts_with}
+use Rattle.std.specs.Char.{is_ascii_digit}
+use Rattle.std.specs.Str.Parse.{digits_value}
+use Rattle.hex.specs.Hex.{decode_of}
+use Rattle.hex.specs.declared.error.FromHexError.{FromHexError}
+use Rattle.fwd_script.specs.declared.refused.ScheduleKind.{ScheduleKind}
+use Rattle.fwd_script.specs.declared.refused.ScheduleKind.TheVariants.{UnknownWord, BadNumber, BadHex, Memory}
+
+-- what stands before the first of these bytes, and what stands behind it; none where it isn't there
+abbrev pub parted : ℕ → List ℕ → List ℕ × Option (List ℕ)
+parted byte [] = ([], None)
+parted byte (x ∷ xs) = if x == byte then ([], Some xs) else (x ∷ (parted byte xs).0, (parted byte xs).1)
+
+-- what is left of a line behind the words that were read; none where the line is over
+abbrev pub Left : Type 0
+Left = Option (List ℕ)
+
+-- a reading of some words: what they mean, and what is left behind them; or the refusal
+abbrev pub Reader : Type 0 → Type 0
+Reader X = Left → Result (X × Left) ScheduleKind
+
+-- one reading, and behind it the one that its meaning gives
+abbrev pub then_read : {X Y : Type 0} → (X → Reader Y) → Result (X × Left) ScheduleKind → Result (Y × Left) ScheduleKind
+then_read next (Ok read) = next read.0 read.1
+then_read next (Err kind) = Err kind
+
+infixl 10 ◌>>=◌
+abbrev pub ◌>>=◌ : {X Y : Type 0} → Reader X → (X → Reader Y) → Reader Y
+(first >>= next) left = then_read next (first left)
+
+-- the line is to be over here, and has this meaning
+abbrev pub over : {X : Type 0} → X → Reader X
+over meaning None = Ok (meaning, None)
+over meaning (Some rest) = Err UnknownWord
+
+-- a word that stands up to the next space
+abbrev pub word : Reader (List ℕ)
+word None = Err UnknownWord
+word (Some rest) = Ok (parted 32 rest)
+
+-- what a word means, or its refusal
+abbrev pub judged : {X : Type 0} → ScheduleKind → Option X → Reader X
+judged kind None left = Err kind
+judged kind (Some meaning) left = Ok (meaning, left)
+
+-- a number: digits, whose value is at most so much
+abbrev pub number_of : ℕ → List ℕ → Option ℕ
+number_of most digits =
+    if nat_lt 0 (length digits) && (list_all is_ascii_digit digits && nat_le (digits_value 10 digits) most)
+    then Some (digits_value 10 digits)
+    else None
+
+abbrev pub number_to : ℕ → Reader ℕ
+number_to most = do
+  digits ← word
+  judged BadNumber (number_of most digits)
+
+-- a number of at most 64 bits, and one of at most 32
+abbrev pub number : Reader ℕ
+number = number_to 18446744073709551615
+
+abbrev pub id : Reader ℕ
+id = number_to 4294967295
+
+-- a word of choice, by the table of its words
+abbrev pub choice : {X : Type 0} → (List ℕ → Option X) → Reader X
+choice table = do
+  chosen ← word
+  judged UnknownWord (table chosen)
+
+-- the byte that an escape stands for
+abbrev pub escaped : ℕ → Option ℕ
+escaped letter =
+    if letter == 110 then Some 10
+    else if letter == 114 then Some 13
+    else if letter == 116 then Some 9
+    else if letter == 92 then Some 92
+    else None
+
+abbrev pub in_front : Option ℕ → Option (List ℕ) → Option (List ℕ)
+in_front (Some byte) (Some bytes) = Some (byte ∷ bytes)
+in_front (Some byte) None = None
+in_front None bytes = None
+
+-- what a text with escapes stands for; none where a backslash begins no escape
+abbrev pub unescaped : List ℕ → Option (List ℕ)
+unescaped [] = Some []
+unescaped (x ∷ []) = if x == 92 then None else Some (x ∷ [])
+unescaped (x ∷ y ∷ rest) = if x == 92 then in_front (escaped y) (unescaped rest) else in_front (Some x) (unescaped (y ∷ rest))
+
+abbrev pub decoded : Result (List ℕ) FromHexError → Option (List ℕ)
+decoded (Ok bytes) = Some bytes
+decoded (Err error) = None
+
+-- BYTES: `t:` and the rest of the line with escapes, or a word of `x:` and hex digits
+abbrev pub octets : Reader (List ℕ)
+octets None = Err UnknownWord
+octets (Some rest) =
+    if starts_with nat_eq rest (codes "t:") then judged BadHex (unescaped (drop 2 rest)) None
+    else hex_word (parted 32 rest)
+  where
+    hex_word : List ℕ × Left → Result (List ℕ × Left) ScheduleKind
+    hex_word (digits, left) = if starts_with nat_eq digits (codes "x:") then judged BadHex (decoded (decode_of (drop 2 digits))) left else Err BadHex
+
+-- BYTES of a piece: 1 to 65,536 of them
+abbrev pub piece : Reader (List ℕ)
+piece = do
+  bytes ← octets
+  judged BadNumber (if nat_lt 0 (length bytes) && nat_le (length bytes) 65536 then Some bytes else None)
+
+-- what a reading gave, and where it stands behind it; `Memory` says nothing
+abbrev pub Reads : {X : Type 0} → Reader X → Left → Result X ScheduleKind → Left → Type 0
+Reads reader left (Ok meaning) behind = reader left ≡ Ok (meaning, behind)
+Reads reader left (Err kind) behind = kind ≢ Memory → reader left ≡ Err kind

@@ -1,0 +1,205 @@
+//! The words of a line, from left to right.
+
+ghost use Rattle.std.specs.Prelude.{◌≡◌, ℕ, ◌+◌, ◌-◌, ◌*◌, ◌^◌, ◌<◌, ◌≤◌, ◌==◌, List, Option, Some, MatchResult, IfOk, IfErr, ◌≢◌, None, IsTrue, position};
+ghost use Rattle.std.specs.Char.{is_ascii_digit};
+ghost use Rattle.std.specs.Option.{option_copied, SomeIff};
+ghost use Rattle.hex.specs.Hex.{decode_of};
+ghost use Rattle.fwd_script.specs.declared.refused.ScheduleKind.TheVariants.{BadHex, Memory};
+ghost use Rattle.fwd_script.specs.Words.{Reads, decoded, escaped, id, number, number_of, number_to, octets, over, parted, piece, unescaped, word};
+
+use crate::ScheduleKind;
+use fwd_base::Bytes;
+use hex::FromHexError;
+use std::alloc::Global;
+use std::marker::Model;
+
+/// What stands before the first of these bytes, and what stands behind it.
+pub fn part(text: &[u8], byte: u8) -> (&[u8], Option<&[u8]>)
+    ensures before { result.0.now ≡ (parted byte text.entry.now).0 }
+    ensures behind { option_copied result.1 ≡ (parted byte text.entry.now).1 }
+{
+    match place_of(text, byte) {
+        Some(place) => (&text[..place], Some(&text[place + 1..])),
+        None => (text, None),
+    }
+}
+
+fn place_of(text: &[u8], byte: u8) -> Option<usize>
+    ensures { result ≡ position (λ x. x == byte) text.now }
+{
+    text.iter().position(|x| *x == byte)
+}
+
+/// What is left of a line behind the words that were read.
+#[derive(Drop)]
+pub struct Words<'a> {
+    rest: Option<&'a [u8]>,
+}
+
+impl<'a> Model for Words<'a> {
+    ghost use Rattle.std.specs.Prelude.{List, ℕ, Option};
+    ghost use Rattle.std.specs.Option.{option_copied};
+
+    ghost Value = { Option (List ℕ) };
+
+    ghost view = { λ w. option_copied w.rest };
+}
+
+impl<'a> Words<'a> {
+    pub fn new(rest: Option<&'a [u8]>) -> Self
+        ensures { result ≡ option_copied rest.entry }
+    {
+        Words { rest }
+    }
+
+    /// The next word.
+    pub fn word(&mut self) -> Result<&'a [u8], ScheduleKind>
+        ensures { MatchResult result (λ next. word self.old ≡ Ok (next.now, self.new)) (λ kind. word self.old ≡ Err kind) }
+    {
+        match self.rest {
+            None => Err(ScheduleKind::UnknownWord),
+            Some(rest) => {
+                let (next, behind) = part(rest, b' ');
+                self.rest = behind;
+                Ok(next)
+            }
+        }
+    }
+
+    /// No word is left.
+    pub fn over<T: Drop>(&mut self, meaning: T) -> Result<T, ScheduleKind>
+        ensures { Reads (over meaning) self.old result self.new }
+    {
+        match self.rest {
+            None => Ok(meaning),
+            Some(_) => Err(ScheduleKind::UnknownWord),
+        }
+    }
+
+    pub fn number_to(&mut self, most: u64) -> Result<u64, ScheduleKind>
+        ensures { Reads (number_to most) self.old result self.new }
+    {
+        let digits = self.word()?;
+        number_of(digits, most).ok_or(ScheduleKind::BadNumber)
+    }
+
+    pub fn number(&mut self) -> Result<u64, ScheduleKind>
+        ensures { Reads number self.old result self.new }
+    {
+        self.number_to(u64::MAX)
+    }
+
+    pub fn id(&mut self) -> Result<u32, ScheduleKind>
+        ensures { Reads id self.old result self.new }
+    {
+        let number = self.number_to(4_294_967_295)?;
+        Ok(number as u32)
+    }
+
+    /// BYTES: `t:` and the rest of the line with escapes, or a word of `x:` and hex digits.
+    pub fn octets(&mut self, alloc: Global) -> Result<Bytes, ScheduleKind>
+        ensures { Reads octets self.old result self.new }
+    {
+        let Some(rest) = self.rest else {
+            return Err(ScheduleKind::UnknownWord);
+        };
+        if rest.starts_with(b"t:") {
+            self.rest = None;
+            return unescape(alloc, &rest[2..]);
+        }
+        let digits = self.word()?;
+        if !digits.starts_with(b"x:") {
+            return Err(ScheduleKind::BadHex);
+        }
+        decode(alloc, &digits[2..])
+    }
+
+    /// BYTES of a piece: 1 to 65,536 of them.
+    pub fn piece(&mut self, alloc: Global) -> Result<Bytes, ScheduleKind>
+        ensures { Reads piece self.old result self.new }
+    {
+        let bytes = self.octets(alloc)?;
+        if 0 < bytes.len() && bytes.len() <= 65_536 {
+            Ok(bytes)
+        } else {
+            Err(ScheduleKind::BadNumber)
+        }
+    }
+}
+
+/// What hex digits stand for.
+fn decode(alloc: Global, digits: &[u8]) -> Result<Bytes, ScheduleKind>
+    ensures ok { IfOk result (λ bytes. decoded (decode_of digits.now) ≡ Some bytes) }
+    ensures err { IfErr result (λ kind. kind ≢ Memory → (kind ≡ BadHex) × (decoded (decode_of digits.now) ≡ None)) }
+{
+    match hex::decode(alloc, digits) {
+        Ok(bytes) => Ok(Bytes::from_vec(bytes)),
+        Err(FromHexError::OutOfMemory) => Err(ScheduleKind::Memory),
+        Err(_) => Err(ScheduleKind::BadHex),
+    }
+}
+
+/// The byte that an escape stands for.
+fn escaped_byte(letter: u8) -> Option<u8>
+    ensures { result ≡ escaped letter }
+{
+    match letter {
+        b'n' => Some(b'\n'),
+        b'r' => Some(b'\r'),
+        b't' => Some(b'\t'),
+        b'\\' => Some(b'\\'),
+        _ => None,
+    }
+}
+
+/// What a text with escapes stands for.
+fn unescape(alloc: Global, text: &[u8]) -> Result<Bytes, ScheduleKind>
+    ensures ok { IfOk result (λ bytes. unescaped text.now ≡ Some bytes) }
+    ensures err { IfErr result (λ kind. kind ≢ Memory → (kind ≡ BadHex) × (unescaped text.now ≡ None)) }
+{
+    let mut bytes = Bytes::new(alloc);
+    let mut rest = text;
+    'escapes: while let [first, behind @ ..] = rest {
+        if *first != b'\\' {
+            bytes.push(*first)?;
+            rest = behind;
+            continue;
+        }
+        let [letter, behind @ ..] = behind else {
+            return Err(ScheduleKind::BadHex);
+        };
+        let Some(byte) = escaped_byte(*letter) else {
+            return Err(ScheduleKind::BadHex);
+        };
+        bytes.push(byte)?;
+        rest = behind;
+    }
+    Ok(bytes)
+}
+
+/// The value of digits, where it is at most so much.
+pub fn number_of(digits: &[u8], most: u64) -> Option<u64>
+    ensures { result ≡ number_of most digits.now }
+{
+    if digits.is_empty() {
+        return None;
+    }
+    let mut value: u64 = 0;
+    for digit in digits {
+        match with_digit(value, *digit) {
+            Some(more) => value = more,
+            None => return None,
+        }
+    }
+    if value <= most { Some(value) } else { None }
+}
+
+/// The value with one digit more behind it.
+fn with_digit(value: u64, digit: u8) -> Option<u64>
+    ensures { SomeIff result (IsTrue (is_ascii_digit digit) × (value * 10 + (digit - 48) < 2 ^ 64)) (value * 10 + (digit - 48)) }
+{
+    if !digit.is_ascii_digit() {
+        return None;
+    }
+    value.checked_mul(10)?.checked_add(u64::from(digit - b'0'))
+}
