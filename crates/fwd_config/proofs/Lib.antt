@@ -1,0 +1,8 @@
+pub mod Places
+pub mod Lines
+pub mod Keyed
+pub mod Replacing
+pub mod Growing
+pub mod Judging
+pub mod Stepping
+pub mod Standing
