@@ -55,29 +55,29 @@ ends_files : (env : Values) (may_open : ℕ) (files : List (List ℕ)) (above : 
 ends_files env may_open [] above = tt
 ends_files env may_open (file ∷ files) above = ends_then (file_stands env may_open file above) (files_stand env may_open files) (ends_file env may_open file above) (ends_files env may_open files)
 
-ends_loads : (env : Values) (path : List ℕ) → Ends (loads env path)
+pub ends_loads : (env : Values) (path : List ℕ) → Ends (loads env path)
 ends_loads env path =
     ends_then (file_stands env 9 path []) (parsers_stand env) (ends_file env 9 path [])
     (λ text. ends_then (files_stand env 8 (parser_files (sections_of text)) text) sections_stand (ends_files env 8 (parser_files (sections_of text)) text) (λ _. tt))
 
 -- ---- a way through two programs
 
-abbrev Parted : {X Y : Type 0} → FilesProgram X → (X → FilesProgram Y) → List FilesEntry → Y → Type 0
+abbrev pub Parted : {X Y : Type 0} → FilesProgram X → (X → FilesProgram Y) → List FilesEntry → Y → Type 0
 Parted {X = X} p next es r = (first second : List FilesEntry) × (x : X) × (es ≡ first ++ second) × Way p first (Return x) × Way (next x) second (Return r)
 
-way_parts : {X Y : Type 0} (p : FilesProgram X) (next : X → FilesProgram Y) (es : List FilesEntry) (r : Y) → Way (bind p next) es (Return r) → Parted p next es r
+pub way_parts : {X Y : Type 0} (p : FilesProgram X) (next : X → FilesProgram Y) (es : List FilesEntry) (r : Y) → Way (bind p next) es (Return r) → Parted p next es r
 way_parts (Return x) next es r way = ([], es, x, refl, refl, way)
 way_parts (Ask call go) next [] r way = absurd (cc way)
 way_parts (Ask call go) next (e ∷ es) r way =
     let rest = way_parts (go way.0) next es r way.2 in
     (e ∷ rest.0, rest.1, rest.2, ap (λ (l : List FilesEntry). e ∷ l) rest.3, (way.0, way.1, rest.4), rest.5)
 
-honest_parts : (files : FilesGiven) (first second : List FilesEntry) → IsHonest files (first ++ second) → IsHonest files first × IsHonest (files_behind files first) second
+pub honest_parts : (files : FilesGiven) (first second : List FilesEntry) → IsHonest files (first ++ second) → IsHonest files first × IsHonest (files_behind files first) second
 honest_parts files [] second honest = (tt, honest)
 honest_parts files (e ∷ first) second honest =
     let rest = honest_parts (files_after files e.call) first second honest.1 in ((honest.0, rest.0), rest.1)
 
-ended : {X : Type 0} {x y : X} (es : List FilesEntry) → Way (Return x) es (Return y) → y ≡ x
+pub ended : {X : Type 0} {x y : X} (es : List FilesEntry) → Way (Return x) es (Return y) → y ≡ x
 ended [] way = cc way
 ended (e ∷ es) way = absurd way
 
@@ -109,7 +109,7 @@ module _ {T : Type 0} (files : FilesGiven) where
       let both = honest_parts files parts.0 parts.1 (subst (λ (l : List FilesEntry). IsHonest files l) parts.3 honest) in
       behind_read path go ends (λ bytes. stands (go (Some bytes)) (ends.1 bytes)) parts.0 parts.1 parts.2 r both.0 both.1 parts.4 parts.5
 
-grown_by : (old new : FilesTold) (standing : FilesGiven) (before made entries : List FilesEntry) → old ≡ Some (standing, before) → new ≡ Some (standing, before ++ made) → Grew old new entries → made ≡ entries
+pub grown_by : (old new : FilesTold) (standing : FilesGiven) (before made entries : List FilesEntry) → old ≡ Some (standing, before) → new ≡ Some (standing, before ++ made) → Grew old new entries → made ≡ entries
 grown_by old new standing before made entries was is grew =
     let grown = subst (λ (n : FilesTold). Grew (Some (standing, before)) n entries) is (subst (λ (o : FilesTold). Grew o new entries) was grew) in
     append_cancel_left before made entries grown.1

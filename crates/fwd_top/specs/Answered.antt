@@ -1,6 +1,5 @@
 -- What the program answers: a function of its words, the environment and the bytes of its files.
-use Rattle.std.specs.Prelude.{◌≡◌, ◌⊎◌, ℕ, ◌≤◌, if◌then◌else◌, List, [], ◌∷◌, ◌++◌, length, map, string_bytes, Option, Some, None, Result, Ok, Err}
-use Rattle.std.specs.declared.string.String.{String}
+use Rattle.std.specs.Prelude.{◌≡◌, ◌⊎◌, ℕ, ◌≤◌, if◌then◌else◌, List, [], ◌∷◌, ◌++◌, length, map, String, string_bytes, Option, Some, None, Result, Ok, Err}
 use Rattle.fwd_program.specs.Program.{Program, Return, Ask, bind, entry}
 use Rattle.fwd_program.specs.Told.{Grew, Did, Began}
 use Rattle.fwd_outside.specs.Files.{FilesTold, FilesGiven, FilesEntry, FilesProgram, IsHonest, found, files_behind}
@@ -67,7 +66,7 @@ of_paths (Some paths) env = bind (loads env paths.config) (with_sections paths.s
 of_paths None env = Return (Refuses status.Usage)
 
 -- The program asks for the configuration's files as each is reached, and then for the schedule.
-abbrev pub verdict : List String → Values → Reading Verdict
+abbrev pub verdict : {Y : Type 0} → List (String Y) → Values → Reading Verdict
 verdict words env = of_paths (replay_of (map string_bytes words)) env
 
 -- a text was written to its end, or a beginning of it
@@ -87,7 +86,7 @@ Answers program files now sink out status.Memory =
 Answers program files now sink out other = Did files now program (Refuses other) × Grew sink out []
 
 -- Where the files tell their calls and gave what stands there, at `Done` the text is that of the bytes that stand there.
-abbrev pub IsOfTheFiles : List String → Values → FilesTold → FilesTold → SinkTold → SinkTold → Status → Type 0
+abbrev pub IsOfTheFiles : {Y : Type 0} → List (String Y) → Values → FilesTold → FilesTold → SinkTold → SinkTold → Status → Type 0
 IsOfTheFiles words env files now sink out result =
     (standing : FilesGiven) (before made : List FilesEntry) → files ≡ Some (standing, before) → now ≡ Some (standing, before ++ made) → IsHonest (files_behind standing before) made
     → result ≡ status.Done → (text : List ℕ) × (given (found (files_behind standing before)) (verdict words env) ≡ Says text) × WroteIt sink out text

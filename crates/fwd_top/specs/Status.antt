@@ -1,5 +1,6 @@
 -- The line and the number of each status.
 use Rattle.std.specs.Prelude.{ℕ, List, [], ◌++◌, codes, decimal}
+use Rattle.fwd_config.specs.declared.section.Place.{Place}
 use Rattle.fwd_config.specs.declared.fault.ConfigKind.{ConfigKind}
 use Rattle.fwd_config.specs.declared.fault.ConfigKind.TheVariants as config_kind
 use Rattle.fwd_script.specs.declared.refused.ScheduleKind.{ScheduleKind}
@@ -27,13 +28,23 @@ schedule_kind_name schedule_kind.BadHex = codes "BadHex"
 schedule_kind_name schedule_kind.BadOrder = codes "BadOrder"
 schedule_kind_name schedule_kind.Memory = codes "Memory"
 
+-- a file, and the number of a line
+unfoldable pub place_text : Place → List ℕ
+place_text place = place.file ++ codes ":" ++ decimal place.line
+
+unfoldable pub config_line : ConfigKind → Place → List ℕ
+config_line kind place = codes "config refused: " ++ config_kind_name kind ++ codes " at " ++ place_text place
+
+unfoldable pub schedule_line : ScheduleKind → ℕ → List ℕ
+schedule_line kind line = codes "schedule refused: " ++ schedule_kind_name kind ++ codes " at line " ++ decimal line
+
 -- the line that says how the program ended, without a line feed
 abbrev pub line_of : Status → List ℕ
 line_of status.Done = []
 line_of status.Usage = codes "usage: fwd run -c FILE [-n TICKS] | replay -c FILE -s FILE | list -p FOLDER | gen -n COUNT"
-line_of (status.ConfigRefused (Load kind) place) = codes "config refused: " ++ config_kind_name kind ++ codes " at " ++ place.file ++ codes ":" ++ decimal place.line
+line_of (status.ConfigRefused (Load kind) place) = config_line kind place
 line_of status.FileFault = codes "file fault"
-line_of (status.ScheduleRefused kind line) = codes "schedule refused: " ++ schedule_kind_name kind ++ codes " at line " ++ decimal line
+line_of (status.ScheduleRefused kind line) = schedule_line kind line
 line_of status.OutFault = codes "output fault"
 line_of status.Memory = codes "out of memory"
 line_of status.LoopFault = codes "loop fault"

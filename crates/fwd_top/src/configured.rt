@@ -49,8 +49,12 @@ fn is_output(section: &Section) -> bool
 pub fn is_run_configuration(sections: &Sections) -> bool
     ensures { result ≡ is_run_configuration sections.now }
 {
-    match sections.as_slice() {
-        [service, input, output] => is_service(service) && is_input(input) && is_output(output),
-        _ => false,
+    let sections = sections.as_slice();
+    if sections.len() != 3 {
+        return false;
     }
+    let service = is_service(&sections[0]);
+    let input = is_input(&sections[1]);
+    let output = is_output(&sections[2]);
+    service && input && output
 }

@@ -1,7 +1,7 @@
 //! How a run of the program ended.
 
-ghost use Rattle.std.specs.Prelude.{◌≡◌, ◌++◌, IfOk, OnOk, decimal, codes};
-ghost use Rattle.fwd_top.specs.Status.{config_kind_name, schedule_kind_name, line_of, number_of};
+ghost use Rattle.std.specs.Prelude.{◌≡◌, ◌++◌, IfOk, OnOk};
+ghost use Rattle.fwd_top.specs.Status.{config_kind_name, schedule_kind_name, place_text, config_line, schedule_line, line_of, number_of};
 
 use crate::chunk::push_number;
 use fwd_config::{ConfigKind, Place};
@@ -85,20 +85,27 @@ fn schedule_kind_name(kind: ScheduleKind) -> &'static [u8]
     }
 }
 
-fn push_config_refused(text: &mut Bytes, kind: ConfigKind, place: &Place) -> Result<(), Memory>
-    ensures { OnOk result (text.new ≡ text.old ++ (codes "config refused: " ++ config_kind_name kind ++ codes " at " ++ place.now.file ++ codes ":" ++ decimal place.now.line)) }
+fn push_place(text: &mut Bytes, place: &Place) -> Result<(), Memory>
+    ensures { OnOk result (text.new ≡ text.old ++ place_text place.now) }
 {
-    text.extend_from_slice(b"config refused: ")?;
-    text.extend_from_slice(config_kind_name(kind))?;
-    text.extend_from_slice(b" at ")?;
     text.extend_from_slice(place.file.as_slice())?;
     text.extend_from_slice(b":")?;
     push_number(text, place.line)?;
     Ok(())
 }
 
+fn push_config_refused(text: &mut Bytes, kind: ConfigKind, place: &Place) -> Result<(), Memory>
+    ensures { OnOk result (text.new ≡ text.old ++ config_line kind place.now) }
+{
+    text.extend_from_slice(b"config refused: ")?;
+    text.extend_from_slice(config_kind_name(kind))?;
+    text.extend_from_slice(b" at ")?;
+    push_place(text, place)?;
+    Ok(())
+}
+
 fn push_schedule_refused(text: &mut Bytes, kind: ScheduleKind, line: u64) -> Result<(), Memory>
-    ensures { OnOk result (text.new ≡ text.old ++ (codes "schedule refused: " ++ schedule_kind_name kind ++ codes " at line " ++ decimal line)) }
+    ensures { OnOk result (text.new ≡ text.old ++ schedule_line kind line) }
 {
     text.extend_from_slice(b"schedule refused: ")?;
     text.extend_from_slice(schedule_kind_name(kind))?;
