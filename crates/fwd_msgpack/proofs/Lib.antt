@@ -1,0 +1,11 @@
+pub mod Fits
+pub mod Keeping
+pub mod Loop
+pub mod Readers
+pub mod Grammar
+pub mod Meanings
+pub mod Writing
+pub mod Shortest
+pub mod Prefix
+pub mod Ranges
+pub mod Least

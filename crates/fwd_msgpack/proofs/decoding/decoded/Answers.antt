@@ -1,0 +1,35 @@
+use Rattle.std.proofs.Common.{arith}
+use Rattle.fwd_value.specs.View.{val_of}
+use Rattle.fwd_msgpack.proofs.Meanings.{ok_fits, stop_fits}
+use Rattle.std.proofs.Common.{true, false}
+use Rattle.fwd_msgpack.proofs.decoding.decoded.Goals as goal
+
+pub overflow_sub-result : goal.overflow_sub-result
+overflow_sub-result c = ok_fits c.args.bytes.now (val_of c.in-Ok.value) c.in-Ok.rest.now c.in-Ok.ensures
+
+pub overflow_sub-result-in-Err-Fault-Unused : goal.overflow_sub-result-in-Err-Fault-Unused
+overflow_sub-result-in-Err-Fault-Unused c =
+    let h = rw (c.in-Err-Fault-Unused.field-0-is, c.in-Err-Fault-Unused.field-0-0-is) at c.in-Err-Fault-Unused.ensures in
+    stop_fits false c.args.bytes.now c.in-Err-Fault-Unused.left h
+
+pub overflow_sub-result-in-Err-Fault-TooDeep : goal.overflow_sub-result-in-Err-Fault-TooDeep
+overflow_sub-result-in-Err-Fault-TooDeep c =
+    let h = rw (c.in-Err-Fault-TooDeep.field-0-is, c.in-Err-Fault-TooDeep.field-0-0-is) at c.in-Err-Fault-TooDeep.ensures in
+    stop_fits true c.args.bytes.now c.in-Err-Fault-TooDeep.left h
+
+pub returns-in-Ok : goal.returns-in-Ok
+returns-in-Ok c =
+    let le = ok_fits c.args.bytes.now (val_of c.in-Ok.value) c.in-Ok.rest.now c.in-Ok.ensures in
+    (c.in-Ok.rest.now, c.in-Ok.ensures, omega arith)
+
+pub returns-in-Err-Fault-Unused : goal.returns-in-Err-Fault-Unused
+returns-in-Err-Fault-Unused c =
+    let h = rw (c.in-Err-Fault-Unused.field-0-is, c.in-Err-Fault-Unused.field-0-0-is) at c.in-Err-Fault-Unused.ensures in
+    let le = stop_fits false c.args.bytes.now c.in-Err-Fault-Unused.left h in
+    (c.in-Err-Fault-Unused.left, h, omega arith)
+
+pub returns-in-Err-Fault-TooDeep : goal.returns-in-Err-Fault-TooDeep
+returns-in-Err-Fault-TooDeep c =
+    let h = rw (c.in-Err-Fault-TooDeep.field-0-is, c.in-Err-Fault-TooDeep.field-0-0-is) at c.in-Err-Fault-TooDeep.ensures in
+    let le = stop_fits true c.args.bytes.now c.in-Err-Fault-TooDeep.left h in
+    (c.in-Err-Fault-TooDeep.left, h, omega arith)

@@ -1,0 +1,229 @@
+//! Reading from left to right. What is read is given with the bytes behind it.
+
+ghost use Rattle.std.specs.Prelude.{◌≡◌, ℕ, List, length, map, pos, Ok, IfOk};
+ghost use Rattle.fwd_value.specs.View.{val_of, pair_of};
+ghost use Rattle.std.specs.Int.{cast_signed};
+ghost use Rattle.fwd_msgpack.specs.Spelling.{width, IsWithin};
+ghost use Rattle.fwd_value.specs.Val.{whole};
+ghost use Rattle.fwd_msgpack.specs.declared.form.Form.TheVariants as form;
+ghost use Rattle.fwd_msgpack.specs.Reading.{Gives, number_at, bytes_at, byte_at, count_at, counted_at, many_at, entries_at, after, inner, value_at};
+
+use crate::fault::{Fault, ReadError};
+use crate::form::{Count, Form, Wide, form_of};
+use fwd_base::Bytes;
+use fwd_value::{Below, Pairs, Value, Values};
+use std::alloc::Global;
+
+#[tactic(auto, unfolding(crate::specs::Reading::number_at, crate::specs::Spelling::number, crate::specs::Spelling::size))]
+fn number_of(bytes: &[u8], w: Wide) -> Result<(u64, &[u8]), ReadError>
+    ensures read { Gives (λ x. (x.0, x.1.now)) result (number_at w bytes.now) }
+    ensures fits { IfOk result (λ x. IsWithin w x.0) }
+{
+    match w {
+        Wide::One => {
+            if bytes.len() < 1 {
+                return Err(ReadError::Fault(Fault::Short));
+            }
+            let (front, rest) = bytes.split_at(1);
+            Ok((front[0] as u64, rest))
+        }
+        Wide::Two => {
+            if bytes.len() < 2 {
+                return Err(ReadError::Fault(Fault::Short));
+            }
+            let (front, rest) = bytes.split_at(2);
+            Ok((u16::from_be_bytes([front[0], front[1]]) as u64, rest))
+        }
+        Wide::Four => {
+            if bytes.len() < 4 {
+                return Err(ReadError::Fault(Fault::Short));
+            }
+            let (front, rest) = bytes.split_at(4);
+            Ok((
+                u32::from_be_bytes([front[0], front[1], front[2], front[3]]) as u64,
+                rest,
+            ))
+        }
+        Wide::Eight => {
+            if bytes.len() < 8 {
+                return Err(ReadError::Fault(Fault::Short));
+            }
+            let (front, rest) = bytes.split_at(8);
+            Ok((
+                u64::from_be_bytes([
+                    front[0], front[1], front[2], front[3], front[4], front[5], front[6], front[7],
+                ]),
+                rest,
+            ))
+        }
+    }
+}
+
+#[tactic(auto, unfolding(crate::specs::Reading::count_at))]
+fn count_of(bytes: &[u8], k: Count) -> Result<(u64, &[u8]), ReadError>
+    ensures { Gives (λ x. (x.0, x.1.now)) result (count_at k bytes.now) }
+{
+    match k {
+        Count::Known(n) => Ok((n as u64, bytes)),
+        Count::Sized(w) => number_of(bytes, w),
+    }
+}
+
+#[tactic(auto, unfolding(crate::specs::Reading::byte_at))]
+fn byte_of(bytes: &[u8]) -> Result<(u8, &[u8]), ReadError>
+    ensures { Gives (λ x. (x.0, x.1.now)) result (byte_at bytes.now) }
+{
+    match bytes {
+        [] => Err(ReadError::Fault(Fault::Short)),
+        [c, rest @ ..] => Ok((*c, rest)),
+    }
+}
+
+#[tactic(auto, unfolding(crate::specs::Reading::bytes_at))]
+fn bytes_of(alloc: Global, bytes: &[u8], n: u64) -> Result<(Bytes, &[u8]), ReadError>
+    ensures { Gives (λ x. (x.0, x.1.now)) result (bytes_at n bytes.now) }
+{
+    if (bytes.len() as u64) < n {
+        return Err(ReadError::Fault(Fault::Short));
+    }
+    let (text, rest) = bytes.split_at(n as usize);
+    Ok((Bytes::from_slice(alloc, text)?, rest))
+}
+
+#[tactic(auto, unfolding(crate::specs::Reading::counted_at))]
+fn counted_of(alloc: Global, bytes: &[u8], k: Count) -> Result<(Bytes, &[u8]), ReadError>
+    ensures { Gives (λ x. (x.0, x.1.now)) result (counted_at k bytes.now) }
+{
+    let (n, rest) = count_of(bytes, k)?;
+    bytes_of(alloc, rest, n)
+}
+
+fn signed(n: u64, w: Wide) -> i64
+    requires { IsWithin w n }
+    ensures { result ≡ cast_signed (width w) n }
+{
+    match w {
+        Wide::One => (n as u8).cast_signed() as i64,
+        Wide::Two => (n as u16).cast_signed() as i64,
+        Wide::Four => (n as u32).cast_signed() as i64,
+        Wide::Eight => n.cast_signed(),
+    }
+}
+
+pub fn whole(n: i64) -> Value
+    ensures { val_of result ≡ whole n }
+{
+    match Below::of(n) {
+        Some(below) => Value::Neg(below),
+        None => Value::Uint(n as u64),
+    }
+}
+
+#[cycle(read)]
+#[tactic(auto, unfolding(crate::specs::Reading::value_by, crate::specs::Reading::after))]
+pub fn value_of(alloc: Global, bytes: &[u8], depth: u32) -> Result<(Value, &[u8]), ReadError>
+    ensures { Gives (λ x. (val_of x.0, x.1.now)) result (value_at depth bytes.now) }
+{
+    match bytes {
+        [] => Err(ReadError::Fault(Fault::Short)),
+        [c, rest @ ..] => match form_of(*c) {
+            Form::Unused => Err(ReadError::Fault(Fault::Unused(rest.len() + 1))),
+            Form::Nil => Ok((Value::Nil, rest)),
+            Form::Bool(t) => Ok((Value::Truth(t), rest)),
+            Form::PositiveFixint(n) => Ok((Value::Uint(n as u64), rest)),
+            Form::NegativeFixint(z) => Ok((whole(z as i64), rest)),
+            Form::Uint(w) => {
+                let (n, rest) = number_of(rest, w)?;
+                Ok((Value::Uint(n), rest))
+            }
+            Form::Int(w) => {
+                let (n, rest) = number_of(rest, w)?;
+                Ok((whole(signed(n, w)), rest))
+            }
+            Form::Float32 => {
+                let (n, rest) = number_of(rest, Wide::Four)?;
+                Ok((Value::Float32(n as u32), rest))
+            }
+            Form::Float64 => {
+                let (n, rest) = number_of(rest, Wide::Eight)?;
+                Ok((Value::Float64(n), rest))
+            }
+            Form::Str(k) => {
+                let (s, rest) = counted_of(alloc, rest, k)?;
+                Ok((Value::Text(s), rest))
+            }
+            Form::Bin(k) => {
+                let (s, rest) = counted_of(alloc, rest, k)?;
+                Ok((Value::Bin(s), rest))
+            }
+            Form::Ext(k) => {
+                let (n, rest) = count_of(rest, k)?;
+                let (t, rest) = byte_of(rest)?;
+                let (s, rest) = bytes_of(alloc, rest, n)?;
+                Ok((Value::Ext(t.cast_signed(), s), rest))
+            }
+            Form::Array(k) => list_of(alloc, rest, k, depth),
+            Form::Map(k) => map_of(alloc, rest, k, depth),
+        },
+    }
+}
+
+#[cycle(read)]
+#[tactic(auto, unfolding(crate::specs::Reading::after))]
+fn list_of(alloc: Global, bytes: &[u8], k: Count, depth: u32) -> Result<(Value, &[u8]), ReadError>
+    ensures { Gives (λ x. (val_of x.0, x.1.now)) result (after (inner depth) (form.Array k) bytes.now) }
+{
+    if depth == 0 {
+        return Err(ReadError::Fault(Fault::TooDeep(bytes.len() + 1)));
+    }
+    let (n, rest) = count_of(bytes, k)?;
+    let (vs, rest) = values_of(alloc, rest, n, depth - 1)?;
+    Ok((Value::List(vs), rest))
+}
+
+#[cycle(read)]
+#[tactic(auto, unfolding(crate::specs::Reading::after))]
+fn map_of(alloc: Global, bytes: &[u8], k: Count, depth: u32) -> Result<(Value, &[u8]), ReadError>
+    ensures { Gives (λ x. (val_of x.0, x.1.now)) result (after (inner depth) (form.Map k) bytes.now) }
+{
+    if depth == 0 {
+        return Err(ReadError::Fault(Fault::TooDeep(bytes.len() + 1)));
+    }
+    let (n, rest) = count_of(bytes, k)?;
+    let (es, rest) = pairs_of(alloc, rest, n, depth - 1)?;
+    Ok((Value::Map(es), rest))
+}
+
+#[cycle(read)]
+fn values_of(alloc: Global, bytes: &[u8], n: u64, depth: u32) -> Result<(Values, &[u8]), ReadError>
+    ensures { Gives (λ x. (x.0, x.1.now)) result (many_at (value_at depth) n bytes.now) }
+{
+    let mut values = Vec::with_capacity(alloc, room(n))?;
+    let mut rest = bytes;
+    for _ in 0..n {
+        let (v, after) = value_of(alloc, rest, depth)?;
+        values.push(v)?;
+        rest = after;
+    }
+    Ok((Values::from_vec(values), rest))
+}
+
+#[cycle(read)]
+fn pairs_of(alloc: Global, bytes: &[u8], n: u64, depth: u32) -> Result<(Pairs, &[u8]), ReadError>
+    ensures { Gives (λ x. (x.0, x.1.now)) result (entries_at (value_at depth) n bytes.now) }
+{
+    let mut pairs = Vec::with_capacity(alloc, room(n))?;
+    let mut rest = bytes;
+    for _ in 0..n {
+        let (k, after) = value_of(alloc, rest, depth)?;
+        let (v, after) = value_of(alloc, after, depth)?;
+        pairs.push((k, v))?;
+        rest = after;
+    }
+    Ok((Pairs::from_vec(pairs), rest))
+}
+
+// What is set aside before anything is read: little, since the bytes may lie about their number.
+fn room(n: u64) -> usize {
+    if n < 16 { n as usize } else { 16 }
+}
