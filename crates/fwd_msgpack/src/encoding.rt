@@ -1,12 +1,20 @@
 ghost use Rattle.std.specs.Prelude.{◌≡◌, ◌↔◌, ◌<◌, ◌≤◌, ◌-◌, ◌^◌, ℕ, ℤ, List, [], ◌∷◌, ◌++◌, length, map, IsTrue, OnOk, OnErr};
+<<<<<<< HEAD
 ghost use Rattle.fwd_value.specs.Val.{vals_of, entries_of, text, bin, ext, whole};
+=======
+ghost use Rattle.fwd_value.specs.Val.{vals_of, entries_of, text, bin, ext, whole, mapping};
+>>>>>>> 9220d3c62fd77d8e98dc1dfb2a883d36be0b797b
 ghost use Rattle.fwd_value.specs.View.{val_of, pair_of};
 ghost use Rattle.fwd_value.specs.Limits.{nesting, LengthsFit, AllLengthsFit, EntryLengthsFit, IsInRange, AreInRange, EntriesAreInRange};
 ghost use Rattle.fwd_msgpack.specs.Canonical.{number_bytes, minus_bytes, whole_bytes, text_head, bin_head, ext_head, list_head, map_head, canonical, canonical_all, canonical_entries};
 ghost use Rattle.fwd_msgpack.specs.Writing.{KeepsFront};
 
 use fwd_base::{Bytes, Memory};
+<<<<<<< HEAD
 use fwd_value::{Below, Value};
+=======
+use fwd_value::{Below, Pairs, Value};
+>>>>>>> 9220d3c62fd77d8e98dc1dfb2a883d36be0b797b
 
 /// Appends a first byte, and the bytes behind it.
 #[inline(always)]
@@ -273,6 +281,7 @@ pub fn encode(value: &Value, out: &mut Bytes) -> Result<(), Memory>
     ensures err { OnErr result (out.new ≡ out.old) }
 {
     let start = out.len();
+<<<<<<< HEAD
     match write_value(value, out) {
         Ok(()) => Ok(()),
         Err(Memory) => {
@@ -280,4 +289,38 @@ pub fn encode(value: &Value, out: &mut Bytes) -> Result<(), Memory>
             Err(Memory)
         }
     }
+=======
+    let written = write_value(value, out);
+    if written.is_err() {
+        out.truncate(start);
+    }
+    written
+}
+
+/// Appends a head and the pairs behind it.
+fn write_map(pairs: &Pairs, out: &mut Bytes) -> Result<(), Memory>
+    requires { LengthsFit (mapping (entries_of pairs.now)) }
+    ensures ok { OnOk result (out.new ≡ out.old ++ canonical (mapping (entries_of pairs.now))) }
+    ensures in_range { OnOk result (IsInRange (mapping (entries_of pairs.now))) }
+    ensures err { OnErr result (KeepsFront out.old out.new) }
+{
+    put_map_head(out, pairs.len())?;
+    write_pairs(pairs.as_slice(), out)
+}
+
+/// Appends the canonical spelling of a map, given by its pairs. After `Err` the bytes are as before.
+pub fn encode_map(pairs: &Pairs, out: &mut Bytes) -> Result<(), Memory>
+    requires nested { nesting (mapping (entries_of pairs.now)) ≤ 64 }
+    requires lengths { LengthsFit (mapping (entries_of pairs.now)) }
+    ensures ok { OnOk result (out.new ≡ out.old ++ canonical (mapping (entries_of pairs.now))) }
+    ensures in_range { OnOk result (IsInRange (mapping (entries_of pairs.now))) }
+    ensures err { OnErr result (out.new ≡ out.old) }
+{
+    let start = out.len();
+    let written = write_map(pairs, out);
+    if written.is_err() {
+        out.truncate(start);
+    }
+    written
+>>>>>>> 9220d3c62fd77d8e98dc1dfb2a883d36be0b797b
 }

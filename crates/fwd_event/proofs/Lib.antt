@@ -1,0 +1,6 @@
+pub mod Parts
+pub mod Found
+pub mod Apart
+pub mod Lists
+pub mod Answers
+pub mod Written

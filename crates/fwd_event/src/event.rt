@@ -1,0 +1,22 @@
+use fwd_base::Items;
+use fwd_msgpack::Pairs;
+
+/// A log line: when it came, in seconds and nanoseconds, what is said of it, and its fields.
+#[derive(Debug, Drop)]
+pub struct Event {
+    pub sec: u32,
+    pub nsec: u32,
+    pub meta: Pairs,
+    pub body: Pairs,
+}
+
+/// Events, in order.
+pub type Events = Items<Event>;
+
+fn crosses<T: Send + Sync>(_: &T) {}
+
+/// Threads may share events and hand them over.
+pub fn events_cross(event: &Event, events: &Events) {
+    crosses(event);
+    crosses(events);
+}

@@ -1,0 +1,18 @@
+//! A log line becomes an event: a time, metadata and a body of pairs. Events are stored and sent as MessagePack values,
+//! one after another, in two forms; files may end within one.
+#![tactic(auto)]
+
+mod errors;
+mod event;
+mod reading;
+mod writing;
+
+pub use errors::EventErr;
+pub use event::{Event, Events};
+pub use fwd_base::{Bytes, Memory};
+pub use fwd_msgpack::{Below, Pairs, Value, Values};
+pub use reading::{read_events, whole_prefix};
+pub use writing::{can_write, write_event};
+
+#[cfg(test)]
+mod tests;
