@@ -1,16 +1,62 @@
-//! The program `fwd`: it makes the real files and standard output, and hands them to `log_forwarder`.
+//! The program `fwd`: it makes the files of the machine and standard output, and hands them to `log_forwarder`. What it
+//! answers ends the program, with its line on standard error.
 #![tactic(auto)]
 
 mod folder_files;
 mod std_sink;
 
 use folder_files::FolderFiles;
-use fwd_outside::read_whole;
+use fwd_top::{Status, log_forwarder, status_line};
+use std::env;
+use std::io::{self, Write};
+use std::process::ExitCode;
 use std_sink::StdSink;
 
-fn main(rt: HostRuntime) {
-    let mut files = FolderFiles::new(rt);
-    let mut out = StdSink::new(rt);
-    let _ = read_whole(rt.alloc(), &mut files, b"x");
-    let _ = fwd_outside::Sink::write(&mut out, b"x");
+/// The words behind the program's name. None where they aren't text, or memory is wanting.
+fn words(rt: &HostRuntime) -> Option<Vec<String>> {
+    let mut words = Vec::new(rt.alloc());
+    for word in env::args(rt).ok()?.skip(1) {
+        words.push(word).ok()?;
+    }
+    Some(words)
+}
+
+/// The environment. It counts as empty where a variable isn't text.
+fn environment(rt: &HostRuntime) -> Vec<(String, String)> {
+    let mut all = Vec::new(rt.alloc());
+    if let Ok(vars) = env::vars(rt) {
+        for var in vars {
+            if all.push(var).is_err() {
+                break;
+            }
+        }
+    }
+    all
+}
+
+fn run(rt: &HostRuntime) -> Status {
+    let Some(words) = words(rt) else {
+        return Status::Usage;
+    };
+    let env = environment(rt);
+    let mut files = FolderFiles::new(*rt);
+    let mut out = StdSink::new(*rt);
+    log_forwarder(rt.alloc(), &words, &env, &mut files, &mut out, u64::MAX)
+}
+
+/// The status line goes to standard error, with a line feed behind it. Of `Done` there is none.
+fn tell(rt: &HostRuntime, status: &Status) -> io::Result<()> {
+    if let Ok(mut line) = status_line(rt.alloc(), status)
+        && !line.is_empty()
+        && line.push(b'\n').is_ok()
+    {
+        rt.stderr().write_all(line.as_slice())?;
+    }
+    Ok(())
+}
+
+fn main(rt: HostRuntime) -> ExitCode {
+    let status = run(&rt);
+    let _ = tell(&rt, &status);
+    ExitCode::from(status.number())
 }

@@ -1,12 +1,8 @@
 //! Values from the MessagePack specification, one for each first byte, and the edges of each form.
 
-<<<<<<< HEAD
-use crate::{Below, DecodeErr, Pairs, Value, Values, can_encode, decode, encode};
-=======
 use crate::{
     Below, DecodeErr, Pairs, Value, Values, can_encode, can_encode_map, decode, encode, encode_map,
 };
->>>>>>> 9220d3c62fd77d8e98dc1dfb2a883d36be0b797b
 use fwd_base::{Bytes, Memory};
 use std::alloc::Global;
 use std::process::Abort;
@@ -328,8 +324,6 @@ fn lengths_at_the_edges(rt: HostRuntime) -> Result<(), Fail> {
     }
     Ok(())
 }
-<<<<<<< HEAD
-=======
 
 #[test]
 fn a_map_by_its_pairs(rt: HostRuntime) -> Result<(), Fail> {
@@ -340,4 +334,3 @@ fn a_map_by_its_pairs(rt: HostRuntime) -> Result<(), Fail> {
     assert_eq!(rt; out.as_slice(), b"\x82\xc3\xc0\xc3\xc0".as_slice());
     Ok(())
 }
->>>>>>> 9220d3c62fd77d8e98dc1dfb2a883d36be0b797b
