@@ -1,0 +1,70 @@
+-- Writing texts one after the other, as a loop does.
+use Rattle.std.proofs.Common.{◌≡◌, Bool, true, false, ℕ, zero, suc, ◌+◌, ◌/◌, ◌%◌, ◌<◌, List, [], ◌∷◌, ◌++◌, map, length, take, get_or, refl, sym, ap, ◌∙◌, append_assoc, add-one, arith}
+use Rattle.std.specs.Str.{is_utf8}
+use Rattle.std.specs.Prelude.{IsUtf8}
+use Rattle.std.proofs.lemmas.List.{append-nil}
+use Rattle.std.proofs.lemmas.Str.{is_utf8-from_IsUtf8, IsUtf8-from_is_utf8}
+use Rattle.fwd_value.specs.Val.{vals_of, entries_of}
+use Rattle.fwd_value.specs.View.{val_of, pair_of}
+use Rattle.fwd_value.specs.Weight.{weight, weights, entry_weights}
+use Rattle.fwd_value.specs.declared.value.Value.{Value}
+use Rattle.fwd_json.specs.Text.{hex, hex_digit, escaped, escapes, json, more_values, more_pairs, pair_text}
+
+pub utf8_true : (bytes : List ℕ) → IsUtf8 bytes → true ≡ is_utf8 bytes
+utf8_true bytes h = sym (is_utf8-from_IsUtf8 bytes h)
+
+pub utf8_false : (bytes : List ℕ) → (IsUtf8 bytes → ⊥) → false ≡ is_utf8 bytes
+utf8_false bytes h = decided (is_utf8 bytes) refl
+  where
+    decided : (t : Bool) → is_utf8 bytes ≡ t → false ≡ is_utf8 bytes
+    decided true e = absurd (h (IsUtf8-from_is_utf8 bytes e))
+    decided false e = sym e
+
+hex_suc : (bytes : List ℕ) (i : ℕ) → i < length bytes → hex (take (suc i) bytes) ≡ hex (take i bytes) ++ hex_digit (get_or bytes i 0 / 16) ∷ hex_digit (get_or bytes i 0 % 16) ∷ []
+hex_suc [] i lt = absurd (omega arith)
+hex_suc (c ∷ bytes) zero lt = refl
+hex_suc (c ∷ bytes) (suc i) lt = ap (λ (t : List ℕ). hex_digit (c / 16) ∷ hex_digit (c % 16) ∷ t) (hex_suc bytes i (omega arith))
+
+pub hex_more : (bytes : List ℕ) (i : ℕ) → i < length bytes → hex (take (i + 1) bytes) ≡ hex (take i bytes) ++ hex_digit (get_or bytes i 0 / 16) ∷ hex_digit (get_or bytes i 0 % 16) ∷ []
+hex_more bytes i lt = rw add-one (hex_suc bytes i lt)
+
+escapes_suc : (bytes : List ℕ) (i : ℕ) → i < length bytes → escapes (take (suc i) bytes) ≡ escapes (take i bytes) ++ escaped (get_or bytes i 0)
+escapes_suc [] i lt = absurd (omega arith)
+escapes_suc (c ∷ bytes) zero lt = append-nil (escaped c)
+escapes_suc (c ∷ bytes) (suc i) lt = ap (λ (t : List ℕ). escaped c ++ t) (escapes_suc bytes i (omega arith)) ∙ sym (append_assoc (escaped c) (escapes (take i bytes)) (escaped (get_or bytes i 0)))
+
+pub escapes_more : (bytes : List ℕ) (i : ℕ) → i < length bytes → escapes (take (i + 1) bytes) ≡ escapes (take i bytes) ++ escaped (get_or bytes i 0)
+escapes_more bytes i lt = rw add-one (escapes_suc bytes i lt)
+
+values_suc : (vs : List Value) (i : ℕ) (v : Value) → i < length vs → v ≡ get_or vs i v
+    → more_values (vals_of (map val_of (take (suc i) vs))) ≡ more_values (vals_of (map val_of (take i vs))) ++ 44 ∷ json (val_of v)
+values_suc [] i v lt e = absurd (omega arith)
+values_suc (x ∷ xs) zero v lt e = rw e (append-nil (44 ∷ json (val_of x)))
+values_suc (x ∷ xs) (suc i) v lt e =
+    ap (λ (t : List ℕ). (44 ∷ json (val_of x)) ++ t) (values_suc xs i v (omega arith) e) ∙ sym (append_assoc (44 ∷ json (val_of x)) (more_values (vals_of (map val_of (take i xs)))) (44 ∷ json (val_of v)))
+
+pub values_more : (vs : List Value) (i : ℕ) (v : Value) → i < length vs → v ≡ get_or vs i v
+    → more_values (vals_of (map val_of (take (i + 1) vs))) ≡ more_values (vals_of (map val_of (take i vs))) ++ 44 ∷ json (val_of v)
+values_more vs i v lt e = rw add-one (values_suc vs i v lt e)
+
+pairs_suc : (ps : List (Value × Value)) (i : ℕ) (p : Value × Value) → i < length ps → p ≡ get_or ps i p
+    → more_pairs (entries_of (map pair_of (take (suc i) ps))) ≡ more_pairs (entries_of (map pair_of (take i ps))) ++ 44 ∷ pair_text (pair_of p)
+pairs_suc [] i p lt e = absurd (omega arith)
+pairs_suc (x ∷ xs) zero p lt e = rw e (append-nil (44 ∷ pair_text (pair_of x)))
+pairs_suc (x ∷ xs) (suc i) p lt e =
+    ap (λ (t : List ℕ). (44 ∷ pair_text (pair_of x)) ++ t) (pairs_suc xs i p (omega arith) e) ∙ sym (append_assoc (44 ∷ pair_text (pair_of x)) (more_pairs (entries_of (map pair_of (take i xs)))) (44 ∷ pair_text (pair_of p)))
+
+pub pairs_more : (ps : List (Value × Value)) (i : ℕ) (p : Value × Value) → i < length ps → p ≡ get_or ps i p
+    → more_pairs (entries_of (map pair_of (take (i + 1) ps))) ≡ more_pairs (entries_of (map pair_of (take i ps))) ++ 44 ∷ pair_text (pair_of p)
+pairs_more ps i p lt e = rw add-one (pairs_suc ps i p lt e)
+
+pub value_weighs_less : (vs : List Value) (i : ℕ) (v : Value) → i < length vs → v ≡ get_or vs i v → weight (val_of v) < weights (vals_of (map val_of vs))
+value_weighs_less [] i v lt e = absurd (omega arith)
+value_weighs_less (x ∷ xs) zero v lt e = rw e (omega arith)
+value_weighs_less (x ∷ xs) (suc i) v lt e = omega (arith, value_weighs_less xs i v (omega arith) e)
+
+pub pair_weighs_less : (ps : List (Value × Value)) (i : ℕ) (p : Value × Value) → i < length ps → p ≡ get_or ps i p
+    → (weight (val_of p.0) + weight (val_of p.1)) < entry_weights (entries_of (map pair_of ps))
+pair_weighs_less [] i p lt e = absurd (omega arith)
+pair_weighs_less (x ∷ xs) zero p lt e = rw e (omega arith)
+pair_weighs_less (x ∷ xs) (suc i) p lt e = omega (arith, pair_weighs_less xs i p (omega arith) e)

@@ -1,0 +1,252 @@
+//! The text of a value. It is put together in a buffer of its own and then appended in one copy, so that want of memory
+//! leaves nothing half written.
+
+ghost use Rattle.std.specs.Prelude.{◌≡◌, ◌↔◌, ◌<◌, ◌^◌, ℕ, List, [], ◌∷◌, ◌++◌, codes, map, IsTrue, OnOk, OnErr};
+ghost use Rattle.std.specs.Fmt.{decimal, signed_decimal};
+ghost use Rattle.std.specs.Str.{is_utf8};
+ghost use Rattle.fwd_value.specs.Val.{vals_of, entries_of, text};
+ghost use Rattle.fwd_value.specs.View.{val_of, pair_of};
+ghost use Rattle.fwd_json.specs.Text.{hex_digit, hex, escaped, escapes, quoted, tagged, string, key_text, pair_text, json, values_text, more_values, pairs_text, more_pairs};
+
+use fwd_base::{Bytes, Memory};
+use fwd_value::Value;
+use itoa::Buffer;
+use std::alloc::Global;
+
+fn hex_digit(n: u8) -> u8
+    requires { n < 16 }
+    ensures { result ≡ hex_digit n }
+{
+    if n < 10 { b'0' + n } else { b'a' - 10 + n }
+}
+
+/// Appends two hex digits for each byte.
+fn put_hex(out: &mut Bytes, bytes: &[u8]) -> Result<(), Memory>
+    ensures { OnOk result (out.new ≡ out.old ++ hex bytes.now) }
+{
+    for byte in bytes {
+        out.push(hex_digit(*byte / 16))?;
+        out.push(hex_digit(*byte % 16))?;
+    }
+    Ok(())
+}
+
+/// Appends a byte as it stands within quotes.
+#[tactic(auto, unfolding(crate::specs::Text::escaped))]
+fn put_escaped(out: &mut Bytes, byte: u8) -> Result<(), Memory>
+    ensures { OnOk result (out.new ≡ out.old ++ escaped byte) }
+{
+    match byte {
+        b'"' => out.extend_from_slice(b"\\\""),
+        b'\\' => out.extend_from_slice(b"\\\\"),
+        0x08 => out.extend_from_slice(b"\\b"),
+        0x09 => out.extend_from_slice(b"\\t"),
+        0x0a => out.extend_from_slice(b"\\n"),
+        0x0c => out.extend_from_slice(b"\\f"),
+        0x0d => out.extend_from_slice(b"\\r"),
+        0x00..=0x1f => {
+            out.extend_from_slice(b"\\u00")?;
+            put_hex(out, [byte].as_slice())
+        }
+        _ => out.push(byte),
+    }
+}
+
+/// Appends bytes within quotes.
+fn put_quoted(out: &mut Bytes, bytes: &[u8]) -> Result<(), Memory>
+    ensures { OnOk result (out.new ≡ out.old ++ quoted bytes.now) }
+{
+    out.push(b'"')?;
+    put_escapes(out, bytes)?;
+    out.push(b'"')
+}
+
+fn put_escapes(out: &mut Bytes, bytes: &[u8]) -> Result<(), Memory>
+    ensures { OnOk result (out.new ≡ out.old ++ escapes bytes.now) }
+{
+    for byte in bytes {
+        put_escaped(out, *byte)?;
+    }
+    Ok(())
+}
+
+/// Appends a tag and hex digits within quotes.
+fn put_tagged(out: &mut Bytes, tag: &[u8], bytes: &[u8]) -> Result<(), Memory>
+    ensures { OnOk result (out.new ≡ out.old ++ tagged tag.now bytes.now) }
+{
+    out.push(b'"')?;
+    out.extend_from_slice(tag)?;
+    put_hex(out, bytes)?;
+    out.push(b'"')
+}
+
+#[tactic(auto, using(crate::proofs::Writing::utf8_true, crate::proofs::Writing::utf8_false))]
+fn is_text(bytes: &[u8]) -> bool
+    ensures { result ≡ is_utf8 bytes.now }
+{
+    match str::from_utf8(bytes) {
+        Ok(_) => true,
+        Err(_) => false,
+    }
+}
+
+fn put_string(out: &mut Bytes, bytes: &[u8]) -> Result<(), Memory>
+    ensures { OnOk result (out.new ≡ out.old ++ string bytes.now) }
+{
+    if is_text(bytes) {
+        put_quoted(out, bytes)
+    } else {
+        put_tagged(out, b"bin:", bytes)
+    }
+}
+
+/// Appends a key that is a text.
+fn put_key(alloc: Global, out: &mut Bytes, bytes: &[u8]) -> Result<(), Memory>
+    ensures { OnOk result (out.new ≡ out.old ++ key_text (text bytes.now) (json (text bytes.now))) }
+{
+    if is_text(bytes) {
+        put_quoted(out, bytes)
+    } else {
+        let mut shown = Bytes::new(alloc);
+        put_tagged(&mut shown, b"bin:", bytes)?;
+        put_quoted(out, shown.as_slice())
+    }
+}
+
+/// Appends a number of 0 or more.
+fn put_number(out: &mut Bytes, n: u64) -> Result<(), Memory>
+    ensures { OnOk result (out.new ≡ out.old ++ decimal n) }
+{
+    let mut buffer = Buffer::new();
+    out.extend_from_slice(buffer.format(n).as_bytes())
+}
+
+fn put_signed(out: &mut Bytes, n: i64) -> Result<(), Memory>
+    ensures { OnOk result (out.new ≡ out.old ++ signed_decimal n) }
+{
+    let mut buffer = Buffer::new();
+    out.extend_from_slice(buffer.format(n).as_bytes())
+}
+
+fn put_ext(out: &mut Bytes, kind: i8, bytes: &[u8]) -> Result<(), Memory>
+    ensures { OnOk result (out.new ≡ out.old ++ tagged (codes "ext:" ++ (signed_decimal kind ++ codes ":")) bytes.now) }
+{
+    out.extend_from_slice(b"\"ext:")?;
+    put_signed(out, kind as i64)?;
+    out.push(b':')?;
+    put_hex(out, bytes)?;
+    out.push(b'"')
+}
+
+#[cycle(write)]
+fn write_value(alloc: Global, value: &Value, out: &mut Bytes) -> Result<(), Memory>
+    ensures { OnOk result (out.new ≡ out.old ++ json (val_of value.now)) }
+{
+    match value {
+        Value::Nil => out.extend_from_slice(b"null"),
+        Value::Truth(true) => out.extend_from_slice(b"true"),
+        Value::Truth(false) => out.extend_from_slice(b"false"),
+        Value::Uint(n) => put_number(out, *n),
+        Value::Neg(n) => put_signed(out, n.get()),
+        Value::Text(bytes) => put_string(out, bytes.as_slice()),
+        Value::Bin(bytes) => put_tagged(out, b"bin:", bytes.as_slice()),
+        Value::Float32(bits) => put_tagged(out, b"f32:", bits.to_be_bytes().as_slice()),
+        Value::Float64(bits) => put_tagged(out, b"f64:", bits.to_be_bytes().as_slice()),
+        Value::Ext(kind, bytes) => put_ext(out, *kind, bytes.as_slice()),
+        Value::List(values) => {
+            out.push(b'[')?;
+            write_values(alloc, values.as_slice(), out)?;
+            out.push(b']')
+        }
+        Value::Map(pairs) => {
+            out.push(b'{')?;
+            write_pairs(alloc, pairs.as_slice(), out)?;
+            out.push(b'}')
+        }
+    }
+}
+
+/// Appends a key: UTF-8 text as it is, and any other key as its quoted text.
+#[cycle(write)]
+fn write_key(alloc: Global, key: &Value, out: &mut Bytes) -> Result<(), Memory>
+    ensures { OnOk result (out.new ≡ out.old ++ key_text (val_of key.now) (json (val_of key.now))) }
+{
+    match key {
+        Value::Text(bytes) => put_key(alloc, out, bytes.as_slice()),
+        _ => {
+            let mut shown = Bytes::new(alloc);
+            write_value(alloc, key, &mut shown)?;
+            put_quoted(out, shown.as_slice())
+        }
+    }
+}
+
+#[cycle(write)]
+fn write_pair(alloc: Global, pair: &(Value, Value), out: &mut Bytes) -> Result<(), Memory>
+    ensures { OnOk result (out.new ≡ out.old ++ pair_text (pair_of pair.now)) }
+{
+    write_key(alloc, &pair.0, out)?;
+    out.push(b':')?;
+    write_value(alloc, &pair.1, out)
+}
+
+#[cycle(write)]
+fn write_values(alloc: Global, values: &[Value], out: &mut Bytes) -> Result<(), Memory>
+    ensures { OnOk result (out.new ≡ out.old ++ values_text (vals_of (map val_of values.now))) }
+{
+    match values {
+        [] => Ok(()),
+        [first, rest @ ..] => {
+            write_value(alloc, first, out)?;
+            write_more_values(alloc, rest, out)
+        }
+    }
+}
+
+/// Appends values, a comma before each.
+#[cycle(write)]
+fn write_more_values(alloc: Global, values: &[Value], out: &mut Bytes) -> Result<(), Memory>
+    ensures { OnOk result (out.new ≡ out.old ++ more_values (vals_of (map val_of values.now))) }
+{
+    for value in values {
+        out.push(b',')?;
+        write_value(alloc, value, out)?;
+    }
+    Ok(())
+}
+
+#[cycle(write)]
+fn write_pairs(alloc: Global, pairs: &[(Value, Value)], out: &mut Bytes) -> Result<(), Memory>
+    ensures { OnOk result (out.new ≡ out.old ++ pairs_text (entries_of (map pair_of pairs.now))) }
+{
+    match pairs {
+        [] => Ok(()),
+        [first, rest @ ..] => {
+            write_pair(alloc, first, out)?;
+            write_more_pairs(alloc, rest, out)
+        }
+    }
+}
+
+/// Appends pairs, a comma before each.
+#[cycle(write)]
+fn write_more_pairs(alloc: Global, pairs: &[(Value, Value)], out: &mut Bytes) -> Result<(), Memory>
+    ensures { OnOk result (out.new ≡ out.old ++ more_pairs (entries_of (map pair_of pairs.now))) }
+{
+    for pair in pairs {
+        out.push(b',')?;
+        write_pair(alloc, pair, out)?;
+    }
+    Ok(())
+}
+
+/// Appends the JSON text of a value, without blanks. Bin, ext, floats and text that isn't UTF-8 are shown as strings with
+/// a tag and hex digits; a key that isn't UTF-8 text is the quoted text of that key. After `Err` the bytes are as before.
+pub fn json_text(alloc: Global, value: &Value, out: &mut Bytes) -> Result<(), Memory>
+    ensures ok { OnOk result (out.new ≡ out.old ++ json (val_of value.now)) }
+    ensures err { OnErr result (out.new ≡ out.old) }
+{
+    let mut text = Bytes::new(alloc);
+    write_value(alloc, value, &mut text)?;
+    out.extend_from_slice(text.as_slice())
+}
