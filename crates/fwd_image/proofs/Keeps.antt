@@ -20,16 +20,20 @@ pub record Kept (from to end i : ℕ) : Type 0 where
   pub below : i < end
   pub beside : (i < from) ⊎ (to ≤ i)
 
--- the file has its first bytes up to the end, on the disk and without doubt, but for a zone of them
-pub record Keeps (from to end : ℕ) (first : List ℕ) (s : FileState) : Type 0 where
+-- The file has its first bytes up to the end, on the disk and without doubt, but for a zone of them, and it doesn't reach
+-- past the limit.
+pub record Keeps (from to end limit : ℕ) (first : List ℕ) (s : FileState) : Type 0 where
   pub long : s.synced ≤ length s.bytes
+  pub within : length s.bytes ≤ s.reached
+  pub short : s.reached ≤ limit
   pub stays : s.may_go ≡ false
   pub covers : end ≤ s.synced
   pub same : (i : ℕ) → Kept from to end i → get_or s.bytes i 0 ≡ get_or first i 0
   pub sure : (i : ℕ) → Kept from to end i → InDoubt s.doubt i → ⊥
 
 -- some bytes are the same
-pub record Agrees (from to end : ℕ) (first image : List ℕ) : Type 0 where
+pub record Agrees (from to end limit : ℕ) (first image : List ℕ) : Type 0 where
+  pub short : length image ≤ limit
   pub covers : end ≤ length image
   pub same : (i : ℕ) → Kept from to end i → get_or image i 0 ≡ get_or first i 0
 
@@ -37,16 +41,18 @@ pub record Agrees (from to end : ℕ) (first image : List ℕ) : Type 0 where
 abbrev pub IsBeside : ℕ → ℕ → ℕ → ℕ → ℕ → Type 0
 IsBeside from to end at n = (end ≤ at) ⊎ ((from ≤ at) × (at + n ≤ to))
 
-module _ (from to end : ℕ) (first : List ℕ) where
-  pub keeps_first : end ≤ length first → Keeps from to end first (whole first)
-  keeps_first within = record { long = omega arith; stays = refl; covers = within; same = λ i kept. refl; sure = λ i kept no. no }
+module _ (from to end limit : ℕ) (first : List ℕ) where
+  pub keeps_first : end ≤ length first → length first ≤ limit → Keeps from to end limit first (whole first)
+  keeps_first covers short = record { long = omega arith; within = omega arith; short = short; stays = refl; covers = covers; same = λ i kept. refl; sure = λ i kept no. no }
 
-  pub keeps_whole : (s : FileState) → Keeps from to end first s → Keeps from to end first (whole s.bytes)
-  keeps_whole s keeps = record { long = omega arith; stays = refl; covers = omega (arith, keeps.long, keeps.covers); same = keeps.same; sure = λ i kept no. no }
+  pub keeps_whole : (s : FileState) → Keeps from to end limit first s → Keeps from to end limit first (whole s.bytes)
+  keeps_whole s keeps = record { long = omega arith; within = omega arith; short = omega (arith, keeps.within, keeps.short); stays = refl; covers = omega (arith, keeps.long, keeps.covers); same = keeps.same; sure = λ i kept no. no }
 
-  pub keeps_written : (s : FileState) (at count : ℕ) (left : List ℕ) → Keeps from to end first s → CanWrite s at → length left ≤ count → IsBeside from to end at count → Keeps from to end first (written s at count left)
-  keeps_written s at count left keeps can le beside = record {
+  pub keeps_written : (s : FileState) (at count : ℕ) (left : List ℕ) → Keeps from to end limit first s → CanWrite s at → length left ≤ count → at + count ≤ limit → IsBeside from to end at count → Keeps from to end limit first (written s at count left)
+  keeps_written s at count left keeps can le low beside = record {
     long = omega (arith, keeps.long, length-overwritten s.bytes at left can.within);
+    within = omega (arith, keeps.within, length-overwritten s.bytes at left can.within);
+    short = omega (arith, keeps.short);
     stays = keeps.stays;
     covers = keeps.covers;
     same = λ i kept. get_or-overwritten s.bytes at left i can.within (short i (out i kept beside kept.beside)) ∙ keeps.same i kept;
@@ -67,16 +73,17 @@ module _ (from to end : ℕ) (first : List ℕ) where
       no i (inr b) none (inl range) = omega (arith, b, range.1)
       no i b none (inr old) = none old
 
-  pub whole_agrees : (bytes : List ℕ) → Keeps from to end first (whole bytes) → Agrees from to end first bytes
-  whole_agrees bytes keeps = record { covers = keeps.covers; same = keeps.same }
+  pub whole_agrees : (bytes : List ℕ) → Keeps from to end limit first (whole bytes) → Agrees from to end limit first bytes
+  whole_agrees bytes keeps = record { short = keeps.short; covers = keeps.covers; same = keeps.same }
 
   -- each image has them
-  pub image_agrees : (s : FileState) (image : Option (List ℕ)) → Keeps from to end first s → IsImage s image → (c : List ℕ) × (image ≡ Some c) × Agrees from to end first c
+  pub image_agrees : (s : FileState) (image : Option (List ℕ)) → Keeps from to end limit first s → IsImage s image → (c : List ℕ) × (image ≡ Some c) × Agrees from to end limit first c
   image_agrees s None keeps is = let no : false ≡ true = sym keeps.stays ∙ is in absurd cc
   image_agrees s (Some c) keeps is = (
     c,
     refl,
     record {
+      short = omega (arith, keeps.short, is.1.no_longer);
       covers = omega (arith, keeps.covers, is.1.no_shorter);
       same = λ i kept. is.1.same i (omega (arith, kept.below, keeps.covers)) (keeps.sure i kept) ∙ keeps.same i kept;
     },

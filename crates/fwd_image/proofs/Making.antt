@@ -1,8 +1,8 @@
 -- Functions that make the calls of a program on a disk, by what they answer.
-use Rattle.std.proofs.Common.{◌≡◌, ℕ, List, Option, Result, Ok, Err, IsErrAnd, sym, subst}
-use Rattle.fwd_program.specs.Program.{and_then}
+use Rattle.std.proofs.Common.{◌≡◌, ℕ, List, Option, Some, Result, Ok, Err, IsErrAnd, sym, subst}
+use Rattle.fwd_program.specs.Program.{Return, and_then}
 use Rattle.fwd_program.specs.Told.{Grew, Makes, asking}
-use Rattle.fwd_program.proofs.Leading.{asked_makes}
+use Rattle.fwd_program.proofs.Leading.{asked_makes, stays}
 use Rattle.fwd_program.proofs.Going.{went_on, went_wrong, broke_off}
 use Rattle.fwd_outside.specs.declared.errors.DiskErr.{DiskErr}
 use Rattle.fwd_outside.specs.declared.errors.DiskErr.TheVariants.{Failed, Memory}
@@ -52,3 +52,10 @@ stopped {T = T} {S = S} {a = a} {b = b} {p = p} next {e = e} first = record { ma
 pub exits : {T : Type 0} {a b : DiskTold} {p : DiskProgram (Option T)} {e : DiskErr} (r : Result T DiskErr) → IsErrAnd r (λ x. x ≡ e) → Made {T = T} a b p (Err e) → Made a b p r
 exits (Ok x) is made = absurd is
 exits {T = T} {a = a} {b = b} {p = p} (Err y) is made = subst (λ (x : DiskErr). Made {T = T} a b p (Err x)) (sym is) made
+
+-- no call was made
+pub no_call : {T : Type 0} (a : DiskTold) (x : T) → Made a a (Return (Some x)) (Ok x)
+no_call a x = record { makes = stays a (Return (Some x)) }
+
+pub no_memory : {T : Type 0} (a : DiskTold) (p : DiskProgram (Option T)) → Made {T = T} a a p (Err Memory)
+no_memory a p = record { makes = (p, stays a p) }

@@ -3,9 +3,9 @@ use Rattle.std.proofs.Common.{◌≡◌, ◌≢◌, ◌⊎◌, inl, inr, ℕ, �
 use Rattle.std.proofs.lemmas.Slice.Eq.{bytes_eq-Decides}
 use Rattle.std.specs.Str.{bytes_eq}
 use Rattle.fwd_program.specs.Moments.{Ends}
-use Rattle.fwd_outside.specs.Disk.{DiskCall, DiskAnswer, DiskEntry, DiskGiven, Place, WriteAt, Sync, Remove, Read, ListNames, Preset, FailAt, Mark}
+use Rattle.fwd_outside.specs.Disk.{DiskCall, DiskAnswer, DiskEntry, DiskGiven, Place, WriteAt, Sync, Remove, Read, ListNames, Preset, FailAt}
 use Rattle.fwd_image.specs.File.{FileState, IsSound, IsImage, content, whole, gone, whole_or_gone, or_gone, written}
-use Rattle.fwd_image.specs.Disk.{Files, CanWrite, Placed, Wrote, Synced, Removed, OnFile, Steps, stood}
+use Rattle.fwd_image.specs.Disk.{Files, CanWrite, Placed, Wrote, Synced, Removed, OnFile, Steps, stood_in, stood}
 use Rattle.fwd_image.proofs.Keeps.{length-overwritten}
 
 pub sound_whole : (bytes : List ℕ) → IsSound (whole bytes)
@@ -80,15 +80,17 @@ sound_step (ListNames folder) answer old during new steps sound = (subst AllSoun
 sound_step (Preset name bytes) answer old during new steps sound =
     on_file name (λ _ inside after. (inside ≡ whole bytes) × (after ≡ whole bytes)) old during new steps sound (λ is. (subst IsSound (sym is.0) (sound_whole bytes), subst IsSound (sym is.1) (sound_whole bytes)))
 sound_step (FailAt number) answer old during new steps sound = (subst AllSound (sym steps.0) sound, subst AllSound (sym steps.1) sound)
-sound_step Mark answer old during new steps sound = (subst AllSound (sym steps.0) sound, subst AllSound (sym steps.1) sound)
 
-pub sound_stood : (given : DiskGiven) → AllSound (stood given)
-sound_stood [] name = sound_gone
-sound_stood (file ∷ files) name = by (bytes_eq file.0 name) (sound_stood files name)
+sound_stood_in : (files : List (List ℕ × List ℕ)) → AllSound (stood_in files)
+sound_stood_in [] name = sound_gone
+sound_stood_in (file ∷ files) name = by (bytes_eq file.0 name) (sound_stood_in files name)
   where
-    by : (b : Bool) → IsSound (stood files name) → IsSound (if b then whole file.1 else stood files name)
+    by : (b : Bool) → IsSound (stood_in files name) → IsSound (if b then whole file.1 else stood_in files name)
     by true others = sound_whole file.1
     by false others = others
+
+pub sound_stood : (given : DiskGiven) → AllSound (stood given)
+sound_stood given = sound_stood_in given.files
 
 pub sound_ends : (es : List DiskEntry) (old new : Files) → Ends Steps old es new → AllSound old → AllSound new
 sound_ends [] old new ends sound = subst AllSound (sym ends) sound

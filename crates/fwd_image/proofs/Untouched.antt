@@ -2,7 +2,7 @@
 use Rattle.std.proofs.Common.{◌≡◌, ℕ, List, [], ◌∷◌, All, refl, sym, ◌∙◌, ap}
 use Rattle.std.proofs.lemmas.List.Elements.{All-head, All-tail}
 use Rattle.fwd_program.specs.Moments.{Moments}
-use Rattle.fwd_outside.specs.Disk.{DiskCall, DiskAnswer, DiskEntry, Place, WriteAt, Sync, Remove, Read, ListNames, Preset, FailAt, Mark}
+use Rattle.fwd_outside.specs.Disk.{DiskCall, DiskAnswer, DiskEntry, Place, WriteAt, Sync, Remove, Read, ListNames, Preset, FailAt}
 use Rattle.fwd_image.specs.File.{FileState}
 use Rattle.fwd_image.specs.Disk.{Files, OnFile, Stays, Steps}
 use Rattle.fwd_image.specs.Crash.{IsOn}
@@ -22,7 +22,6 @@ untouched_step name (Read n at len) answer old during new steps off = stayed nam
 untouched_step name (ListNames folder) answer old during new steps off = stayed name old during new steps.1
 untouched_step name (Preset n bytes) answer old during new steps off = off_file n name _ old during new steps off
 untouched_step name (FailAt number) answer old during new steps off = stayed name old during new steps
-untouched_step name Mark answer old during new steps off = stayed name old during new steps
 
 untouched_from : (name : List ℕ) (entries : List DiskEntry) (first files : Files) → files name ≡ first name → All (λ (e : DiskEntry). IsOn e.call name → ⊥) entries → Moments Steps (λ now. now name ≡ first name) files entries
 untouched_from name [] first files same off = same

@@ -1,7 +1,7 @@
 -- What is so of each image of a file, and of a disk by the calls that it told.
 use Rattle.std.specs.Prelude.{◌≡◌, ◌≢◌, ◌⊎◌, ℕ, Option, Some, None, List}
 use Rattle.fwd_program.specs.Since.{Since, After}
-use Rattle.fwd_outside.specs.Disk.{DiskCall, DiskTold, Place, WriteAt, Sync, Remove, Read, ListNames, Preset, FailAt, Mark}
+use Rattle.fwd_outside.specs.Disk.{DiskCall, DiskTold, Place, WriteAt, Sync, Remove, Read, ListNames, Preset, FailAt}
 use Rattle.fwd_image.specs.File.{FileState, IsImage}
 use Rattle.fwd_image.specs.Disk.{Files, Steps, stood}
 
@@ -39,4 +39,3 @@ IsOn (Read n at len) name = ⊥
 IsOn (ListNames folder) name = ⊥
 IsOn (Preset n bytes) name = n ≡ name
 IsOn (FailAt number) name = ⊥
-IsOn Mark name = ⊥

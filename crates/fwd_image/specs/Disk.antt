@@ -3,7 +3,7 @@
 use Rattle.std.specs.Prelude.{◌≡◌, ◌≢◌, ◌⊎◌, ℕ, ◌≤◌, Bool, true, false, IsTrue, if◌then◌else◌, Option, Some, None, List, [], ◌∷◌, ◌++◌, length, take, drop, All, Contains}
 use Rattle.std.specs.Str.{bytes_eq}
 use Rattle.fwd_program.specs.Moments.{Ends}
-use Rattle.fwd_outside.specs.Disk.{DiskCall, DiskAnswer, DiskEntry, DiskGiven, Place, WriteAt, Sync, Remove, Read, ListNames, Preset, FailAt, Mark, IsFileName}
+use Rattle.fwd_outside.specs.Disk.{DiskCall, DiskAnswer, DiskEntry, DiskGiven, Place, WriteAt, Sync, Remove, Read, ListNames, Preset, FailAt, IsFileName}
 use Rattle.fwd_image.specs.File.{FileState, IsSound, whole, gone, whole_or_gone, or_gone, written}
 
 -- each file by its name
@@ -50,7 +50,7 @@ HasRead at len None file = Unit {0}
 -- The file's name goes on behind the folder's and a `/` with this one, which ends there or at a further `/`.
 pub record IsUnder (folder name file : List ℕ) : Type 0 where
   pub rest : List ℕ
-  pub is : file ≡ folder ++ 47 ∷ name ++ rest
+  pub is : file ≡ folder ++ (47 ∷ name ++ rest)
   pub ends : (rest ≡ []) ⊎ ((deeper : List ℕ) × (rest ≡ 47 ∷ deeper))
 
 -- these are the names in the folder, of the files that are there and of further folders
@@ -83,12 +83,14 @@ Steps (Read name at len) answer old during new = HasRead at len answer (old name
 Steps (ListNames folder) answer old during new = HasListed folder answer old × Stays old during new
 Steps (Preset name bytes) answer old during new = OnFile name (λ _ inside after. (inside ≡ whole bytes) × (after ≡ whole bytes)) old during new
 Steps (FailAt number) answer old during new = Stays old during new
-Steps Mark answer old during new = Stays old during new
 
 -- the files that were given at first
+abbrev pub stood_in : List (List ℕ × List ℕ) → Files
+stood_in [] name = gone
+stood_in (file ∷ files) name = if bytes_eq file.0 name then whole file.1 else stood_in files name
+
 abbrev pub stood : DiskGiven → Files
-stood [] name = gone
-stood (file ∷ files) name = if bytes_eq file.0 name then whole file.1 else stood files name
+stood given = stood_in given.files
 
 -- from the files that were given at first, these calls with these answers may have led to those
 abbrev pub MayHold : DiskGiven → List DiskEntry → Files → Type 0

@@ -19,8 +19,6 @@ pub data DiskCall : Type 0 where
   Preset : (name bytes : List ℕ) → DiskCall
   -- the call of this number is to fail
   FailAt : (number : ℕ) → DiskCall
-  -- the calls that an image counts begin here
-  Mark : DiskCall
 
 -- none where the call failed
 abbrev pub DiskAnswer : DiskCall → Type 0
@@ -32,14 +30,15 @@ DiskAnswer (Read name at len) = Option (List ℕ)
 DiskAnswer (ListNames folder) = Option (List (List ℕ))
 DiskAnswer (Preset name bytes) = Unit {0}
 DiskAnswer (FailAt number) = Unit {0}
-DiskAnswer Mark = Unit {0}
 
 abbrev pub DiskEntry : Type 0
 DiskEntry = Entry DiskCall DiskAnswer
 
--- the files that stood there at first, by name
-abbrev pub DiskGiven : Type 0
-DiskGiven = List (List ℕ × List ℕ)
+-- The files that stood there at first, by name, and of a disk in memory where in its list the calls begin that an image
+-- counts.
+pub record DiskGiven : Type 0 where
+  pub files : List (List ℕ × List ℕ)
+  pub mark : ℕ
 
 abbrev pub DiskTold : Type 0
 DiskTold = Told DiskGiven DiskCall DiskAnswer

@@ -1,0 +1,65 @@
+-- What other orders of the calls would leave: images that stand for a content that nobody wrote.
+use Rattle.std.proofs.Common.{◌≡◌, ◌⊎◌, inl, inr, ℕ, ◌<◌, ◌≤◌, Some, None, List, [], ◌∷◌, get_or, drop, refl, arith, lit≤}
+use Rattle.std.proofs.lemmas.Bool.{cases_lt}
+use Rattle.fwd_image.specs.File.{FileState, IsImage, whole, gone, overwritten, written}
+use Rattle.fwd_image.proofs.Keeps.{get_or-overwritten}
+use Rattle.fwd_chunk.specs.Layout.{HasParts}
+
+-- a file with the content 5
+abbrev first : List ℕ
+first = 193 ∷ 0 ∷ 0 ∷ 0 ∷ 0 ∷ 0 ∷ 1 ∷ 0 ∷ 0 ∷ 0 ∷ 0 ∷ 0 ∷ 0 ∷ 0 ∷ 0 ∷ 0 ∷ 0 ∷ 1 ∷ 0 ∷ 0 ∷ 0 ∷ 0 ∷ 0 ∷ 0 ∷ 5 ∷ []
+
+-- The selector is written before the batch 7 and its length are synced: all three are in doubt, and the batch may be 9.
+abbrev unsynced : FileState
+unsynced = written (written (written (whole first) 25 1 (7 ∷ [])) 18 4 (0 ∷ 0 ∷ 0 ∷ 2 ∷ [])) 7 1 (1 ∷ [])
+
+abbrev other_batch : List ℕ
+other_batch = overwritten unsynced.bytes 25 (9 ∷ [])
+
+pub selector_before_sync : IsImage unsynced (Some other_batch) × HasParts other_batch [] (5 ∷ 9 ∷ [])
+selector_before_sync = (
+  (refl, record { no_shorter = lit≤ tt; no_longer = lit≤ tt; same = λ i lt none. get_or-overwritten unsynced.bytes 25 (9 ∷ []) i (lit≤ tt) (inl lt) }),
+  record { short = lit≤ tt; id = refl; id_end = refl; mark = refl; fits = lit≤ tt; meta_is = refl; content_is = refl },
+)
+
+-- There is one slot, which is written over: its bytes are in doubt, and with them the length of the old content.
+abbrev over_the_slot : FileState
+over_the_slot = written (written (whole first) 25 1 (7 ∷ [])) 14 4 (0 ∷ 0 ∷ 0 ∷ 2 ∷ [])
+
+abbrev other_length : List ℕ
+other_length = overwritten over_the_slot.bytes 17 (0 ∷ [])
+
+in_slot : (i : ℕ) → ((14 ≤ i) × (i < 18) → ⊥) → (i < 17) ⊎ (18 ≤ i)
+in_slot i out = by (cases_lt i 17) (cases_lt i 18)
+  where
+    by : (i < 17) ⊎ (17 ≤ i) → (i < 18) ⊎ (18 ≤ i) → (i < 17) ⊎ (18 ≤ i)
+    by (inl lt) b = inl lt
+    by (inr le) (inl lt) = absurd (out (omega (arith, le), lt))
+    by (inr le) (inr le2) = inr le2
+
+agree_outside : (i : ℕ) → i < 25 → (i < 17) ⊎ (18 ≤ i) → get_or other_length i 0 ≡ get_or over_the_slot.bytes i 0
+agree_outside i lt out = get_or-overwritten over_the_slot.bytes 17 (0 ∷ []) i (lit≤ tt) out
+
+pub one_slot : IsImage over_the_slot (Some other_length) × HasParts other_length [] []
+one_slot = (
+  (refl, record { no_shorter = lit≤ tt; no_longer = lit≤ tt; same = λ i lt none. agree_outside i lt (in_slot i (λ range. none (inl range))) }),
+  record { short = lit≤ tt; id = refl; id_end = refl; mark = refl; fits = lit≤ tt; meta_is = refl; content_is = refl },
+)
+
+-- A batch was staged and not committed. Whoever keeps what stands behind the committed length reads 5 and 9.
+abbrev staged : FileState
+staged = written (whole first) 25 1 (7 ∷ [])
+
+abbrev torn : List ℕ
+torn = overwritten staged.bytes 25 (9 ∷ [])
+
+pub torn_tail : IsImage staged (Some torn) × HasParts torn [] (5 ∷ []) × (drop 24 torn ≡ 5 ∷ 9 ∷ [])
+torn_tail = (
+  (refl, record { no_shorter = lit≤ tt; no_longer = lit≤ tt; same = λ i lt none. get_or-overwritten staged.bytes 25 (9 ∷ []) i (lit≤ tt) (inl lt) }),
+  record { short = lit≤ tt; id = refl; id_end = refl; mark = refl; fits = lit≤ tt; meta_is = refl; content_is = refl },
+  refl,
+)
+
+-- The file of an accepted chunk isn't placed before the end of the run: a crash leaves none.
+pub placed_at_the_end : IsImage gone None
+placed_at_the_end = refl

@@ -1,0 +1,15 @@
+//! The file of one chunk.
+//!
+//! A batch that was acknowledged must be there after a crash, and one that was not must leave the chunk as it was. A file
+//! has two slots for the length of its content, and one byte that chooses a slot. An append writes the batch behind the
+//! content and the new length into the slot that isn't chosen, syncs both, and only then writes the byte that chooses it:
+//! a crash at any moment leaves the old content or the new.
+#![tactic(auto)]
+
+mod append;
+mod laws;
+mod new_file;
+
+pub use append::{ChunkHead, commit, stage};
+pub use laws::{commit_keeps_either, create_comes_whole, stage_keeps_the_old};
+pub use new_file::create;

@@ -1,0 +1,9 @@
+pub mod Found
+pub mod Changing
+pub mod Played
+pub mod Noting
+pub mod Honest
+pub mod Listed
+pub mod Picked
+pub mod Imaging
+pub mod Crashed

@@ -1,0 +1,16 @@
+//! A disk in memory.
+//!
+//! A test or a replay wants a disk whose failures and crashes are chosen. This one keeps every call with its answer, fails
+//! the calls that it was told to fail, and gives the disks that a crash after some of the calls leaves.
+#![tactic(auto)]
+
+mod content;
+mod crash;
+mod image;
+mod listing;
+mod memory;
+mod parts;
+mod table;
+mod told;
+
+pub use memory::MemDisk;
