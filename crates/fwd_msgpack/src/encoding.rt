@@ -1,20 +1,12 @@
 ghost use Rattle.std.specs.Prelude.{◌≡◌, ◌↔◌, ◌<◌, ◌≤◌, ◌-◌, ◌^◌, ℕ, ℤ, List, [], ◌∷◌, ◌++◌, length, map, IsTrue, OnOk, OnErr};
-<<<<<<< HEAD
-ghost use Rattle.fwd_value.specs.Val.{vals_of, entries_of, text, bin, ext, whole};
-=======
 ghost use Rattle.fwd_value.specs.Val.{vals_of, entries_of, text, bin, ext, whole, mapping};
->>>>>>> 9220d3c62fd77d8e98dc1dfb2a883d36be0b797b
 ghost use Rattle.fwd_value.specs.View.{val_of, pair_of};
 ghost use Rattle.fwd_value.specs.Limits.{nesting, LengthsFit, AllLengthsFit, EntryLengthsFit, IsInRange, AreInRange, EntriesAreInRange};
 ghost use Rattle.fwd_msgpack.specs.Canonical.{number_bytes, minus_bytes, whole_bytes, text_head, bin_head, ext_head, list_head, map_head, canonical, canonical_all, canonical_entries};
 ghost use Rattle.fwd_msgpack.specs.Writing.{KeepsFront};
 
 use fwd_base::{Bytes, Memory};
-<<<<<<< HEAD
-use fwd_value::{Below, Value};
-=======
 use fwd_value::{Below, Pairs, Value};
->>>>>>> 9220d3c62fd77d8e98dc1dfb2a883d36be0b797b
 
 /// Appends a first byte, and the bytes behind it.
 #[inline(always)]
@@ -281,15 +273,6 @@ pub fn encode(value: &Value, out: &mut Bytes) -> Result<(), Memory>
     ensures err { OnErr result (out.new ≡ out.old) }
 {
     let start = out.len();
-<<<<<<< HEAD
-    match write_value(value, out) {
-        Ok(()) => Ok(()),
-        Err(Memory) => {
-            out.truncate(start);
-            Err(Memory)
-        }
-    }
-=======
     let written = write_value(value, out);
     if written.is_err() {
         out.truncate(start);
@@ -322,5 +305,4 @@ pub fn encode_map(pairs: &Pairs, out: &mut Bytes) -> Result<(), Memory>
         out.truncate(start);
     }
     written
->>>>>>> 9220d3c62fd77d8e98dc1dfb2a883d36be0b797b
 }

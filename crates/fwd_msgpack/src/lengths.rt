@@ -1,19 +1,11 @@
 //! Which values can be written.
 
 ghost use Rattle.std.specs.Prelude.{◌≡◌, ◌↔◌, ◌≤◌, ◌<◌, ◌^◌, map, IsTrue};
-<<<<<<< HEAD
-ghost use Rattle.fwd_value.specs.Val.{vals_of, entries_of};
-ghost use Rattle.fwd_value.specs.View.{val_of, pair_of};
-ghost use Rattle.fwd_value.specs.Limits.{nesting, LengthsFit, AllLengthsFit, EntryLengthsFit};
-
-use fwd_value::Value;
-=======
 ghost use Rattle.fwd_value.specs.Val.{vals_of, entries_of, mapping};
 ghost use Rattle.fwd_value.specs.View.{val_of, pair_of};
 ghost use Rattle.fwd_value.specs.Limits.{nesting, entry_nestings, LengthsFit, AllLengthsFit, EntryLengthsFit};
 
 use fwd_value::{Pairs, Value};
->>>>>>> 9220d3c62fd77d8e98dc1dfb2a883d36be0b797b
 
 /// Whether a value can be written: it is nested at most 64, and each length in it is below 2^32.
 pub fn can_encode(value: &Value) -> bool
@@ -22,8 +14,6 @@ pub fn can_encode(value: &Value) -> bool
     value.nests_within(64) && lengths_fit(value)
 }
 
-<<<<<<< HEAD
-=======
 /// Whether a map of these pairs can be written, given as deep as lists and maps may be nested in it.
 pub fn can_encode_map(pairs: &Pairs, depth: u64) -> bool
     ensures { IsTrue result ↔ (entry_nestings (entries_of pairs.now) ≤ depth) × LengthsFit (mapping (entries_of pairs.now)) }
@@ -37,7 +27,6 @@ fn map_lengths_fit(pairs: &Pairs) -> bool
     has_form(pairs.len()) && entry_lengths_fit(pairs.as_slice())
 }
 
->>>>>>> 9220d3c62fd77d8e98dc1dfb2a883d36be0b797b
 fn has_form(length: usize) -> bool
     ensures { IsTrue result ↔ (length < 2 ^ 32) }
 {

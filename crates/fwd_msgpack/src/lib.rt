@@ -13,21 +13,13 @@ mod lengths;
 mod reading;
 
 pub use decoding::decode;
-<<<<<<< HEAD
-pub use encoding::encode;
-=======
 pub use encoding::{encode, encode_map};
->>>>>>> 9220d3c62fd77d8e98dc1dfb2a883d36be0b797b
 pub use errors::DecodeErr;
 pub use fwd_value::{Below, Pairs, Value, Values};
 pub use laws::{
     canonical_is_a_spelling, canonical_is_read_back, canonical_is_shortest, one_reading,
 };
-<<<<<<< HEAD
-pub use lengths::can_encode;
-=======
 pub use lengths::{can_encode, can_encode_map};
->>>>>>> 9220d3c62fd77d8e98dc1dfb2a883d36be0b797b
 
 #[cfg(test)]
 mod tests;
