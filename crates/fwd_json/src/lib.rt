@@ -1,11 +1,13 @@
-//! Values are shown to readers as JSON text: one line for each, whatever bytes a value holds.
+//! Peers send log lines as JSON, and outputs write values so. Here a line of JSON becomes the pairs of a body, or is refused
+//! with its reason, and a value becomes JSON text, one line for each, whatever bytes it holds.
 #![tactic(auto)]
 
+mod reading;
+#[cfg(test)]
+mod tests;
 mod text;
 
 pub use fwd_base::{Bytes, Memory};
 pub use fwd_value::{Below, Pairs, Value, Values};
+pub use reading::{JsonErr, pairs_of_json};
 pub use text::json_text;
-
-#[cfg(test)]
-mod tests;

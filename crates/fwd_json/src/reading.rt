@@ -1,0 +1,217 @@
+//! Reading JSON.
+
+ghost use Rattle.std.specs.Prelude.{◌≡◌, ◌≢◌, ◌↔◌, ◌≤◌, IsTrue, IfOk, IfErr, Ok, Err};
+ghost use Rattle.serde_json.specs.Data.{depth, items_depth, members_depth};
+ghost use Rattle.serde_json.specs.Errors.{IsMemory};
+ghost use Rattle.serde_json.specs.View.{view, number_view, items_view, members_view};
+ghost use Rattle.fwd_value.specs.Val.{vals_of, entries_of};
+ghost use Rattle.fwd_value.specs.View.{val_of};
+ghost use Rattle.fwd_json.specs.Reading.{is_whole, all_whole, items_whole, members_whole, number_value, value_of, values_of, pairs_of, object_pairs as pairs_of_object, pairs_in};
+
+use fwd_base::{Bytes, Memory};
+use fwd_value::{Below, Pairs, Value, Values};
+use serde_json::{Error as JsonError, Map, Number, Value as Json};
+use std::alloc::Global;
+use thiserror::Error;
+
+/// Why a line gives no pairs.
+#[derive(Clone, Copy, Debug, PartialEq, Eq, Error)]
+pub enum JsonErr {
+    #[error("not JSON")]
+    NotJson,
+    #[error("not an object")]
+    NotAnObject,
+    /// A number isn't whole, or has more than 64 bits.
+    #[error("a number that isn't whole")]
+    NotWhole,
+    #[error("nested too deep")]
+    TooDeep,
+    #[error("out of memory")]
+    Memory,
+}
+
+impl From<Memory> for JsonErr {
+    ghost use Rattle.std.specs.Prelude.{◌≡◌};
+    ghost use Rattle.fwd_json.specs.declared.reading.JsonErr.TheVariants as err;
+
+    ghost from_gives = { λ _ error. error ≡ err.Memory };
+
+    fn from(_: Memory) -> Self {
+        JsonErr::Memory
+    }
+}
+
+/// How deep the members of an object may be nested.
+const MEMBERS_DEPTH: u32 = 62;
+
+/// The pairs of a line that is a JSON object, in the byte order of their keys; of equal keys the last counts. Where
+/// several refusals hold, the first of `NotJson`, `NotAnObject`, `NotWhole` and `TooDeep` comes. An object nested deeper
+/// than 63 is too deep.
+pub fn pairs_of_json(alloc: Global, line: &[u8]) -> Result<Pairs, JsonErr>
+    ensures pairs { IfOk result (λ pairs. pairs_in line.now ≡ Ok pairs) }
+    ensures refused { IfErr result (λ e. e ≢ JsonErr.Memory → pairs_in line.now ≡ Err e) }
+{
+    match Json::from_slice(alloc, line) {
+        Ok(json) => object_pairs(alloc, &json),
+        Err(error) => Err(refusal(&error)),
+    }
+}
+
+/// Why a line wasn't read.
+fn refusal(error: &JsonError) -> JsonErr
+    ensures memory { IsMemory error.now → result ≡ JsonErr.Memory }
+    ensures text { ¬ IsMemory error.now → result ≡ JsonErr.NotJson }
+{
+    if error.is_memory() {
+        JsonErr::Memory
+    } else {
+        JsonErr::NotJson
+    }
+}
+
+/// The pairs of an object.
+fn object_pairs(alloc: Global, json: &Json) -> Result<Pairs, JsonErr>
+    ensures pairs { IfOk result (λ pairs. pairs_of_object (view json.now) ≡ Ok pairs) }
+    ensures refused { IfErr result (λ e. e ≢ JsonErr.Memory → pairs_of_object (view json.now) ≡ Err e) }
+{
+    let Some(members) = json.as_object() else {
+        return Err(JsonErr::NotAnObject);
+    };
+    if !are_members_whole(members) {
+        return Err(JsonErr::NotWhole);
+    }
+    if !members_nest_within(members, MEMBERS_DEPTH) {
+        return Err(JsonErr::TooDeep);
+    }
+    Ok(members_pairs(alloc, members)?)
+}
+
+/// Whether every number in the data is whole and has at most 64 bits.
+#[cycle(whole)]
+fn is_all_whole(json: &Json) -> bool
+    ensures { result ≡ all_whole (view json.now) }
+{
+    match json {
+        Json::Number(number) => is_number_whole(number),
+        Json::Array(items) => are_items_whole(items),
+        Json::Object(members) => are_members_whole(members),
+        Json::Null | Json::Bool(_) | Json::String(_) => true,
+    }
+}
+
+fn is_number_whole(number: &Number) -> bool
+    ensures { result ≡ is_whole (number_view number.now) }
+{
+    number.as_u64().is_some() || number.as_i64().is_some()
+}
+
+#[cycle(whole)]
+fn are_items_whole(items: &Vec<Json>) -> bool
+    ensures { result ≡ items_whole (items_view items.now.items) }
+{
+    for item in items {
+        if !is_all_whole(item) {
+            return false;
+        }
+    }
+    true
+}
+
+#[cycle(whole)]
+fn are_members_whole(members: &Map<String, Json>) -> bool
+    ensures { result ≡ members_whole (members_view members.now.entries) }
+{
+    for (_key, member) in members.iter() {
+        if !is_all_whole(member) {
+            return false;
+        }
+    }
+    true
+}
+
+/// Whether lists and objects are nested so deep at most in the data.
+#[cycle(nests)]
+fn nests_within(json: &Json, most: u32) -> bool
+    ensures { IsTrue result ↔ (depth (view json.now) ≤ most) }
+{
+    match json {
+        Json::Array(items) => most > 0 && items_nest_within(items, most - 1),
+        Json::Object(members) => most > 0 && members_nest_within(members, most - 1),
+        Json::Null | Json::Bool(_) | Json::Number(_) | Json::String(_) => true,
+    }
+}
+
+#[cycle(nests)]
+fn items_nest_within(items: &Vec<Json>, most: u32) -> bool
+    ensures { IsTrue result ↔ (items_depth (items_view items.now.items) ≤ most) }
+{
+    for item in items {
+        if !nests_within(item, most) {
+            return false;
+        }
+    }
+    true
+}
+
+#[cycle(nests)]
+fn members_nest_within(members: &Map<String, Json>, most: u32) -> bool
+    ensures { IsTrue result ↔ (members_depth (members_view members.now.entries) ≤ most) }
+{
+    for (_key, member) in members.iter() {
+        if !nests_within(member, most) {
+            return false;
+        }
+    }
+    true
+}
+
+/// The value that the data stand for.
+#[cycle(convert)]
+fn value(alloc: Global, json: &Json) -> Result<Value, Memory>
+    ensures { IfOk result (λ value. val_of value ≡ value_of (view json.now)) }
+{
+    match json {
+        Json::Null => Ok(Value::Nil),
+        Json::Bool(truth) => Ok(Value::Truth(*truth)),
+        Json::Number(number) => Ok(whole_value(number)),
+        Json::String(text) => Ok(Value::Text(Bytes::from_slice(alloc, text.as_bytes())?)),
+        Json::Array(items) => Ok(Value::List(items_values(alloc, items)?)),
+        Json::Object(members) => Ok(Value::Map(members_pairs(alloc, members)?)),
+    }
+}
+
+/// The value of a number, or nil where it isn't whole.
+fn whole_value(number: &Number) -> Value
+    ensures { val_of result ≡ number_value (number_view number.now) }
+{
+    if let Some(n) = number.as_u64() {
+        return Value::Uint(n);
+    }
+    match number.as_i64().and_then(Below::of) {
+        Some(n) => Value::Neg(n),
+        None => Value::Nil,
+    }
+}
+
+#[cycle(convert)]
+fn items_values(alloc: Global, items: &Vec<Json>) -> Result<Values, Memory>
+    ensures { IfOk result (λ values. vals_of values ≡ values_of (items_view items.now.items)) }
+{
+    let mut values = Values::new(alloc);
+    for item in items {
+        values.push(value(alloc, item)?)?;
+    }
+    Ok(values)
+}
+
+#[cycle(convert)]
+fn members_pairs(alloc: Global, members: &Map<String, Json>) -> Result<Pairs, Memory>
+    ensures { IfOk result (λ pairs. pairs ≡ pairs_of (members_view members.now.entries)) }
+{
+    let mut pairs = Pairs::new(alloc);
+    for (key, member) in members.iter() {
+        let key = Value::Text(Bytes::from_slice(alloc, key.as_bytes())?);
+        pairs.push((key, value(alloc, member)?))?;
+    }
+    Ok(pairs)
+}
