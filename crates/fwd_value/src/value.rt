@@ -1,6 +1,6 @@
 //! Values, and lists of values and of pairs of values.
 
-ghost use Rattle.std.specs.Prelude.{◌≡◌, ◌↔◌, ℕ, ◌<◌, ◌≤◌, ◌^◌, List, [], ◌∷◌, ◌++◌, length, map, set, insert, remove, slice_get, option_map, option_to_list, IsTrue, IfOk, OnOk, OnErr};
+ghost use Rattle.std.specs.Prelude.{◌≡◌, ◌↔◌, ℕ, ◌<◌, ◌≤◌, ◌^◌, List, [], ◌∷◌, ◌++◌, length, map, set, insert, remove, slice_get, option_map, option_to_list, IsTrue, IfNone, IfOk, OnOk, OnErr};
 ghost use Rattle.std.specs.Slice.Iter.{iter_rest, iter_steps};
 ghost use Rattle.std.specs.Iterator.Runs.{EveryRun, ItemsMapTo};
 ghost use Rattle.fwd_value.specs.Val.{Val, vals_of, entries_of};
@@ -230,7 +230,8 @@ impl Values {
 
     /// Takes out the last value.
     pub fn pop(&mut self) -> Option<Value>
-        ensures { self.old ≡ self.new ++ option_to_list (option_map val_of result) }
+        ensures taken { self.old ≡ self.new ++ option_to_list (option_map val_of result) }
+        ensures none { IfNone result (self.old ≡ []) }
     {
         self.items.pop()
     }
@@ -368,7 +369,8 @@ impl Pairs {
 
     /// Takes out the last pair.
     pub fn pop(&mut self) -> Option<(Value, Value)>
-        ensures { self.old ≡ self.new ++ option_to_list (option_map pair_of result) }
+        ensures taken { self.old ≡ self.new ++ option_to_list (option_map pair_of result) }
+        ensures none { IfNone result (self.old ≡ []) }
     {
         self.items.pop()
     }
