@@ -1,4 +1,5 @@
-//! The program: from the words of the command line to the text and the status.
+//! What the program does, whole: the words of the command line name a configuration and a schedule, these are read, and
+//! the text of the run is written. The text is the one that the history of the happenings gives.
 #![tactic(auto)]
 
 mod built;
@@ -9,6 +10,8 @@ mod life;
 mod report;
 mod run;
 mod status;
+#[cfg(test)]
+mod tests;
 mod top;
 mod words;
 
