@@ -4,3 +4,8 @@ pub mod Sinking
 pub mod Parting
 pub mod Escaping
 pub mod Lining
+pub mod Written
+pub mod Octets
+pub mod Rows
+pub mod LineFeeds
+pub mod Round

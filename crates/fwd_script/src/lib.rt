@@ -13,6 +13,7 @@ mod sink;
 #[cfg(test)]
 mod tests;
 mod words;
+mod writing;
 
 pub use files::{FilesNote, MemFiles};
 pub use fwd_base::{Bytes, Items, Memory};
@@ -23,3 +24,4 @@ pub use schedule::{
     Schedule, Stored, StoredList,
 };
 pub use sink::{MemSink, SinkNote};
+pub use writing::write_schedule;

@@ -1,6 +1,9 @@
 //! Examples of the devices in memory and of the text of schedules.
 
-use crate::{Cut, FileChange, MemFiles, MemSink, ScheduleKind, ScheduleRefused, read_schedule};
+use crate::{
+    Cut, FileChange, MemFiles, MemSink, ScheduleKind, ScheduleRefused, read_schedule,
+    write_schedule,
+};
 use fwd_base::Bytes;
 use fwd_outside::{FileErr, Files, Sink, SinkErr};
 use std::test::Fail;
@@ -98,3 +101,26 @@ fn every_word_is_read(rt: HostRuntime) -> Result<(), Fail> {
     assert_eq!(rt; last.cut, None);
     Ok(())
 }
+
+#[test]
+fn a_schedule_is_written_as_its_text(rt: HostRuntime) -> Result<(), Fail> {
+    let cases: [(&[u8], &[u8]); 4] = [
+        (ONE_LINE, ONE_LINE),
+        (EVERY_WORD, EVERY_WORD_WRITTEN),
+        (b"piece 0 1 x:0aFF", b"piece 0 1 x:0aff\n"),
+        (b"", b""),
+    ];
+    for (text, written) in cases {
+        let alloc = rt.alloc();
+        let schedule = read_schedule(alloc, text)?;
+        let back = write_schedule(alloc, &schedule)?;
+        assert_eq!(rt; back, Bytes::from_slice(alloc, written)?);
+        assert!(rt; read_schedule(alloc, back.as_slice())? == schedule);
+    }
+    Ok(())
+}
+
+const ONE_LINE: &[u8] = b"tick 5000\njoined 0 1\npiece 0 1 t:hello\\n\ntick 6000\nstop\n";
+
+const EVERY_WORD_WRITTEN: &[u8] =
+    b"store a t:b\\\\c\ndisk 1\nfile 2\ndial 1 refused\ndial 1 ok\npush 0 took 7\npush 0 again\npush 0 broken\nreply ok\nreply broken\nword 5\nticks 1 2 3\njoined 0 1\npiece 0 1 t:a b\\n\nappend p x:ff00\ncut p 1\nback 1 t:\nroom 1\nbroken 1\ngone 0 1\ninputend 0\ncrash 3 1\nfailed\ntick 9\nstop\n";
