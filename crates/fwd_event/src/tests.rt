@@ -94,3 +94,14 @@ fn nanoseconds_and_metadata_are_written(rt: HostRuntime) -> Result<(), Fail> {
     assert_eq!(rt; read_events(rt.alloc(), out.as_slice())?.len(), 1);
     Ok(())
 }
+
+#[test]
+fn a_torn_tail_is_left(rt: HostRuntime) -> Result<(), Fail> {
+    // three events in whole seconds, and one that was cut with zeros behind it
+    let bytes =
+        b"\x92\x01\x81\xa1a\x01\x92\x02\x81\xa1a\x01\x92\x03\x81\xa1a\x01\x92\x04\x00\x00\x00\x00";
+    let (events, length) = whole_prefix(rt.alloc(), bytes.as_slice())?;
+    assert_eq!(rt; events.len(), 3);
+    assert_eq!(rt; length, 18);
+    Ok(())
+}
