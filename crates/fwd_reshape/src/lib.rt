@@ -1,0 +1,17 @@
+//! Log lines are reshaped before they are stored: fields are set, removed, renamed and copied, or gathered under one
+//! field and lifted out of it again. Each rule works on the body of an event, a list of keys and values, in place.
+#![tactic(auto)]
+
+mod changes;
+mod keys;
+mod moves;
+mod rules;
+
+pub use changes::modify;
+pub use moves::{lift, nest};
+pub use rules::{
+    Change, Changes, Condition, Conditions, LiftRule, ModifyRules, NestRule, rules_cross,
+};
+
+#[cfg(test)]
+mod tests;
