@@ -1,4 +1,4 @@
--- Which bodies a list of rules keeps.
+-- Which bodies a list of rules keeps, by the manual's page on Grep.
 use Rattle.std.specs.Prelude.{ℕ, List, Bool, true, false, not, Option, Some, None, is_some, if◌then◌else◌, codes}
 use Rattle.std.specs.Fmt.{signed_decimal}
 use Rattle.std.specs.List.{list_all}

@@ -1,4 +1,4 @@
--- What `nest` and `lift` do.
+-- What `nest` and `lift` do, by the manual's page on Nest.
 use Rattle.std.specs.Prelude.{ℕ, ◌-◌, List, [], ◌∷◌, ◌++◌, Bool, false, ◌&&◌, not, if◌then◌else◌, filter, map, drop, take, length, nat_eq, nat_le}
 use Rattle.std.specs.List.{list_any, starts_with, ends_with}
 use Rattle.std.specs.Option.{option_map_or}

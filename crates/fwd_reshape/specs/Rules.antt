@@ -1,4 +1,4 @@
--- What `modify` does: one function for each condition and for each rule.
+-- What `modify` does, by the manual's page on Modify: one function for each condition and for each rule.
 use Rattle.std.specs.Prelude.{ℕ, List, [], ◌∷◌, ◌++◌, Bool, false, ◌&&◌, not, if◌then◌else◌, filter, fold, nat_eq}
 use Rattle.std.specs.List.{list_all, starts_with}
 use Rattle.std.specs.Option.{option_map_or}
