@@ -1,0 +1,11 @@
+-- How a glob and a tag go on.
+use Rattle.std.specs.Prelude.{◌≡◌, ◌≢◌, ℕ, List, [], ◌∷◌}
+use Rattle.fwd_route.specs.Glob.{Glob}
+use Rattle.fwd_route.specs.declared.Step.{Step}
+use Rattle.fwd_route.specs.declared.Step.TheVariants.{Over, Star, Same, Other}
+
+abbrev pub Steps : List ℕ → List ℕ → Step → Type 0
+Steps pattern tag Over = (pattern ≡ []) × (tag ≡ [])
+Steps pattern tag (Star behind) = pattern ≡ 42 ∷ behind.now
+Steps pattern tag (Same behind rest) = (byte : ℕ) × (byte ≢ 42) × (pattern ≡ byte ∷ behind.now) × (tag ≡ byte ∷ rest.now)
+Steps pattern tag Other = Glob pattern tag → ⊥
