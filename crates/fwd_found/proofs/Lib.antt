@@ -1,0 +1,4 @@
+pub mod Heading
+pub mod Events
+pub mod Answers
+pub mod Standing

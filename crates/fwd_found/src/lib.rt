@@ -1,0 +1,21 @@
+//! What stands in a chunk's file that is found.
+//!
+//! After a crash the files of chunks are found again, some of them cut, some written by others. Each stands for a tag
+//! and whole events, or is refused for the first reason that its bytes give. A file with a committed length stands for
+//! so many bytes, whatever stands behind them; a plain file for its longest prefix of whole events.
+#![tactic(auto)]
+
+mod chunk;
+mod header;
+mod laws;
+mod reading;
+mod refusal;
+
+pub use chunk::{Brief, Chunk, Found, Seen, chunks_cross};
+pub use fwd_base::{Bytes, Memory};
+pub use laws::{new_metadata_say_the_tag, parts_stand};
+pub use reading::read_chunk;
+pub use refusal::{ChunkKind, NotAChunk};
+
+#[cfg(test)]
+mod tests;
