@@ -1,6 +1,7 @@
 -- Globs byte by byte.
 use Rattle.std.proofs.Common.{◌≡◌, ◌≢◌, ◌⊎◌, inl, inr, ◌↔◌, ℕ, ◌≤◌, Bool, true, false, eqb, List, [], ◌∷◌, ◌++◌, length, length-append, append_assoc, refl, sym, ap, subst, ◌∙◌, arith}
 use Rattle.std.proofs.lemmas.Bool.{eqb-true, eqb-false}
+use Rattle.fwd_route.specs.Steps.{IsEnd}
 use Rattle.fwd_route.specs.Glob.{Glob, Plain, Star, HasNoStar}
 
 abbrev pub FitsBy : Bool → ℕ → (List ℕ → Type 0) → List ℕ → Type 0
@@ -126,3 +127,22 @@ pub other_byte : (whole text : List ℕ) (byte : ℕ) (behind : List ℕ) → wh
 other_byte whole text byte behind is plain other glob =
     let fits = byte_fits byte behind text plain (subst (λ (l : List ℕ). Fits l text) is (fits_from_glob whole text glob)) in
     other fits.0 fits.1
+
+-- what a pattern without a star fits
+plain_is : (pattern text : List ℕ) → HasNoStar pattern → Fits pattern text → text ≡ pattern
+plain_is [] text none fits = fits
+plain_is (byte ∷ pattern) text none fits =
+    let first = byte_fits byte pattern text none.0 fits in
+    first.1 ∙ ap (λ (l : List ℕ). byte ∷ l) (plain_is pattern first.0 none.1 first.2)
+
+-- a star with no other behind it fits where the rest is an end
+pub last_star : (behind text : List ℕ) → HasNoStar behind → Fits (42 ∷ behind) text ↔ IsEnd behind text
+last_star behind text none = (there, back)
+  where
+    there : Fits (42 ∷ behind) text → IsEnd behind text
+    there fits =
+        let star = star_same behind text fits in
+        (star.0, star.2 ∙ ap (λ (l : List ℕ). star.0 ++ l) (plain_is behind star.1 none star.3))
+
+    back : IsEnd behind text → Fits (42 ∷ behind) text
+    back end = (end.0, behind, end.1, plain_fits behind none)

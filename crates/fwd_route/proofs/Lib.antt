@@ -1,3 +1,4 @@
 pub mod Fitting
 pub mod Scanning
 pub mod Masks
+pub mod Stars

@@ -1,9 +1,10 @@
 -- What a scan of a tag keeps: the glob matches the tag exactly where what is left fits, or a later place to go back to.
-use Rattle.std.proofs.Common.{◌≡◌, ◌≢◌, ◌⊎◌, inl, inr, ℕ, ◌+◌, ◌*◌, ◌<◌, ◌≤◌, Option, Some, None, List, [], ◌∷◌, ◌++◌, length, length-append, append_assoc, refl, sym, ap, subst, ◌∙◌, arith}
+use Rattle.std.proofs.Common.{◌≡◌, ◌≢◌, ◌⊎◌, inl, inr, ◌↔◌, ℕ, ◌+◌, ◌*◌, ◌<◌, ◌≤◌, Option, Some, None, List, [], ◌∷◌, ◌++◌, length, length-append, append_assoc, refl, sym, ap, subst, ◌∙◌, arith}
 use Rattle.std.proofs.Math.Nat.{mul-le-mul_right}
+use Rattle.fwd_route.specs.Steps.{IsEnd}
 use Rattle.fwd_route.specs.Glob.{Glob, HasNoStar}
 use Rattle.fwd_route.specs.declared.Back.{Back}
-use Rattle.fwd_route.proofs.Fitting.{Fits, Later, glob_from_fits, fits_from_glob, star_or_later, later_linked, byte_fits, fits_byte}
+use Rattle.fwd_route.proofs.Fitting.{Fits, Later, glob_from_fits, fits_from_glob, star_or_later, last_star, later_linked, byte_fits, fits_byte}
 
 -- the star behind which the scan is may stand for more
 abbrev pub MayGoOn : Option Back → Type 0
@@ -69,6 +70,23 @@ scan_star pattern tag back glob new scan is =
       within = short;
       around = at.part;
     }
+
+-- behind the last star of the glob only the tag's end is left to look at
+pub scan_end : (pattern tag : List ℕ) (back : Option Back) (glob behind text : List ℕ) → Scan pattern tag back glob text → glob ≡ 42 ∷ behind → HasNoStar behind → Glob pattern tag ↔ IsEnd behind text
+scan_end pattern tag back glob behind text scan is none = (there, ends)
+  where
+    at : Scan pattern tag back (42 ∷ behind) text
+    at = subst (λ (l : List ℕ). Scan pattern tag back l text) is scan
+
+    by : Fits (42 ∷ behind) text ⊎ MayGoOn back → Fits (42 ∷ behind) text
+    by (inl fits) = fits
+    by (inr later) = star_later back behind text at.passed later
+
+    there : Glob pattern tag → IsEnd behind text
+    there matched = (last_star behind text none).0 (by (at.there (fits_from_glob pattern tag matched)))
+
+    ends : IsEnd behind text → Glob pattern tag
+    ends end = glob_from_fits pattern tag (at.here ((last_star behind text none).1 end))
 
 -- ---- a byte of both
 

@@ -1,9 +1,10 @@
-//! Which outputs take a chunk: those whose glob matches its tag.
+//! Which outputs take a chunk: those whose glob matches its tag. Tags are matched in one scan that takes no memory: where
+//! the bytes behind a star don't stand, that star, and no earlier one, takes one byte more.
 #![tactic(auto)]
 
 ghost use Rattle.std.specs.Prelude.{◌↔◌, ◌≤◌, IsTrue, length};
-ghost use Rattle.fwd_route.specs.Glob.{Glob, RoutesTo};
-ghost use Rattle.fwd_route.specs.Steps.{Steps};
+ghost use Rattle.fwd_route.specs.Glob.{Glob, HasNoStar, RoutesTo};
+ghost use Rattle.fwd_route.specs.Steps.{IsEnd, Steps};
 
 use fwd_base::Names;
 
@@ -47,8 +48,23 @@ struct Back<'a> {
     from: &'a [u8],
 }
 
+/// Whether a glob has no star.
+fn is_plain(glob: &[u8]) -> bool
+    ensures { IsTrue result ↔ HasNoStar glob.now }
+{
+    !glob.contains(&b'*')
+}
+
+/// Whether a text ends so.
+fn is_end(end: &[u8], text: &[u8]) -> bool
+    ensures { IsTrue result ↔ IsEnd end.now text.now }
+{
+    text.ends_with(end)
+}
+
 /// Whether a glob matches a tag. `*` stands for any run of bytes, also none; every other byte stands for itself, and
-/// case counts.
+/// case counts. It takes time in proportion to the product of the lengths at most, and to their sum where the glob has
+/// one star.
 pub fn matches(pattern: &[u8], tag: &[u8]) -> bool
     ensures { IsTrue result ↔ Glob pattern.now tag.now }
 {
@@ -59,6 +75,9 @@ pub fn matches(pattern: &[u8], tag: &[u8]) -> bool
         match next_step(glob, text) {
             Step::Over => return true,
             Step::Star { behind } => {
+                if is_plain(behind) {
+                    return is_end(behind, text);
+                }
                 glob = behind;
                 back = Some(Back { behind, from: text });
             }

@@ -1,13 +1,19 @@
 use Rattle.std.proofs.Common.{◌≡◌, ℕ, List, Option, Some, subst, refl}
 use Rattle.fwd_route.proofs.matches.Goals as goal
 use Rattle.fwd_route.specs.declared.Back.{Back}
-use Rattle.fwd_route.proofs.Scanning.{Scan, MayGoOn, at_the_end, scan_starts, scan_star, scan_byte, scan_back, scan_over, scan_fails, star_smaller, back_smaller}
+use Rattle.fwd_route.proofs.Scanning.{Scan, MayGoOn, at_the_end, scan_starts, scan_star, scan_end, scan_byte, scan_back, scan_over, scan_fails, star_smaller, back_smaller}
 
 pub steps-init : goal.steps-init
 steps-init c = scan_starts _ _
 
 pub returns-in-Over : goal.returns-in-Over
 returns-in-Over c = (λ is. scan_over _ _ _ _ _ c.steps.invariant c.in-Over.ensures.0 c.in-Over.ensures.1, λ matched. refl)
+
+pub returns-then-is_plain : goal.returns-then-is_plain
+returns-then-is_plain c =
+    let plain = c.is_plain.ensures.0 c.if-is_plain.true in
+    let same = scan_end _ _ _ _ _ _ c.steps.invariant c.in-Star.ensures plain in
+    (λ yes. same.1 (c.is_end.ensures.0 yes), λ matched. c.is_end.ensures.1 (same.0 matched))
 
 pub steps-smaller-in-Star : goal.steps-smaller-in-Star
 steps-smaller-in-Star c = star_smaller _ _ _ _ _ _ c.steps.invariant c.in-Star.ensures
