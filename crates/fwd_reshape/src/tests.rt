@@ -254,9 +254,9 @@ fn keys_are_nested_and_lifted(rt: HostRuntime) -> Result<(), Fail> {
     ] {
         let rule = nest_rule(alloc, wildcards, "a", prefix)?;
         let new = nest(alloc, &rule, body(alloc, before)?)?;
-        assert!(rt; show(alloc, &new)?.as_str() == nested, "nest {before}");
+        assert!(rt; show(alloc, &new)?.as_str() == nested);
         let back = lift(alloc, &lift_rule(alloc, "a", "a_")?, new)?;
-        assert!(rt; show(alloc, &back)?.as_str() == lifted, "lift {nested}");
+        assert!(rt; show(alloc, &back)?.as_str() == lifted);
     }
     Ok(())
 }
