@@ -1,8 +1,10 @@
 //! What every crate of Fuztreb names: bytes, lists, the numbers by which inputs, outputs, connections, links and chunks
-//! are known, and want of memory; besides, what a configuration writes as a size or a pattern.
+//! are known, and want of memory; besides, what a configuration writes as a size or a pattern, and choices of it that
+//! crates far from it name.
 #![tactic(auto)]
 
 mod bytes;
+mod choices;
 mod ids;
 mod items;
 mod memory;
@@ -13,6 +15,7 @@ mod size;
 mod tests;
 
 pub use bytes::{Bytes, Names};
+pub use choices::{Form, Retries};
 pub use ids::{ChunkId, ConnId, InputId, LinkId, OutputId};
 pub use items::Items;
 pub use memory::Memory;

@@ -1,4 +1,5 @@
 pub mod Disk
 pub mod Files
 pub mod Sink
+pub mod Loop
 pub mod Honest

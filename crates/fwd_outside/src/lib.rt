@@ -2,15 +2,25 @@
 //! faults, and an implementation may tell the calls that were made of it.
 #![tactic(auto)]
 
+mod answers;
 mod disk;
+mod ends;
 mod errors;
+mod event_loop;
 mod files;
 mod happening;
+mod home;
 mod sink;
 
+pub use answers::{Begun, Dialed, Pushed, Replied};
 pub use disk::Disk;
+pub use ends::{Ends, InEnd, InEnds, OutEnd, OutEnds};
 pub use errors::{DiskErr, FileErr, SinkErr};
+pub use event_loop::Loop;
 pub use files::{Files, read_whole, whole_is_found};
-pub use fwd_base::{Bytes, ChunkId, ConnId, InputId, Items, LinkId, Memory, Names, OutputId};
+pub use fwd_base::{
+    Bytes, ChunkId, ConnId, Form, InputId, Items, LinkId, Memory, Names, OutputId, Retries,
+};
 pub use happening::Happening;
+pub use home::Home;
 pub use sink::Sink;
