@@ -7,7 +7,7 @@ mod step;
 mod steps;
 
 pub use chain::filter;
-pub use steps::{FilterKind, FilterStep, FilterSteps};
+pub use steps::{FilterKind, FilterStep, FilterSteps, steps_cross};
 
 #[cfg(test)]
 mod tests;
