@@ -1,3 +1,4 @@
 pub mod Through
 pub mod Matching
 pub mod Crossing
+pub mod Computed

@@ -3,10 +3,12 @@
 #![tactic(auto)]
 
 mod chain;
+mod laws;
 mod step;
 mod steps;
 
 pub use chain::filter;
+pub use laws::filtered_are_computed;
 pub use steps::{FilterKind, FilterStep, FilterSteps, steps_cross};
 
 #[cfg(test)]
