@@ -9,7 +9,6 @@ ghost use Rattle.fwd_route.specs.Steps.{IsEnd, Steps};
 mod laws;
 
 use fwd_base::Names;
-
 pub use laws::test_tells;
 
 /// How a glob and a tag go on.
