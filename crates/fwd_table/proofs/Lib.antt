@@ -1,3 +1,4 @@
 pub mod Rising
 pub mod Masks
 pub mod Below
+pub mod Bits

@@ -16,7 +16,7 @@ use Rattle.fwd_table.specs.declared.route.Route.{Route}
 use Rattle.fwd_table.specs.Routes.{RiseFrom, mask_of}
 use Rattle.fwd_table.proofs.Rising.{output_below}
 
-mask-cons : (r : Route) (rs : List Route) → mask_of (r ∷ rs) ≡ 2 ^ r.output.0 + mask_of rs
+pub mask-cons : (r : Route) (rs : List Route) → mask_of (r ∷ rs) ≡ 2 ^ r.output.0 + mask_of rs
 mask-cons r rs = omega (arith, sum_by-append (λ (s : Route). 2 ^ s.output.0) (r ∷ []) rs)
 
 pub mask_before : (n : ℕ) (rs : List Route) (i : ℕ) (d : Route) → RiseFrom n rs → i < length rs → 2 ^ n + mask_of (take i rs) ≤ 2 ^ (get_or rs i d).output.0

@@ -1,5 +1,5 @@
 -- The routes of a chunk: the outputs that it is owed to still, by rising number.
-use Rattle.std.specs.Prelude.{◌≡◌, ℕ, ◌+◌, ◌^◌, ◌<◌, ◌≤◌, ◌==◌, Bool, true, false, not, List, [], ◌∷◌, map, filter, find, sum_by, Option, if◌then◌else◌}
+use Rattle.std.specs.Prelude.{◌≡◌, ◌↔◌, ℕ, ◌+◌, ◌^◌, ◌<◌, ◌≤◌, ◌==◌, Bool, true, false, not, List, [], ◌∷◌, map, filter, find, sum_by, Any, IsBitSet, Option, if◌then◌else◌}
 use Rattle.std.specs.List.{range_with_len}
 use Rattle.std.specs.Int.{bit_at}
 use Rattle.std.specs.Option.{option_map_or}
@@ -29,6 +29,10 @@ routes_to mask = routes_below 64 mask
 -- the mask of outputs that are different
 abbrev pub mask_of : List Route → ℕ
 mask_of routes = sum_by (λ r. 2 ^ r.output.0) routes
+
+-- bit i of the mask is set exactly where one of the routes is to output i
+abbrev pub IsMaskOf : List Route → ℕ → Type 0
+IsMaskOf routes mask = (i : ℕ) → IsBitSet mask i ↔ Any (λ r. r.output.0 ≡ i) routes
 
 -- the routes under way
 abbrev pub flying_of : List Route → List Route

@@ -1,8 +1,8 @@
 //! Routes: the outputs that a chunk is owed to still.
 
-ghost use Rattle.std.specs.Prelude.{◌≡◌, ◌==◌, ◌≤◌, [], fold, filter, find, length, map, option_copied, vec_capacity, if◌then◌else◌};
+ghost use Rattle.std.specs.Prelude.{◌≡◌, ◌==◌, ◌≤◌, [], fold, filter, find, length, map, option_copied, option_map, vec_capacity, if◌then◌else◌};
 ghost use Rattle.fwd_retry.specs.Timer.{earlier as earlier_of, is_next};
-ghost use Rattle.fwd_table.specs.Routes.{idle_at, is_to, on_output, without_output, timer_of, idle_timers, tries_to, routes_below, routes_to, mask_of, flying_of};
+ghost use Rattle.fwd_table.specs.Routes.{idle_at, is_to, on_output, without_output, timer_of, idle_timers, tries_to, routes_below, routes_to, mask_of, flying_of, IsMaskOf};
 ghost use Rattle.fwd_table.specs.Changes.{changed};
 
 use fwd_base::{ChunkId, OutputId};
@@ -147,7 +147,8 @@ impl Routes {
     /// all outputs and takes no memory.
     pub fn to(mut storage: Vec<Route>, owed: u64) -> Self
         requires { MAX_OUTPUTS ≤ vec_capacity storage }
-        ensures { result ≡ routes_to owed }
+        ensures value { result ≡ routes_to owed }
+        ensures bits { IsMaskOf (routes_to owed) owed }
     {
         storage.clear();
         put_routes(&mut storage, owed, MAX_OUTPUTS);
@@ -158,6 +159,16 @@ impl Routes {
         ensures { result ≡ (length self.now == 0) }
     {
         self.routes.is_empty()
+    }
+
+    /// Whether the route to an output is under way, if it is owed.
+    pub fn is_flying(&self, output: OutputId) -> Option<bool>
+        ensures { result ≡ option_map (λ r. r.flying) (find (is_to output) self.now) }
+    {
+        match find_route(&self.routes, output) {
+            Some(route) => Some(route.flying),
+            None => None,
+        }
     }
 
     /// How often the route to an output has failed, 0 where it isn't owed.
@@ -193,7 +204,8 @@ impl Routes {
 
     /// The mask of the outputs.
     pub fn owed(&self) -> u64
-        ensures { result ≡ mask_of self.now }
+        ensures value { result ≡ mask_of self.now }
+        ensures bits { IsMaskOf self.now result }
     {
         let mut mask: u64 = 0;
         for route in &self.routes {
@@ -204,7 +216,8 @@ impl Routes {
 
     /// The mask of the outputs that the chunk is being handed to.
     pub fn flying(&self) -> u64
-        ensures { result ≡ mask_of (flying_of self.now) }
+        ensures value { result ≡ mask_of (flying_of self.now) }
+        ensures bits { IsMaskOf (flying_of self.now) result }
     {
         let mut mask: u64 = 0;
         for route in &self.routes {

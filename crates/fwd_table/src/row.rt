@@ -4,6 +4,7 @@ ghost use Rattle.std.specs.Prelude.{◌≡◌, fold, filter, option_copied, if�
 ghost use Rattle.std.specs.List.{flat_map};
 ghost use Rattle.fwd_retry.specs.Timer.{earlier as earlier_of, first, is_next};
 ghost use Rattle.fwd_table.specs.Rows.{is_row_of, on_chunk, row_at, seen_of, waiting};
+ghost use Rattle.fwd_table.specs.Routes.{flying_of, IsMaskOf};
 ghost use Rattle.fwd_table.specs.Changes.{row_changed};
 
 use crate::route::{Change, Routes};
@@ -77,7 +78,9 @@ impl Row {
     }
 
     pub fn seen(&self) -> RowSeen
-        ensures { result ≡ seen_of self.now }
+        ensures value { result ≡ seen_of self.now }
+        ensures owed { IsMaskOf self.now.routes result.owed }
+        ensures flying { IsMaskOf (flying_of self.now.routes) result.flying }
     {
         RowSeen {
             chunk: self.chunk,

@@ -1,10 +1,10 @@
 //! The table of chunks and their routes.
 
-ghost use Rattle.std.specs.Prelude.{◌≡◌, ◌+◌, ◌*◌, ◌<◌, ◌≤◌, [], ◌∷◌, ◌++◌, length, slice_get, All, filter, option_map, MatchOption, OnOk};
+ghost use Rattle.std.specs.Prelude.{◌≡◌, ◌↔◌, ◌+◌, ◌*◌, ◌<◌, ◌≤◌, [], ◌∷◌, ◌++◌, length, slice_get, All, filter, option_map, IfSome, IsTrue, MatchOption, OnOk};
 ghost use Rattle.fwd_retry.specs.Timer.{first, is_next, IsFirst};
 ghost use Rattle.fwd_table.specs.Answers.{due_after, may_retry, waits, outcome_of, resolved};
-ghost use Rattle.fwd_table.specs.Routes.{started, stayed, retried, on_output, without_output, mask_of};
-ghost use Rattle.fwd_table.specs.Rows.{opened, grown, shut_at, started_to, stayed_to, answered_by, resolved_to, on_chunk, without_chunk, seen_of, routes_at, tries_of, owes_nothing, idle_timers_of, IsOpen, IsIdle, IsFlying, IsOwedToNobody};
+ghost use Rattle.fwd_table.specs.Routes.{flying_of, mask_of, IsMaskOf};
+ghost use Rattle.fwd_table.specs.Rows.{IsOpen, IsIdle, IsFlying, IsOwedToNobody, routes_at, tries_of, owes_nothing, idle_timers_of, seen_of, opened, on_chunk, without_chunk, grown, shut_at, started_to, stayed_to, answered_by, resolved_to};
 
 use crate::answer::{due_after, may_retry, resolved, spent};
 use crate::route::{Change, MAX_OUTPUTS, Route, Routes};
@@ -73,6 +73,7 @@ impl Table {
         requires room { 1 ≤ self.old.spare }
         requires above { All (λ row. row.chunk.0 < chunk.0) self.old.rows }
         ensures rows { self.new.rows ≡ self.old.rows ++ opened chunk input home tag size owed ∷ [] }
+        ensures owed { IsMaskOf (opened chunk input home tag size owed).routes owed }
         ensures spare { self.old.spare ≤ self.new.spare + 1 }
     {
         let storage = mem::replace(&mut self.storage, Vec::new(self.alloc));
@@ -85,6 +86,46 @@ impl Table {
             shut: false,
             routes: Routes::to(storage, owed),
         });
+    }
+
+    /// Whether a chunk has a row that isn't shut.
+    pub fn is_open(&self, chunk: ChunkId) -> bool
+        ensures { IsTrue result ↔ IsOpen chunk self.now.rows }
+    {
+        match find_row(&self.rows, chunk) {
+            Some(row) => !row.shut,
+            None => false,
+        }
+    }
+
+    /// Whether a route is owed, of a shut row, and not under way.
+    pub fn is_idle(&self, chunk: ChunkId, output: OutputId) -> bool
+        ensures { IsTrue result ↔ IsIdle chunk output self.now.rows }
+    {
+        match find_row(&self.rows, chunk) {
+            Some(row) => row.shut && row.routes.is_flying(output) == Some(false),
+            None => false,
+        }
+    }
+
+    /// Whether a route is owed and under way.
+    pub fn is_flying(&self, chunk: ChunkId, output: OutputId) -> bool
+        ensures { IsTrue result ↔ IsFlying chunk output self.now.rows }
+    {
+        match find_row(&self.rows, chunk) {
+            Some(row) => row.routes.is_flying(output) == Some(true),
+            None => false,
+        }
+    }
+
+    /// Whether a chunk has a row without routes.
+    pub fn is_owed_to_nobody(&self, chunk: ChunkId) -> bool
+        ensures { IsTrue result ↔ IsOwedToNobody chunk self.now.rows }
+    {
+        match find_row(&self.rows, chunk) {
+            Some(row) => row.routes.is_empty(),
+            None => false,
+        }
     }
 
     /// Gives a row the size of its chunk's whole content, in bytes. It asks for a row that isn't shut.
@@ -186,7 +227,8 @@ impl Table {
 
     /// The outputs that a chunk is owed to: bit `i` is set for output `i`. It is 0 where there is no such row.
     pub fn owed(&self, chunk: ChunkId) -> u64
-        ensures { result ≡ mask_of (routes_at chunk self.now.rows) }
+        ensures value { result ≡ mask_of (routes_at chunk self.now.rows) }
+        ensures bits { IsMaskOf (routes_at chunk self.now.rows) result }
     {
         match find_row(&self.rows, chunk) {
             Some(row) => row.routes.owed(),
@@ -213,7 +255,9 @@ impl Table {
     /// The row at a place, from 0, by rising chunk number. It asks for a place below `len`.
     pub fn row(&self, index: u64) -> RowSeen
         requires { index < length self.now.rows }
-        ensures { Some result ≡ option_map seen_of (slice_get self.now.rows index) }
+        ensures value { Some result ≡ option_map seen_of (slice_get self.now.rows index) }
+        ensures owed { IfSome (slice_get self.now.rows index) (λ row. IsMaskOf row.routes result.owed) }
+        ensures flying { IfSome (slice_get self.now.rows index) (λ row. IsMaskOf (flying_of row.routes) result.flying) }
     {
         self.rows[index as usize].seen()
     }
