@@ -1,4 +1,6 @@
-use crate::wait_of;
+use crate::{Timer, Timers, wait_of};
+use fwd_base::{ChunkId, OutputId};
+use std::test::Fail;
 
 #[test]
 fn waits_are_drawn_up_to_the_doubled_base(rt: HostRuntime) {
@@ -24,4 +26,36 @@ fn waits_are_drawn_up_to_the_doubled_base(rt: HostRuntime) {
             "{n} {base} {cap} {word}"
         );
     }
+}
+
+fn timer(due: u64, chunk: u64, output: u32) -> Option<Timer> {
+    Some(Timer {
+        due,
+        chunk: ChunkId(chunk),
+        output: OutputId(output),
+    })
+}
+
+#[test]
+fn timers_come_by_due_time_chunk_and_output(rt: HostRuntime) -> Result<(), Fail> {
+    let mut timers = Timers::new(rt.alloc());
+    timers.reserve(4)?;
+    timers.set(2000, ChunkId(1), OutputId(0));
+    timers.set(1000, ChunkId(3), OutputId(0));
+    timers.set(1000, ChunkId(2), OutputId(1));
+    timers.set(1000, ChunkId(2), OutputId(0));
+    for (now, after, next) in [
+        (999, None, None),
+        (1000, None, timer(1000, 2, 0)),
+        (1000, timer(1000, 2, 0), timer(1000, 2, 1)),
+        (1000, timer(1000, 2, 1), timer(1000, 3, 0)),
+        (1999, timer(1000, 3, 0), None),
+        (2000, timer(1000, 3, 0), timer(2000, 1, 0)),
+        (u64::MAX, timer(2000, 1, 0), None),
+    ] {
+        assert_eq!(rt; timers.next(now, after), next, "{now}");
+    }
+    timers.clear(ChunkId(2), OutputId(0));
+    assert_eq!(rt; timers.next(1000, None), timer(1000, 2, 1));
+    Ok(())
 }
