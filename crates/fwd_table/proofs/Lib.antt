@@ -2,3 +2,4 @@ pub mod Rising
 pub mod Masks
 pub mod Below
 pub mod Bits
+pub mod Chunks

@@ -21,16 +21,16 @@ may_retry (Times limit) tries = nat_le (plus tries 1) limit
 may_retry Unlimited tries = true
 
 -- whether a route is tried again behind an answer
-abbrev pub waits : Answer → Retries → ℕ → Bool
-waits Good limit tries = false
-waits Retry limit tries = may_retry limit tries
-waits Bad limit tries = false
+abbrev pub is_tried_again : Answer → Retries → ℕ → Bool
+is_tried_again Good limit tries = false
+is_tried_again Retry limit tries = may_retry limit tries
+is_tried_again Bad limit tries = false
 
--- what becomes of a route that is delivered, given up or lost, where its chunk is the last time owed to an output, or not
+-- what becomes of a route that is owed no more, which may be the last one of its chunk
 abbrev pub resolved : Bool → Outcome
 resolved is_last = if is_last then Last else Resolved
 
--- what becomes of a route whose tries are spent
+-- what becomes of one whose tries are spent
 abbrev pub spent : Bool → Outcome
 spent is_last = if is_last then SpentLast else Spent
 

@@ -1,5 +1,5 @@
 -- The rows of a table: chunks with their routes, by rising chunk number.
-use Rattle.std.specs.Prelude.{◌≡◌, ℕ, ◌==◌, nat_le, min, Bool, true, false, not, List, [], length, map, filter, find, Option, IsSomeAnd, IsTrue, if◌then◌else◌}
+use Rattle.std.specs.Prelude.{◌≡◌, ℕ, ◌<◌, ◌==◌, nat_le, min, Bool, true, false, not, List, [], length, map, filter, find, Option, IsSomeAnd, IsTrue, AllPairs, if◌then◌else◌}
 use Rattle.std.specs.List.{flat_map}
 use Rattle.std.specs.Option.{option_map_or}
 use Rattle.fwd_base.specs.declared.ids.ChunkId.{ChunkId}
@@ -22,6 +22,10 @@ abbrev pub spare_of : ℕ → ℕ → ℕ
 spare_of storage room = if nat_le 64 storage then min 1 room else 0
 
 -- ---- what a table holds
+
+-- each row's chunk number is below those of all behind it
+abbrev pub ChunksRise : List Row → Type 0
+ChunksRise rows = AllPairs (λ row behind. row.chunk.0 < behind.chunk.0) rows
 
 -- whether it is the row of this chunk
 abbrev pub is_row_of : ChunkId → Row → Bool

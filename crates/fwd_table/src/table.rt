@@ -2,9 +2,10 @@
 
 ghost use Rattle.std.specs.Prelude.{◌≡◌, ◌↔◌, ◌+◌, ◌*◌, ◌<◌, ◌≤◌, [], ◌∷◌, ◌++◌, length, slice_get, All, filter, option_map, IfSome, IsTrue, MatchOption, OnOk};
 ghost use Rattle.fwd_retry.specs.Timer.{first, is_next, IsFirst};
-ghost use Rattle.fwd_table.specs.Answers.{due_after, may_retry, waits, outcome_of, resolved};
+ghost use Rattle.fwd_table.specs.Answers.{due_after, may_retry, is_tried_again, outcome_of, resolved};
 ghost use Rattle.fwd_table.specs.Routes.{flying_of, mask_of, IsMaskOf};
-ghost use Rattle.fwd_table.specs.Rows.{IsOpen, IsIdle, IsFlying, IsOwedToNobody, routes_at, tries_of, owes_nothing, idle_timers_of, seen_of, opened, on_chunk, without_chunk, grown, shut_at, started_to, stayed_to, answered_by, resolved_to};
+ghost use Rattle.fwd_table.specs.Changes.{row_changed};
+ghost use Rattle.fwd_table.specs.Rows.{IsOpen, IsIdle, IsFlying, IsOwedToNobody, row_at, routes_at, tries_of, owes_nothing, idle_timers_of, seen_of, opened, on_chunk, without_chunk, grown, shut_at, started_to, stayed_to, answered_by, resolved_to};
 
 use crate::answer::{due_after, may_retry, resolved, spent};
 use crate::route::{Change, MAX_OUTPUTS, Route, Routes};
@@ -29,11 +30,13 @@ pub struct Table {
 
 impl Model for Table {
     ghost use Rattle.std.specs.Prelude.{◌-◌, vec_len, vec_capacity};
-    ghost use Rattle.fwd_table.specs.Rows.{TableSeen, spare_of};
+    ghost use Rattle.fwd_table.specs.Rows.{TableSeen, spare_of, ChunksRise};
 
     ghost Value = { TableSeen };
 
     ghost view = { λ t. record { rows = t.rows.items; spare = spare_of (vec_capacity t.storage) (vec_capacity t.rows - vec_len t.rows) } };
+
+    ghost invariant = { λ t. ChunksRise t.rows.items };
 }
 
 impl Table {
@@ -134,7 +137,7 @@ impl Table {
         ensures rows { self.new.rows ≡ on_chunk chunk (grown size) self.old.rows }
         ensures spare { self.old.spare ≤ self.new.spare }
     {
-        change_rows(&mut self.rows, chunk, RowChange::Grows { size });
+        self.change(chunk, RowChange::Grows { size });
     }
 
     /// Shuts a row: its routes are idle and due at `now`. It asks for a row that isn't shut.
@@ -143,7 +146,7 @@ impl Table {
         ensures rows { self.new.rows ≡ on_chunk chunk (shut_at now) self.old.rows }
         ensures spare { self.old.spare ≤ self.new.spare }
     {
-        change_rows(&mut self.rows, chunk, RowChange::Shuts { now });
+        self.change(chunk, RowChange::Shuts { now });
     }
 
     /// The first of the idle routes that are due at `now` and come after the given one, by due time, then chunk, then
@@ -162,7 +165,7 @@ impl Table {
         ensures spare { self.old.spare ≤ self.new.spare }
     {
         let change = Change::Starts;
-        change_rows(&mut self.rows, chunk, RowChange::Changes { output, change });
+        self.change(chunk, RowChange::Changes { output, change });
     }
 
     /// A route is idle again, with its due time and tries of before. It asks for a flying one.
@@ -172,7 +175,7 @@ impl Table {
         ensures spare { self.old.spare ≤ self.new.spare }
     {
         let change = Change::Stays;
-        change_rows(&mut self.rows, chunk, RowChange::Changes { output, change });
+        self.change(chunk, RowChange::Changes { output, change });
     }
 
     /// How often a flush of a route has failed. The count stops at its last value, 2^64 - 1. It asks for a flying route.
@@ -203,9 +206,9 @@ impl Table {
         now: u64,
     ) -> Outcome
         requires { IsFlying chunk output self.old.rows }
-        ensures rows { let again = waits answer limit (tries_of chunk output self.old.rows) in
+        ensures rows { let again = is_tried_again answer limit (tries_of chunk output self.old.rows) in
             self.new.rows ≡ on_chunk chunk (answered_by again output (due_after now wait_s)) self.old.rows }
-        ensures outcome { let again = waits answer limit (tries_of chunk output self.old.rows) in
+        ensures outcome { let again = is_tried_again answer limit (tries_of chunk output self.old.rows) in
             result ≡ outcome_of answer again (owes_nothing chunk self.new.rows) }
         ensures spare { self.old.spare ≤ self.new.spare }
     {
@@ -252,10 +255,11 @@ impl Table {
         self.rows.len() as u64
     }
 
-    /// The row at a place, from 0, by rising chunk number. It asks for a place below `len`.
+    /// The row at a place, from 0, by rising chunk number: no other row is of that chunk. It asks for a place below `len`.
     pub fn row(&self, index: u64) -> RowSeen
         requires { index < length self.now.rows }
         ensures value { Some result ≡ option_map seen_of (slice_get self.now.rows index) }
+        ensures only { slice_get self.now.rows index ≡ row_at result.chunk self.now.rows }
         ensures owed { IfSome (slice_get self.now.rows index) (λ row. IsMaskOf row.routes result.owed) }
         ensures flying { IfSome (slice_get self.now.rows index) (λ row. IsMaskOf (flying_of row.routes) result.flying) }
     {
@@ -268,6 +272,14 @@ impl Table {
         ensures { Some result.now ≡ option_map (λ row. row.tag) (slice_get self.now.rows index) }
     {
         self.rows[index as usize].tag.as_slice()
+    }
+
+    /// Changes the row of a chunk, if there is one.
+    fn change(&mut self, chunk: ChunkId, change: RowChange)
+        ensures rows { self.new.rows ≡ on_chunk chunk (row_changed change) self.old.rows }
+        ensures spare { self.old.spare ≤ self.new.spare }
+    {
+        change_rows(&mut self.rows, chunk, change);
     }
 
     fn tries_so_far(&self, chunk: ChunkId, output: OutputId) -> u64
@@ -289,7 +301,7 @@ impl Table {
     {
         if may_retry(limit, self.tries_so_far(chunk, output)) {
             let change = Change::Retries { due };
-            change_rows(&mut self.rows, chunk, RowChange::Changes { output, change });
+            self.change(chunk, RowChange::Changes { output, change });
             Outcome::Retrying
         } else {
             spent(self.resolve(chunk, output))
@@ -302,7 +314,7 @@ impl Table {
         ensures last { result ≡ owes_nothing chunk self.new.rows }
         ensures spare { self.old.spare ≤ self.new.spare }
     {
-        change_rows(&mut self.rows, chunk, RowChange::Resolves { output });
+        self.change(chunk, RowChange::Resolves { output });
         self.owes_nothing(chunk)
     }
 
