@@ -20,6 +20,7 @@ fn waits_are_drawn_up_to_the_doubled_base(rt: HostRuntime) {
         (63, 2, u64::MAX, u64::MAX - 2, u64::MAX),
         (0, u64::MAX, 0, u64::MAX, u64::MAX),
     ] {
+        assert!(rt; base >= 1);
         assert_eq!(rt;
             wait_of(n, base, cap, word),
             wait,
