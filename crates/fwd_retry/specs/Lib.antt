@@ -1,0 +1,3 @@
+pub mod Wait
+pub mod Timer
+pub mod Timers

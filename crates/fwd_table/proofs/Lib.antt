@@ -1,0 +1,5 @@
+pub mod Rising
+pub mod Masks
+pub mod Below
+pub mod Bits
+pub mod Chunks

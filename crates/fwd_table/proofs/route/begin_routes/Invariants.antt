@@ -1,0 +1,8 @@
+use Rattle.std.proofs.Common.{◌≡◌, map, take, drop, ◌++◌}
+use Rattle.std.specs.Prelude.{if◌then◌else◌}
+use Rattle.fwd_table.specs.Routes.{idle_at}
+use Rattle.fwd_table.specs.Changes.{changed}
+use Rattle.fwd_table.proofs.route.begin_routes.Given as goal
+
+abbrev pub invariant-loop-route : goal.invariant-loop-route
+invariant-loop-route l = l.routes ≡ map (λ r. idle_at l.due r.output) (take l.route-index l.initial.routes) ++ drop l.route-index l.initial.routes

@@ -1,0 +1,11 @@
+use Rattle.std.proofs.Common.{◌≡◌, drop, Some}
+use Rattle.std.specs.Prelude.{filter, fold}
+use Rattle.std.specs.List.{flat_map}
+use Rattle.fwd_retry.specs.Timer.{earlier, first, is_next}
+use Rattle.fwd_table.specs.Rows.{waiting}
+use Rattle.fwd_table.proofs.row.next_in.Given as goal
+
+abbrev pub invariant-loop-row : goal.invariant-loop-row
+invariant-loop-row l =
+    fold (λ found timer. Some (earlier found timer)) l.first (filter (is_next l.now l.after) (flat_map waiting (drop l.row-index l.rows)))
+    ≡ first (filter (is_next l.now l.after) (flat_map waiting l.rows))

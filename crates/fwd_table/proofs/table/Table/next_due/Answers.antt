@@ -1,0 +1,12 @@
+use Rattle.std.proofs.Common.{◌≡◌, rules}
+use Rattle.std.specs.Prelude.{filter}
+use Rattle.fwd_retry.specs.Timer.{first, is_next}
+use Rattle.fwd_retry.proofs.Order.{first_is_first}
+use Rattle.fwd_table.specs.Rows.{idle_timers_of}
+use Rattle.fwd_table.proofs.table.Table.next_due.Goals as goal
+
+pub returns-clause-first : goal.returns-clause-first
+returns-clause-first c =
+    let due = filter (is_next c.args.now c.args.after) (idle_timers_of c.args.self.now.rows) in
+    let value : c.next_in.result ≡ first due = search rules in
+    rw value (first_is_first due)

@@ -1,0 +1,23 @@
+-- Changes of routes and rows.
+use Rattle.std.specs.Prelude.{ℕ}
+use Rattle.fwd_table.specs.declared.route.Route.{Route}
+use Rattle.fwd_table.specs.declared.route.Change.{Change}
+use Rattle.fwd_table.specs.declared.route.Change.TheVariants.{Starts, Stays, Retries}
+use Rattle.fwd_table.specs.declared.row.Row.{Row}
+use Rattle.fwd_table.specs.declared.row.RowChange.{RowChange}
+use Rattle.fwd_table.specs.declared.row.RowChange.TheVariants.{Grows, Shuts, Changes, Resolves}
+use Rattle.fwd_table.specs.Routes.{started, stayed, retried, on_output}
+use Rattle.fwd_table.specs.Rows.{grown, shut_at, resolved_to}
+
+-- a route behind a change
+abbrev pub changed : Change → Route → Route
+changed Starts r = started r
+changed Stays r = stayed r
+changed (Retries due) r = retried due r
+
+-- a row behind a change
+abbrev pub row_changed : RowChange → Row → Row
+row_changed (Grows size) row = grown size row
+row_changed (Shuts now) row = shut_at now row
+row_changed (Changes output change) row = record row { routes = on_output output (changed change) row.routes }
+row_changed (Resolves output) row = resolved_to output row

@@ -1,0 +1,4 @@
+pub mod Answers
+pub mod Routes
+pub mod Rows
+pub mod Changes

@@ -1,0 +1,136 @@
+-- The rows of a table: chunks with their routes, by rising chunk number.
+use Rattle.std.specs.Prelude.{◌≡◌, ℕ, ◌<◌, ◌==◌, nat_le, min, Bool, true, false, not, List, [], length, map, filter, find, Option, IsSomeAnd, IsTrue, AllPairs, if◌then◌else◌}
+use Rattle.std.specs.List.{flat_map}
+use Rattle.std.specs.Option.{option_map_or}
+use Rattle.fwd_base.specs.declared.ids.ChunkId.{ChunkId}
+use Rattle.fwd_base.specs.declared.ids.InputId.{InputId}
+use Rattle.fwd_base.specs.declared.ids.OutputId.{OutputId}
+use Rattle.fwd_outside.specs.declared.home.Home.{Home}
+use Rattle.fwd_retry.specs.declared.timer.Timer.{Timer}
+use Rattle.fwd_table.specs.declared.route.Route.{Route}
+use Rattle.fwd_table.specs.declared.row.Row.{Row}
+use Rattle.fwd_table.specs.declared.row.RowSeen.{RowSeen}
+use Rattle.fwd_table.specs.Routes.{routes_to, idle_at, is_to, on_output, without_output, started, stayed, retried, tries_to, mask_of, flying_of, idle_timers}
+
+-- what is seen of a table: its rows, and for how many more there is room
+pub record TableSeen : Type 0 where
+  pub rows : List Row
+  pub spare : ℕ
+
+-- for how many rows there is room, where routes and rows have this much
+abbrev pub spare_of : ℕ → ℕ → ℕ
+spare_of storage room = if nat_le 64 storage then min 1 room else 0
+
+-- ---- what a table holds
+
+-- each row's chunk number is below those of all behind it
+abbrev pub ChunksRise : List Row → Type 0
+ChunksRise rows = AllPairs (λ row behind. row.chunk.0 < behind.chunk.0) rows
+
+-- whether it is the row of this chunk
+abbrev pub is_row_of : ChunkId → Row → Bool
+is_row_of chunk row = row.chunk.0 == chunk.0
+
+-- the row of a chunk
+abbrev pub row_at : ChunkId → List Row → Option Row
+row_at chunk rows = find (is_row_of chunk) rows
+
+-- its routes, none where there is no row
+abbrev pub routes_at : ChunkId → List Row → List Route
+routes_at chunk rows = option_map_or (λ row. row.routes) (row_at chunk rows) []
+
+-- how often a route has failed, 0 where there is none
+abbrev pub tries_of : ChunkId → OutputId → List Row → ℕ
+tries_of chunk output rows = tries_to output (routes_at chunk rows)
+
+-- whether a chunk is owed to nobody
+abbrev pub owes_nothing : ChunkId → List Row → Bool
+owes_nothing chunk rows = length (routes_at chunk rows) == 0
+
+-- a chunk has a row that isn't shut
+abbrev pub IsOpen : ChunkId → List Row → Type 0
+IsOpen chunk rows = IsSomeAnd (row_at chunk rows) (λ row. row.shut ≡ false)
+
+-- a chunk has a row without routes
+abbrev pub IsOwedToNobody : ChunkId → List Row → Type 0
+IsOwedToNobody chunk rows = IsSomeAnd (row_at chunk rows) (λ row. row.routes ≡ [])
+
+-- a route is owed and under way
+abbrev pub IsFlying : ChunkId → OutputId → List Row → Type 0
+IsFlying chunk output rows = IsSomeAnd (find (is_to output) (routes_at chunk rows)) (λ r. IsTrue r.flying)
+
+-- a route is owed, of a shut row, and not under way
+pub record IsIdle (chunk : ChunkId) (output : OutputId) (rows : List Row) : Type 0 where
+  pub shut : IsSomeAnd (row_at chunk rows) (λ row. IsTrue row.shut)
+  pub waits : IsSomeAnd (find (is_to output) (routes_at chunk rows)) (λ r. r.flying ≡ false)
+
+-- the timers of a row's idle routes, none where it isn't shut
+abbrev pub waiting : Row → List Timer
+waiting row = if row.shut then idle_timers row.chunk row.routes else []
+
+-- the timers of all idle routes
+abbrev pub idle_timers_of : List Row → List Timer
+idle_timers_of rows = flat_map waiting rows
+
+-- what is shown of a row
+abbrev pub seen_of : Row → RowSeen
+seen_of row = record {
+  chunk = row.chunk;
+  input = row.input;
+  home = row.home;
+  size = row.size;
+  owed = mask_of row.routes;
+  flying = mask_of (flying_of row.routes);
+  shut = row.shut;
+}
+
+-- ---- what happens to its rows
+
+-- a new row, open and owed to the outputs whose bits are set in a mask
+abbrev pub opened : ChunkId → Option InputId → Home → List ℕ → ℕ → ℕ → Row
+opened chunk input home tag size owed = record {
+  chunk = chunk;
+  input = input;
+  home = home;
+  tag = tag;
+  size = size;
+  shut = false;
+  routes = routes_to owed;
+}
+
+-- the rows, with that of this chunk changed
+abbrev pub on_chunk : ChunkId → (Row → Row) → List Row → List Row
+on_chunk chunk f rows = map (λ row. if is_row_of chunk row then f row else row) rows
+
+-- the rows without that of this chunk
+abbrev pub without_chunk : ChunkId → List Row → List Row
+without_chunk chunk rows = filter (λ row. not (is_row_of chunk row)) rows
+
+-- a row with another size
+abbrev pub grown : ℕ → Row → Row
+grown size row = record row { size = size }
+
+-- a row that is shut: its routes are idle and due at a time
+abbrev pub shut_at : ℕ → Row → Row
+shut_at now row = record row { shut = true; routes = map (λ r. idle_at now r.output) row.routes }
+
+-- a row of which one route is under way from now on
+abbrev pub started_to : OutputId → Row → Row
+started_to output row = record row { routes = on_output output started row.routes }
+
+-- one of which one route is idle again
+abbrev pub stayed_to : OutputId → Row → Row
+stayed_to output row = record row { routes = on_output output stayed row.routes }
+
+-- one of which one route has failed once more and is due at another time
+abbrev pub retried_to : OutputId → ℕ → Row → Row
+retried_to output due row = record row { routes = on_output output (retried due) row.routes }
+
+-- one of which one route is owed no more
+abbrev pub resolved_to : OutputId → Row → Row
+resolved_to output row = record row { routes = without_output output row.routes }
+
+-- one of which one route has answered, which is tried again at a time or owed no more
+abbrev pub answered_by : Bool → OutputId → ℕ → Row → Row
+answered_by true output due row = retried_to output due row
+answered_by false output due row = resolved_to output row

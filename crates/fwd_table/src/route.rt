@@ -1,0 +1,250 @@
+//! Routes: the outputs that a chunk is owed to still.
+
+ghost use Rattle.std.specs.Prelude.{◌≡◌, ◌==◌, ◌≤◌, [], fold, filter, find, length, map, option_copied, option_map, vec_capacity, if◌then◌else◌};
+ghost use Rattle.fwd_retry.specs.Timer.{earlier as earlier_of, is_next};
+ghost use Rattle.fwd_table.specs.Routes.{idle_at, is_to, on_output, without_output, timer_of, idle_timers, tries_to, routes_below, routes_to, mask_of, flying_of, IsMaskOf};
+ghost use Rattle.fwd_table.specs.Changes.{changed};
+
+use fwd_base::{ChunkId, OutputId};
+use fwd_retry::{Timer, earlier};
+use std::marker::Model;
+
+/// How many outputs there may be.
+pub const MAX_OUTPUTS: u32 = 64;
+
+/// An output that a chunk is owed to still.
+#[derive(Clone, Copy, Debug, PartialEq, Eq)]
+pub struct Route {
+    pub output: OutputId,
+    /// The clock reading in milliseconds from which on the chunk is to be handed to it.
+    pub due: u64,
+    /// How often that has failed.
+    pub tries: u64,
+    /// Whether it is being handed to it.
+    pub flying: bool,
+}
+
+/// What happens to a route that stays.
+#[derive(Clone, Copy, Debug, PartialEq, Eq)]
+pub enum Change {
+    Starts,
+    Stays,
+    Retries { due: u64 },
+}
+
+impl Route {
+    /// A route that is due at a time and hasn't been tried.
+    fn idle_at(output: OutputId, due: u64) -> Route
+        ensures { result ≡ idle_at due output }
+    {
+        Route {
+            output,
+            due,
+            tries: 0,
+            flying: false,
+        }
+    }
+
+    fn changed(self, change: Change) -> Route
+        ensures { result ≡ changed change self }
+    {
+        match change {
+            Change::Starts => Route {
+                flying: true,
+                ..self
+            },
+            Change::Stays => Route {
+                flying: false,
+                ..self
+            },
+            Change::Retries { due } => Route {
+                due,
+                tries: self.tries.saturating_add(1),
+                flying: false,
+                ..self
+            },
+        }
+    }
+
+    /// The route, changed where it is the one to this output.
+    fn changed_at(self, output: OutputId, change: Change) -> Route
+        ensures { result ≡ (if is_to output self then changed change self else self) }
+    {
+        if self.output == output {
+            self.changed(change)
+        } else {
+            self
+        }
+    }
+
+    fn timer(self, chunk: ChunkId) -> Timer
+        ensures { result ≡ timer_of chunk self }
+    {
+        Timer {
+            due: self.due,
+            chunk,
+            output: self.output,
+        }
+    }
+}
+
+/// Puts the routes to the outputs below a number whose bits are set.
+fn put_routes(routes: &mut Vec<Route>, owed: u64, end: u32)
+    requires within { end ≤ 64 }
+    requires none { routes.old.items ≡ [] }
+    requires room { end ≤ vec_capacity routes.old }
+    ensures { routes.new.items ≡ routes_below end owed }
+{
+    for output in 0..end {
+        if owed >> output & 1 == 1 {
+            routes.push_reserved(Route::idle_at(OutputId(output), 0));
+        }
+    }
+}
+
+fn find_route(routes: &[Route], output: OutputId) -> Option<&Route>
+    ensures { option_copied result ≡ find (is_to output) routes.now }
+{
+    routes.iter().find(|route| route.output == output)
+}
+
+fn begin_routes(routes: &mut [Route], due: u64)
+    ensures { routes.new ≡ map (λ r. idle_at due r.output) routes.old }
+{
+    for route in routes.iter_mut() {
+        *route = Route::idle_at(route.output, due);
+    }
+}
+
+fn change_routes(routes: &mut [Route], output: OutputId, change: Change)
+    ensures { routes.new ≡ on_output output (changed change) routes.old }
+{
+    for route in routes.iter_mut() {
+        *route = route.changed_at(output, change);
+    }
+}
+
+/// The routes of a chunk, by rising output.
+#[derive(Debug, Drop)]
+pub struct Routes {
+    routes: Vec<Route>,
+}
+
+impl Model for Routes {
+    ghost use Rattle.std.specs.Prelude.{List};
+    ghost use Rattle.fwd_table.specs.declared.route.Route.{Route};
+    ghost use Rattle.fwd_table.specs.Routes.{RiseFrom};
+
+    ghost Value = { List Route };
+
+    ghost view = { λ r. r.routes.items };
+
+    ghost invariant = { λ r. RiseFrom 0 r.routes.items };
+}
+
+impl Routes {
+    /// The routes to the outputs whose bits are set, not due yet. They are put into the storage, which asks for room for
+    /// all outputs and takes no memory.
+    pub fn to(mut storage: Vec<Route>, owed: u64) -> Self
+        requires { MAX_OUTPUTS ≤ vec_capacity storage }
+        ensures value { result ≡ routes_to owed }
+        ensures bits { IsMaskOf (routes_to owed) owed }
+    {
+        storage.clear();
+        put_routes(&mut storage, owed, MAX_OUTPUTS);
+        Routes { routes: storage }
+    }
+
+    pub fn is_empty(&self) -> bool
+        ensures { result ≡ (length self.now == 0) }
+    {
+        self.routes.is_empty()
+    }
+
+    /// Whether the route to an output is under way, if it is owed.
+    pub fn is_flying(&self, output: OutputId) -> Option<bool>
+        ensures { result ≡ option_map (λ r. r.flying) (find (is_to output) self.now) }
+    {
+        match find_route(&self.routes, output) {
+            Some(route) => Some(route.flying),
+            None => None,
+        }
+    }
+
+    /// How often the route to an output has failed, 0 where it isn't owed.
+    pub fn tries(&self, output: OutputId) -> u64
+        ensures { result ≡ tries_to output self.now }
+    {
+        match find_route(&self.routes, output) {
+            Some(route) => route.tries,
+            None => 0,
+        }
+    }
+
+    /// Makes all routes due at a time.
+    pub fn begin(&mut self, due: u64)
+        ensures { self.new ≡ map (λ r. idle_at due r.output) self.old }
+    {
+        begin_routes(&mut self.routes, due);
+    }
+
+    /// Changes the route to an output, if it is owed.
+    pub fn change(&mut self, output: OutputId, change: Change)
+        ensures { self.new ≡ on_output output (changed change) self.old }
+    {
+        change_routes(&mut self.routes, output, change);
+    }
+
+    /// Takes the route to an output away, if it is owed.
+    pub fn remove(&mut self, output: OutputId)
+        ensures { self.new ≡ without_output output self.old }
+    {
+        self.routes.retain(|route| route.output != output);
+    }
+
+    /// The mask of the outputs.
+    pub fn owed(&self) -> u64
+        ensures value { result ≡ mask_of self.now }
+        ensures bits { IsMaskOf self.now result }
+    {
+        let mut mask: u64 = 0;
+        for route in &self.routes {
+            mask |= 1 << route.output.0;
+        }
+        mask
+    }
+
+    /// The mask of the outputs that the chunk is being handed to.
+    pub fn flying(&self) -> u64
+        ensures value { result ≡ mask_of (flying_of self.now) }
+        ensures bits { IsMaskOf (flying_of self.now) result }
+    {
+        let mut mask: u64 = 0;
+        for route in &self.routes {
+            if route.flying {
+                mask |= 1 << route.output.0;
+            }
+        }
+        mask
+    }
+
+    /// The first one of a timer and those of the idle routes that are due at `now` and come after the given one.
+    pub fn next(
+        &self,
+        chunk: ChunkId,
+        now: u64,
+        after: Option<Timer>,
+        first: Option<Timer>,
+    ) -> Option<Timer>
+        ensures { result ≡ fold (λ found timer. Some (earlier_of found timer)) first (filter (is_next now after) (idle_timers chunk self.now)) }
+    {
+        let mut first = first;
+        for route in &self.routes {
+            let timer = route.timer(chunk);
+            if !route.flying && timer.is_next(now, after) {
+                first = Some(earlier(first, timer));
+            }
+        }
+        first
+    }
+}

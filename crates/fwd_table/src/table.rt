@@ -1,0 +1,329 @@
+//! The table of chunks and their routes.
+
+ghost use Rattle.std.specs.Prelude.{◌≡◌, ◌↔◌, ◌+◌, ◌*◌, ◌<◌, ◌≤◌, [], ◌∷◌, ◌++◌, length, slice_get, All, filter, option_map, IfSome, IsTrue, MatchOption, OnOk};
+ghost use Rattle.fwd_retry.specs.Timer.{first, is_next, IsFirst};
+ghost use Rattle.fwd_table.specs.Answers.{due_after, may_retry, is_tried_again, outcome_of, resolved};
+ghost use Rattle.fwd_table.specs.Routes.{flying_of, mask_of, IsMaskOf};
+ghost use Rattle.fwd_table.specs.Changes.{row_changed};
+ghost use Rattle.fwd_table.specs.Rows.{IsOpen, IsIdle, IsFlying, IsOwedToNobody, row_at, routes_at, tries_of, owes_nothing, idle_timers_of, seen_of, opened, on_chunk, without_chunk, grown, shut_at, started_to, stayed_to, answered_by, resolved_to};
+
+use crate::answer::{due_after, may_retry, resolved, spent};
+use crate::route::{Change, MAX_OUTPUTS, Route, Routes};
+use crate::row::{Row, RowChange, change_rows, find_row, next_in};
+use crate::{Answer, Outcome, RowSeen};
+use fwd_base::{Bytes, ChunkId, InputId, Memory, OutputId, Retries};
+use fwd_outside::Home;
+use fwd_retry::Timer;
+use std::alloc::Global;
+use std::marker::Model;
+use std::mem;
+
+/// The chunks that are open or owed to an output, by rising number, each with the outputs that it is owed to still.
+/// Contracts see the rows, and beside them for how many more there is room. All calls but `reserve` take no memory.
+#[derive(Debug, Drop)]
+pub struct Table {
+    rows: Vec<Row>,
+    /// Where the routes of the next row go.
+    storage: Vec<Route>,
+    alloc: Global,
+}
+
+impl Model for Table {
+    ghost use Rattle.std.specs.Prelude.{◌-◌, vec_len, vec_capacity};
+    ghost use Rattle.fwd_table.specs.Rows.{TableSeen, spare_of, ChunksRise};
+
+    ghost Value = { TableSeen };
+
+    ghost view = { λ t. record { rows = t.rows.items; spare = spare_of (vec_capacity t.storage) (vec_capacity t.rows - vec_len t.rows) } };
+
+    ghost invariant = { λ t. ChunksRise t.rows.items };
+}
+
+impl Table {
+    /// A table without rows.
+    pub fn new(alloc: Global) -> Self
+        ensures { result.rows ≡ [] }
+    {
+        Table {
+            rows: Vec::new(alloc),
+            storage: Vec::new(alloc),
+            alloc,
+        }
+    }
+
+    /// Makes room for one row and its routes. The rows stay.
+    pub fn reserve(&mut self) -> Result<(), Memory>
+        ensures rows { self.new.rows ≡ self.old.rows }
+        ensures room { OnOk result (1 ≤ self.new.spare) }
+        ensures spare { self.old.spare ≤ self.new.spare }
+    {
+        self.rows.reserve(1)?;
+        self.storage.reserve(MAX_OUTPUTS as usize)?;
+        Ok(())
+    }
+
+    /// Puts an open row at the end, owed to the outputs whose bits are set in `owed`. It asks for room that was
+    /// reserved, and for a number above those of all rows.
+    pub fn took(
+        &mut self,
+        chunk: ChunkId,
+        input: Option<InputId>,
+        home: Home,
+        tag: Bytes,
+        size: u64,
+        owed: u64,
+    )
+        requires room { 1 ≤ self.old.spare }
+        requires above { All (λ row. row.chunk.0 < chunk.0) self.old.rows }
+        ensures rows { self.new.rows ≡ self.old.rows ++ opened chunk input home tag size owed ∷ [] }
+        ensures owed { IsMaskOf (opened chunk input home tag size owed).routes owed }
+        ensures spare { self.old.spare ≤ self.new.spare + 1 }
+    {
+        let storage = mem::replace(&mut self.storage, Vec::new(self.alloc));
+        self.rows.push_reserved(Row {
+            chunk,
+            input,
+            home,
+            tag,
+            size,
+            shut: false,
+            routes: Routes::to(storage, owed),
+        });
+    }
+
+    /// Whether a chunk has a row that isn't shut.
+    pub fn is_open(&self, chunk: ChunkId) -> bool
+        ensures { IsTrue result ↔ IsOpen chunk self.now.rows }
+    {
+        match find_row(&self.rows, chunk) {
+            Some(row) => !row.shut,
+            None => false,
+        }
+    }
+
+    /// Whether a route is owed, of a shut row, and not under way.
+    pub fn is_idle(&self, chunk: ChunkId, output: OutputId) -> bool
+        ensures { IsTrue result ↔ IsIdle chunk output self.now.rows }
+    {
+        match find_row(&self.rows, chunk) {
+            Some(row) => row.shut && row.routes.is_flying(output) == Some(false),
+            None => false,
+        }
+    }
+
+    /// Whether a route is owed and under way.
+    pub fn is_flying(&self, chunk: ChunkId, output: OutputId) -> bool
+        ensures { IsTrue result ↔ IsFlying chunk output self.now.rows }
+    {
+        match find_row(&self.rows, chunk) {
+            Some(row) => row.routes.is_flying(output) == Some(true),
+            None => false,
+        }
+    }
+
+    /// Whether a chunk has a row without routes.
+    pub fn is_owed_to_nobody(&self, chunk: ChunkId) -> bool
+        ensures { IsTrue result ↔ IsOwedToNobody chunk self.now.rows }
+    {
+        match find_row(&self.rows, chunk) {
+            Some(row) => row.routes.is_empty(),
+            None => false,
+        }
+    }
+
+    /// Gives a row the size of its chunk's whole content, in bytes. It asks for a row that isn't shut.
+    pub fn grew(&mut self, chunk: ChunkId, size: u64)
+        requires { IsOpen chunk self.old.rows }
+        ensures rows { self.new.rows ≡ on_chunk chunk (grown size) self.old.rows }
+        ensures spare { self.old.spare ≤ self.new.spare }
+    {
+        self.change(chunk, RowChange::Grows { size });
+    }
+
+    /// Shuts a row: its routes are idle and due at `now`. It asks for a row that isn't shut.
+    pub fn shut(&mut self, chunk: ChunkId, now: u64)
+        requires { IsOpen chunk self.old.rows }
+        ensures rows { self.new.rows ≡ on_chunk chunk (shut_at now) self.old.rows }
+        ensures spare { self.old.spare ≤ self.new.spare }
+    {
+        self.change(chunk, RowChange::Shuts { now });
+    }
+
+    /// The first of the idle routes that are due at `now` and come after the given one, by due time, then chunk, then
+    /// output.
+    pub fn next_due(&self, now: u64, after: Option<Timer>) -> Option<Timer>
+        ensures value { result ≡ first (filter (is_next now after) (idle_timers_of self.now.rows)) }
+        ensures first { let due = filter (is_next now after) (idle_timers_of self.now.rows) in MatchOption result (due ≡ []) (IsFirst due) }
+    {
+        next_in(&self.rows, now, after)
+    }
+
+    /// A route is being handed over from now on. It asks for an idle one.
+    pub fn started(&mut self, chunk: ChunkId, output: OutputId)
+        requires { IsIdle chunk output self.old.rows }
+        ensures rows { self.new.rows ≡ on_chunk chunk (started_to output) self.old.rows }
+        ensures spare { self.old.spare ≤ self.new.spare }
+    {
+        let change = Change::Starts;
+        self.change(chunk, RowChange::Changes { output, change });
+    }
+
+    /// A route is idle again, with its due time and tries of before. It asks for a flying one.
+    pub fn stayed(&mut self, chunk: ChunkId, output: OutputId)
+        requires { IsFlying chunk output self.old.rows }
+        ensures rows { self.new.rows ≡ on_chunk chunk (stayed_to output) self.old.rows }
+        ensures spare { self.old.spare ≤ self.new.spare }
+    {
+        let change = Change::Stays;
+        self.change(chunk, RowChange::Changes { output, change });
+    }
+
+    /// How often a flush of a route has failed. The count stops at its last value, 2^64 - 1. It asks for a flying route.
+    pub fn tries(&self, chunk: ChunkId, output: OutputId) -> u64
+        requires { IsFlying chunk output self.now.rows }
+        ensures { result ≡ tries_of chunk output self.now.rows }
+    {
+        self.tries_so_far(chunk, output)
+    }
+
+    /// Whether a route may be tried again where its flush fails now. It asks for a flying route.
+    pub fn may_retry(&self, chunk: ChunkId, output: OutputId, limit: Retries) -> bool
+        requires { IsFlying chunk output self.now.rows }
+        ensures { result ≡ may_retry limit (tries_of chunk output self.now.rows) }
+    {
+        may_retry(limit, self.tries_so_far(chunk, output))
+    }
+
+    /// The flush of a route has answered. Where it may be tried again, it is idle, and due `wait_s` seconds behind `now`;
+    /// else it is owed no more. It asks for a flying route.
+    pub fn answered(
+        &mut self,
+        chunk: ChunkId,
+        output: OutputId,
+        answer: Answer,
+        limit: Retries,
+        wait_s: u64,
+        now: u64,
+    ) -> Outcome
+        requires { IsFlying chunk output self.old.rows }
+        ensures rows { let again = is_tried_again answer limit (tries_of chunk output self.old.rows) in
+            self.new.rows ≡ on_chunk chunk (answered_by again output (due_after now wait_s)) self.old.rows }
+        ensures outcome { let again = is_tried_again answer limit (tries_of chunk output self.old.rows) in
+            result ≡ outcome_of answer again (owes_nothing chunk self.new.rows) }
+        ensures spare { self.old.spare ≤ self.new.spare }
+    {
+        match answer {
+            Answer::Good | Answer::Bad => resolved(self.resolve(chunk, output)),
+            Answer::Retry => self.failed(chunk, output, limit, due_after(now, wait_s)),
+        }
+    }
+
+    /// A route is given up. It asks for an idle one.
+    pub fn lose(&mut self, chunk: ChunkId, output: OutputId) -> Outcome
+        requires { IsIdle chunk output self.old.rows }
+        ensures rows { self.new.rows ≡ on_chunk chunk (resolved_to output) self.old.rows }
+        ensures outcome { result ≡ resolved (owes_nothing chunk self.new.rows) }
+        ensures spare { self.old.spare ≤ self.new.spare }
+    {
+        resolved(self.resolve(chunk, output))
+    }
+
+    /// The outputs that a chunk is owed to: bit `i` is set for output `i`. It is 0 where there is no such row.
+    pub fn owed(&self, chunk: ChunkId) -> u64
+        ensures value { result ≡ mask_of (routes_at chunk self.now.rows) }
+        ensures bits { IsMaskOf (routes_at chunk self.now.rows) result }
+    {
+        match find_row(&self.rows, chunk) {
+            Some(row) => row.routes.owed(),
+            None => 0,
+        }
+    }
+
+    /// Takes a row away. It asks for one that is owed to nobody.
+    pub fn forget(&mut self, chunk: ChunkId)
+        requires { IsOwedToNobody chunk self.old.rows }
+        ensures rows { self.new.rows ≡ without_chunk chunk self.old.rows }
+        ensures spare { self.old.spare ≤ self.new.spare }
+    {
+        self.rows.retain(|row| row.chunk != chunk);
+    }
+
+    /// The number of rows.
+    pub fn len(&self) -> u64
+        ensures { result ≡ length self.now.rows }
+    {
+        self.rows.len() as u64
+    }
+
+    /// The row at a place, from 0, by rising chunk number: no other row is of that chunk. It asks for a place below `len`.
+    pub fn row(&self, index: u64) -> RowSeen
+        requires { index < length self.now.rows }
+        ensures value { Some result ≡ option_map seen_of (slice_get self.now.rows index) }
+        ensures only { slice_get self.now.rows index ≡ row_at result.chunk self.now.rows }
+        ensures owed { IfSome (slice_get self.now.rows index) (λ row. IsMaskOf row.routes result.owed) }
+        ensures flying { IfSome (slice_get self.now.rows index) (λ row. IsMaskOf (flying_of row.routes) result.flying) }
+    {
+        self.rows[index as usize].seen()
+    }
+
+    /// The tag of the row at a place, from 0, by rising chunk number. It asks for a place below `len`.
+    pub fn tag(&self, index: u64) -> &[u8]
+        requires { index < length self.now.rows }
+        ensures { Some result.now ≡ option_map (λ row. row.tag) (slice_get self.now.rows index) }
+    {
+        self.rows[index as usize].tag.as_slice()
+    }
+
+    /// Changes the row of a chunk, if there is one.
+    fn change(&mut self, chunk: ChunkId, change: RowChange)
+        ensures rows { self.new.rows ≡ on_chunk chunk (row_changed change) self.old.rows }
+        ensures spare { self.old.spare ≤ self.new.spare }
+    {
+        change_rows(&mut self.rows, chunk, change);
+    }
+
+    fn tries_so_far(&self, chunk: ChunkId, output: OutputId) -> u64
+        ensures { result ≡ tries_of chunk output self.now.rows }
+    {
+        match find_row(&self.rows, chunk) {
+            Some(row) => row.routes.tries(output),
+            None => 0,
+        }
+    }
+
+    /// The flush of a route has failed.
+    fn failed(&mut self, chunk: ChunkId, output: OutputId, limit: Retries, due: u64) -> Outcome
+        ensures rows { let again = may_retry limit (tries_of chunk output self.old.rows) in
+            self.new.rows ≡ on_chunk chunk (answered_by again output due) self.old.rows }
+        ensures outcome { let again = may_retry limit (tries_of chunk output self.old.rows) in
+            result ≡ outcome_of Answer.Retry again (owes_nothing chunk self.new.rows) }
+        ensures spare { self.old.spare ≤ self.new.spare }
+    {
+        if may_retry(limit, self.tries_so_far(chunk, output)) {
+            let change = Change::Retries { due };
+            self.change(chunk, RowChange::Changes { output, change });
+            Outcome::Retrying
+        } else {
+            spent(self.resolve(chunk, output))
+        }
+    }
+
+    /// Takes a route away, and says whether its chunk is owed to nobody then.
+    fn resolve(&mut self, chunk: ChunkId, output: OutputId) -> bool
+        ensures rows { self.new.rows ≡ on_chunk chunk (resolved_to output) self.old.rows }
+        ensures last { result ≡ owes_nothing chunk self.new.rows }
+        ensures spare { self.old.spare ≤ self.new.spare }
+    {
+        self.change(chunk, RowChange::Resolves { output });
+        self.owes_nothing(chunk)
+    }
+
+    fn owes_nothing(&self, chunk: ChunkId) -> bool
+        ensures { result ≡ owes_nothing chunk self.now.rows }
+    {
+        match find_row(&self.rows, chunk) {
+            Some(row) => row.routes.is_empty(),
+            None => true,
+        }
+    }
+}
