@@ -1,7 +1,7 @@
 -- What a call of a flight does to its loop and to how far it has come.
-use Rattle.std.specs.Prelude.{◌≡◌, ℕ, ◌+◌, ◌<◌, ◌≤◌, min, List, [], ◌∷◌, length, Option, Some, None, Result, Ok, Err}
+use Rattle.std.specs.Prelude.{◌≡◌, ℕ, ◌+◌, ◌<◌, ◌≤◌, min, List, [], ◌∷◌, length, Option, Some, None, IfSome, Result, Ok, Err}
 use Rattle.fwd_program.specs.Program.{Way}
-use Rattle.fwd_program.specs.Told.{Grew, Did}
+use Rattle.fwd_program.specs.Told.{Grew, Did, Began}
 use Rattle.fwd_base.specs.declared.ids.LinkId.{LinkId}
 use Rattle.fwd_outside.specs.Loop.{LoopCall, LoopAnswer, LoopEntry, LoopTold, LoopProgram, LoopCounts, Dial, Push, Took}
 use Rattle.fwd_flush.specs.declared.answer.Poll.{Poll}
@@ -31,6 +31,15 @@ pub record Comes (old new : LoopTold) (from to : LoopProgram Progress) (before a
 abbrev pub Goes : {E : Type 0} → LoopTold → LoopTold → LoopProgram Progress → Progress → Progress → Result Poll E → Type 0
 Goes old new program before after (Ok poll) = Did old new program after × (poll ≡ poll_in after.stage)
 Goes old new program before after (Err e) = (left : LoopProgram Progress) × Comes old new program left before after
+
+-- The same, but for want of memory the flight is as before.
+abbrev pub GoesOrStays : {E : Type 0} → LoopTold → LoopTold → LoopProgram Progress → Progress → Progress → Result Poll E → Type 0
+GoesOrStays old new program before after (Ok poll) = Did old new program after × (poll ≡ poll_in after.stage)
+GoesOrStays old new program before after (Err e) = Began old new program × (after ≡ before)
+
+-- a flight under way over a link is over then, or under way over this link still
+abbrev pub KeepsLink : LinkId → Stage → Stage → Type 0
+KeepsLink link old new = link_in old ≡ Some link → IfSome (link_in new) (λ other. other ≡ link)
 
 -- a link that is had is the newest one of its loop
 abbrev pub IsNewest : ℕ → ℕ → Option LinkId → Type 0

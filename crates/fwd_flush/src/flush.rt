@@ -2,7 +2,7 @@
 
 ghost use Rattle.std.specs.Prelude.{◌≡◌, ◌≤◌, OnOk, OnErr};
 ghost use Rattle.fwd_flush.specs.Flight.{Flight, delivery, unopened, link_in, starts, polls, backs, breaks, writes, confirms, ends, heard};
-ghost use Rattle.fwd_flush.specs.Calls.{Goes, HasDialed};
+ghost use Rattle.fwd_flush.specs.Calls.{Goes, GoesOrStays, KeepsLink, HasDialed};
 ghost use Rattle.fwd_flush.specs.declared.stage.Stage.TheVariants.{Writing};
 
 use crate::rest::{Rest, push_rest};
@@ -105,7 +105,7 @@ impl<P: ReplyReader> Flush<P> {
         outside: &mut L,
         bytes: &[u8],
     ) -> Result<Poll, Memory>
-        ensures calls { Goes (L.told outside.old) (L.told outside.new) (backs (delivery P.wanted P.judged self.old) bytes.now self.old.progress) self.old.progress self.new.progress result }
+        ensures calls { GoesOrStays (L.told outside.old) (L.told outside.new) (backs (delivery P.wanted P.judged self.old) bytes.now self.old.progress) self.old.progress self.new.progress result }
         ensures same { self.new ≡ record self.old { progress = self.new.progress } }
         ensures later { L.faults outside.old ≤ L.faults outside.new }
         ensures counts { L.counts outside.new ≡ L.counts outside.old }
@@ -122,7 +122,7 @@ impl<P: ReplyReader> Flush<P> {
 
     /// Gives up, since the link broke. After `Err` the flight is as before.
     pub fn broken<L: Loop>(&mut self, outside: &mut L) -> Result<Poll, Memory>
-        ensures calls { Goes (L.told outside.old) (L.told outside.new) (breaks self.old.progress) self.old.progress self.new.progress result }
+        ensures calls { GoesOrStays (L.told outside.old) (L.told outside.new) (breaks self.old.progress) self.old.progress self.new.progress result }
         ensures same { self.new ≡ record self.old { progress = self.new.progress } }
         ensures later { L.faults outside.old ≤ L.faults outside.new }
         ensures counts { L.counts outside.new ≡ L.counts outside.old }
@@ -161,6 +161,7 @@ impl<P: ReplyReader> Flush<P> {
         ensures same { self.new ≡ record self.old { progress = self.new.progress } }
         ensures later { L.faults outside.old ≤ L.faults outside.new }
         ensures counts { L.counts outside.new ≡ L.counts outside.old }
+        ensures link { KeepsLink link self.old.progress.stage self.new.progress.stage }
     {
         match push_rest(outside, link, self.payload.as_slice(), &mut self.taken)? {
             Rest::Taken => self.confirm(alloc, outside, link),
@@ -176,10 +177,11 @@ impl<P: ReplyReader> Flush<P> {
         outside: &mut L,
         link: LinkId,
     ) -> Result<Poll, Memory>
-        ensures calls { Goes (L.told outside.old) (L.told outside.new) (confirms (delivery P.wanted P.judged self.old) link self.old.progress) self.old.progress self.new.progress result }
+        ensures calls { GoesOrStays (L.told outside.old) (L.told outside.new) (confirms (delivery P.wanted P.judged self.old) link self.old.progress) self.old.progress self.new.progress result }
         ensures same { self.new ≡ record self.old { progress = self.new.progress } }
         ensures later { L.faults outside.old ≤ L.faults outside.new }
         ensures counts { L.counts outside.new ≡ L.counts outside.old }
+        ensures link { KeepsLink link self.old.progress.stage self.new.progress.stage }
     {
         if !self.reader.wanted() {
             return self.end(outside, link, Answer::Good);
@@ -201,10 +203,11 @@ impl<P: ReplyReader> Flush<P> {
         link: LinkId,
         answer: Answer,
     ) -> Result<Poll, Memory>
-        ensures calls { Goes (L.told outside.old) (L.told outside.new) (ends link answer self.old.progress) self.old.progress self.new.progress result }
+        ensures calls { GoesOrStays (L.told outside.old) (L.told outside.new) (ends link answer self.old.progress) self.old.progress self.new.progress result }
         ensures same { self.new ≡ record self.old { progress = self.new.progress } }
         ensures later { L.faults outside.old ≤ L.faults outside.new }
         ensures counts { L.counts outside.new ≡ L.counts outside.old }
+        ensures link { KeepsLink link self.old.progress.stage self.new.progress.stage }
     {
         outside.close(link)?;
         self.stage = Stage::Ended(answer);
@@ -231,7 +234,7 @@ impl<P: ReplyReader> Flush<P> {
         link: LinkId,
         bytes: &[u8],
     ) -> Result<Poll, Memory>
-        ensures calls { let d = delivery P.wanted P.judged self.old in Goes (L.told outside.old) (L.told outside.new) (confirms d link (heard d bytes.now self.old.progress)) self.old.progress self.new.progress result }
+        ensures calls { let d = delivery P.wanted P.judged self.old in GoesOrStays (L.told outside.old) (L.told outside.new) (confirms d link (heard d bytes.now self.old.progress)) self.old.progress self.new.progress result }
         ensures same { self.new ≡ record self.old { progress = self.new.progress } }
         ensures later { L.faults outside.old ≤ L.faults outside.new }
         ensures counts { L.counts outside.new ≡ L.counts outside.old }
