@@ -121,6 +121,16 @@ heard_stage d bytes p = by d.wanted
     by true = refl
     by false = refl
 
+pub heard_taken : (d : Delivery) (bytes : List ℕ) (p : Progress) → (heard d bytes p).taken ≡ p.taken
+heard_taken d bytes p = by d.wanted
+  where
+    by : (b : Bool) → (if b then (record p { reply = p.reply ++ bytes }) else p).taken ≡ p.taken
+    by true = refl
+    by false = refl
+
+pub heard_reply : (d : Delivery) (bytes : List ℕ) (p : Progress) → d.wanted ≡ true → (heard d bytes p).reply ≡ p.reply ++ bytes
+heard_reply d bytes p wanted = rw wanted refl
+
 pub heard_waits : (d : Delivery) (bytes : List ℕ) (p : Progress) (link : LinkId) → p.stage ≡ Writing link → poll.Waiting ≡ poll_in (heard d bytes p).stage
 heard_waits d bytes p link at = rw (heard_stage d bytes p, at) refl
 
