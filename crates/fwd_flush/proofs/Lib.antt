@@ -3,3 +3,4 @@ pub mod Pushed
 pub mod Written
 pub mod Verdicts
 pub mod Links
+pub mod Flown
