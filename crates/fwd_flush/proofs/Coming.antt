@@ -1,12 +1,12 @@
 -- How calls lead through the programs of a flight.
-use Rattle.std.proofs.Common.{◌≡◌, ℕ, Bool, true, false, List, [], ◌∷◌, ◌++◌, Option, Some, None, Result, Ok, Err, IsErr, refl, sym, ◌∙◌, ap, subst}
+use Rattle.std.proofs.Common.{◌≡◌, ℕ, Bool, true, false, List, [], ◌∷◌, ◌++◌, Result, Ok, Err, IsErr, refl, sym, ◌∙◌, ap, subst}
 use Rattle.fwd_program.specs.Program.{entry, Return, Ask, Way}
 use Rattle.fwd_program.specs.Told.{Grew, Leads, Did, Began}
-use Rattle.fwd_program.proofs.Grown.{grew_none, grew_trans}
-use Rattle.fwd_program.proofs.Leading.{way_trans, goes_on, began_after, asked, unasked, stays}
+use Rattle.fwd_program.proofs.Grown.{grew_trans}
+use Rattle.fwd_program.proofs.Leading.{way_trans, goes_on, unasked, stays}
 use Rattle.fwd_base.specs.declared.ids.LinkId.{LinkId}
 use Rattle.fwd_base.specs.declared.memory.Memory.{Memory}
-use Rattle.fwd_outside.specs.Loop.{LoopCall, LoopAnswer, LoopEntry, LoopTold, LoopProgram, Close}
+use Rattle.fwd_outside.specs.Loop.{LoopCall, LoopAnswer, LoopEntry, LoopTold, LoopProgram}
 use Rattle.fwd_flush.specs.declared.answer.Answer.{Answer}
 use Rattle.fwd_flush.specs.declared.answer.Answer.TheVariants.{Good}
 use Rattle.fwd_flush.specs.declared.answer.Poll.{Poll}
@@ -108,9 +108,11 @@ module _ (d : Delivery) (link : LinkId) (p : Progress) where
       → Comes a b q (ends link answer p) before p → GoesOrStays b c (ends link answer p) p after r → Goes a c q before after r
   then_ends c answer q before after (Ok poll) first second = (goes_on (leads first) second.0, second.1)
   then_ends c answer q before after (Err e) first second =
-      let began = second.0 in
-      (began.0, moves_on before p after first
-      (rw second.1 (record { entries = began.1.entries; grew = began.1.grew; way = began.1.way; progress = sym (ends_uncounted answer p began.1.entries began.0 began.1.way) })))
+      let began = second.0 in (
+        began.0,
+        moves_on before p after first
+            (rw second.1 (record { entries = began.1.entries; grew = began.1.grew; way = began.1.way; progress = sym (ends_uncounted answer p began.1.entries began.0 began.1.way) })),
+      )
 
 -- what the reader of a flight says, by its fields
 module _ {P : Type 0} (inside f : Flight P) (is : inside ≡ f) where

@@ -1,13 +1,11 @@
 -- A flight from its start on.
-use Rattle.std.proofs.Common.{◌≡◌, ℕ, List, [], ◌∷◌, ◌++◌, length, length-append, append_assoc, refl, sym, ◌∙◌, ap, subst, arith}
+use Rattle.std.proofs.Common.{◌≡◌, ℕ, List, [], ◌∷◌, ◌++◌, length, length-append, append_assoc, sym, ◌∙◌, ap, subst, arith}
 use Rattle.std.proofs.lemmas.List.{append-nil}
 use Rattle.fwd_program.specs.Program.{Return, Way}
 use Rattle.fwd_outside.specs.Loop.{LoopEntry}
-use Rattle.fwd_flush.specs.declared.answer.Answer.TheVariants.{Good}
 use Rattle.fwd_flush.specs.declared.stage.Stage.{Stage}
-use Rattle.fwd_flush.specs.declared.stage.Stage.TheVariants.{Ended}
 use Rattle.fwd_flush.specs.Flight.{Progress, Delivery, unopened, starts}
-use Rattle.fwd_flush.specs.Verdict.{Event, Turn, Turns, handed, turned, goes, events_of, happened, calls_of, IsAt, Stands, HasLink, IsFlight, Flies}
+use Rattle.fwd_flush.specs.Verdict.{Event, Turns, handed, turned, events_of, happened, calls_of, IsAt, Stands, HasLink, IsFlight, Flies}
 use Rattle.fwd_flush.proofs.Verdicts.{starts_law, goes_law}
 use Rattle.fwd_flush.proofs.Links.{starts_has, goes_has}
 

@@ -1,5 +1,5 @@
 -- How the rest of a payload is pushed.
-use Rattle.std.proofs.Common.{◌≡◌, ◌≢◌, ℕ, zero, suc, ◌+◌, ◌-◌, ◌<◌, ◌≤◌, min, List, [], ◌∷◌, ◌++◌, length, take, drop, length-drop, refl, sym, ap, subst, arith}
+use Rattle.std.proofs.Common.{◌≡◌, ◌≢◌, ℕ, zero, suc, ◌+◌, ◌-◌, ◌<◌, ◌≤◌, min, List, [], ◌∷◌, length, take, drop, length-drop, refl, ap, subst, arith}
 use Rattle.std.proofs.lemmas.Bool.{lt-ltb, ltb-true, ne_eqb}
 use Rattle.std.proofs.lemmas.List.{take_all}
 use Rattle.fwd_program.specs.Program.{entry, Return, Ask}
@@ -70,7 +70,9 @@ module _ (a b c : LoopTold) (q : LoopProgram Progress) (left : ℕ) (d : Deliver
       let fits : more ≤ length (drop now.taken d.payload) = rw same (subst (λ (x : List ℕ). more ≤ length x) (whole_rest now.taken payload) within) in
       let is : now.taken + min more (length (drop now.taken d.payload)) ≡ now.taken + more = omega arith in
       let gone : Comes b c (pushes left d link now) (pushes asks_here.fewer d link (record now { taken = now.taken + min more (length (drop now.taken d.payload)) })) now (record now { taken = now.taken + min more (length (drop now.taken d.payload)) }) =
-      rw (ne_eqb more 0 some_more) at (goes_here (Took more) grew) in
-      (asks_here.fewer, omega (arith, asks_here.enough),
-      moves_on p now (record now { taken = now.taken + more }) before
-      (subst (λ (n : ℕ). Comes b c (pushes left d link now) (pushes asks_here.fewer d link (record now { taken = n })) now (record now { taken = n })) is gone))
+      rw (ne_eqb more 0 some_more) at (goes_here (Took more) grew) in (
+        asks_here.fewer,
+        omega (arith, asks_here.enough),
+        moves_on p now (record now { taken = now.taken + more }) before
+            (subst (λ (n : ℕ). Comes b c (pushes left d link now) (pushes asks_here.fewer d link (record now { taken = n })) now (record now { taken = n })) is gone),
+      )

@@ -1,13 +1,13 @@
 -- A flight stands as the verdict on what happened to it says.
-use Rattle.std.proofs.Common.{◌≡◌, ◌≢◌, ℕ, zero, suc, ◌+◌, ◌-◌, ◌<◌, ◌≤◌, ◌==◌, ◌||◌, min, Bool, true, false, nat_lt, if◌then◌else◌, List, [], ◌∷◌, ◌++◌, length, length-append, take, drop, length-drop, append_assoc, Option, Some, None, refl, sym, ◌∙◌, ap, subst, arith}
+use Rattle.std.proofs.Common.{◌≡◌, ◌≢◌, ℕ, zero, suc, ◌+◌, ◌<◌, ◌≤◌, min, Bool, true, false, nat_lt, if◌then◌else◌, List, [], ◌∷◌, ◌++◌, length, length-append, take, drop, length-drop, append_assoc, Option, Some, None, refl, sym, ◌∙◌, ap, subst, arith}
 use Rattle.std.specs.List.{list_any}
-use Rattle.std.proofs.lemmas.Bool.{lt-ltb, ltb-true, ltb-false, eq-eqb, ne_eqb}
+use Rattle.std.proofs.lemmas.Bool.{ltb-true, ltb-false, eq-eqb, ne_eqb}
 use Rattle.std.proofs.lemmas.List.{append-nil, length-take, take-append-drop}
 use Rattle.std.proofs.Math.Seq.{drop-append_seam}
 use Rattle.std.proofs.lemmas.List.Folds.{list_any-append}
-use Rattle.fwd_program.specs.Program.{Return, Ask, Way, entry}
+use Rattle.fwd_program.specs.Program.{Return, Ask, Way}
 use Rattle.fwd_base.specs.declared.ids.LinkId.{LinkId}
-use Rattle.fwd_outside.specs.Loop.{LoopEntry, LoopProgram, Dial, Push, Close, PushAnswer, Took, Again, Broke}
+use Rattle.fwd_outside.specs.Loop.{LoopEntry, LoopProgram, Push, PushAnswer, Took, Again, Broke}
 use Rattle.fwd_flush.specs.declared.answer.Answer.{Answer}
 use Rattle.fwd_flush.specs.declared.answer.Answer.TheVariants.{Good, Retry, Bad}
 use Rattle.fwd_flush.specs.declared.judged.Judged.{Judged}
@@ -15,7 +15,7 @@ use Rattle.fwd_flush.specs.declared.judged.Judged.TheVariants.{More, Right, Wron
 use Rattle.fwd_flush.specs.declared.stage.Stage.{Stage}
 use Rattle.fwd_flush.specs.declared.stage.Stage.TheVariants.{Opening, Writing, AwaitingAck, Ended}
 use Rattle.fwd_flush.specs.Flight.{Progress, Delivery, unopened, link_in, ends, goes_by, confirms, pushed_on, pushes, writes, dialed_on, starts, polls, heard, backs, breaks}
-use Rattle.fwd_flush.specs.Verdict.{Turn, Room, Back, Broken, goes, turned, Event, Dialed, Pushed, Replied, Snapped, taken_of, handed, replied_in, replied, is_empty, fails, gives_link, is_whole, by_reply, decided, else_by, verdict_behind, verdict, answer_in, events_of, IsUnbroken, IsAt, Stands}
+use Rattle.fwd_flush.specs.Verdict.{Turn, Room, Back, Broken, goes, turned, Event, Dialed, Pushed, Replied, Snapped, taken_of, handed, replied_in, replied, is_empty, fails, gives_link, by_reply, decided, else_by, verdict_behind, verdict, answer_in, events_of, IsUnbroken, IsAt, Stands}
 use Rattle.fwd_flush.proofs.Coming.{silent, replies}
 use Rattle.fwd_flush.proofs.Written.{heard_stage, heard_reply, heard_taken, polls_at, polls_not, backs_writing, backs_awaiting, backs_not, breaks_at, breaks_not}
 
@@ -78,8 +78,10 @@ ended d events p link answer (e ∷ es) q is counted rest beginning at way = by 
   where
     none : events_of (e ∷ []) ≡ []
     none = subst (λ (x : LoopEntry). events_of (x ∷ []) ≡ []) (sym way.1) refl
+
     stands : Stands d events (record p { stage = Ended answer })
     stands = record { answered = is; counted = counted; rest = rest; beginning = beginning; at = at }
+
     by : (es : List LoopEntry) → Way (Return (record p { stage = Ended answer })) es (Return q) → Stands d (events ++ events_of (e ∷ es)) q
     by [] over =
         let same : record p { stage = Ended answer } ≡ q = cc over in
@@ -220,8 +222,10 @@ module _ (d : Delivery) (events : List Event) (p : Progress) (runs : Runs d even
     where
       left : List ℕ
       left = drop p.taken d.payload
+
       e : Event
       e = Pushed left (Took n)
+
       handed_now : handed (events ++ e ∷ []) ≡ handed events ++ take n left
       handed_now = handed-append events (e ∷ []) ∙ ap (λ (l : List ℕ). handed events ++ l) (append-nil (take n left))
 

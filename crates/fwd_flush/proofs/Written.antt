@@ -14,9 +14,9 @@ use Rattle.fwd_flush.specs.declared.rest.Rest.TheVariants.{Taken, Fails}
 use Rattle.fwd_flush.specs.declared.stage.Stage.{Stage}
 use Rattle.fwd_flush.specs.declared.stage.Stage.TheVariants.{Opening, Writing, AwaitingAck, Ended}
 use Rattle.fwd_flush.specs.Flight.{Progress, Flight, Delivery, delivery, link_in, poll_in, ends, confirms, writes, dialed_on, starts, starts_in, polls, polls_in, heard, backs, backs_in, breaks, breaks_in}
-use Rattle.fwd_flush.specs.Calls.{Goes, GoesOrStays, Comes, IsNewest, HasDialed}
+use Rattle.fwd_flush.specs.Calls.{Goes, GoesOrStays, IsNewest, HasDialed}
 use Rattle.fwd_flush.specs.Pushing.{PushesOn}
-use Rattle.fwd_flush.proofs.Coming.{moved, leads, moves_on, stopped, then_confirms, then_ends, then_goes}
+use Rattle.fwd_flush.proofs.Coming.{moved, leads, stopped, then_confirms, then_ends, then_goes}
 
 module _ {P : Type 0} (wanted : P → Bool) (judged : P → List ℕ → Judged) (inside f : Flight P) (is : inside ≡ f) (payload : List ℕ) (all : payload ≡ inside.payload)
     (link : LinkId) (n : ℕ) (a b : LoopTold) where

@@ -1,5 +1,5 @@
 -- What the pushes of a rest come to, and what the flight does then.
-use Rattle.std.specs.Prelude.{◌≡◌, ℕ, ◌+◌, ◌≤◌, length, Result, Ok, Err}
+use Rattle.std.specs.Prelude.{Result, Ok, Err}
 use Rattle.fwd_program.specs.Program.{Return}
 use Rattle.fwd_base.specs.declared.ids.LinkId.{LinkId}
 use Rattle.fwd_outside.specs.Loop.{LoopTold, LoopProgram}
@@ -7,7 +7,7 @@ use Rattle.fwd_flush.specs.declared.answer.Answer.TheVariants.{Retry}
 use Rattle.fwd_flush.specs.declared.rest.Rest.{Rest}
 use Rattle.fwd_flush.specs.declared.rest.Rest.TheVariants.{Taken, Waits, Fails}
 use Rattle.fwd_flush.specs.declared.stage.Stage.TheVariants.{Writing}
-use Rattle.fwd_flush.specs.Flight.{Delivery, Progress, ends, confirms, pushes, writes}
+use Rattle.fwd_flush.specs.Flight.{Delivery, Progress, ends, confirms, writes}
 use Rattle.fwd_flush.specs.Calls.{Comes}
 
 -- what is left to do

@@ -2,7 +2,6 @@
 use Rattle.std.specs.Prelude.{◌≡◌, ℕ, ◌<◌, ◌==◌, ◌&&◌, not, Bool, true, false, if◌then◌else◌, List, [], ◌∷◌, ◌++◌, length, take, Option, Some, None}
 use Rattle.std.specs.List.{list_any}
 use Rattle.fwd_program.specs.Program.{Return, Way}
-use Rattle.fwd_base.specs.declared.ids.LinkId.{LinkId}
 use Rattle.fwd_outside.specs.Loop.{LoopCall, LoopAnswer, LoopEntry, LoopProgram, Dial, Push, Close, PushAnswer, Took, Again, Broke}
 use Rattle.fwd_flush.specs.declared.answer.Answer.{Answer}
 use Rattle.fwd_flush.specs.declared.answer.Answer.TheVariants.{Good, Retry, Bad}
@@ -10,7 +9,7 @@ use Rattle.fwd_flush.specs.declared.judged.Judged.{Judged}
 use Rattle.fwd_flush.specs.declared.judged.Judged.TheVariants.{More, Right, Wrong}
 use Rattle.fwd_flush.specs.declared.stage.Stage.{Stage}
 use Rattle.fwd_flush.specs.declared.stage.Stage.TheVariants.{Opening, Writing, AwaitingAck, Ended}
-use Rattle.fwd_flush.specs.Flight.{Progress, Delivery, unopened, starts, polls, backs, breaks}
+use Rattle.fwd_flush.specs.Flight.{Progress, Delivery, polls, backs, breaks}
 
 -- what happens to a flight
 pub data Event : Type 0 where

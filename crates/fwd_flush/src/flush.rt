@@ -30,10 +30,10 @@ impl<P> Model for Flush<P> {
     ghost Value = { Flight P };
 
     ghost view = { λ f. record {
-        output = f.output;
-        payload = f.payload;
-        reader = f.reader;
-        progress = record { stage = f.stage; taken = f.taken; reply = f.reply };
+      output = f.output;
+      payload = f.payload;
+      reader = f.reader;
+      progress = record { stage = f.stage; taken = f.taken; reply = f.reply };
     } };
 }
 

@@ -1,6 +1,6 @@
 use Rattle.std.proofs.Common.{◌≡◌, ◌≤◌, ℕ, length, refl, arith, subst}
 use Rattle.fwd_program.proofs.Grown.{grew_none}
-use Rattle.fwd_flush.specs.Flight.{Progress, pushes, writes}
+use Rattle.fwd_flush.specs.Flight.{pushes, writes}
 use Rattle.fwd_flush.specs.Calls.{Comes}
 use Rattle.fwd_flush.proofs.Coming.{unmoved}
 use Rattle.fwd_flush.proofs.Pushed.{refused, waits, broke, took_none, took_some, all_taken}
@@ -9,10 +9,12 @@ use Rattle.fwd_flush.proofs.rest.push_rest.Goals as goal
 pub pushing-init : goal.pushing-init
 unfolding writes
 pushing-init g c = record {
-  led = λ d p same from.
-      (length d.payload, rw same (omega arith),
-      subst (λ (n : ℕ). Comes (g.L.Loop.told c.args.outside.now) (g.L.Loop.told c.args.outside.now) (pushes (length d.payload) d c.args.link p) (pushes (length d.payload) d c.args.link (record p { taken = n })) p (record p { taken = n })) from
-      (unmoved _ p (grew_none _)));
+  led = λ d p same from. (
+    length d.payload,
+    rw same (omega arith),
+    subst (λ (n : ℕ). Comes (g.L.Loop.told c.args.outside.now) (g.L.Loop.told c.args.outside.now) (pushes (length d.payload) d c.args.link p) (pushes (length d.payload) d c.args.link (record p { taken = n })) p (record p { taken = n })) from
+        (unmoved _ p (grew_none _)),
+  );
   later = omega arith;
   same = refl;
 }

@@ -1,6 +1,5 @@
-use Rattle.std.proofs.Common.{refl}
 use Rattle.fwd_program.proofs.Grown.{grew_none}
-use Rattle.fwd_flush.specs.Flight.{delivery, backs}
+use Rattle.fwd_flush.specs.Flight.{delivery}
 use Rattle.fwd_flush.proofs.Coming.{returned, stayed}
 use Rattle.fwd_flush.proofs.Written.{backs_writing, backs_awaiting, backs_not, stage_of, stage_not, poll_of, heard_waits}
 use Rattle.fwd_flush.proofs.flush.Flush.back.Goals as goal

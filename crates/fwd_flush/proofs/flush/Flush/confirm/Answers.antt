@@ -1,10 +1,6 @@
-use Rattle.std.proofs.Common.{◌≡◌, Bool, true, false, refl, sym, subst}
+use Rattle.std.proofs.Common.{refl}
 use Rattle.fwd_program.proofs.Grown.{grew_none}
-use Rattle.fwd_outside.specs.Loop.{LoopProgram}
-use Rattle.fwd_flush.specs.declared.judged.Judged.{Judged}
-use Rattle.fwd_flush.specs.declared.judged.Judged.TheVariants.{More, Right, Wrong}
-use Rattle.fwd_flush.specs.Flight.{Progress, delivery}
-use Rattle.fwd_flush.specs.Calls.{GoesOrStays}
+use Rattle.fwd_flush.specs.Flight.{delivery}
 use Rattle.fwd_flush.proofs.Coming.{stayed, returned, silent, replies, wanted_by, judged_by}
 use Rattle.fwd_flush.proofs.flush.Flush.confirm.Goals as goal
 

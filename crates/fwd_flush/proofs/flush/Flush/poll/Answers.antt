@@ -1,5 +1,4 @@
-use Rattle.std.proofs.Common.{refl}
-use Rattle.fwd_flush.specs.Flight.{delivery, polls}
+use Rattle.fwd_flush.specs.Flight.{delivery}
 use Rattle.fwd_flush.proofs.Coming.{returned}
 use Rattle.fwd_flush.proofs.Written.{polls_at, polls_not, stage_of, stage_not, poll_of}
 use Rattle.fwd_flush.proofs.flush.Flush.poll.Goals as goal
