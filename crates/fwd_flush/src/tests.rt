@@ -122,7 +122,7 @@ impl ReplyReader for WantsOk {
         if reply.len() < 2 {
             return Ok(Judged::More);
         }
-        Ok(if reply == b"ok" {
+        Ok(if reply == b"ok".as_slice() {
             Judged::Right
         } else {
             Judged::Wrong
@@ -130,7 +130,7 @@ impl ReplyReader for WantsOk {
     }
 }
 
-fn to<P: ReplyReader>(alloc: Global, payload: &[u8], reader: P) -> Result<Flush<P>, Fail> {
+fn to<P: ReplyReader + Drop>(alloc: Global, payload: &[u8], reader: P) -> Result<Flush<P>, Fail> {
     let payload = Bytes::from_slice(alloc, payload)?;
     Ok(Flush::new(alloc, OutputId(1), payload, reader))
 }

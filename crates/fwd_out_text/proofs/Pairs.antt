@@ -1,5 +1,5 @@
 -- The pairs of a body behind the time.
-use Rattle.std.proofs.Common.{◌≡◌, ◌↔◌, ℕ, Bool, false, IsTrue, List, [], ◌∷◌, ◌++◌, append_assoc, Result, Ok, Err, OnOk, refl, sym, ◌∙◌, ap}
+use Rattle.std.proofs.Common.{◌≡◌, ◌↔◌, ℕ, Bool, false, IsTrue, List, [], ◌∷◌, ◌++◌, append_assoc, Result, Ok, Err, OnOk, refl, ◌∙◌, ap}
 use Rattle.fwd_base.specs.declared.memory.Memory.{Memory}
 use Rattle.fwd_value.specs.Val.{Val, entries_of, mapping}
 use Rattle.fwd_json.specs.Text.{json, more_pairs}

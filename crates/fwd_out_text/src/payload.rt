@@ -11,12 +11,7 @@ use fwd_event::{Event, Events, write_event};
 use std::alloc::Global;
 
 /// The payload for events of a tag, in a form. As MessagePack it is written for events that have a spelling of their own.
-pub fn payload_text(
-    alloc: Global,
-    form: Form,
-    tag: &[u8],
-    events: &Events,
-) -> Result<Bytes, Memory>
+pub fn payload_text(alloc: Global, form: Form, tag: &[u8], events: &Events) -> Result<Bytes, Memory>
     requires { form ≡ MsgPack → All EventFits events.now }
     ensures { IfOk result (λ payload. payload ≡ payload_of form tag.now events.now) }
 {

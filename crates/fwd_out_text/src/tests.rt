@@ -55,10 +55,7 @@ fn events_and_pairs_keep_their_order(rt: HostRuntime) -> Result<(), Fail> {
     let alloc = rt.alloc();
     let mut events = Events::new(alloc);
     let mut first = event(alloc, 0, 0, b"a", Value::Uint(2))?;
-    first.body.push((
-        Value::Text(Bytes::from_slice(alloc, b"b")?),
-        Value::Uint(3),
-    ))?;
+    first.body.push((Value::Text(Bytes::from_slice(alloc, b"b")?), Value::Uint(3)))?;
     events.push(first)?;
     events.push(event(alloc, 4_294_967_295, 1_234, b"c", Value::Nil)?)?;
     events.push(Event {
@@ -68,7 +65,8 @@ fn events_and_pairs_keep_their_order(rt: HostRuntime) -> Result<(), Fail> {
         body: Pairs::new(alloc),
     })?;
     let lines = payload_text(alloc, Form::JsonLines, b"app", &events)?;
-    let wanted = b"{\"date\":0.000000000,\"a\":2,\"b\":3}\n{\"date\":4294967295.000001234,\"c\":null}\n{\"date\":1.4294967295}\n";
+    let wanted =
+        b"{\"date\":0.000000000,\"a\":2,\"b\":3}\n{\"date\":4294967295.000001234,\"c\":null}\n{\"date\":1.4294967295}\n";
     assert!(rt; lines.as_slice() == wanted.as_slice());
     Ok(())
 }
@@ -91,7 +89,8 @@ fn stored_events_stand_one_after_another(rt: HostRuntime) -> Result<(), Fail> {
         return Ok(());
     }
     let stored = payload_text(alloc, Form::MsgPack, b"app", &events)?;
-    let wanted = b"\x92\x92\xd7\x00\x00\x00\x00\x01\x00\x00\x00\x00\x80\x81\x07\xc0\x92\x92\xd7\x00\x00\x00\x00\x02\x00\x00\x00\x00\x80\x81\x07\xc0";
+    let wanted =
+        b"\x92\x92\xd7\x00\x00\x00\x00\x01\x00\x00\x00\x00\x80\x81\x07\xc0\x92\x92\xd7\x00\x00\x00\x00\x02\x00\x00\x00\x00\x80\x81\x07\xc0";
     assert!(rt; stored.as_slice() == wanted.as_slice());
     Ok(())
 }
