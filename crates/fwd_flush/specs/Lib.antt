@@ -1,0 +1,4 @@
+pub mod Flight
+pub mod Calls
+pub mod Pushing
+pub mod Verdict

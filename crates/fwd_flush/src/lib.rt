@@ -1,0 +1,25 @@
+//! A payload on its way to the end of an output.
+//!
+//! A link takes a piece at a time, wants to wait, or breaks, and some peers confirm by a reply what they took. A flight
+//! hands over one payload: it dials, pushes what is left whenever there is room, keeps what is replied, and comes to an
+//! answer once. It goes on where it stopped, and an ended flight has closed its link.
+#![tactic(auto)]
+
+mod answer;
+mod flush;
+mod judged;
+mod laws;
+mod reader;
+mod rest;
+mod stage;
+
+pub use answer::{Answer, Poll};
+pub use flush::Flush;
+pub use fwd_base::{Bytes, LinkId, Memory, OutputId};
+pub use judged::Judged;
+pub use laws::{ended_has_closed, goes_on_as_verdict, starts_as_verdict, verdict_of_flight};
+pub use reader::{NoReply, ReplyReader};
+pub use stage::Stage;
+
+#[cfg(test)]
+mod tests;

@@ -1,0 +1,36 @@
+-- The payload of a chunk: what is written for each of its events, one after another.
+use Rattle.std.specs.Prelude.{ℕ, ◌-◌, List, ◌++◌, length, codes, decimal, replicate}
+use Rattle.std.specs.List.{flat_map}
+use Rattle.fwd_value.specs.Val.{entries_of, mapping}
+use Rattle.fwd_json.specs.Text.{json, more_pairs}
+use Rattle.fwd_msgpack.specs.Canonical.{canonical}
+use Rattle.fwd_base.specs.declared.choices.Form.{Form}
+use Rattle.fwd_base.specs.declared.choices.Form.TheVariants.{JsonLines, OutFile, MsgPack}
+use Rattle.fwd_event.specs.declared.event.Event.{Event}
+use Rattle.fwd_event.specs.Event.{event_val}
+
+-- at least nine digits, with zeros in front
+abbrev pub nanoseconds : ℕ → List ℕ
+nanoseconds n = replicate (9 - length (decimal n)) 48 ++ decimal n
+
+-- the time in seconds, with its nanoseconds behind a dot
+abbrev pub moment : Event → List ℕ
+moment e = decimal e.sec ++ codes "." ++ nanoseconds e.nsec
+
+-- {"date":TIME,"key":value, ..} and a line feed
+abbrev pub json_line : Event → List ℕ
+json_line e = codes "{\"date\":" ++ moment e ++ more_pairs (entries_of e.body) ++ codes "}\n"
+
+-- TAG: [TIME, BODY] and a line feed
+abbrev pub tagged_line : List ℕ → Event → List ℕ
+tagged_line tag e = tag ++ codes ": [" ++ moment e ++ codes ", " ++ json (mapping (entries_of e.body)) ++ codes "]\n"
+
+-- what is written for an event of a tag
+abbrev pub record_of : Form → List ℕ → Event → List ℕ
+record_of JsonLines tag e = json_line e
+record_of OutFile tag e = tagged_line tag e
+record_of MsgPack tag e = canonical (event_val e)
+
+-- the payload for events of a tag
+abbrev pub payload_of : Form → List ℕ → List Event → List ℕ
+payload_of form tag events = flat_map (record_of form tag) events

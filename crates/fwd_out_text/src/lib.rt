@@ -1,0 +1,15 @@
+//! The text that outputs are handed.
+//!
+//! A chunk's events become one payload: lines of JSON with the time under `date`, lines of tag, time and body, or the
+//! events as they are stored. Each form writes the events in their order, one after another.
+#![tactic(auto)]
+
+mod payload;
+mod record_text;
+
+pub use fwd_base::{Bytes, Form, Memory};
+pub use fwd_event::{Event, Events};
+pub use payload::payload_text;
+
+#[cfg(test)]
+mod tests;

@@ -1,0 +1,41 @@
+//! The payload of a chunk.
+
+ghost use Rattle.std.specs.Prelude.{◌≡◌, ◌++◌, All, IfOk, OnOk};
+ghost use Rattle.fwd_base.specs.declared.choices.Form.TheVariants.{MsgPack};
+ghost use Rattle.fwd_event.specs.Event.{EventFits};
+ghost use Rattle.fwd_out_text.specs.Payload.{record_of, payload_of};
+
+use crate::record_text::{write_json_line, write_tagged_line};
+use fwd_base::{Bytes, Form, Memory};
+use fwd_event::{Event, Events, write_event};
+use std::alloc::Global;
+
+/// The payload for events of a tag, in a form. As MessagePack it is written for events that have a spelling of their own.
+pub fn payload_text(alloc: Global, form: Form, tag: &[u8], events: &Events) -> Result<Bytes, Memory>
+    requires { form ≡ MsgPack → All EventFits events.now }
+    ensures { IfOk result (λ payload. payload ≡ payload_of form tag.now events.now) }
+{
+    let mut payload = Bytes::new(alloc);
+    for event in events.as_slice() {
+        write_record(alloc, form, tag, event, &mut payload)?;
+    }
+    Ok(payload)
+}
+
+/// Appends what is written for one event.
+fn write_record(
+    alloc: Global,
+    form: Form,
+    tag: &[u8],
+    event: &Event,
+    out: &mut Bytes,
+) -> Result<(), Memory>
+    requires { form ≡ MsgPack → EventFits event.now }
+    ensures { OnOk result (out.new ≡ out.old ++ record_of form tag.now event.now) }
+{
+    match form {
+        Form::JsonLines => write_json_line(alloc, event, out),
+        Form::OutFile => write_tagged_line(alloc, tag, event, out),
+        Form::MsgPack => write_event(event, out),
+    }
+}
