@@ -7,9 +7,9 @@ use Rattle.fwd_program.proofs.Leading.{way_trans, goes_on, unasked, stays}
 use Rattle.fwd_base.specs.declared.ids.LinkId.{LinkId}
 use Rattle.fwd_base.specs.declared.memory.Memory.{Memory}
 use Rattle.fwd_outside.specs.Loop.{LoopCall, LoopAnswer, LoopEntry, LoopTold, LoopProgram}
-use Rattle.fwd_flush.specs.declared.answer.Answer.{Answer}
-use Rattle.fwd_flush.specs.declared.answer.Answer.TheVariants.{Good}
-use Rattle.fwd_flush.specs.declared.answer.Poll.{Poll}
+use Rattle.fwd_table.specs.declared.answer.Answer.{Answer}
+use Rattle.fwd_table.specs.declared.answer.Answer.TheVariants.{Good}
+use Rattle.fwd_flush.specs.declared.poll.Poll.{Poll}
 use Rattle.fwd_flush.specs.declared.judged.Judged.{Judged}
 use Rattle.fwd_flush.specs.declared.judged.Judged.TheVariants.{More, Right, Wrong}
 use Rattle.fwd_flush.specs.declared.stage.Stage.TheVariants.{Ended}

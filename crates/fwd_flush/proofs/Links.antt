@@ -4,8 +4,8 @@ use Rattle.std.proofs.lemmas.List.{append-nil}
 use Rattle.fwd_program.specs.Program.{Return, Ask, Way, entry}
 use Rattle.fwd_base.specs.declared.ids.LinkId.{LinkId}
 use Rattle.fwd_outside.specs.Loop.{LoopEntry, LoopProgram, Dial, Push, PushAnswer, Took, Again, Broke}
-use Rattle.fwd_flush.specs.declared.answer.Answer.{Answer}
-use Rattle.fwd_flush.specs.declared.answer.Answer.TheVariants.{Good, Retry}
+use Rattle.fwd_table.specs.declared.answer.Answer.{Answer}
+use Rattle.fwd_table.specs.declared.answer.Answer.TheVariants.{Good, Retry}
 use Rattle.fwd_flush.specs.declared.judged.Judged.{Judged}
 use Rattle.fwd_flush.specs.declared.judged.Judged.TheVariants.{More, Right, Wrong}
 use Rattle.fwd_flush.specs.declared.stage.Stage.{Stage}

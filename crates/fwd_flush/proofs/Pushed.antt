@@ -6,7 +6,7 @@ use Rattle.fwd_program.specs.Program.{entry, Return, Ask}
 use Rattle.fwd_program.specs.Told.{Grew}
 use Rattle.fwd_base.specs.declared.ids.LinkId.{LinkId}
 use Rattle.fwd_outside.specs.Loop.{LoopTold, LoopProgram, Push, PushAnswer, Took, Again, Broke}
-use Rattle.fwd_flush.specs.declared.answer.Answer.TheVariants.{Retry}
+use Rattle.fwd_table.specs.declared.answer.Answer.TheVariants.{Retry}
 use Rattle.fwd_flush.specs.declared.stage.Stage.TheVariants.{Writing}
 use Rattle.fwd_flush.specs.Flight.{Progress, Delivery, ends, confirms, pushed_on, pushes}
 use Rattle.fwd_flush.specs.Calls.{behind, Comes}

@@ -8,8 +8,8 @@ use Rattle.std.proofs.lemmas.List.Folds.{list_any-append}
 use Rattle.fwd_program.specs.Program.{Return, Ask, Way}
 use Rattle.fwd_base.specs.declared.ids.LinkId.{LinkId}
 use Rattle.fwd_outside.specs.Loop.{LoopEntry, LoopProgram, Push, PushAnswer, Took, Again, Broke}
-use Rattle.fwd_flush.specs.declared.answer.Answer.{Answer}
-use Rattle.fwd_flush.specs.declared.answer.Answer.TheVariants.{Good, Retry, Bad}
+use Rattle.fwd_table.specs.declared.answer.Answer.{Answer}
+use Rattle.fwd_table.specs.declared.answer.Answer.TheVariants.{Good, Retry, Bad}
 use Rattle.fwd_flush.specs.declared.judged.Judged.{Judged}
 use Rattle.fwd_flush.specs.declared.judged.Judged.TheVariants.{More, Right, Wrong}
 use Rattle.fwd_flush.specs.declared.stage.Stage.{Stage}

@@ -5,9 +5,9 @@ use Rattle.fwd_program.specs.Told.{Grew}
 use Rattle.fwd_base.specs.declared.ids.LinkId.{LinkId}
 use Rattle.fwd_base.specs.declared.memory.Memory.{Memory}
 use Rattle.fwd_outside.specs.Loop.{LoopTold, LoopProgram, LoopCounts, Dial}
-use Rattle.fwd_flush.specs.declared.answer.Answer.TheVariants.{Retry}
-use Rattle.fwd_flush.specs.declared.answer.Poll.{Poll}
-use Rattle.fwd_flush.specs.declared.answer.Poll.TheVariants as poll
+use Rattle.fwd_table.specs.declared.answer.Answer.TheVariants.{Retry}
+use Rattle.fwd_flush.specs.declared.poll.Poll.{Poll}
+use Rattle.fwd_flush.specs.declared.poll.Poll.TheVariants as poll
 use Rattle.fwd_flush.specs.declared.judged.Judged.{Judged}
 use Rattle.fwd_flush.specs.declared.rest.Rest.{Rest}
 use Rattle.fwd_flush.specs.declared.rest.Rest.TheVariants.{Taken, Fails}

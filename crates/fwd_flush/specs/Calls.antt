@@ -4,7 +4,7 @@ use Rattle.fwd_program.specs.Program.{Way}
 use Rattle.fwd_program.specs.Told.{Grew, Did, Began}
 use Rattle.fwd_base.specs.declared.ids.LinkId.{LinkId}
 use Rattle.fwd_outside.specs.Loop.{LoopCall, LoopAnswer, LoopEntry, LoopTold, LoopProgram, LoopCounts, Dial, Push, Took}
-use Rattle.fwd_flush.specs.declared.answer.Poll.{Poll}
+use Rattle.fwd_flush.specs.declared.poll.Poll.{Poll}
 use Rattle.fwd_flush.specs.declared.stage.Stage.{Stage}
 use Rattle.fwd_flush.specs.declared.stage.Stage.TheVariants.{Opening, Writing}
 use Rattle.fwd_flush.specs.Flight.{Progress, poll_in, link_in}

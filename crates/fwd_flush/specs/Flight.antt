@@ -4,10 +4,10 @@ use Rattle.fwd_program.specs.Program.{Return, Ask}
 use Rattle.fwd_base.specs.declared.ids.LinkId.{LinkId}
 use Rattle.fwd_base.specs.declared.ids.OutputId.{OutputId}
 use Rattle.fwd_outside.specs.Loop.{LoopProgram, Dial, Push, Close, PushAnswer, Took, Again, Broke}
-use Rattle.fwd_flush.specs.declared.answer.Answer.{Answer}
-use Rattle.fwd_flush.specs.declared.answer.Answer.TheVariants.{Good, Retry}
-use Rattle.fwd_flush.specs.declared.answer.Poll.{Poll}
-use Rattle.fwd_flush.specs.declared.answer.Poll.TheVariants as poll
+use Rattle.fwd_table.specs.declared.answer.Answer.{Answer}
+use Rattle.fwd_table.specs.declared.answer.Answer.TheVariants.{Good, Retry}
+use Rattle.fwd_flush.specs.declared.poll.Poll.{Poll}
+use Rattle.fwd_flush.specs.declared.poll.Poll.TheVariants as poll
 use Rattle.fwd_flush.specs.declared.judged.Judged.{Judged}
 use Rattle.fwd_flush.specs.declared.judged.Judged.TheVariants.{More, Right, Wrong}
 use Rattle.fwd_flush.specs.declared.stage.Stage.{Stage}

@@ -3,7 +3,7 @@ use Rattle.std.specs.Prelude.{Result, Ok, Err}
 use Rattle.fwd_program.specs.Program.{Return}
 use Rattle.fwd_base.specs.declared.ids.LinkId.{LinkId}
 use Rattle.fwd_outside.specs.Loop.{LoopTold, LoopProgram}
-use Rattle.fwd_flush.specs.declared.answer.Answer.TheVariants.{Retry}
+use Rattle.fwd_table.specs.declared.answer.Answer.TheVariants.{Retry}
 use Rattle.fwd_flush.specs.declared.rest.Rest.{Rest}
 use Rattle.fwd_flush.specs.declared.rest.Rest.TheVariants.{Taken, Waits, Fails}
 use Rattle.fwd_flush.specs.declared.stage.Stage.TheVariants.{Writing}

@@ -3,8 +3,8 @@ use Rattle.std.specs.Prelude.{◌≡◌, ℕ, ◌<◌, ◌==◌, ◌&&◌, not, 
 use Rattle.std.specs.List.{list_any}
 use Rattle.fwd_program.specs.Program.{Return, Way}
 use Rattle.fwd_outside.specs.Loop.{LoopCall, LoopAnswer, LoopEntry, LoopProgram, Dial, Push, Close, PushAnswer, Took, Again, Broke}
-use Rattle.fwd_flush.specs.declared.answer.Answer.{Answer}
-use Rattle.fwd_flush.specs.declared.answer.Answer.TheVariants.{Good, Retry, Bad}
+use Rattle.fwd_table.specs.declared.answer.Answer.{Answer}
+use Rattle.fwd_table.specs.declared.answer.Answer.TheVariants.{Good, Retry, Bad}
 use Rattle.fwd_flush.specs.declared.judged.Judged.{Judged}
 use Rattle.fwd_flush.specs.declared.judged.Judged.TheVariants.{More, Right, Wrong}
 use Rattle.fwd_flush.specs.declared.stage.Stage.{Stage}

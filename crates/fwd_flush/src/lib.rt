@@ -5,19 +5,20 @@
 //! answer once. It goes on where it stopped, and an ended flight has closed its link.
 #![tactic(auto)]
 
-mod answer;
 mod flush;
 mod judged;
 mod laws;
+mod poll;
 mod reader;
 mod rest;
 mod stage;
 
-pub use answer::{Answer, Poll};
 pub use flush::Flush;
 pub use fwd_base::{Bytes, LinkId, Memory, OutputId};
+pub use fwd_table::Answer;
 pub use judged::Judged;
 pub use laws::{ended_has_closed, goes_on_as_verdict, starts_as_verdict, verdict_of_flight};
+pub use poll::Poll;
 pub use reader::{NoReply, ReplyReader};
 pub use stage::Stage;
 

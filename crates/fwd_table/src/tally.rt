@@ -16,11 +16,11 @@ pub struct InputTally {
 /// The counts of an output.
 #[derive(Clone, Copy, Debug, PartialEq, Eq)]
 pub struct OutputTally {
-    /// Flushes that delivered their records.
+    /// Flushes that answered OK.
     pub good: u64,
-    /// Flushes that failed and might be tried again.
+    /// Flushes that answered RETRY, also where that spent the route.
     pub retry: u64,
-    /// Flushes that failed and were not to be tried again.
+    /// Flushes that answered ERROR.
     pub bad: u64,
     /// Routes whose tries were spent.
     pub spent: u64,
