@@ -1,9 +1,7 @@
 -- The order of timers is total, and the first of a list comes before none of it.
-use Rattle.std.proofs.Common.{◌≡◌, ◌⊎◌, inl, inr, ℕ, Bool, true, false, List, [], ◌∷◌, Option, Some, None, refl, sym, subst, ◌∙◌, arith}
+use Rattle.std.proofs.Common.{◌≡◌, ◌⊎◌, inl, inr, Bool, true, false, List, [], ◌∷◌, Option, Some, None, refl, sym, subst, ◌∙◌, arith}
 use Rattle.std.specs.Prelude.{Contains, fold, MatchOption, if◌then◌else◌}
 use Rattle.std.proofs.lemmas.Bool.Decides.{nat_tests}
-use Rattle.std.proofs.lemmas.Bool.{cases_Bool}
-use Rattle.std.proofs.lemmas.List.Elements.{Contains-append_left, Contains-append_right}
 use Rattle.fwd_retry.specs.declared.timer.Timer.{Timer}
 use Rattle.fwd_retry.specs.Timer.{is_before, earlier, first, IsFirst}
 use Rattle.fwd_retry.proofs.Members.{member_cases, member_here, member_behind, not_of_none}

@@ -1,5 +1,4 @@
 -- Changes of routes and rows.
-use Rattle.std.specs.Prelude.{ℕ}
 use Rattle.fwd_table.specs.declared.route.Route.{Route}
 use Rattle.fwd_table.specs.declared.route.Change.{Change}
 use Rattle.fwd_table.specs.declared.route.Change.TheVariants.{Starts, Stays, Retries}

@@ -1,10 +1,8 @@
 use Rattle.std.proofs.Common.{length, ◌<◌, arith}
-use Rattle.std.specs.Prelude.{if◌then◌else◌}
 use Rattle.std.proofs.lemmas.List.{get_or_default}
 use Rattle.std.proofs.lemmas.List.Edits.{map_over_more}
 use Rattle.fwd_table.specs.declared.route.Route.{Route}
 use Rattle.fwd_table.specs.Routes.{idle_at}
-use Rattle.fwd_table.specs.Changes.{changed}
 use Rattle.fwd_table.proofs.route.begin_routes.Goals as goal
 
 pub loop-route-preserved : goal.loop-route-preserved

@@ -1,7 +1,5 @@
 use Rattle.std.proofs.Common.{◌≡◌, map, take, drop, ◌++◌}
-use Rattle.std.specs.Prelude.{if◌then◌else◌}
 use Rattle.fwd_table.specs.Routes.{idle_at}
-use Rattle.fwd_table.specs.Changes.{changed}
 use Rattle.fwd_table.proofs.route.begin_routes.Given as goal
 
 abbrev pub invariant-loop-route : goal.invariant-loop-route

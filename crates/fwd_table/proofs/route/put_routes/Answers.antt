@@ -1,5 +1,4 @@
-use Rattle.std.proofs.Common.{◌≡◌, ◌≤◌, sym, ◌∙◌, length, ap, arith, vec_len}
-use Rattle.std.specs.Int.{bit_at}
+use Rattle.std.proofs.Common.{sym, ◌∙◌, length, ap, arith}
 use Rattle.std.proofs.lemmas.Nat.Bits.{shr_and_one}
 use Rattle.fwd_table.proofs.Below.{routes_below-none, put_set, put_clear}
 use Rattle.fwd_table.proofs.route.put_routes.Goals as goal

@@ -1,10 +1,9 @@
-use Rattle.std.proofs.Common.{◌≡◌, ◌+◌, ◌≤◌, true, false, not, List, length, subst, sym, rules, arith}
-use Rattle.std.specs.Prelude.{filter, Contains}
+use Rattle.std.proofs.Common.{◌≡◌, ◌+◌, ◌≤◌, not, length, rules, arith}
+use Rattle.std.specs.Prelude.{filter}
 use Rattle.std.proofs.lemmas.Fn.{filter_same}
 use Rattle.std.proofs.lemmas.Bool.{not-true, not_from_false, both_ways, false_from_ne_true}
 use Rattle.fwd_retry.specs.declared.timer.Timer.{Timer}
 use Rattle.fwd_retry.specs.Timer.{is_of}
-use Rattle.fwd_retry.specs.Timers.{IsWithout}
 use Rattle.fwd_retry.proofs.Members.{filter_member, member_filter, shorter_without}
 use Rattle.fwd_retry.proofs.timers.Timers.clear.Goals as goal
 

@@ -1,6 +1,6 @@
-use Rattle.std.proofs.Common.{◌≡◌, not, rules}
+use Rattle.std.proofs.Common.{◌≡◌, rules}
 use Rattle.std.proofs.lemmas.Fn.{filter_same}
-use Rattle.fwd_table.specs.Routes.{is_to, without_output}
+use Rattle.fwd_table.specs.Routes.{without_output}
 use Rattle.fwd_table.proofs.Rising.{rise-filter}
 use Rattle.fwd_table.proofs.route.Routes.remove.Goals as goal
 

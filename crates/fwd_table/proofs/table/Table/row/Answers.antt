@@ -1,7 +1,6 @@
 use Rattle.std.proofs.Common.{◌≡◌, ◌<◌, Some, length, refl, ap}
 use Rattle.std.specs.Prelude.{slice_get}
 use Rattle.std.proofs.lemmas.Option.{slice_get_read}
-use Rattle.fwd_base.specs.declared.ids.ChunkId.{ChunkId}
 use Rattle.fwd_table.specs.declared.row.RowSeen.{RowSeen}
 use Rattle.fwd_table.proofs.Chunks.{row_found}
 use Rattle.fwd_table.proofs.table.Table.row.Goals as goal
