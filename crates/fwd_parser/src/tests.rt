@@ -1,50 +1,93 @@
-use crate::time_of;
+//! Vectors from outside.
 
-#[test]
-fn times_are_read_by_their_formats(rt: HostRuntime) {
-    for (format, text, moment) in [
-        (
-            "%d/%b/%Y:%H:%M:%S %z",
-            "14/Nov/2023:23:13:20 +0100",
-            Some((1_700_000_000, 0)),
-        ),
-        (
-            "%Y-%m-%dT%H:%M:%S.%L",
-            "2023-11-14T22:13:20.5",
-            Some((1_700_000_000, 500_000_000)),
-        ),
-        ("%Y-%m-%dT%H:%M:%S.%L", "2023-02-29T00:00:00.5", None),
-        (
-            "%Y-%m-%dT%H:%M:%S%z",
-            "2023-11-14T22:13:20+0000",
-            Some((1_700_000_000, 0)),
-        ),
-        (
-            "%Y-%m-%dT%H:%M:%S.%L%z",
-            "2023-11-14T17:13:20.000000001-05:00",
-            Some((1_700_000_000, 1)),
-        ),
-        ("%F %T", "2024-02-29 0:0:0", Some((1_709_164_800, 0))),
-        ("%s.%L", "1700000000.25", Some((1_700_000_000, 250_000_000))),
-        (
-            "%b %e %H:%M:%S %Y",
-            "Feb  3 09:05:01 2000",
-            Some((949_568_701, 0)),
-        ),
-        ("%d %b %Y", "31 dec 1969", Some((-86_400, 0))),
-        ("%d %b %Y", "31 apr 2001", None),
-        ("%Y%%", "2001%", None),
-        ("%Y-%m-%d%%", "2001-01-01%", Some((978_307_200, 0))),
-        ("%Y-%m-%d", "2001-01-01 ", None),
-        ("%Y-%m-%d ", "2001-01-01", Some((978_307_200, 0))),
-        ("%H:%M", "10:00", None),
-        ("%s", "0x10", None),
-        ("%s%", "10", None),
-        ("%j", "10", None),
-        ("%F %T%z", "2001-01-01 23:60:00Z", None),
-        ("%F%z", "2001-01-01+24:00", None),
-    ] {
-        let found = time_of(format.as_bytes(), text.as_bytes());
-        assert!(rt; found == moment, "{text}: {found:?}");
+mod fields;
+mod lines;
+mod times;
+
+use crate::{Event, FieldType, FieldTypes, Parser, Shape, TimeRule, TypeKind};
+use fwd_base::{Bytes, Pattern};
+use fwd_event::Value;
+use fwd_json::json_text;
+use std::alloc::Global;
+use std::process::Abort;
+use std::test::Fail;
+
+/// The clock of the tests, in milliseconds.
+const NOW: u64 = 7_250;
+
+/// A rule for the time under `time`, without a format none.
+fn time(alloc: Global, format: &str) -> Result<Option<TimeRule>, Fail> {
+    if format.is_empty() {
+        return Ok(None);
     }
+    Ok(Some(TimeRule {
+        key: Bytes::from_slice(alloc, b"time")?,
+        format: Bytes::from_slice(alloc, format.as_bytes())?,
+        keep: false,
+    }))
+}
+
+fn json(alloc: Global, format: &str) -> Result<Parser, Fail> {
+    Ok(Parser {
+        shape: Shape::Json,
+        time: time(alloc, format)?,
+    })
+}
+
+fn kind(word: &str) -> TypeKind {
+    match word {
+        "integer" => TypeKind::Integer,
+        "hex" => TypeKind::Hex,
+        "bool" => TypeKind::Bool,
+        _ => TypeKind::Text,
+    }
+}
+
+/// The types of a text of words `key:type`.
+fn types(alloc: Global, text: &str) -> Result<FieldTypes, Fail> {
+    let mut types = FieldTypes::new(alloc);
+    for word in text.split(' ') {
+        if let Some((key, name)) = word.split_once(':') {
+            types.push(FieldType {
+                key: Bytes::from_slice(alloc, key.as_bytes())?,
+                kind: kind(name),
+            })?;
+        }
+    }
+    Ok(types)
+}
+
+fn regex(alloc: Global, pattern: &str, words: &str, format: &str) -> Result<Parser, Fail> {
+    Ok(Parser {
+        shape: Shape::Groups {
+            pattern: Pattern::new(alloc, pattern.as_bytes())?,
+            types: types(alloc, words)?,
+            skip_empty: true,
+        },
+        time: time(alloc, format)?,
+    })
+}
+
+/// The seconds and nanoseconds of an event, and the JSON text of its body.
+fn text_of(alloc: Global, event: Event) -> Result<Bytes, Fail> {
+    let moment = format!(in alloc; "{} {} ", event.sec, event.nsec)?;
+    let mut text = Bytes::from_slice(alloc, moment.as_str().as_bytes())?;
+    json_text(alloc, &Value::Map(event.body), &mut text)?;
+    Ok(text)
+}
+
+/// Whether a parser reads a line as the event of this text.
+fn reads(alloc: Global, parser: &Parser, line: &[u8], text: &str) -> Result<bool, Fail> {
+    let event = parser.parse(alloc, line, NOW)?;
+    Ok(event.meta.is_empty() && text_of(alloc, event)?.as_slice() == text.as_bytes())
+}
+
+/// Reads the lines of a table, each with ` => ` and the text of its event.
+fn check(rt: &impl Abort, alloc: Global, parser: &Parser, table: &str) -> Result<(), Fail> {
+    for row in table.lines() {
+        if let Some((line, text)) = row.split_once(" => ") {
+            assert!(rt; reads(alloc, parser, line.as_bytes(), text)?, "{row}");
+        }
+    }
+    Ok(())
 }

@@ -1,29 +1,10 @@
 //! Times in text.
 
-ghost use Rattle.std.specs.Prelude.{◌≡◌, ◌≤◌, option_map};
-ghost use Rattle.fwd_parser.specs.Time.{is_blank as blank, behind_blanks as left_behind_blanks, number_of, month_named, distance_of, offset_of, digits_at};
+ghost use Rattle.std.specs.Prelude.{◌≡◌, ◌∷◌, ◌<◌, ◌≤◌, length, option_map, IfSome, MatchOption};
+ghost use Rattle.fwd_parser.specs.Time.{walk, directive as directive_of, moment_of, time_of, no_fields};
 
-use jiff::civil::Date;
-
-/// What a format read from a text. Of a field that was read twice the last counts.
-#[derive(Clone, Copy, Debug, PartialEq, Eq)]
-pub struct Fields {
-    pub year: Option<u64>,
-    pub month: Option<u64>,
-    pub day: Option<u64>,
-    pub hour: Option<u64>,
-    pub minute: Option<u64>,
-    pub second: Option<u64>,
-
-    /// The fraction of a second, in nanoseconds.
-    pub nanos: Option<u64>,
-
-    /// The offset from UTC in seconds, positive to the east.
-    pub offset: Option<i64>,
-
-    /// The seconds since 1970 in UTC.
-    pub stamp: Option<u64>,
-}
+use crate::calendar::seconds_of;
+use crate::directives::{Fields, behind_byte, directive};
 
 const NO_FIELDS: Fields = Fields {
     year: None,
@@ -37,176 +18,86 @@ const NO_FIELDS: Fields = Fields {
     stamp: None,
 };
 
-/// The moment that a text gives under a format: seconds since 1970 in UTC, and nanoseconds. The text must be used up
-/// where the format ends.
-pub fn time_of(format: &[u8], text: &[u8]) -> Option<(i64, u64)> {
-    let (fields, left) = fields_of(format, text, NO_FIELDS)?;
+/// The moment that a text gives under a format of directives: seconds since 1970 in UTC, and nanoseconds. Nothing of the
+/// text may be left where the format ends.
+///
+/// A blank in the format takes all blanks that stand there in the text, also none; `%` and a letter are a directive; each
+/// other byte takes the same byte. The directives are `%Y`, `%m`, `%b`, `%d`, `%e`, `%H`, `%M`, `%S`, `%F`, `%T`, `%z`,
+/// `%s` and `%%` of strptime, and `%L`, a fraction of one to nine digits.
+#[tactic(auto, unfolding(crate::specs::Time::time_of))]
+pub fn time_of(format: &[u8], text: &[u8]) -> Option<(i64, u32)>
+    ensures { result ≡ time_of format.now text.now }
+{
+    let (fields, left) = walk(format, text)?;
+    moment(&fields, left)
+}
+
+/// The moment of what was read, where nothing of the text is left.
+#[tactic(auto, unfolding(crate::specs::Time::moment_of))]
+fn moment(fields: &Fields, left: &[u8]) -> Option<(i64, u32)>
+    ensures { result ≡ moment_of (fields.now, left.now) }
+{
     if !left.is_empty() {
         return None;
     }
-    Some((seconds_of(&fields)?, fields.nanos.unwrap_or(0)))
+    let seconds = seconds_of(fields)?;
+    Some((seconds, fields.nanos.unwrap_or(0)))
 }
 
-fn is_blank(byte: u8) -> bool
-    ensures { result ≡ blank byte }
+/// Where a format and a text are read.
+#[derive(Clone, Copy)]
+struct Place<'f, 't> {
+    format: &'f [u8],
+    text: &'t [u8],
+    fields: Fields,
+}
+
+/// What a format reads from a text, and what is left.
+fn walk<'t>(format: &[u8], text: &'t [u8]) -> Option<(Fields, &'t [u8])>
+    ensures { option_map (λ p. (p.0, p.1.now)) result ≡ walk directive_of format.now text.now no_fields }
 {
-    byte == b' ' || byte == b'\t'
+    let mut place = Place {
+        format,
+        text,
+        fields: NO_FIELDS,
+    };
+    while !place.format.is_empty() {
+        place = step(place)?;
+    }
+    Some((place.fields, place.text))
 }
 
-fn behind_blanks(text: &[u8]) -> &[u8]
-    ensures { result.now ≡ left_behind_blanks text.now }
+/// Reads what the first byte of a format takes, or the directive that stands first.
+fn step<'f, 't>(place: Place<'f, 't>) -> Option<Place<'f, 't>>
+    requires { 0 < length place.format.now }
+    ensures walks { let whole = walk directive_of place.entry.format.now place.entry.text.now place.entry.fields in
+        MatchOption result (whole ≡ None)
+        (λ next. walk directive_of next.format.now next.text.now next.fields ≡ whole) }
+    ensures shorter { IfSome result (λ next. length next.format.now < length place.entry.format.now) }
 {
-    let blanks = text.iter().take_while(|byte| is_blank(**byte)).count();
-    &text[blanks..]
+    let (first, more) = place.format.split_first()?;
+    if *first == b'%' {
+        return directed(more, place.text, place.fields);
+    }
+    Some(Place {
+        format: more,
+        text: behind_byte(*first, place.text)?,
+        fields: place.fields,
+    })
 }
 
-/// The number of the digits that stand first, as many as there are up to `most`, how many they are, and what is left.
-fn number(least: usize, most: usize, text: &[u8]) -> Option<(u64, usize, &[u8])> {
-    let mut number = 0u64;
-    let mut count = 0;
-    while count < most {
-        match text.get(count) {
-            Some(digit) if digit.is_ascii_digit() => {
-                let value = u64::from(digit.saturating_sub(b'0'));
-                number = number.checked_mul(10)?.checked_add(value)?;
-                count += 1;
-            }
-            _ => break,
-        }
-    }
-    if count < least {
-        return None;
-    }
-    Some((number, count, text.get(count..)?))
-}
-
-fn month(letters: &[u8]) -> Option<u64> {
-    for (at, name) in [
-        b"jan", b"feb", b"mar", b"apr", b"may", b"jun", b"jul", b"aug", b"sep", b"oct", b"nov",
-        b"dec",
-    ]
-    .iter()
-    .enumerate()
-    {
-        if letters.eq_ignore_ascii_case(name.as_slice()) {
-            return Some(at as u64 + 1);
-        }
-    }
-    None
-}
-
-/// Two digits of hours up to 23, a colon or nothing, two digits of minutes up to 59, in seconds.
-fn distance(text: &[u8]) -> Option<(i64, &[u8])> {
-    let (hours, _, behind) = number(2, 2, text)?;
-    let behind = behind.strip_prefix(b":").unwrap_or(behind);
-    let (minutes, _, left) = number(2, 2, behind)?;
-    if hours > 23 || minutes > 59 {
-        return None;
-    }
-    Some(((3600 * hours + 60 * minutes) as i64, left))
-}
-
-fn offset(text: &[u8]) -> Option<(i64, &[u8])> {
-    match text {
-        [b'Z', left @ ..] => Some((0, left)),
-        [b'+', left @ ..] => distance(left),
-        [b'-', left @ ..] => {
-            let (seconds, left) = distance(left)?;
-            Some((-seconds, left))
-        }
-        _ => None,
-    }
-}
-
-/// Reads what a directive asks for.
-#[cycle(walk)]
-fn directive<'t>(letter: u8, text: &'t [u8], mut fields: Fields) -> Option<(Fields, &'t [u8])> {
-    let (least, most) = match letter {
-        b'Y' => (4, 4),
-        b's' => (1, 18),
-        b'L' => (1, 9),
-        _ => (1, 2),
-    };
-    match letter {
-        b'F' => return fields_of(b"%Y-%m-%d", text, fields),
-        b'T' => return fields_of(b"%H:%M:%S", text, fields),
-        b'%' => return Some((fields, text.strip_prefix(b"%")?)),
-        b'b' => {
-            fields.month = Some(month(text.get(..3)?)?);
-            return Some((fields, text.get(3..)?));
-        }
-        b'z' => {
-            let (seconds, left) = offset(text)?;
-            fields.offset = Some(seconds);
-            return Some((fields, left));
-        }
-        _ => {}
-    }
-    let text = if letter == b'e' {
-        behind_blanks(text)
-    } else {
-        text
-    };
-    let (found, count, left) = number(least, most, text)?;
-    match letter {
-        b'Y' => fields.year = Some(found),
-        b'm' => fields.month = Some(found),
-        b'd' | b'e' => fields.day = Some(found),
-        b'H' => fields.hour = Some(found),
-        b'M' => fields.minute = Some(found),
-        b'S' => fields.second = Some(found),
-        b's' => fields.stamp = Some(found),
-        b'L' => {
-            let mut nanos = found;
-            for _ in count..9 {
-                nanos = nanos.checked_mul(10)?;
-            }
-            fields.nanos = Some(nanos);
-        }
-        _ => return None,
-    }
-    Some((fields, left))
-}
-
-/// Walks a format and a text from left to right.
-#[cycle(walk)]
-fn fields_of<'t>(format: &[u8], text: &'t [u8], fields: Fields) -> Option<(Fields, &'t [u8])> {
-    match format {
-        [] => Some((fields, text)),
-        [b'%', letter, more @ ..] => {
-            let (fields, left) = directive(*letter, text, fields)?;
-            fields_of(more, left, fields)
-        }
-        [b'%'] => None,
-        [b' ' | b'\t', more @ ..] => fields_of(more, behind_blanks(text), fields),
-        [byte, more @ ..] => match text {
-            [first, left @ ..] if first == byte => fields_of(more, left, fields),
-            _ => None,
-        },
-    }
-}
-
-fn seconds_of(fields: &Fields) -> Option<i64> {
-    if let Some(stamp) = fields.stamp {
-        return i64::try_from(stamp).ok();
-    }
-    let year = i16::try_from(fields.year?).ok()?;
-    let month = i8::try_from(fields.month?).ok()?;
-    let day = i8::try_from(fields.day?).ok()?;
-    let date = Date::new(year, month, day).ok()?;
-    let hour = fields.hour.unwrap_or(0);
-    let minute = fields.minute.unwrap_or(0);
-    let second = fields.second.unwrap_or(0);
-    if hour > 23 || minute > 59 || second > 59 {
-        return None;
-    }
-    let midnight = 86_400 * days_since_1970(date)?;
-    let clock = (3600 * hour + 60 * minute + second) as i64;
-    Some(midnight + clock - fields.offset.unwrap_or(0))
-}
-
-/// The days from 1970-01-01 to a date.
-fn days_since_1970(date: Date) -> Option<i64> {
-    let epoch = Date::new(1970, 1, 1).ok()?;
-    Some(i64::from(date.since(epoch).ok()?.get_days()))
+/// Reads the directive whose letter stands first in a format.
+fn directed<'f, 't>(format: &'f [u8], text: &'t [u8], fields: Fields) -> Option<Place<'f, 't>>
+    ensures walks { let whole = walk directive_of (37 ∷ format.now) text.now fields in
+        MatchOption result (whole ≡ None)
+        (λ next. walk directive_of next.format.now next.text.now next.fields ≡ whole) }
+    ensures shorter { IfSome result (λ next. length next.format.now < length format.now) }
+{
+    let (letter, more) = format.split_first()?;
+    let (fields, text) = directive(*letter, text, fields)?;
+    Some(Place {
+        format: more,
+        text,
+        fields,
+    })
 }
