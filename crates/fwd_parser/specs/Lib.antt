@@ -1,0 +1,4 @@
+pub mod Number
+pub mod Time
+pub mod Field
+pub mod Parsed

@@ -1,0 +1,142 @@
+//! Typed fields of a body.
+
+ghost use Rattle.std.specs.Prelude.{◌≡◌, ◌++◌, [], ◌∷◌, option_map, if◌then◌else◌, IfOk, OnOk};
+ghost use Rattle.std.specs.Str.{bytes_eq};
+ghost use Rattle.fwd_value.specs.Val.{whole};
+ghost use Rattle.fwd_value.specs.View.{val_of};
+ghost use Rattle.fwd_parser.specs.Field.{below_zero, integer_of, hex_of, truth_of, read_as, typed, kind_of, fields_of};
+
+use crate::digits::number;
+use crate::parser::{FieldType, FieldTypes, TypeKind};
+use fwd_base::{Bytes, Group, Groups, Memory};
+use fwd_event::{Below, Pairs, Value};
+use std::alloc::Global;
+
+/// A whole number below 0 or 0, if it is at least -2^63.
+fn negative(number: u64) -> Option<Value>
+    ensures { option_map val_of result ≡ option_map whole (below_zero number) }
+{
+    let number = 0i64.checked_sub_unsigned(number)?;
+    match Below::of(number) {
+        Some(below) => Some(Value::Neg(below)),
+        None => Some(Value::Uint(0)),
+    }
+}
+
+/// An optional minus and decimal digits.
+#[tactic(auto, unfolding(crate::specs::Field::integer_of))]
+fn integer(text: &[u8]) -> Option<Value>
+    ensures { option_map val_of result ≡ option_map whole (integer_of text.now) }
+{
+    match text {
+        [] => None,
+        [b'-', digits @ ..] => negative(number(10, digits)?),
+        _ => Some(Value::Uint(number(10, text)?)),
+    }
+}
+
+/// An optional `0x` and hexadecimal digits.
+#[tactic(auto, unfolding(crate::specs::Field::hex_of))]
+fn hex(text: &[u8]) -> Option<u64>
+    ensures { result ≡ hex_of text.now }
+{
+    match text {
+        [] => None,
+        [b'0', b'x', digits @ ..] => number(16, digits),
+        _ => number(16, text),
+    }
+}
+
+#[tactic(auto, unfolding(crate::specs::Field::truth_of))]
+fn truth(text: &[u8]) -> Option<bool>
+    ensures { result ≡ truth_of text.now }
+{
+    if text == b"true".as_slice() {
+        return Some(true);
+    }
+    if text == b"false".as_slice() {
+        return Some(false);
+    }
+    None
+}
+
+/// What the bytes of a field are read as.
+#[tactic(auto, unfolding(crate::specs::Field::read_as))]
+fn read_as(kind: TypeKind, text: &[u8]) -> Option<Value>
+    ensures { option_map val_of result ≡ read_as kind text.now }
+{
+    match kind {
+        TypeKind::Integer => integer(text),
+        TypeKind::Hex => Some(Value::Uint(hex(text)?)),
+        TypeKind::Bool => Some(Value::Truth(truth(text)?)),
+        TypeKind::Text => None,
+    }
+}
+
+/// The value of a field; bytes that don't have the form of the type are text.
+#[tactic(auto, unfolding(crate::specs::Field::typed))]
+fn typed(kind: TypeKind, bytes: Bytes) -> Value
+    ensures { val_of result ≡ typed kind bytes }
+{
+    match read_as(kind, bytes.as_slice()) {
+        Some(value) => value,
+        None => Value::Text(bytes),
+    }
+}
+
+/// The type of a key. Of a key that is given twice the last counts; a key that isn't given has text.
+#[tactic(auto, unfolding(crate::specs::Field::kind_of))]
+fn kind_of(types: &FieldTypes, key: &Bytes) -> TypeKind
+    ensures { result ≡ kind_of types.now key.now }
+{
+    let mut kind = TypeKind::Text;
+    for given in types.as_slice() {
+        kind = kind_after(given, key, kind);
+    }
+    kind
+}
+
+/// The type of a key behind a further type.
+fn kind_after(given: &FieldType, key: &Bytes, former: TypeKind) -> TypeKind
+    ensures { result ≡ (if bytes_eq given.now.key key.now then given.now.kind else former) }
+{
+    if given.key == *key {
+        given.kind
+    } else {
+        former
+    }
+}
+
+/// The fields of the groups that took part, in their order.
+#[tactic(auto, using(crate::proofs::Groups::fields_of_more))]
+pub fn fields_of(
+    alloc: Global,
+    types: &FieldTypes,
+    skip_empty: bool,
+    groups: Groups,
+) -> Result<Pairs, Memory>
+    ensures { IfOk result (λ body. body ≡ fields_of types.now skip_empty groups) }
+{
+    let mut body = Pairs::new(alloc);
+    for group in groups.into_vec() {
+        push_field(&mut body, types, skip_empty, group)?;
+    }
+    Ok(body)
+}
+
+/// Puts the field of a group at the end, unless the group is empty and empty ones are skipped.
+fn push_field(
+    body: &mut Pairs,
+    types: &FieldTypes,
+    skip_empty: bool,
+    group: Group,
+) -> Result<(), Memory>
+    ensures { OnOk result (body.new ≡ body.old ++ fields_of types.now skip_empty (group ∷ [])) }
+{
+    if skip_empty && group.bytes.is_empty() {
+        return Ok(());
+    }
+    let Group { name, bytes } = group;
+    let value = typed(kind_of(types, &name), bytes);
+    body.push((Value::Text(name), value))
+}

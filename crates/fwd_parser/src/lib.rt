@@ -1,0 +1,19 @@
+//! A line of a log becomes an event: its body is the whole line, the pairs of an object of JSON, or the named groups of a
+//! pattern with types, and its time is read from a field by a format of directives, or is the clock's.
+#![tactic(auto)]
+
+mod calendar;
+mod digits;
+mod directives;
+mod fields;
+mod moments;
+mod parser;
+mod shapes;
+#[cfg(test)]
+mod tests;
+mod time;
+
+pub use fwd_base::{Bytes, Memory, Pattern};
+pub use fwd_event::{Event, Pairs, Value};
+pub use parser::{FieldType, FieldTypes, Parser, Shape, TimeRule, TypeKind};
+pub use time::time_of;

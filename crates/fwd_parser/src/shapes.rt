@@ -1,0 +1,67 @@
+//! The body of a line.
+
+ghost use Rattle.std.specs.Prelude.{◌≡◌, IfOk};
+ghost use Rattle.fwd_parser.specs.Parsed.{plain, body_of};
+ghost use Rattle.fwd_parser.specs.declared.parser.Shape.TheVariants as shape;
+
+use crate::fields::fields_of;
+use crate::parser::{FieldTypes, Shape};
+use fwd_base::{Bytes, Memory, Pattern};
+use fwd_event::{Pairs, Value};
+use fwd_json::{JsonErr, pairs_of_json};
+use std::alloc::Global;
+
+/// The whole line, under `log`.
+fn plain(alloc: Global, line: &[u8]) -> Result<Pairs, Memory>
+    ensures { IfOk result (λ body. body ≡ plain line.now) }
+{
+    let mut body = Pairs::new(alloc);
+    let key = Value::Text(Bytes::from_slice(alloc, b"log")?);
+    let value = Value::Text(Bytes::from_slice(alloc, line)?);
+    body.push((key, value))?;
+    Ok(body)
+}
+
+#[tactic(auto, unfolding(crate::specs::Parsed::body_of))]
+fn json(alloc: Global, line: &[u8]) -> Result<Pairs, Memory>
+    ensures { IfOk result (λ body. body ≡ body_of shape.Json line.now) }
+{
+    match pairs_of_json(alloc, line) {
+        Ok(pairs) => Ok(pairs),
+        Err(JsonErr::Memory) => Err(Memory),
+        Err(_) => plain(alloc, line),
+    }
+}
+
+#[tactic(auto, unfolding(crate::specs::Parsed::body_of))]
+fn groups(
+    alloc: Global,
+    pattern: &Pattern,
+    types: &FieldTypes,
+    skip_empty: bool,
+    line: &[u8],
+) -> Result<Pairs, Memory>
+    ensures { IfOk result (λ body. body ≡ body_of (shape.Groups pattern.now types.now skip_empty) line.now) }
+{
+    match pattern.groups(alloc, line)? {
+        Some(groups) => fields_of(alloc, types, skip_empty, groups),
+        None => plain(alloc, line),
+    }
+}
+
+/// The body of a line. One that isn't an object of JSON within the limits, or that the pattern doesn't match, stays under
+/// `log`.
+#[tactic(auto, unfolding(crate::specs::Parsed::body_of))]
+pub fn body_of(alloc: Global, shape: &Shape, line: &[u8]) -> Result<Pairs, Memory>
+    ensures { IfOk result (λ body. body ≡ body_of shape.now line.now) }
+{
+    match shape {
+        Shape::Plain => plain(alloc, line),
+        Shape::Json => json(alloc, line),
+        Shape::Groups {
+            pattern,
+            types,
+            skip_empty,
+        } => groups(alloc, pattern, types, *skip_empty, line),
+    }
+}
