@@ -15,3 +15,6 @@ pub use rules::{ChangeWord, change, condition, key_and_rest};
 pub use texts::{is_plain, is_tag, parts_at};
 pub use types::field_types;
 pub use truths::{is_false, truth};
+
+#[cfg(test)]
+mod tests;

@@ -1,5 +1,6 @@
 -- What the engine asks of its settings.
-use Rattle.std.specs.Prelude.{◌≡◌, ℕ, ◌≤◌, Bool, true, false, IsTrue, List, [], ◌∷◌, ◌++◌, length, map, All, Option, Some, None, IsSome, IsUtf8, ForSome}
+use Rattle.std.specs.Prelude.{◌≡◌, ℕ, ◌≤◌, Bool, true, false, IsTrue, List, [], ◌∷◌, ◌++◌, length, map, Option, Some, None, IsSome, IsUtf8, ForSome}
+use Rattle.std.specs.List.{AllByRecursion}
 use Rattle.fwd_settings.specs.declared.chosen.AllSettings.{AllSettings}
 use Rattle.fwd_settings.specs.declared.chosen.InputSet.{InputSet}
 use Rattle.fwd_settings.specs.declared.chosen.InputKind.{InputKind}
@@ -47,6 +48,6 @@ pub record IsSound (settings : AllSettings) : Type 0 where
   pub few_outputs : length settings.outputs ≤ 64
   pub inputs_named : AreInputsNamed [] settings.inputs
   pub outputs_named : AreOutputsNamed [] settings.outputs
-  pub tagged : All (λ set. HasTag set.kind set.tag) settings.inputs
+  pub tagged : AllByRecursion (λ set. HasTag set.kind set.tag) settings.inputs
   pub base : 1 ≤ settings.service.base
-  pub stored : All (λ set. IsTrue set.stored → IsSome settings.service.path) settings.inputs
+  pub stored : AllByRecursion (λ set. IsTrue set.stored → IsSome settings.service.path) settings.inputs
