@@ -46,7 +46,7 @@ abbrev pub flush_of : List ℕ → Option ℕ
 flush_of text =
     if is_digits (decimals text) && nat_le (length (decimals text)) 9
     then option_and_then (λ seconds. option_and_then (within 1 18446744073709551615) (within_64_bits (seconds * 1000 + thousandths (decimals text))))
-        (number_of (before_first (λ b. b == byte ".") text))
+    (number_of (before_first (λ b. b == byte ".") text))
     else None
 
 -- how often is tried again: a number, `no_limits` or `False` for always, `no_retries` for never

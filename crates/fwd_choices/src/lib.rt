@@ -6,15 +6,15 @@ mod kind;
 mod numbers;
 mod rules;
 mod texts;
-mod types;
 mod truths;
+mod types;
 
 pub use kind::SettingKind;
 pub use numbers::{flush_ms, number, port, positive, retries};
 pub use rules::{ChangeWord, change, condition, key_and_rest};
 pub use texts::{is_plain, is_tag, parts_at};
-pub use types::field_types;
 pub use truths::{is_false, truth};
+pub use types::field_types;
 
 #[cfg(test)]
 mod tests;

@@ -91,7 +91,9 @@ pub fn flush_ms(text: &[u8]) -> Option<u64>
         return None;
     }
     let seconds = number(&text[..end])?;
-    let milliseconds = seconds.checked_mul(1_000)?.checked_add(thousandths(decimals))?;
+    let milliseconds = seconds
+        .checked_mul(1_000)?
+        .checked_add(thousandths(decimals))?;
     within(milliseconds, 1, u64::MAX)
 }
 
@@ -99,7 +101,11 @@ fn decimals(text: &[u8]) -> &[u8]
     ensures { result.now ≡ decimals text.now }
 {
     let end = place_of(text, b'.');
-    if end < text.len() { &text[end + 1..] } else { b"0" }
+    if end < text.len() {
+        &text[end + 1..]
+    } else {
+        b"0"
+    }
 }
 
 fn thousandths(decimals: &[u8]) -> u64

@@ -82,13 +82,16 @@ pub fn condition(alloc: Global, text: &[u8]) -> Result<Option<Condition>, Memory
         return Ok(one_key(alloc, rest)?.map(|key| Condition::KeyDoesNotExist { key }));
     }
     if word == b"Key_value_equals".as_slice() {
-        return Ok(
-            key_and_rest(alloc, rest)?.map(|(key, value)| Condition::KeyValueEquals { key, value })
-        );
+        return Ok(key_and_rest(alloc, rest)?.map(|(key, value)| Condition::KeyValueEquals {
+            key,
+            value,
+        }));
     }
     if word == b"Key_value_does_not_equal".as_slice() {
-        return Ok(key_and_rest(alloc, rest)?
-            .map(|(key, value)| Condition::KeyValueDoesNotEqual { key, value }));
+        return Ok(key_and_rest(alloc, rest)?.map(|(key, value)| Condition::KeyValueDoesNotEqual {
+            key,
+            value,
+        }));
     }
     Ok(None)
 }
@@ -113,6 +116,9 @@ pub fn change(alloc: Global, word: ChangeWord, text: &[u8]) -> Result<Option<Cha
             two_keys(alloc, text)?.map(|(key, to)| Change::HardRename { key, to })
         }
         ChangeWord::Copy => two_keys(alloc, text)?.map(|(key, to)| Change::Copy { key, to }),
-        ChangeWord::HardCopy => two_keys(alloc, text)?.map(|(key, to)| Change::HardCopy { key, to }),
+        ChangeWord::HardCopy => two_keys(alloc, text)?.map(|(key, to)| Change::HardCopy {
+            key,
+            to,
+        }),
     })
 }

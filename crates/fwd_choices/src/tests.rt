@@ -1,7 +1,9 @@
 //! Values as a configuration writes them, each with what is read.
 
-use crate::{ChangeWord, change, condition, field_types, flush_ms, is_tag, parts_at};
-use crate::{number, port, positive, retries, truth};
+use crate::{
+    ChangeWord, change, condition, field_types, flush_ms, is_tag, number, parts_at, port, positive,
+    retries, truth,
+};
 use fwd_base::Retries;
 use std::alloc::Global;
 use std::process::Abort;

@@ -5,7 +5,11 @@ use Rattle.fwd_program.specs.Program.{Return, Ask, bind}
 use Rattle.fwd_settings.specs.declared.fault.SettingFault.{SettingFault}
 use Rattle.fwd_settings.specs.declared.fault.Stop.{Stop}
 use Rattle.fwd_settings.specs.declared.fault.Stop.TheVariants as stop
-use Rattle.fwd_settings.specs.Reading.{Reading, Checked, ◌>>=◌, known, each, Comes, Gives}
+use Rattle.fwd_base.specs.Pattern.{rewritten, IsReadFrom, IsNoPattern}
+use Rattle.fwd_base.specs.declared.pattern.Pattern.{Pattern}
+use Rattle.fwd_choices.specs.declared.kind.SettingKind.TheVariants.{PatternRefused}
+use Rattle.fwd_config.specs.declared.section.Place.{Place}
+use Rattle.fwd_settings.specs.Reading.{Reading, Checked, ◌>>=◌, known, fault, pattern, each, Comes, Gives}
 
 ok_is : {X : Type 0} {x y : X} → ◌≡◌ {A = Checked X} (Ok x) (Ok y) → x ≡ y
 ok_is is = cc
@@ -85,3 +89,20 @@ module _ {E X : Type 0} (read : E → Reading X) (es : List E) where
   reaches_end i so_far all reaches =
       subst (λ (l : List X). Comes (each read es) (Ok l)) (append-nil so_far)
       (reaches (Ok []) (subst (λ (l : List E). Comes (each read l) (Ok [])) (sym (drop_all i es all)) refl))
+
+-- ---- patterns
+
+pub no_pattern : {X : Type 0} (text : List ℕ) (place : Place) (next : Pattern → Reading X) (r : Result X Stop) → IsNoPattern text → Gives (known (Err (fault PatternRefused place))) r → Gives (pattern text place >>= next) r
+no_pattern text place next (Ok x) none is = inr (none, is)
+no_pattern text place next (Err stop.Memory) none is = tt
+no_pattern text place next (Err (stop.Refused refusal)) none is = inr (none, is)
+
+pub some_pattern : {X : Type 0} (text : List ℕ) (place : Place) (next : Pattern → Reading X) (p : Pattern) (r : Result X Stop) → IsReadFrom (rewritten text) p → Gives (next p) r → Gives (pattern text place >>= next) r
+some_pattern text place next p (Ok x) read is = inl (p, read, is)
+some_pattern text place next p (Err stop.Memory) read is = tt
+some_pattern text place next p (Err (stop.Refused refusal)) read is = inl (p, read, is)
+
+-- ---- what is known without asking
+
+pub known_is : {X : Type 0} (a b : Checked X) (r : Result X Stop) → a ≡ b → Gives (known a) r → Gives (known b) r
+known_is {X = X} a b r is gives = subst (λ (c : Checked X). Gives (known c) r) is gives

@@ -129,7 +129,6 @@ base_is (Some (value.Truth b)) here = absurd here
 base_is (Some (value.Word w)) here = absurd here
 base_is (Some (value.Text t)) here = absurd here
 base_is (Some (value.Retries r)) here = absurd here
-base_is (Some (value.Types t)) here = absurd here
 base_is (Some (value.Pattern p)) here = absurd here
 base_is (Some (value.Parser p)) here = absurd here
 base_is (Some (value.Grep g)) here = absurd here
@@ -146,7 +145,6 @@ path_is (Some (value.Port n)) here some = absurd here
 path_is (Some (value.Truth b)) here some = absurd here
 path_is (Some (value.Word w)) here some = absurd here
 path_is (Some (value.Retries r)) here some = absurd here
-path_is (Some (value.Types t)) here some = absurd here
 path_is (Some (value.Pattern p)) here some = absurd here
 path_is (Some (value.Parser p)) here some = absurd here
 path_is (Some (value.Grep g)) here some = absurd here
@@ -167,7 +165,6 @@ tag_is (Some (value.Port n)) here = tt
 tag_is (Some (value.Truth b)) here = tt
 tag_is (Some (value.Word w)) here = tt
 tag_is (Some (value.Retries r)) here = tt
-tag_is (Some (value.Types t)) here = tt
 tag_is (Some (value.Pattern p)) here = tt
 tag_is (Some (value.Parser p)) here = tt
 tag_is (Some (value.Grep g)) here = tt
@@ -189,14 +186,17 @@ ascii_by (b ∷ bytes) all (suc i) = ascii_by bytes (and_parts (nat_lt b 128) (l
 name_tag : (plugin : List ℕ) (n : ℕ) → list_all (λ b. nat_lt b 128) plugin ≡ true → length plugin ≤ 20 → n ≤ 64 → IsTagText (plugin ++ codes "." ++ decimal n)
 name_tag plugin n ascii short few =
     let long : length (decimal n) ≤ 2 = length-decimal-le 2 n (omega arith) (lit_lt n few) (small n few) in
-    let size : length (plugin ++ codes "." ++ decimal n) ≡ length plugin + (1 + length (decimal n)) = length-append plugin (codes "." ++ decimal n) in
-    (omega (arith, size), omega (arith, size, long),
-    IsUtf8-from_ascii (plugin ++ codes "." ++ decimal n)
-    (IsAscii-append plugin (codes "." ++ decimal n) (ascii_by plugin ascii)
-    (IsAscii-append (codes ".") (decimal n) (ascii_by (codes ".") refl) (IsAscii-decimal n (small n few)))))
+    let size : length (plugin ++ codes "." ++ decimal n) ≡ length plugin + (1 + length (decimal n)) = length-append plugin (codes "." ++ decimal n) in (
+      omega (arith, size),
+      omega (arith, size, long),
+      IsUtf8-from_ascii (plugin ++ codes "." ++ decimal n)
+          (IsAscii-append plugin (codes "." ++ decimal n) (ascii_by plugin ascii)
+          (IsAscii-append (codes ".") (decimal n) (ascii_by (codes ".") refl) (IsAscii-decimal n (small n few)))),
+    )
   where
     small : (n : ℕ) → n ≤ 64 → n < 2 ^ 64
     small n few = omega arith
+
     lit_lt : (n : ℕ) → n ≤ 64 → n < 10 ^ 2
     lit_lt n few = omega arith
 
@@ -384,7 +384,13 @@ module _ (path : Bool) (s : SoFar) (place : Place) (said : List Said) (new : SoF
   filter_sound : (r : Checked FilterStep) → with_filter s r ≡ Ok new → Sound path new
   filter_sound (Err refusal) is = absurd (cc is)
   filter_sound (Ok step) is = subst (Sound path) (so_far_ok is) (record {
-    said = sound.said; few_inputs = sound.few_inputs; few_outputs = sound.few_outputs; inputs_named = sound.inputs_named; outputs_named = sound.outputs_named; tagged = sound.tagged; stored = sound.stored;
+    said = sound.said;
+    few_inputs = sound.few_inputs;
+    few_outputs = sound.few_outputs;
+    inputs_named = sound.inputs_named;
+    outputs_named = sound.outputs_named;
+    tagged = sound.tagged;
+    stored = sound.stored;
   })
 
   output_sound : (p : Part) → output_plugin (output_kind p said) ≡ p → length s.outputs < 64 → ◌≡◌ {A = Checked SoFar} (Ok (with_output s (output_from p s.outputs said))) (Ok new) → Sound path new
@@ -392,7 +398,13 @@ module _ (path : Bool) (s : SoFar) (place : Place) (said : List Said) (new : SoF
 
   service_sound : AllByRecursion (IsSaidIn part.Service) said → ◌≡◌ {A = Checked SoFar} (Ok (record s { service = s.service ++ said })) (Ok new) → Sound path new
   service_sound all is = subst (Sound path) (so_far_ok is) (record {
-    said = all_both (IsSaidIn part.Service) s.service said sound.said all; few_inputs = sound.few_inputs; few_outputs = sound.few_outputs; inputs_named = sound.inputs_named; outputs_named = sound.outputs_named; tagged = sound.tagged; stored = sound.stored;
+    said = all_both (IsSaidIn part.Service) s.service said sound.said all;
+    few_inputs = sound.few_inputs;
+    few_outputs = sound.few_outputs;
+    inputs_named = sound.inputs_named;
+    outputs_named = sound.outputs_named;
+    tagged = sound.tagged;
+    stored = sound.stored;
   })
 
   taken_sound : (p : Part) → HasRoom s p → AllByRecursion (IsSaidIn p) said → taken path s p place said ≡ Ok new → Sound path new
@@ -497,13 +509,14 @@ module _ (all : List Section) (path : Bool) where
       (λ p. entries_said (parser_named all) p (entries_here p section.entries) >>= (λ said. known (taken path s p section.place said)))
       (always_known (λ p. part_of s section ≡ Ok p) (part_of s section) (λ p is. is))
       (λ p part_is.
-          always_then (Pairs (IsSaidBy p) (entries_here p section.entries)) (Goes path s section) (entries_said (parser_named all) p (entries_here p section.entries))
-          (λ said. known (taken path s p section.place said))
-          (always_each (IsSaidBy p) (entry_said (parser_named all) p) (always_said (parser_named all) p) (entries_here p section.entries))
-          (λ said pairs. always_known (Goes path s section) (taken path s p section.place said)
-              (λ new is.
-                  (taken_sound path s section.place said new sound p (room_of s section (head_of section.name) p part_is) (all_of_pairs (IsSaidBy p) (IsSaidIn p) (said_in p) (entries_here p section.entries) said pairs) is,
-                  (service_stays path s section.place said new p is, goes_path path s section p said new part_is pairs is)))))
+      always_then (Pairs (IsSaidBy p) (entries_here p section.entries)) (Goes path s section) (entries_said (parser_named all) p (entries_here p section.entries))
+      (λ said. known (taken path s p section.place said))
+      (always_each (IsSaidBy p) (entry_said (parser_named all) p) (always_said (parser_named all) p) (entries_here p section.entries))
+      (λ said pairs. always_known (Goes path s section) (taken path s p section.place said)
+      (λ new is. (
+        taken_sound path s section.place said new sound p (room_of s section (head_of section.name) p part_is) (all_of_pairs (IsSaidBy p) (IsSaidIn p) (said_in p) (entries_here p section.entries) said pairs) is,
+        (service_stays path s section.place said new p is, goes_path path s section p said new part_is pairs is),
+      ))))
 
   sections_go : (rest : List Section) (s : SoFar) → Sound path s → (path ≡ true → NamesPath s.service ⊎ (list_any has_path rest ≡ true)) → Always (λ end. Sound path end × (path ≡ true → NamesPath end.service)) (sections_taken all path s rest)
   unfolding sections_taken
@@ -539,7 +552,7 @@ all_sound path s sound there = record {
   base = base_is (last_value key.SchedulerBase s.service) (last_of_named key.SchedulerBase is_positive IsPositive positive_of_kind part.Service refl s.service sound.said);
   stored = all_so (λ set. set.stored ≡ true → path ≡ true) (λ set. IsTrue set.stored → IsSome (text_at key.StoragePath s.service))
       (λ set gives so. path_is (last_value key.StoragePath s.service) (last_of_named key.StoragePath is_text IsText text_of_kind part.Service refl s.service sound.said)
-          (last_there key.StoragePath s.service (there (gives (true_is set.stored so))) None))
+      (last_there key.StoragePath s.service (there (gives (true_is set.stored so))) None))
       s.inputs sound.stored;
 }
 

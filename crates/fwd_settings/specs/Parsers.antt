@@ -7,7 +7,9 @@ use Rattle.fwd_base.specs.declared.pattern.Pattern.{Pattern}
 use Rattle.fwd_parser.specs.declared.parser.Parser.{Parser}
 use Rattle.fwd_parser.specs.declared.parser.Shape.{Shape}
 use Rattle.fwd_parser.specs.declared.parser.Shape.TheVariants as shape
+use Rattle.fwd_parser.specs.declared.parser.FieldType.{FieldType}
 use Rattle.fwd_parser.specs.declared.parser.TimeRule.{TimeRule}
+use Rattle.fwd_choices.specs.Types.{types_of}
 use Rattle.fwd_choices.specs.declared.kind.SettingKind.TheVariants.{BadChoice, Missing}
 use Rattle.fwd_config.specs.declared.section.Place.{Place}
 use Rattle.fwd_config.specs.declared.section.Entry.{Entry}
@@ -20,7 +22,7 @@ use Rattle.fwd_settings.specs.declared.words.Word.{Word}
 use Rattle.fwd_settings.specs.declared.words.Word.TheVariants as word
 use Rattle.fwd_settings.specs.declared.said.Said.{Said}
 use Rattle.fwd_settings.specs.Keys.{head_of}
-use Rattle.fwd_settings.specs.Said.{word_at, text_at, truth_at, last_in, pattern_in, types_in}
+use Rattle.fwd_settings.specs.Said.{word_at, text_at, truth_at, last_in, pattern_in}
 use Rattle.fwd_settings.specs.Reading.{Reading, Checked, ◌>>=◌, known, fault}
 use Rattle.fwd_settings.specs.Values.{entries_said}
 
@@ -38,11 +40,16 @@ time_of said =
 abbrev pub parser_by : List Said → Shape → Parser
 parser_by said shape = record { shape = shape; time = time_of said }
 
+-- the types of fields, of which there may be none
+abbrev pub types_by : Option (List ℕ) → List FieldType
+types_by None = []
+types_by (Some text) = unwrap_or (types_of text) []
+
 -- groups want a pattern
 abbrev pub groups_by : Place → List Said → Option Pattern → Checked Shape
 groups_by place said None = Err (fault Missing place)
 groups_by place said (Some p) =
-    Ok (shape.Groups p (unwrap_or (last_in types_in said) []) (unwrap_or (truth_at key.SkipEmptyValues said) true))
+    Ok (shape.Groups p (types_by (text_at key.Types said)) (unwrap_or (truth_at key.SkipEmptyValues said) true))
 
 -- a Format is required
 abbrev pub shape_by : Place → List Said → Option Word → Checked Shape

@@ -4,7 +4,6 @@ use Rattle.std.specs.List.{last_or, filter_map}
 use Rattle.std.specs.Str.{bytes_eq}
 use Rattle.fwd_base.specs.declared.choices.Retries.{Retries}
 use Rattle.fwd_base.specs.declared.pattern.Pattern.{Pattern}
-use Rattle.fwd_parser.specs.declared.parser.FieldType.{FieldType}
 use Rattle.fwd_parser.specs.declared.parser.Parser.{Parser}
 use Rattle.fwd_grep.specs.declared.keeping.GrepRule.{GrepRule}
 use Rattle.fwd_reshape.specs.declared.rules.Condition.{Condition}
@@ -68,13 +67,6 @@ abbrev pub retries_at : Key → List Said → Option Retries
 retries_at key said = as_retries (last_value key said)
 
 -- values that one key alone has
-abbrev pub types_in : Said → Option (List FieldType)
-types_in said = types_of said.value
-  where
-    types_of : Value → Option (List FieldType)
-    types_of (value.Types t) = Some t
-    types_of _ = None
-
 abbrev pub pattern_in : Said → Option Pattern
 pattern_in said = pattern_of said.value
   where

@@ -1,5 +1,5 @@
 -- How the value of an entry is read, by the kind of its key.
-use Rattle.std.specs.Prelude.{ℕ, Bool, true, false, ◌&&◌, if◌then◌else◌, List, [], ◌∷◌, codes, Option, Some, None, Result, Ok, Err, option_map}
+use Rattle.std.specs.Prelude.{ℕ, Bool, true, false, ◌&&◌, if◌then◌else◌, List, [], ◌∷◌, codes, Option, Some, None, Result, Ok, Err, is_some}
 use Rattle.std.specs.Result.{result_ok}
 use Rattle.fwd_base.specs.Size.{size_of}
 use Rattle.fwd_base.specs.declared.pattern.Pattern.{Pattern}
@@ -49,7 +49,7 @@ value_of plain.Text text = Ok (value.Text text)
 value_of plain.Tag text = or_else BadChoice value.Text (when (is_tag_text text) text)
 value_of plain.PlainTag text = or_else BadChoice value.Text (when (is_plain_text text && is_tag_text text) text)
 value_of plain.Paths text = or_else BadChoice value.Text (when (is_plain_text text) text)
-value_of plain.Types text = or_else BadChoice value.Types (types_of text)
+value_of plain.Types text = or_else BadChoice value.Text (when (is_some (types_of text)) text)
 value_of plain.Condition text = or_else BadChoice value.Condition (condition_of text)
 value_of (plain.Change word) text = or_else BadChoice value.Change (change_of word text)
 value_of plain.Wildcard text = Ok (value.Wildcard text)

@@ -19,7 +19,7 @@ pub struct SettingFault {
 }
 
 /// Why a reading ends before its end.
-#[derive(Debug, Drop)]
+#[derive(Drop)]
 pub enum Stop {
     Memory,
     Refused(SettingFault),

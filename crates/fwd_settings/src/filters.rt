@@ -17,7 +17,7 @@ use fwd_base::{Bytes, Memory};
 use fwd_choices::SettingKind;
 use fwd_config::Place;
 use fwd_filters::{FilterKind, FilterStep};
-use fwd_reshape::{LiftRule, ModifyRules, NestRule};
+use fwd_reshape::{LiftRule, NestRule};
 use std::alloc::Global;
 
 fn nest(alloc: Global, place: &Place, said: &[Said]) -> Result<FilterKind, Stop>
@@ -77,10 +77,7 @@ fn filter_kind(
 {
     match plugin {
         Part::Grep => Ok(FilterKind::Grep(grep_rules(alloc, said)?)),
-        Part::Modify => {
-            let (conditions, rules) = modify_rules(alloc, said)?;
-            Ok(FilterKind::Modify(ModifyRules { conditions, rules }))
-        }
+        Part::Modify => Ok(FilterKind::Modify(modify_rules(alloc, said)?)),
         _ => {
             let word = word_at(said.as_slice(), Key::Operation);
             operation(alloc, place, word, said.as_slice())

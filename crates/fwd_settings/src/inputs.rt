@@ -15,7 +15,9 @@ use crate::fault::Stop;
 use crate::keys::Key;
 use crate::parsers::timeless;
 use crate::parts::{Head, Part};
-use crate::said::{Said, SaidList, last_parser, number_at, own_text, port_at, text_at, text_or, truth_at, word_at};
+use crate::said::{
+    Said, SaidList, last_parser, number_at, own_text, port_at, text_at, text_or, truth_at, word_at,
+};
 use crate::words::Word;
 use crate::{InputKind, InputSet};
 use fwd_base::{Bytes, Memory};

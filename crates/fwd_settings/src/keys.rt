@@ -10,7 +10,7 @@ use crate::words::Menu;
 use fwd_choices::ChangeWord;
 
 /// A key of a section.
-#[derive(Clone, Copy, Debug)]
+#[derive(Clone, Copy)]
 pub enum Key {
     Name,
     Flush,
@@ -90,7 +90,7 @@ pub enum Key {
 }
 
 /// How a value is read.
-#[derive(Clone, Copy, Debug)]
+#[derive(Clone, Copy)]
 pub enum Kind {
     Plain(Plain),
     /// A pattern.
@@ -102,7 +102,7 @@ pub enum Kind {
 }
 
 /// How a value is read that is neither a pattern nor a parser.
-#[derive(Clone, Copy, Debug)]
+#[derive(Clone, Copy)]
 pub enum Plain {
     /// Any text, which changes nothing.
     Ignored,
@@ -229,12 +229,7 @@ const PARSER: [Key; 8] = [
     Key::SkipEmptyValues,
 ];
 
-const GREP: [Key; 4] = [
-    Key::Name,
-    Key::Match,
-    Key::GrepRegex,
-    Key::GrepExclude,
-];
+const GREP: [Key; 4] = [Key::Name, Key::Match, Key::GrepRegex, Key::GrepExclude];
 
 const MODIFY: [Key; 11] = [
     Key::Name,

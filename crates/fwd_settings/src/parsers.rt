@@ -4,17 +4,17 @@ ghost use Rattle.std.specs.Prelude.{◌≡◌, ℕ, List, IfOk, codes};
 ghost use Rattle.std.specs.Option.{option_copied};
 ghost use Rattle.std.specs.List.{find};
 ghost use Rattle.fwd_settings.specs.Reading.{Gives, known};
-ghost use Rattle.fwd_settings.specs.Parsers.{time_of, shape_by, groups_by, parser_from, parser_of, is_name, name_entry, is_parser_head, has_name, is_parser_named, parser_named, timeless};
+ghost use Rattle.fwd_settings.specs.Parsers.{time_of, types_by, shape_by, groups_by, parser_from, parser_of, is_name, name_entry, is_parser_head, has_name, is_parser_named, parser_named, timeless};
 ghost use Rattle.fwd_settings.specs.Keys.{head_of};
 
 use crate::entries::{parser_entries, refuse};
 use crate::fault::Stop;
 use crate::keys::Key;
 use crate::parts::Head;
-use crate::said::{Said, SaidList, own_text, pattern_and_types, text_or, truth_at, word_at};
+use crate::said::{Said, SaidList, last_pattern, own_text, text_at, text_or, truth_at, word_at};
 use crate::words::Word;
 use fwd_base::Memory;
-use fwd_choices::SettingKind;
+use fwd_choices::{SettingKind, field_types};
 use fwd_config::{Entry, Place, Section};
 use fwd_parser::{FieldTypes, Parser, Shape, TimeRule};
 use std::alloc::Global;
@@ -55,17 +55,26 @@ fn shape_of(
     }
 }
 
+/// The types of fields, of which there may be none.
+fn types_of(alloc: Global, text: Option<&[u8]>) -> Result<FieldTypes, Memory>
+    ensures { IfOk result (λ types. types ≡ types_by (option_copied text.entry)) }
+{
+    let Some(text) = text else {
+        return Ok(FieldTypes::new(alloc));
+    };
+    match field_types(alloc, text)? {
+        Some(types) => Ok(types),
+        None => Ok(FieldTypes::new(alloc)),
+    }
+}
+
 fn groups(alloc: Global, place: &Place, said: SaidList) -> Result<Shape, Stop>
     ensures { Gives (known (shape_by place.now said (Some Word.Regex))) result }
 {
     let skip_empty = truth_at(said.as_slice(), Key::SkipEmptyValues).unwrap_or(true);
-    let (pattern, types) = pattern_and_types(said);
-    let Some(pattern) = pattern else {
+    let types = types_of(alloc, text_at(said.as_slice(), Key::Types))?;
+    let Some(pattern) = last_pattern(said) else {
         return refuse(alloc, SettingKind::Missing, place);
-    };
-    let types = match types {
-        Some(types) => types,
-        None => FieldTypes::new(alloc),
     };
     Ok(Shape::Groups {
         pattern,

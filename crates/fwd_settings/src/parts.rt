@@ -5,7 +5,7 @@ ghost use Rattle.std.specs.List.{find};
 ghost use Rattle.fwd_settings.specs.Keys.{heads, name_of_head, is_head_named, head_of, plugins_of, name_of_plugin, is_plugin_named, plugin_of};
 
 /// The kind of a section.
-#[derive(Clone, Copy, Debug)]
+#[derive(Clone, Copy)]
 pub enum Head {
     Service,
     Input,
@@ -15,7 +15,7 @@ pub enum Head {
 }
 
 /// A section without a plugin, or a plugin of an input, a filter or an output.
-#[derive(Clone, Copy, Debug)]
+#[derive(Clone, Copy)]
 pub enum Part {
     Service,
     Tail,
@@ -32,7 +32,13 @@ pub enum Part {
     ForwardPeer,
 }
 
-const HEADS: [Head; 5] = [Head::Service, Head::Input, Head::Parser, Head::Filter, Head::Output];
+const HEADS: [Head; 5] = [
+    Head::Service,
+    Head::Input,
+    Head::Parser,
+    Head::Filter,
+    Head::Output,
+];
 
 const INPUTS: [Part; 4] = [Part::Tail, Part::Tcp, Part::Forward, Part::Stdin];
 

@@ -1,20 +1,20 @@
 //! What the entries of a section say.
 
-ghost use Rattle.std.specs.Prelude.{◌≡◌, ℕ, List, IfOk, unwrap_or};
+ghost use Rattle.std.specs.Prelude.{◌≡◌, ◌++◌, ◌∷◌, [], ℕ, List, IfOk, OnOk, unwrap_or};
 ghost use Rattle.std.specs.Option.{option_copied};
-ghost use Rattle.std.specs.List.{filter_map};
-ghost use Rattle.fwd_settings.specs.Said.{value_for, last_value, number_at, port_at, truth_at, word_at, text_at, retries_at, last_in, types_in, pattern_in, parser_in, grep_in, condition_in, change_in, wildcard_in};
+ghost use Rattle.std.specs.List.{filter_map, last_or};
+ghost use Rattle.fwd_settings.specs.Said.{value_for, last_value, number_at, port_at, truth_at, word_at, text_at, retries_at, last_in, pattern_in, parser_in, grep_in, condition_in, change_in, wildcard_in};
 
 use crate::keys::Key;
 use crate::words::Word;
 use fwd_base::{Bytes, Items, Memory, Names, Pattern, Retries};
 use fwd_grep::{GrepRule, GrepRules};
-use fwd_parser::{FieldTypes, Parser};
-use fwd_reshape::{Change, Changes, Condition, Conditions};
+use fwd_parser::Parser;
+use fwd_reshape::{Change, Changes, Condition, Conditions, ModifyRules};
 use std::alloc::Global;
 
 /// The value of an entry, as it is read.
-#[derive(Debug, Drop)]
+#[derive(Drop)]
 pub enum Value {
     Nothing,
     Number(u64),
@@ -23,7 +23,6 @@ pub enum Value {
     Word(Word),
     Text(Bytes),
     Retries(Retries),
-    Types(FieldTypes),
     Pattern(Pattern),
     Parser(Parser),
     Grep(GrepRule),
@@ -33,7 +32,7 @@ pub enum Value {
 }
 
 /// What an entry says.
-#[derive(Debug, Drop)]
+#[derive(Drop)]
 pub struct Said {
     pub key: Key,
     pub value: Value,
@@ -130,21 +129,49 @@ pub fn text_or(alloc: Global, said: &[Said], key: Key, default: &[u8]) -> Result
     }
 }
 
-/// The pattern and the types that are said last.
-pub fn pattern_and_types(said: SaidList) -> (Option<Pattern>, Option<FieldTypes>)
-    ensures pattern { result.0 ≡ last_in pattern_in said }
-    ensures types { result.1 ≡ last_in types_in said }
+/// The pattern of an item, or the one before.
+fn later_pattern(before: Option<Pattern>, item: Said) -> Option<Pattern>
+    ensures { result ≡ last_or before (filter_map pattern_in (item ∷ [])) }
 {
-    let mut pattern = None;
-    let mut types = None;
-    for item in said.into_vec() {
-        match item.value {
-            Value::Pattern(last) => pattern = Some(last),
-            Value::Types(last) => types = Some(last),
-            _ => {}
+    let Said { key: _, value } = item;
+    match value {
+        Value::Pattern(pattern) => {
+            drop(before);
+            Some(pattern)
+        }
+        other => {
+            drop(other);
+            before
         }
     }
-    (pattern, types)
+}
+
+/// The pattern that is said last.
+pub fn last_pattern(said: SaidList) -> Option<Pattern>
+    ensures { result ≡ last_in pattern_in said }
+{
+    let mut pattern = None;
+    for item in said.into_vec() {
+        pattern = later_pattern(pattern, item);
+    }
+    pattern
+}
+
+/// The parser of an item, or the one before.
+fn later_parser(before: Option<Parser>, item: Said) -> Option<Parser>
+    ensures { result ≡ last_or before (filter_map parser_in (item ∷ [])) }
+{
+    let Said { key: _, value } = item;
+    match value {
+        Value::Parser(parser) => {
+            drop(before);
+            Some(parser)
+        }
+        other => {
+            drop(other);
+            before
+        }
+    }
 }
 
 /// The parser that is said last.
@@ -153,12 +180,23 @@ pub fn last_parser(said: SaidList) -> Option<Parser>
 {
     let mut parser = None;
     for item in said.into_vec() {
-        match item.value {
-            Value::Parser(last) => parser = Some(last),
-            _ => {}
-        }
+        parser = later_parser(parser, item);
     }
     parser
+}
+
+/// Puts the rule of an item at the end, if it has one.
+fn push_grep(rules: &mut GrepRules, item: Said) -> Result<(), Memory>
+    ensures { OnOk result (rules.new ≡ rules.old ++ filter_map grep_in (item ∷ [])) }
+{
+    let Said { key: _, value } = item;
+    match value {
+        Value::Grep(rule) => rules.push(rule),
+        other => {
+            drop(other);
+            Ok(())
+        }
+    }
 }
 
 /// The rules of `grep`, in order.
@@ -167,29 +205,40 @@ pub fn grep_rules(alloc: Global, said: SaidList) -> Result<GrepRules, Memory>
 {
     let mut rules = GrepRules::new(alloc);
     for item in said.into_vec() {
-        match item.value {
-            Value::Grep(rule) => rules.push(rule)?,
-            _ => {}
-        }
+        push_grep(&mut rules, item)?;
     }
     Ok(rules)
 }
 
-/// The conditions and the rules of `modify`, in order.
-pub fn modify_rules(alloc: Global, said: SaidList) -> Result<(Conditions, Changes), Memory>
-    ensures conditions { IfOk result (λ parts. parts.0 ≡ filter_map condition_in said) }
-    ensures changes { IfOk result (λ parts. parts.1 ≡ filter_map change_in said) }
+/// Puts the condition or the rule of an item at the end, if it has one.
+fn push_modify(rules: &mut ModifyRules, item: Said) -> Result<(), Memory>
+    ensures conditions { OnOk result (rules.new.conditions ≡ rules.old.conditions ++ filter_map condition_in (item ∷ [])) }
+    ensures changes { OnOk result (rules.new.rules ≡ rules.old.rules ++ filter_map change_in (item ∷ [])) }
 {
-    let mut conditions = Conditions::new(alloc);
-    let mut rules = Changes::new(alloc);
-    for item in said.into_vec() {
-        match item.value {
-            Value::Condition(condition) => conditions.push(condition)?,
-            Value::Change(change) => rules.push(change)?,
-            _ => {}
+    let Said { key: _, value } = item;
+    match value {
+        Value::Condition(condition) => rules.conditions.push(condition),
+        Value::Change(change) => rules.rules.push(change),
+        other => {
+            drop(other);
+            Ok(())
         }
     }
-    Ok((conditions, rules))
+}
+
+/// The conditions and the rules of `modify`, in order.
+pub fn modify_rules(alloc: Global, said: SaidList) -> Result<ModifyRules, Memory>
+    ensures conditions { IfOk result (λ rules. rules.conditions ≡ filter_map condition_in said) }
+    ensures changes { IfOk result (λ rules. rules.rules ≡ filter_map change_in said) }
+{
+    let mut rules = ModifyRules {
+        conditions: Conditions::new(alloc),
+        rules: Changes::new(alloc),
+    };
+    for item in said.into_vec() {
+        push_modify(&mut rules, item)?;
+    }
+    Ok(rules)
 }
 
 /// The wildcards of `nest`, in order.
@@ -198,9 +247,8 @@ pub fn wildcards(alloc: Global, said: &[Said]) -> Result<Names, Memory>
 {
     let mut names = Names::new(alloc);
     for item in said {
-        match &item.value {
-            Value::Wildcard(name) => names.push(name.try_clone(alloc)?)?,
-            _ => {}
+        if let Value::Wildcard(name) = &item.value {
+            names.push(name.try_clone(alloc)?)?;
         }
     }
     Ok(names)

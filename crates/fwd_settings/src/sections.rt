@@ -31,7 +31,7 @@ use std::alloc::Global;
 const MOST: usize = 64;
 
 /// What the sections so far say.
-#[derive(Debug, Drop)]
+#[derive(Drop)]
 pub struct SoFar {
     /// What the SERVICE sections say.
     pub service: SaidList,

@@ -97,10 +97,7 @@ fn read_types(alloc: Global, text: &[u8]) -> Result<Value, SettingKind>
     ensures ok { IfOk result (λ value. value_of plain.Types text.now ≡ Ok value) }
     ensures err { IfErr result (λ kind. kind ≢ Memory → value_of plain.Types text.now ≡ Err kind) }
 {
-    match field_types(alloc, text)? {
-        Some(types) => Ok(Value::Types(types)),
-        None => Err(SettingKind::BadChoice),
-    }
+    text_if(alloc, field_types(alloc, text)?.is_some(), text)
 }
 
 fn read_condition(alloc: Global, text: &[u8]) -> Result<Value, SettingKind>

@@ -5,7 +5,7 @@ ghost use Rattle.std.specs.List.{find};
 ghost use Rattle.fwd_settings.specs.Keys.{text_of, words_of, is_written, word_of};
 
 /// A word of a choice.
-#[derive(Clone, Copy, Debug)]
+#[derive(Clone, Copy)]
 pub enum Word {
     Normal,
     Full,
@@ -22,7 +22,7 @@ pub enum Word {
 }
 
 /// The words that a key may choose from.
-#[derive(Clone, Copy, Debug)]
+#[derive(Clone, Copy)]
 pub enum Menu {
     Sync,
     Store,

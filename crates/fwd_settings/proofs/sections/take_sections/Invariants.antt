@@ -1,4 +1,4 @@
-use Rattle.fwd_settings.proofs.Sections.{Leads}
+use Rattle.fwd_settings.proofs.Taking.{Leads}
 use Rattle.fwd_settings.proofs.sections.take_sections.Given as goal
 
 abbrev pub invariant-loop-section : goal.invariant-loop-section
