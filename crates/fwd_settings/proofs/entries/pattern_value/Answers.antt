@@ -1,4 +1,7 @@
-use Rattle.std.proofs.Common.{ℕ, List, Ok, refl, subst}
+use Rattle.std.proofs.Common.{◌≡◌, ℕ, List, Result, Ok, Err, refl, ap, subst}
+use Rattle.fwd_base.specs.declared.pattern.Pattern.{Pattern}
+use Rattle.fwd_base.specs.declared.pattern.PatternErr.{PatternErr}
+use Rattle.fwd_base.specs.declared.pattern.PatternErr.TheVariants.{Refused}
 use Rattle.fwd_base.specs.Pattern.{rewritten, IsReadFrom, IsNoPattern}
 use Rattle.fwd_settings.specs.declared.said.Value.TheVariants as value
 use Rattle.fwd_settings.specs.Reading.{known}
@@ -12,5 +15,6 @@ returns-in-Ok c =
 
 pub returns-in-Err-Refused : goal.returns-in-Err-Refused
 returns-in-Err-Refused c =
+    let refused : ◌≡◌ {A = Result Pattern PatternErr} (Err c.in-Err-Refused.field-0) (Err Refused) = ap Err c.in-Err-Refused.field-0-is in
     no_pattern c.args.entry.now.value c.args.entry.now.place (λ p. known (Ok (value.Pattern p))) c.refuse.result
-    (subst IsNoPattern c.as_slice.ensures (c.in-Err-Refused.ensures.refused c.in-Err-Refused.field-0-is)) c.refuse.ensures
+    (subst IsNoPattern c.as_slice.ensures (c.in-Err-Refused.ensures.refused refused)) c.refuse.ensures
