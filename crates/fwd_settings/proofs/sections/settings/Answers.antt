@@ -1,0 +1,12 @@
+use Rattle.std.proofs.Common.{inl, inr, subst}
+use Rattle.std.specs.Prelude.{List}
+use Rattle.fwd_config.specs.declared.section.Section.{Section}
+use Rattle.fwd_settings.specs.Reading.{Comes}
+use Rattle.fwd_settings.proofs.Sounding.{settings_sound}
+use Rattle.fwd_settings.proofs.sections.settings.Goals as goal
+
+pub returns-in-Ok-clause-meaning : goal.returns-in-Ok-clause-meaning
+returns-in-Ok-clause-meaning c = inr (rw c.as_slice.ensures at c.in-Ok.ensures)
+
+pub returns-in-Ok-clause-sound : goal.returns-in-Ok-clause-sound
+returns-in-Ok-clause-sound c = settings_sound c.args.sections.now c.in-Ok.all (rw c.as_slice.ensures at c.in-Ok.ensures)
