@@ -1,10 +1,10 @@
 -- How folders are listed.
 use Rattle.std.proofs.Common.{◌≡◌, ◌⊎◌, inl, inr, ℕ, ◌+◌, ◌<◌, ◌≤◌, Bool, true, false, IsTrue, if◌then◌else◌, List, [], ◌∷◌, ◌++◌, length, get_or, take, drop, append_assoc, Option, Some, None, Result, Ok, Err, IsErrAnd, refl, sym, ◌∙◌, ap, subst}
-use Rattle.std.proofs.lemmas.List.{append-nil, drop_more, at_drop_all, take_more}
+use Rattle.std.proofs.lemmas.List.{append-nil, drop_more, take_more}
 use Rattle.fwd_program.specs.Program.{Return, and_then}
 use Rattle.fwd_program.specs.Told.{Leads, Makes}
 use Rattle.fwd_program.proofs.Leading.{stays}
-use Rattle.fwd_outside.specs.Disk.{DiskTold, DiskProgram, lists}
+use Rattle.fwd_outside.specs.Disk.{DiskTold, lists}
 use Rattle.fwd_backlog.specs.declared.errors.LoadErr.{LoadErr}
 use Rattle.fwd_backlog.specs.declared.errors.LoadErr.TheVariants.{Memory}
 use Rattle.fwd_backlog.specs.declared.listed.Listed.{Listed}
@@ -43,9 +43,16 @@ chunk_added stream names i name files before after lt is so_far grown =
     ∙ ap (λ (l : List Listed). files ++ l) (sym (chunks_more stream (take i names) name))
     ∙ ap (λ (l : List (List ℕ)). files ++ chunks_in stream l) (sym more)
 
--- the root was listed
-pub root_listed : (a b : DiskTold) (root : List ℕ) (streams : List (List ℕ)) → Makes a b (lists root) (Some (Some streams)) → Leads a b (lists_files root) (lists_folders root streams [])
-root_listed a b root streams did = goes a a b (lists_files root) (lists root) (λ streams. lists_folders root streams []) (stays a (lists_files root)) streams did
+-- the root was listed, or not
+pub root_listed : (a b : DiskTold) (root : List ℕ) (streams items : List (List ℕ)) (files : List Listed) → items ≡ streams → files ≡ [] → Makes a b (lists root) (Some (Some streams))
+    → Leads a b (lists_files root) (lists_folders root (drop 0 items) files)
+root_listed a b root streams items files is none did =
+    let begun = goes a a b (lists_files root) (lists root) (λ streams. lists_folders root streams []) (stays a (lists_files root)) streams did in
+    subst (λ (s : List (List ℕ)). Leads a b (lists_files root) (lists_folders root s files)) (sym is)
+    (subst (λ (f : List Listed). Leads a b (lists_files root) (lists_folders root streams f)) (sym none) begun)
+
+pub root_stopped : (a b : DiskTold) (root : List ℕ) (e : LoadErr) (r : Result (List Listed) LoadErr) → IsErrAnd r (λ x. x ≡ e) → Makes a b (lists root) (err_outcome (List (List ℕ)) e) → Makes a b (lists_files root) (outcome r)
+root_stopped a b root e r is makes = made_err a b (lists_files root) e r is (stops a a b (lists_files root) (lists root) (λ streams. lists_folders root streams []) (stays a (lists_files root)) e makes)
 
 -- one more folder
 module _ (a b c : DiskTold) (root : List ℕ) (streams : List (List ℕ)) (i : ℕ) (stream : List ℕ) (files : List Listed) (lt : i < length streams) (is : stream ≡ get_or streams i stream)
@@ -71,9 +78,3 @@ module _ (a b c : DiskTold) (root : List ℕ) (streams : List (List ℕ)) (i : �
   pub folder_unkept : (names : List (List ℕ)) (r : Result (List Listed) LoadErr) → IsErrAnd r (λ x. x ≡ Memory) → Makes b c (lists (folder_of root stream)) (Some (Some names)) → Makes a c (lists_files root) (outcome r)
   folder_unkept names r is_err did =
       made_err a c (lists_files root) Memory r is_err (rests a c (lists_files root) (lists_folders root (drop (i + 1) streams) (files ++ chunks_in stream names)) (past_folder names did))
-
--- no folder is left
-pub all_listed : (a b : DiskTold) (root : List ℕ) (streams : List (List ℕ)) (i : ℕ) (files : List Listed) → length streams ≤ i
-    → Leads a b (lists_files root) (lists_folders root (drop i streams) files) → Makes a b (lists_files root) (Some (Some files))
-all_listed a b root streams i files all before =
-    subst (λ (p : DiskProgram (Option (List Listed))). Leads a b (lists_files root) p) (at_drop_all (λ (s : List (List ℕ)). lists_folders root s files) streams i all) before

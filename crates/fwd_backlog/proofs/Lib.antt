@@ -5,3 +5,4 @@ pub mod Files
 pub mod Serials
 pub mod Keeping
 pub mod Standing
+pub mod Promised

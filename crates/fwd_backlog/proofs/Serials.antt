@@ -1,5 +1,5 @@
 -- The numbers in the names of files.
-use Rattle.std.proofs.Common.{◌≡◌, ℕ, zero, suc, ◌+◌, ◌<◌, ◌≤◌, ◌*◌, ◌^◌, ◌==◌, ◌&&◌, Bool, true, false, IsTrue, nat_lt, max, cond, if◌then◌else◌, List, [], ◌∷◌, ◌++◌, length, get_or, take, drop, take_while, fold, length-take, Option, Some, None, option_and_then, refl, sym, ◌∙◌, ap, subst, arith}
+use Rattle.std.proofs.Common.{◌≡◌, ℕ, zero, suc, ◌+◌, ◌<◌, ◌≤◌, ◌*◌, ◌^◌, ◌==◌, ◌&&◌, Bool, true, false, IsTrue, nat_lt, max, cond, if◌then◌else◌, List, [], ◌∷◌, ◌++◌, length, get_or, take, drop, take_while, fold, length-take, Option, Some, None, option_and_then, refl, sym, ◌∙◌, ap, not, ◌-◌, length-drop, arith}
 use Rattle.std.specs.Char.{is_ascii_digit}
 use Rattle.std.specs.Str.{bytes_eq}
 use Rattle.std.specs.List.{prefix_len}
@@ -12,13 +12,24 @@ use Rattle.fwd_found.specs.declared.chunk.Found.{Found}
 use Rattle.fwd_backlog.specs.Serial.{flb, serial_number, greatest_serial}
 
 prefix_of_take : (p : ℕ → Bool) (xs : List ℕ) (n : ℕ) → n ≤ prefix_len p xs → prefix_len p (take n xs) ≡ n
-prefix_of_take p [] n le = omega arith
+prefix_of_take p [] zero le = refl
+prefix_of_take p [] (suc n) le = absurd (omega arith)
 prefix_of_take p (x ∷ xs) zero le = refl
 prefix_of_take p (x ∷ xs) (suc n) le = by (p x) (prefix_of_take p xs n) le
   where
     by : (b : Bool) → (n ≤ prefix_len p xs → prefix_len p (take n xs) ≡ n) → suc n ≤ cond b (1 + prefix_len p xs) 0 → cond b (1 + prefix_len p (take n xs)) 0 ≡ suc n
     by true more le = omega (arith, more (omega arith))
     by false more le = absurd (omega arith)
+
+not_of : (x b : Bool) → not x ≡ b → x ≡ not b
+not_of true b is = ap not is
+not_of false b is = ap not is
+
+-- how the end of a name compares
+pub end_is : (name : List ℕ) (b r : Bool) → r ≡ not (bytes_eq (take (length name - 20) (drop 20 name)) flb) → r ≡ b → bytes_eq (drop 20 name) flb ≡ not b
+end_is name b r compares is =
+    let rest : take (length name - 20) (drop 20 name) ≡ drop 20 name = take_all (length name - 20) (drop 20 name) (omega (arith, length-drop 20 name)) in
+    not_of (bytes_eq (drop 20 name) flb) b (ap (λ (l : List ℕ). not (bytes_eq l flb)) (sym rest) ∙ sym compares ∙ is)
 
 whole_text : (digits : List ℕ) (n : ℕ) → (n == 0) ≡ false → drop n digits ≡ []
     → (if n == 0 then None else option_and_then (λ factor. within_64_bits (decimal digits * factor)) (factor_of (drop n digits))) ≡ within_64_bits (decimal digits * 1)

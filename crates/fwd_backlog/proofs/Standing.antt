@@ -171,7 +171,7 @@ module _ (root : List ℕ) (first : Files) where
           sorted = subst (IsStrictlySortedBy by_name) (sym in_their_order) (sorted loaded.listed);
         }
 
-with_found : (root : List ℕ) (first last : Files) (read : List FileRead) (found : List Found) → With first (IsLoaded root first) (Some read) last → AllZip IsFoundOf read found → AreFoundIn root last found
+pub with_found : (root : List ℕ) (first last : Files) (read : List FileRead) (found : List Found) → With first (IsLoaded root first) (Some read) last → AllZip IsFoundOf read found → AreFoundIn root last found
 with_found root first last read found h are = found_there root first last h.0 read found h.1 are
 
 pub what_was_loaded : (root : List ℕ) (entries : List DiskEntry) (first last : Files) (read : List FileRead) (found : List Found) → AllSound first

@@ -1,5 +1,8 @@
-//! How fast events are written and read back. `bench/values` runs it; without words it says what it takes.
+//! How fast events are written and read back, and chunks appended to and read. `bench/values` and `bench/chunks` run it;
+//! without words it says what it takes.
 #![tactic(auto)]
+
+mod chunks;
 
 use fwd_event::{Bytes, Event, Events, Memory, Pairs, Value, can_write, read_events, write_event};
 use std::alloc::Global;
@@ -70,9 +73,20 @@ fn measure(rt: &HostRuntime, count: u32) -> io::Result<()> {
     println!(rt; "{count} {} {read} {encoded} {decoded}", bytes.len())
 }
 
-fn count_of(words: &[String]) -> Option<u32> {
+/// What is measured, and how often.
+enum Wanted {
+    Values(u32),
+    Chunks(u32),
+}
+
+fn asked(words: &[String]) -> Option<Wanted> {
     match words {
-        [what, count] if what.as_str() == "values" => count.as_str().parse().ok(),
+        [what, count] if what.as_str() == "values" => {
+            Some(Wanted::Values(count.as_str().parse().ok()?))
+        }
+        [what, count] if what.as_str() == "chunks" => {
+            Some(Wanted::Chunks(count.as_str().parse().ok()?))
+        }
         _ => None,
     }
 }
@@ -82,8 +96,9 @@ fn main(rt: HostRuntime) -> io::Result<()> {
     for word in env::args(&rt)?.skip(1) {
         words.push(word)?;
     }
-    match count_of(&words) {
-        Some(count) => measure(&rt, count),
-        None => rt.println("fwd_bench values COUNT"),
+    match asked(&words) {
+        Some(Wanted::Values(count)) => measure(&rt, count),
+        Some(Wanted::Chunks(count)) => chunks::measure(&rt, count),
+        None => rt.println("fwd_bench values|chunks COUNT"),
     }
 }
