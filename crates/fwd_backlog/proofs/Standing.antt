@@ -85,8 +85,8 @@ module _ (root : List ℕ) (first : Files) where
       goes_then first (ListedFrom first (folder_of root stream)) (Lists (done ++ stream ∷ streams)) now (lists (folder_of root stream)) (λ names. lists_folders root streams (files ++ chunks_in stream names))
       (goes_lists first (folder_of root stream) now kept)
       (λ names end then_kept listed.
-          subst (λ (l : List (List ℕ)). Goes first (Lists l) end (lists_folders root streams (files ++ chunks_in stream names))) (append_assoc done (stream ∷ []) streams)
-          (goes_folders streams (done ++ stream ∷ []) (files ++ chunks_in stream names) end then_kept (lists_more done stream names files old listed)))
+      subst (λ (l : List (List ℕ)). Goes first (Lists l) end (lists_folders root streams (files ++ chunks_in stream names))) (append_assoc done (stream ∷ []) streams)
+      (goes_folders streams (done ++ stream ∷ []) (files ++ chunks_in stream names) end then_kept (lists_more done stream names files old listed)))
 
   lists_all : (streams : List (List ℕ)) → ListedFrom first root streams → (files : List Listed) → Lists streams files → ListsAll files
   lists_all streams listed files lists_them stream name is stood = lists_them stream name (listed stream (path_of root (file_in stream name)) is stood.2 (under_root stream name)) stood
@@ -116,11 +116,11 @@ module _ (root : List ℕ) (first : Files) where
       goes_then first (ReadFrom first (path_of root file) 0 enough) (Reads (done ++ file ∷ files)) now (reads_synced (path_of root file)) (λ bytes. reads_files root files (read ++ file_read file bytes ∷ []))
       (goes_synced (path_of root file) now kept)
       (λ bytes end then_kept is_read.
-          subst (λ (l : List Listed). Goes first (Reads l) end (reads_files root files (read ++ file_read file bytes ∷ []))) (append_assoc done (file ∷ []) files)
-          (goes_reading files (done ++ file ∷ []) (read ++ file_read file bytes ∷ []) end then_kept (
-            all_push IsReadThere read (file_read file bytes) old.0 is_read,
-            map_append the_file read (file_read file bytes ∷ []) ∙ ap (λ (l : List Listed). l ++ file ∷ []) old.1,
-          )))
+      subst (λ (l : List Listed). Goes first (Reads l) end (reads_files root files (read ++ file_read file bytes ∷ []))) (append_assoc done (file ∷ []) files)
+      (goes_reading files (done ++ file ∷ []) (read ++ file_read file bytes ∷ []) end then_kept (
+        all_push IsReadThere read (file_read file bytes) old.0 is_read,
+        map_append the_file read (file_read file bytes ∷ []) ∙ ap (λ (l : List Listed). l ++ file ∷ []) old.1,
+      )))
 
   -- all was listed, and read in order
   pub record IsLoaded (read : List FileRead) : Type 0 where
@@ -133,8 +133,8 @@ module _ (root : List ℕ) (first : Files) where
   goes_loads now kept =
       goes_then first ListsAll IsLoaded now (lists_files root) (λ files. reads_files root (in_order files) []) (goes_files now kept)
       (λ listed end then_kept all.
-          goes_more first (Reads (in_order listed)) IsLoaded (λ read is_read. record { listed = listed; all = all; each = is_read.0; files = is_read.1 }) end (reads_files root (in_order listed) [])
-          (goes_reading (in_order listed) [] [] end then_kept (tt, refl)))
+      goes_more first (Reads (in_order listed)) IsLoaded (λ read is_read. record { listed = listed; all = all; each = is_read.0; files = is_read.1 }) end (reads_files root (in_order listed) [])
+      (goes_reading (in_order listed) [] [] end then_kept (tt, refl)))
 
   module _ (last : Files) (kept : AllKept first last) where
     same_place : (read : FileRead) (found : Found) → IsFoundOf read found → place_of found ≡ read.file

@@ -36,6 +36,6 @@ loop-stream-preserved g c =
     let grown : c.add_chunks.new.files ≡ c.loop-stream.files ++ chunks_in stream c.in_ok-names.names =
     subst (λ (s : List ℕ). c.add_chunks.new.files ≡ c.loop-stream.files ++ chunks_in s c.in_ok-names.names) (c.as_slice-in-loop-stream.ensures ∙ sym c.as_slice.ensures) c.in_ok-add_chunks.ensures in (
       folder_listed _ _ _ c.args.root.now streams c.loop-stream.stream-index stream c.loop-stream.files c.loop-stream-test.true is c.loop-stream.invariant.0
-      c.in_ok-names.names c.add_chunks.new.files c.in_ok-names.ensures.calls grown,
+          c.in_ok-names.names c.add_chunks.new.files c.in_ok-names.ensures.calls grown,
       omega (arith, c.loop-stream.invariant.1, c.in_ok-names.ensures.cause.later),
     )

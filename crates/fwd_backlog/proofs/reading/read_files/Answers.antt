@@ -15,6 +15,6 @@ returns-in_err-push-clause-calls g c =
 pub loop-file-preserved : goal.loop-file-preserved
 loop-file-preserved g c = (
   file_loaded _ _ _ c.args.root.now c.args.files.now c.as_slice-file-items.result.now c.loop-file.file-index c.file-item.result c.loop-file.found c.loop-file-test.true c.file-item.is c.loop-file.invariant.0
-  c.in_ok-next.next c.push.new.self c.in_ok-next.ensures.calls c.in_ok-push.ensures.ok,
+      c.in_ok-next.next c.push.new.self c.in_ok-next.ensures.calls c.in_ok-push.ensures.ok,
   omega (arith, c.loop-file.invariant.1, c.in_ok-next.ensures.cause.later),
 )
