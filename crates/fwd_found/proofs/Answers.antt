@@ -43,7 +43,7 @@ one_chunk bytes a b x y =
 abbrev pub Refused : List ℕ → NotAChunk → Type 0
 Refused bytes e = (headed bytes ≡ Err e) ⊎ ((e ≡ BadEvents) × (tag : List ℕ) × (headed bytes ≡ Ok tag) × HasBadEvents bytes)
 
-refused : (bytes : List ℕ) (e : NotAChunk) → StandsFor bytes (Err e) → Refused bytes e
+pub refused : (bytes : List ℕ) (e : NotAChunk) → StandsFor bytes (Err e) → Refused bytes e
 refused bytes TooShort h = inl h
 refused bytes BadId h = inl h
 refused bytes BadLength h = inl h

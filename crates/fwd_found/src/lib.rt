@@ -5,15 +5,17 @@
 //! so many bytes, whatever stands behind them; a plain file for its longest prefix of whole events.
 #![tactic(auto)]
 
+mod check;
 mod chunk;
 mod header;
 mod laws;
 mod reading;
 mod refusal;
 
+pub use check::check_file;
 pub use chunk::{Brief, Chunk, Found, Seen, chunks_cross};
 pub use fwd_base::{Bytes, Memory};
-pub use laws::{new_metadata_say_the_tag, parts_stand};
+pub use laws::{enough_tells, new_metadata_say_the_tag, parts_stand};
 pub use reading::read_chunk;
 pub use refusal::{ChunkKind, NotAChunk};
 

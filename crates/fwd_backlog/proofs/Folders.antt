@@ -1,0 +1,80 @@
+-- How folders are listed.
+use Rattle.std.proofs.Common.{◌≡◌, ◌⊎◌, inl, inr, ℕ, ◌+◌, ◌<◌, ◌≤◌, Bool, true, false, IsTrue, if◌then◌else◌, List, [], ◌∷◌, ◌++◌, length, get_or, take, drop, append_assoc, Option, Some, None, Result, Ok, Err, IsErrAnd, refl, sym, ◌∙◌, ap, subst}
+use Rattle.std.proofs.lemmas.List.{append-nil, drop_more, take_more}
+use Rattle.fwd_program.specs.Program.{Return, and_then}
+use Rattle.fwd_program.specs.Told.{Leads, Makes}
+use Rattle.fwd_program.proofs.Leading.{stays}
+use Rattle.fwd_outside.specs.Disk.{DiskTold, lists}
+use Rattle.fwd_backlog.specs.declared.errors.LoadErr.{LoadErr}
+use Rattle.fwd_backlog.specs.declared.errors.LoadErr.TheVariants.{Memory}
+use Rattle.fwd_backlog.specs.declared.listed.Listed.{Listed}
+use Rattle.fwd_backlog.specs.Answer.{outcome}
+use Rattle.fwd_backlog.specs.Serial.{is_chunk_name}
+use Rattle.fwd_backlog.specs.Listing.{folder_of, chunks_in, lists_folders, lists_files}
+use Rattle.fwd_backlog.proofs.Calling.{err_outcome, goes, stops, rests, made_err}
+
+abbrev file_in : List ℕ → List ℕ → Listed
+file_in stream name = record { name = name; stream = stream }
+
+pub one_chunk : (stream name : List ℕ) (files after : List Listed) → is_chunk_name name ≡ true → after ≡ files ++ file_in stream name ∷ [] → after ≡ files ++ chunks_in stream (name ∷ [])
+one_chunk stream name files after is grown = rw is grown
+
+pub no_chunk : (stream name : List ℕ) (files : List Listed) → is_chunk_name name ≡ false → files ≡ files ++ chunks_in stream (name ∷ [])
+no_chunk stream name files is = rw is (sym (append-nil files))
+
+chunks_more : (stream : List ℕ) (names : List (List ℕ)) (name : List ℕ) → chunks_in stream (names ++ name ∷ []) ≡ chunks_in stream names ++ chunks_in stream (name ∷ [])
+chunks_more stream [] name = refl
+chunks_more stream (first ∷ names) name = by (is_chunk_name first) (chunks_more stream names name)
+  where
+    by : (b : Bool) → chunks_in stream (names ++ name ∷ []) ≡ chunks_in stream names ++ chunks_in stream (name ∷ [])
+        → (if b then file_in stream first ∷ chunks_in stream (names ++ name ∷ []) else chunks_in stream (names ++ name ∷ []))
+        ≡ (if b then file_in stream first ∷ chunks_in stream names else chunks_in stream names) ++ chunks_in stream (name ∷ [])
+    by true h = ap (λ (l : List Listed). file_in stream first ∷ l) h
+    by false h = h
+
+-- a further name of a folder
+pub chunk_added : (stream : List ℕ) (names : List (List ℕ)) (i : ℕ) (name : List ℕ) (files before after : List Listed) → i < length names → name ≡ get_or names i name
+    → before ≡ files ++ chunks_in stream (take i names) → after ≡ before ++ chunks_in stream (name ∷ []) → after ≡ files ++ chunks_in stream (take (i + 1) names)
+chunk_added stream names i name files before after lt is so_far grown =
+    let more : take (i + 1) names ≡ take i names ++ name ∷ [] = take_more names i name lt ∙ ap (λ (n : List ℕ). take i names ++ n ∷ []) (sym is) in
+    grown
+    ∙ ap (λ (l : List Listed). l ++ chunks_in stream (name ∷ [])) so_far
+    ∙ append_assoc files (chunks_in stream (take i names)) (chunks_in stream (name ∷ []))
+    ∙ ap (λ (l : List Listed). files ++ l) (sym (chunks_more stream (take i names) name))
+    ∙ ap (λ (l : List (List ℕ)). files ++ chunks_in stream l) (sym more)
+
+-- the root was listed, or not
+pub root_listed : (a b : DiskTold) (root : List ℕ) (streams items : List (List ℕ)) (files : List Listed) → items ≡ streams → files ≡ [] → Makes a b (lists root) (Some (Some streams))
+    → Leads a b (lists_files root) (lists_folders root (drop 0 items) files)
+root_listed a b root streams items files is none did =
+    let begun = goes a a b (lists_files root) (lists root) (λ streams. lists_folders root streams []) (stays a (lists_files root)) streams did in
+    subst (λ (s : List (List ℕ)). Leads a b (lists_files root) (lists_folders root s files)) (sym is)
+    (subst (λ (f : List Listed). Leads a b (lists_files root) (lists_folders root streams f)) (sym none) begun)
+
+pub root_stopped : (a b : DiskTold) (root : List ℕ) (e : LoadErr) (r : Result (List Listed) LoadErr) → IsErrAnd r (λ x. x ≡ e) → Makes a b (lists root) (err_outcome (List (List ℕ)) e) → Makes a b (lists_files root) (outcome r)
+root_stopped a b root e r is makes = made_err a b (lists_files root) e r is (stops a a b (lists_files root) (lists root) (λ streams. lists_folders root streams []) (stays a (lists_files root)) e makes)
+
+-- one more folder
+module _ (a b c : DiskTold) (root : List ℕ) (streams : List (List ℕ)) (i : ℕ) (stream : List ℕ) (files : List Listed) (lt : i < length streams) (is : stream ≡ get_or streams i stream)
+    (before : Leads a b (lists_files root) (lists_folders root (drop i streams) files)) where
+  here : drop i streams ≡ stream ∷ drop (i + 1) streams
+  here = drop_more streams i stream lt ∙ ap (λ (s : List ℕ). s ∷ drop (i + 1) streams) (sym is)
+
+  at_folder : Leads a b (lists_files root) (and_then (lists (folder_of root stream)) (λ names. lists_folders root (drop (i + 1) streams) (files ++ chunks_in stream names)))
+  at_folder = subst (λ (s : List (List ℕ)). Leads a b (lists_files root) (lists_folders root s files)) here before
+
+  past_folder : (names : List (List ℕ)) → Makes b c (lists (folder_of root stream)) (Some (Some names)) → Leads a c (lists_files root) (lists_folders root (drop (i + 1) streams) (files ++ chunks_in stream names))
+  past_folder names did = goes a b c (lists_files root) (lists (folder_of root stream)) (λ names. lists_folders root (drop (i + 1) streams) (files ++ chunks_in stream names)) at_folder names did
+
+  pub folder_listed : (names : List (List ℕ)) (after : List Listed) → Makes b c (lists (folder_of root stream)) (Some (Some names)) → after ≡ files ++ chunks_in stream names
+      → Leads a c (lists_files root) (lists_folders root (drop (i + 1) streams) after)
+  folder_listed names after did grown = subst (λ (l : List Listed). Leads a c (lists_files root) (lists_folders root (drop (i + 1) streams) l)) (sym grown) (past_folder names did)
+
+  pub folder_stopped : (e : LoadErr) (r : Result (List Listed) LoadErr) → IsErrAnd r (λ x. x ≡ e) → Makes b c (lists (folder_of root stream)) (err_outcome (List (List ℕ)) e) → Makes a c (lists_files root) (outcome r)
+  folder_stopped e r is_err makes =
+      made_err a c (lists_files root) e r is_err
+      (stops a b c (lists_files root) (lists (folder_of root stream)) (λ names. lists_folders root (drop (i + 1) streams) (files ++ chunks_in stream names)) at_folder e makes)
+
+  pub folder_unkept : (names : List (List ℕ)) (r : Result (List Listed) LoadErr) → IsErrAnd r (λ x. x ≡ Memory) → Makes b c (lists (folder_of root stream)) (Some (Some names)) → Makes a c (lists_files root) (outcome r)
+  folder_unkept names r is_err did =
+      made_err a c (lists_files root) Memory r is_err (rests a c (lists_files root) (lists_folders root (drop (i + 1) streams) (files ++ chunks_in stream names)) (past_folder names did))

@@ -1,0 +1,8 @@
+pub mod Calling
+pub mod Names
+pub mod Folders
+pub mod Files
+pub mod Serials
+pub mod Keeping
+pub mod Standing
+pub mod Promised

@@ -1,0 +1,28 @@
+-- What is found on a disk as it reads.
+use Rattle.std.specs.Prelude.{◌≡◌, ℕ, IsTrue, List, Option, Some, map, Contains, All}
+use Rattle.std.specs.List.Sorted.{IsStrictlySortedBy}
+use Rattle.fwd_outside.specs.Disk.{IsFileName}
+use Rattle.fwd_image.specs.File.{IsImage, content}
+use Rattle.fwd_image.specs.Disk.{Files}
+use Rattle.fwd_found.specs.declared.chunk.Found.{Found}
+use Rattle.fwd_found.specs.Seen.{IsSeen}
+use Rattle.fwd_backlog.specs.declared.listed.Listed.{Listed}
+use Rattle.fwd_backlog.specs.Serial.{is_chunk_name}
+use Rattle.fwd_backlog.specs.Listing.{path_of, by_name}
+
+-- where a found file stands
+abbrev pub place_of : Found → Listed
+place_of found = record { name = found.name; stream = found.stream }
+
+-- these are the files of the names root/STREAM/NAME that end in `.flb`, by name, then by stream, and what their bytes
+-- stand for
+pub record AreFoundIn (root : List ℕ) (files : Files) (found : List Found) : Type 0 where
+  pub each : All (λ file. (bytes : List ℕ) × (content (files (path_of root (place_of file))) ≡ Some bytes) × IsSeen bytes file.seen) found
+  pub all : (stream name : List ℕ) → IsFileName stream → IsFileName name → IsTrue (is_chunk_name name)
+      → IsTrue (files (path_of root (record { name = name; stream = stream }))).there → Contains (map place_of found) (record { name = name; stream = stream })
+  pub sorted : IsStrictlySortedBy by_name (map place_of found)
+
+-- what a read finds is as before, and a crash leaves nothing that it couldn't have left before
+pub record LeavesNoMore (old new : Files) : Type 0 where
+  pub reads : (name : List ℕ) → content (new name) ≡ content (old name)
+  pub images : (name : List ℕ) (image : Option (List ℕ)) → IsImage (new name) image → IsImage (old name) image

@@ -1,0 +1,5 @@
+pub mod Answer
+pub mod Serial
+pub mod Listing
+pub mod Loading
+pub mod Found

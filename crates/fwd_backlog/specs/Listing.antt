@@ -1,0 +1,39 @@
+-- The files of chunks under a root: how they are listed, and in which order they are taken.
+use Rattle.std.specs.Prelude.{ℕ, if◌then◌else◌, List, [], ◌∷◌, ◌++◌, fold, Option, Some}
+use Rattle.std.specs.declared.cmp.Ordering.{Ordering}
+use Rattle.std.specs.Ordering.{nat_cmp, ordering_then}
+use Rattle.std.specs.Cmp.Lexicographic.{slice_cmp}
+use Rattle.std.specs.BTreeSet.{insert_key}
+use Rattle.fwd_program.specs.Program.{Return, and_then}
+use Rattle.fwd_outside.specs.Disk.{DiskProgram, lists}
+use Rattle.fwd_backlog.specs.declared.listed.Listed.{Listed}
+use Rattle.fwd_backlog.specs.Serial.{is_chunk_name}
+
+-- the folder of a stream, and a file in it; 47 is `/`
+abbrev pub folder_of : List ℕ → List ℕ → List ℕ
+folder_of root stream = root ++ 47 ∷ stream
+
+abbrev pub path_of : List ℕ → Listed → List ℕ
+path_of root file = folder_of root file.stream ++ 47 ∷ file.name
+
+-- of the names in a stream's folder, those of chunks' files
+abbrev pub chunks_in : List ℕ → List (List ℕ) → List Listed
+chunks_in stream [] = []
+chunks_in stream (name ∷ names) = if is_chunk_name name then record { name = name; stream = stream } ∷ chunks_in stream names else chunks_in stream names
+
+-- each folder is listed, and its files stand behind those so far
+abbrev pub lists_folders : List ℕ → List (List ℕ) → List Listed → DiskProgram (Option (List Listed))
+lists_folders root [] files = Return (Some files)
+lists_folders root (stream ∷ streams) files = and_then (lists (folder_of root stream)) (λ names. lists_folders root streams (files ++ chunks_in stream names))
+
+-- the root is listed, and then each name in it as a folder
+abbrev pub lists_files : List ℕ → DiskProgram (Option (List Listed))
+lists_files root = and_then (lists root) (λ streams. lists_folders root streams [])
+
+-- by name, then by stream
+abbrev pub by_name : Listed → Listed → Ordering
+by_name x y = ordering_then (slice_cmp nat_cmp x.name y.name) (slice_cmp nat_cmp x.stream y.stream)
+
+-- the files in that order
+abbrev pub in_order : List Listed → List Listed
+in_order files = fold (insert_key by_name) [] files

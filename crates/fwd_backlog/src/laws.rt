@@ -1,0 +1,33 @@
+//! What holds of the calls of loading, whatever the disk answers.
+
+ghost use Rattle.std.specs.Prelude.{◌≡◌, ◌↔◌, List, ℕ, Option, Some, Contains};
+ghost use Rattle.std.specs.List.{AllZip};
+ghost use Rattle.std.specs.List.Sorted.{IsStrictlySortedBy};
+ghost use Rattle.fwd_program.specs.Program.{Return, Way};
+ghost use Rattle.fwd_program.specs.Moments.{Ends, Moments};
+ghost use Rattle.fwd_outside.specs.Disk.{DiskEntry, DiskGiven, DiskProgram};
+ghost use Rattle.fwd_image.specs.Disk.{Files, Steps, MayHold};
+ghost use Rattle.fwd_found.specs.declared.chunk.Found.{Found};
+ghost use Rattle.fwd_backlog.specs.declared.listed.Listed.{Listed};
+ghost use Rattle.fwd_backlog.specs.Listing.{by_name, in_order};
+ghost use Rattle.fwd_backlog.specs.Loading.{FileRead, loads, IsFoundOf};
+ghost use Rattle.fwd_backlog.specs.Found.{AreFoundIn, LeavesNoMore};
+
+/// The order of files has each of them once, by name, then by stream.
+pub fn files_stand_in_order()
+    ensures sorted { (files : List Listed) → IsStrictlySortedBy by_name (in_order files) }
+    ensures same { (files : List Listed) (file : Listed) → Contains (in_order files) file ↔ Contains files file }
+{}
+
+/// At each moment of loading a read finds what it found before, and a crash leaves nothing that it couldn't have left
+/// before.
+pub fn loading_leaves_no_more()
+    ensures { (root : List ℕ) (given : DiskGiven) (before entries : List DiskEntry) (files : Files) (left : DiskProgram (Option (List FileRead)))
+        → MayHold given before files → Way (loads root) entries left → Moments Steps (LeavesNoMore files) files entries }
+{}
+
+/// What was loaded to the end is what stands there.
+pub fn what_is_loaded_stands()
+    ensures { (root : List ℕ) (given : DiskGiven) (before entries : List DiskEntry) (first last : Files) (files : List FileRead) (found : List Found)
+        → MayHold given before first → Way (loads root) entries (Return (Some files)) → Ends Steps first entries last → AllZip IsFoundOf files found → AreFoundIn root last found }
+{}

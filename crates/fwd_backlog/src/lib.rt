@@ -1,0 +1,24 @@
+//! The chunks that stand on the disk when a life begins.
+//!
+//! What an earlier life was owed must be found again, whatever ended that life. So all files of chunks under the storage
+//! path are listed, and each is synced, read and checked, in an order that doesn't depend on the disk. What is kept of a
+//! file is a description. New chunks get numbers above all that were found.
+#![tactic(auto)]
+
+mod errors;
+mod file_name;
+mod in_order;
+mod laws;
+mod listed;
+mod listing;
+mod loading;
+mod paths;
+mod reading;
+mod serial;
+#[cfg(test)]
+mod tests;
+
+pub use errors::LoadErr;
+pub use fwd_found::{Brief, ChunkKind, Found, Seen};
+pub use laws::{files_stand_in_order, loading_leaves_no_more, what_is_loaded_stands};
+pub use loading::{Backlog, FoundList, load_all};

@@ -1,0 +1,89 @@
+//! Folders are listed.
+
+ghost use Rattle.std.specs.Prelude.{◌≡◌, [], ◌∷◌, ◌++◌, IsErrOf, OnOk};
+ghost use Rattle.fwd_program.specs.Told.{Makes};
+ghost use Rattle.fwd_program.specs.Cause.{HasCause};
+ghost use Rattle.fwd_outside.specs.Disk.{lists};
+ghost use Rattle.fwd_backlog.specs.declared.errors.LoadErr.TheVariants.{DiskFailed};
+ghost use Rattle.fwd_backlog.specs.Answer.{outcome};
+ghost use Rattle.fwd_backlog.specs.Listing.{folder_of, chunks_in, lists_files};
+
+use crate::LoadErr;
+use crate::file_name::FileName;
+use crate::listed::Listed;
+use crate::paths::folder_of;
+use crate::serial::is_chunk_name;
+use fwd_base::{Bytes, Items, Memory, Names};
+use fwd_outside::Disk;
+use std::alloc::Global;
+
+/// Puts a file of a chunk behind those so far, where the name in a stream's folder is one.
+fn add_chunk(
+    alloc: Global,
+    stream: &[u8],
+    name: &[u8],
+    files: &mut Items<Listed>,
+) -> Result<(), Memory>
+    ensures { OnOk result (files.new ≡ files.old ++ chunks_in stream.now (name.now ∷ [])) }
+{
+    if !is_chunk_name(name) {
+        return Ok(());
+    }
+    files.push(Listed {
+        name: FileName::new(Bytes::from_slice(alloc, name)?),
+        stream: FileName::new(Bytes::from_slice(alloc, stream)?),
+    })
+}
+
+/// Puts the files of chunks, by the names in a stream's folder, behind those so far.
+fn add_chunks(
+    alloc: Global,
+    stream: &[u8],
+    names: &Names,
+    files: &mut Items<Listed>,
+) -> Result<(), Memory>
+    ensures { OnOk result (files.new ≡ files.old ++ chunks_in stream.now names.now) }
+{
+    for name in names.as_slice() {
+        add_chunk(alloc, stream, name.as_slice(), files)?;
+    }
+    Ok(())
+}
+
+fn list_names<D: Disk>(alloc: Global, disk: &mut D, folder: &[u8]) -> Result<Names, LoadErr>
+    ensures calls { Makes (D.told disk.old) (D.told disk.new) (lists folder.now) (outcome result) }
+    ensures cause { HasCause (D.faults disk.old) (D.faults disk.new) (IsErrOf result DiskFailed) }
+{
+    Ok(disk.list(alloc, folder)?)
+}
+
+fn list_folder<D: Disk>(
+    alloc: Global,
+    disk: &mut D,
+    root: &[u8],
+    stream: &[u8],
+) -> Result<Names, LoadErr>
+    ensures calls { Makes (D.told disk.old) (D.told disk.new) (lists (folder_of root.now stream.now)) (outcome result) }
+    ensures cause { HasCause (D.faults disk.old) (D.faults disk.new) (IsErrOf result DiskFailed) }
+{
+    let folder = folder_of(alloc, root, stream)?;
+    list_names(alloc, disk, folder.as_slice())
+}
+
+/// Lists the root, and each name in it as the folder of a stream, and gives the files of chunks there.
+pub fn list_files<D: Disk>(
+    alloc: Global,
+    disk: &mut D,
+    root: &[u8],
+) -> Result<Items<Listed>, LoadErr>
+    ensures calls { Makes (D.told disk.old) (D.told disk.new) (lists_files root.now) (outcome result) }
+    ensures cause { HasCause (D.faults disk.old) (D.faults disk.new) (IsErrOf result DiskFailed) }
+{
+    let streams = list_names(alloc, disk, root)?;
+    let mut files = Items::new(alloc);
+    for stream in streams.as_slice() {
+        let names = list_folder(alloc, disk, root, stream.as_slice())?;
+        add_chunks(alloc, stream.as_slice(), &names, &mut files)?;
+    }
+    Ok(files)
+}

@@ -1,0 +1,65 @@
+//! All files of chunks are loaded.
+
+ghost use Rattle.std.specs.Prelude.{◌≡◌, ◌≤◌, ◌^◌, IfOk, IsErrOf};
+ghost use Rattle.fwd_program.specs.Cause.{HasCause};
+ghost use Rattle.fwd_image.specs.Crash.{DiskSince, DiskAfter};
+ghost use Rattle.fwd_backlog.specs.declared.errors.LoadErr.TheVariants.{DiskFailed};
+ghost use Rattle.fwd_backlog.specs.Answer.{Loads};
+ghost use Rattle.fwd_backlog.specs.Loading.{loads, IsBacklog};
+ghost use Rattle.fwd_backlog.specs.Found.{AreFoundIn, LeavesNoMore};
+
+use crate::LoadErr;
+use crate::in_order::in_order;
+use crate::listing::list_files;
+use crate::reading::read_files;
+use crate::serial::next_number;
+use fwd_base::Items;
+use fwd_found::Found;
+use fwd_outside::Disk;
+use std::alloc::Global;
+use std::thread::Threads;
+
+/// Found files, by name, then by stream.
+pub type FoundList = Items<Found>;
+
+/// What stood on the disk when a life began.
+#[derive(Debug, Drop)]
+pub struct Backlog {
+    pub found: FoundList,
+    /// The number of the next new chunk, from 1 to 2^63.
+    pub next: u64,
+}
+
+/// Loads the files of chunks under the root: each name in the root is listed as the folder of a stream, and each file
+/// there whose name ends in `.flb` is synced, read and checked, by name, then by stream. The next new chunk has a number
+/// above the number of files and above every serial, a name of twenty digits and `.flb` whose number is below 2^63.
+/// `DiskFailed` comes where a call failed, and no call follows it.
+pub fn load_all<D: Disk>(
+    rt: &(impl Threads + Sync),
+    alloc: Global,
+    disk: &mut D,
+    root: &[u8],
+) -> Result<Backlog, LoadErr>
+    ensures loaded { Loads (D.told disk.old) (D.told disk.new) (loads root.now) IsBacklog result }
+    ensures next { IfOk result (λ backlog. (1 ≤ backlog.next) × (backlog.next ≤ 2 ^ 63)) }
+
+    // What was found is what stands there, and a crash at any moment of the call leaves nothing else than before it.
+    ensures found { IfOk result (λ backlog. DiskAfter (D.told disk.old) (D.told disk.new) (λ _. Unit {0}) (λ _ last. AreFoundIn root.now last backlog.found)) }
+    ensures any_moment { DiskSince (D.told disk.old) (D.told disk.new) (λ _. Unit {0}) LeavesNoMore }
+    ensures cause { HasCause (D.faults disk.old) (D.faults disk.new) (IsErrOf result DiskFailed) }
+{
+    let _ = rt;
+    load(alloc, disk, root)
+}
+
+fn load<D: Disk>(alloc: Global, disk: &mut D, root: &[u8]) -> Result<Backlog, LoadErr>
+    ensures loaded { Loads (D.told disk.old) (D.told disk.new) (loads root.now) IsBacklog result }
+    ensures next { IfOk result (λ backlog. (1 ≤ backlog.next) × (backlog.next ≤ 2 ^ 63)) }
+    ensures cause { HasCause (D.faults disk.old) (D.faults disk.new) (IsErrOf result DiskFailed) }
+{
+    let listed = list_files(alloc, disk, root)?;
+    let files = in_order(alloc, listed)?;
+    let found = read_files(alloc, disk, root, &files)?;
+    let next = next_number(found.as_slice());
+    Ok(Backlog { found, next })
+}

@@ -1,0 +1,67 @@
+//! The numbers in the names of files.
+
+ghost use Rattle.std.specs.Prelude.{◌≡◌, ◌+◌, ◌<◌, ◌≤◌, ◌^◌, ◌*◌, length, take, take_while};
+ghost use Rattle.std.specs.Char.{is_ascii_digit};
+ghost use Rattle.fwd_backlog.specs.Serial.{is_chunk_name, serial_number, greatest_serial, next_number};
+
+use fwd_base::parse_size;
+use fwd_found::Found;
+
+const ENDING: &[u8] = b".flb";
+
+/// How many digits a serial has.
+const DIGITS: usize = 20;
+
+/// Serials are below this number.
+const PAST_SERIALS: u64 = 1 << 63;
+
+/// Whether a name is one of a chunk's file: those end in `.flb`.
+pub fn is_chunk_name(name: &[u8]) -> bool
+    ensures { result ≡ is_chunk_name name.now }
+{
+    name.ends_with(ENDING)
+}
+
+fn digits_len(name: &[u8]) -> usize
+    ensures { result ≡ length (take_while is_ascii_digit name.now) }
+{
+    name.iter().take_while(|byte| byte.is_ascii_digit()).count()
+}
+
+/// The number of a serial, a name of twenty digits and `.flb` whose number is below 2^63; 0 of another name.
+fn serial_number(name: &[u8]) -> u64
+    ensures number { result ≡ serial_number name.now }
+    ensures small { result < 2 ^ 63 }
+{
+    if digits_len(name) != DIGITS {
+        return 0;
+    }
+    if &name[DIGITS..] != ENDING {
+        return 0;
+    }
+    match parse_size(&name[..DIGITS]) {
+        Ok(number) if number < PAST_SERIALS => number,
+        _ => 0,
+    }
+}
+
+/// The greatest serial; 0 where there is none.
+fn greatest_serial(found: &[Found]) -> u64
+    ensures greatest { result ≡ greatest_serial found.now }
+    ensures small { result < 2 ^ 63 }
+{
+    let mut greatest = 0u64;
+    for file in found {
+        greatest = greatest.max(serial_number(file.name.as_slice()));
+    }
+    greatest
+}
+
+/// One above the greatest serial and the number of files.
+pub fn next_number(found: &[Found]) -> u64
+    ensures next { result ≡ next_number found.now }
+    ensures first { 1 ≤ result }
+    ensures last { result ≤ 2 ^ 63 }
+{
+    1 + (found.len() as u64).max(greatest_serial(found))
+}

@@ -1,0 +1,58 @@
+//! A file that is found is checked, and its content is let go.
+
+ghost use Rattle.std.specs.Prelude.{◌≡◌, ◌≤◌, IfOk, MatchOption};
+ghost use Rattle.fwd_found.specs.declared.refusal.NotAChunk.TheVariants as not_a_chunk;
+ghost use Rattle.fwd_found.specs.Seen.{brief_of, refusal_of, IsSeen};
+
+use crate::{Brief, Chunk, ChunkKind, NotAChunk, Seen, read_chunk};
+use fwd_base::Memory;
+use std::alloc::Global;
+
+/// What is kept of a chunk.
+fn brief_of(chunk: Chunk) -> Brief
+    ensures { result ≡ brief_of chunk }
+{
+    Brief {
+        meta: chunk.meta,
+        size: chunk.content.len() as u64,
+        events: chunk.events,
+        torn: chunk.torn,
+        mark: chunk.mark,
+        tag: chunk.tag,
+    }
+}
+
+/// The kind of a refusal; none for want of memory.
+fn kind_of(refusal: NotAChunk) -> Option<ChunkKind>
+    ensures { MatchOption result (refusal ≡ not_a_chunk.Memory) (λ kind. refusal ≡ refusal_of kind) }
+{
+    match refusal {
+        NotAChunk::TooShort => Some(ChunkKind::TooShort),
+        NotAChunk::BadId => Some(ChunkKind::BadId),
+        NotAChunk::BadLength => Some(ChunkKind::BadLength),
+        NotAChunk::NotLogs => Some(ChunkKind::NotLogs),
+        NotAChunk::NotUtf8Tag => Some(ChunkKind::NotUtf8Tag),
+        NotAChunk::BadEvents => Some(ChunkKind::BadEvents),
+        NotAChunk::TooLong => Some(ChunkKind::TooLong),
+        NotAChunk::Memory => None,
+    }
+}
+
+/// Checks the bytes of a file that was found. What is kept is a description; the content is let go.
+pub fn check_file(alloc: Global, bytes: &[u8]) -> Result<Seen, Memory>
+    ensures { IfOk result (IsSeen bytes.now) }
+{
+    match read_chunk(alloc, bytes) {
+        Ok(chunk) => {
+            if chunk.events == 0 {
+                Ok(Seen::Empty(brief_of(chunk)))
+            } else {
+                Ok(Seen::Whole(brief_of(chunk)))
+            }
+        }
+        Err(refusal) => match kind_of(refusal) {
+            Some(kind) => Ok(Seen::Refused(kind)),
+            None => Err(Memory),
+        },
+    }
+}
