@@ -145,3 +145,8 @@ pub sound_as_kept : (s : Stored) (n : ℕ) (old new : Kept) (chunks : Held) → 
     → IsSound (record { root = s.root; full = s.full; next = s.next; chunks = chunks; opened = s.opened })
 sound_as_kept s n old new chunks is is_chunks may sound =
     subst IsSound (λ i. record { root = s.root; full = s.full; next = s.next; chunks = sym is_chunks i; opened = s.opened }) (sound_with_kept s n old new is may sound)
+
+pub sound_as_adopted : (s : Stored) (n : ℕ) (new : Kept) (chunks : Held) → map.get s.chunks n ≡ None → chunks ≡ map.insert s.chunks n new → n < s.next → IsSound s
+    → IsSound (record { root = s.root; full = s.full; next = s.next; chunks = chunks; opened = s.opened })
+sound_as_adopted s n new chunks none is_chunks lt sound =
+    subst IsSound (λ i. record { root = s.root; full = s.full; next = s.next; chunks = sym is_chunks i; opened = s.opened }) (sound_adopted s n new none lt sound)

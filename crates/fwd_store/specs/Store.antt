@@ -15,7 +15,10 @@ use Rattle.fwd_store.specs.declared.kept.Kept.TheVariants.{InFile, Adopted, InMe
 use Rattle.fwd_store.specs.declared.answers.Accepted.{Accepted}
 use Rattle.fwd_store.specs.declared.answers.StoreRefusal.{StoreRefusal}
 use Rattle.fwd_store.specs.declared.answers.StoreRefusal.TheVariants.{DiskFailed, BatchTooLarge, Memory, NoNumber}
-use Rattle.fwd_store.specs.Name.{file_name}
+use Rattle.fwd_found.specs.declared.chunk.Found.{Found}
+use Rattle.fwd_found.specs.declared.chunk.Brief.{Brief}
+use Rattle.fwd_found.specs.declared.chunk.Seen.TheVariants.{Whole}
+use Rattle.fwd_store.specs.Name.{file_name, found_name}
 use Rattle.fwd_store.specs.Kept.{size_of, appends, grown, removals}
 use Rattle.fwd_store.specs.Opened.{Opened, open_for, without}
 use Rattle.fwd_store.specs.Stored.{Held, Stored}
@@ -180,3 +183,11 @@ kept_outcome (Err Memory) = None
 abbrev pub HasFailed : Result Accepted StoreRefusal → Type 0
 HasFailed (Err (DiskFailed chunk)) = Unit {0}
 HasFailed _ = ⊥
+
+-- the file was found to be a chunk with events
+abbrev pub IsWhole : Found → Type 0
+IsWhole found = (brief : Brief) × (found.seen ≡ Whole brief)
+
+-- a found file as it is kept
+abbrev pub adopted : Stored → Found → Brief → Kept
+adopted s found brief = Adopted (record { name = found_name (unwrap_or s.root []) found.stream found.name; meta = brief.meta; size = brief.size })

@@ -1,7 +1,7 @@
 //! The name of a new chunk's file.
 
 ghost use Rattle.std.specs.Prelude.{◌≡◌, ◌++◌, IfOk, OnOk};
-ghost use Rattle.fwd_store.specs.Name.{digits, file_name};
+ghost use Rattle.fwd_store.specs.Name.{digits, file_name, found_name};
 
 use fwd_outside::{Bytes, Memory};
 use std::alloc::Global;
@@ -18,6 +18,19 @@ pub fn file_name(alloc: Global, root: &[u8], stream: &[u8], number: u64) -> Resu
     push_digits(&mut name, 20, number)?;
     name.extend_from_slice(b".flb")?;
     Ok(name)
+}
+
+/// `ROOT/STREAM/NAME`, the name of a file that was found there.
+pub fn found_name(alloc: Global, root: &[u8], stream: &[u8], name: &[u8]) -> Result<Bytes, Memory>
+    ensures { IfOk result (λ whole. whole ≡ found_name root.now stream.now name.now) }
+{
+    let mut whole = Bytes::new(alloc);
+    whole.extend_from_slice(root)?;
+    whole.extend_from_slice(b"/")?;
+    whole.extend_from_slice(stream)?;
+    whole.extend_from_slice(b"/")?;
+    whole.extend_from_slice(name)?;
+    Ok(whole)
 }
 
 // The last digits of a number, so many of them.

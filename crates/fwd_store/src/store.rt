@@ -1,6 +1,6 @@
 //! The store.
 
-ghost use Rattle.std.specs.Prelude.{◌≡◌, ◌≢◌, ◌⊎◌, ◌↔◌, ℕ, ◌+◌, ◌<◌, ◌≤◌, ◌==◌, [], List, length, Some, None, Option, IfOk, IfErr, IsTrue, IsSome, IsErrOf, unwrap_or, Err, false};
+ghost use Rattle.std.specs.Prelude.{◌≡◌, ◌≢◌, ◌⊎◌, ◌↔◌, ℕ, ◌+◌, ◌<◌, ◌≤◌, ◌==◌, [], List, length, Some, None, Option, IfOk, IfErr, OnOk, OnErr, IsTrue, IsSome, IsErrOf, unwrap_or, Err, false};
 ghost use Rattle.std.specs.FinMap as map;
 ghost use Rattle.fwd_program.specs.Program.{Return, and_then};
 ghost use Rattle.fwd_program.specs.Told.{Makes, Grew};
@@ -12,18 +12,21 @@ ghost use Rattle.fwd_chunk.specs.Append.{creates, new_head};
 ghost use Rattle.fwd_store.specs.declared.kept.Kept.{Kept};
 ghost use Rattle.fwd_store.specs.declared.kept.Kept.TheVariants.{InFile, InMemory};
 ghost use Rattle.fwd_store.specs.declared.answers.StoreRefusal.TheVariants as refusal;
+ghost use Rattle.fwd_found.specs.declared.chunk.Brief.{Brief};
+ghost use Rattle.fwd_found.specs.declared.chunk.Seen.TheVariants.{Whole};
 ghost use Rattle.fwd_store.specs.Name.{file_name};
 ghost use Rattle.fwd_store.specs.Kept.{size_of};
 ghost use Rattle.fwd_store.specs.Opened.{first_of};
-ghost use Rattle.fwd_store.specs.Store.{longest_batch, last_number, kept_outcome, IsRefusalOf, begins_as, kept_as, sealed, named, after_failed_append, has_file, IsSound, chunk_for, new_name, accept_outcome, BeganChunk, GrewChunk, Took, GivesUp, Refused, HasFailed, CanGrow, appends_to, goes_to, accepts, has_no_number, drops, dropped};
+ghost use Rattle.fwd_store.specs.Store.{longest_batch, last_number, kept_outcome, IsRefusalOf, begins_as, kept_as, sealed, named, after_failed_append, has_file, IsSound, chunk_for, new_name, accept_outcome, BeganChunk, GrewChunk, Took, GivesUp, Refused, HasFailed, CanGrow, appends_to, goes_to, accepts, has_no_number, drops, dropped, with_kept, IsWhole, adopted};
 
 use crate::answers::{Accepted, StoreRefusal};
 use crate::held::Chunks;
-use crate::kept::Kept;
-use crate::name::file_name;
+use crate::kept::{FoundFile, Kept};
+use crate::name::{file_name, found_name};
 use crate::opened::{OpenChunks, Source};
 use fwd_chunk::create;
-use fwd_outside::{Bytes, ChunkId, Disk, DiskErr, Home, InputId};
+use fwd_found::{Brief, Found, Seen};
+use fwd_outside::{Bytes, ChunkId, Disk, DiskErr, Home, InputId, Memory};
 use std::alloc::Global;
 use std::marker::Model;
 
@@ -222,6 +225,48 @@ impl Store {
         self.chunks.remove(chunk.0);
         self.opened.close(chunk.0);
         answer
+    }
+
+    /// From now on a file that was found is the file of this chunk, which takes no batches. The store has a root, the file
+    /// is that of no other chunk, and the number is below the next one and new to the store. After `Memory` the store is
+    /// as before.
+    pub fn adopt(&mut self, alloc: Global, chunk: ChunkId, found: &Found) -> Result<(), Memory>
+        requires root { IsSome self.old.root }
+        requires whole { IsWhole found.now }
+        requires number { chunk.0 < self.old.next }
+        requires new { map.get self.old.chunks chunk.0 ≡ None }
+        ensures ok { OnOk result ((brief : Brief) → found.now.seen ≡ Whole brief → self.new ≡ with_kept self.old chunk.0 (adopted self.old found.now brief)) }
+        ensures err { OnErr result (self.new ≡ self.old) }
+    {
+        match &found.seen {
+            Seen::Whole(brief) => self.adopt_file(alloc, chunk.0, found, brief),
+            _ => Err(Memory),
+        }
+    }
+
+    // The same, of the chunk that was seen.
+    fn adopt_file(
+        &mut self,
+        alloc: Global,
+        number: u64,
+        found: &Found,
+        brief: &Brief,
+    ) -> Result<(), Memory>
+        requires number { number < self.old.next }
+        requires new { map.get self.old.chunks number ≡ None }
+        ensures ok { OnOk result (self.new ≡ with_kept self.old number (adopted self.old found.now brief.now)) }
+        ensures err { OnErr result (self.new ≡ self.old) }
+    {
+        self.chunks.reserve()?;
+        let root = bytes_of(&self.root);
+        let name = found_name(alloc, root, found.stream.as_slice(), found.name.as_slice())?;
+        let file = FoundFile {
+            name,
+            meta: brief.meta,
+            size: brief.size,
+        };
+        self.chunks.insert(number, Kept::Adopted(file));
+        Ok(())
     }
 
     // Removes the file of a chunk, where it has one.
