@@ -1,0 +1,152 @@
+-- What changes of a store keep.
+use Rattle.std.proofs.Common.{◌≡◌, ℕ, ◌+◌, ◌<◌, ◌≤◌, ◌==◌, length, nat_eq, Bool, true, false, not, cond, if◌then◌else◌, List, [], ◌∷◌, ◌++◌, filter, All, Option, Some, None, IsSome, refl, sym, ◌∙◌, ap, subst, arith}
+use Rattle.std.proofs.lemmas.Bool.Decides.{Decides-eqb}
+use Rattle.std.proofs.lemmas.List.Elements.{All-nil, All-cons, All-head, All-tail, All-push, All-filter, All-weaker}
+use Rattle.std.specs.FinMap as map
+use Rattle.std.specs.Ordering.{nat_cmp}
+use Rattle.fwd_outside.specs.declared.home.Home.{Home}
+use Rattle.fwd_outside.specs.declared.home.Home.TheVariants.{Disk, Ram}
+use Rattle.fwd_store.specs.declared.kept.Kept.{Kept}
+use Rattle.fwd_store.specs.declared.kept.Kept.TheVariants.{InFile, Adopted, InMemory}
+use Rattle.fwd_store.specs.Kept.{size_of, grown, HasRoom}
+use Rattle.fwd_store.specs.Opened.{Opened, is_for, open_for, without}
+use Rattle.fwd_store.specs.Stored.{Held, Stored}
+use Rattle.fwd_store.specs.Store.{CanGrow, IsSound, last_number, used, with_new, with_kept, sealed, dropped, after_failed_append, has_file, kept_as, longest_batch}
+use Rattle.fwd_store.proofs.Holding.{get_inserted, get_removed}
+
+abbrev Grows : Held → Opened → Type 0
+Grows chunks o = CanGrow (map.get chunks o.chunk)
+
+none_held : (q : ℕ) → IsSome (map.get (map.empty {X = Kept} {R = nat_cmp}) q) → ⊥
+none_held q is = let none : IsSome {T = Kept} None = subst IsSome (map.get-empty nat_cmp q) is in absurd (cc none)
+
+pub sound_new : (root : Option (List ℕ)) (full : Bool) (next : ℕ) → next ≤ last_number → IsSound (record { root = root; full = full; next = next; chunks = map.empty; opened = [] })
+sound_new root full next le = record { each = All-nil (Grows map.empty); below = λ n is. absurd (none_held n is); numbers = le }
+
+pub sound_sealed : (s : Stored) (n : ℕ) → IsSound s → IsSound (sealed s n)
+sound_sealed s n sound = record { each = All-filter (λ o. not (o.chunk == n)) (Grows s.chunks) s.opened sound.each; below = sound.below; numbers = sound.numbers }
+
+pub sound_used : (s : Stored) → s.next < last_number → IsSound s → IsSound (used s)
+sound_used s lt sound = record { each = sound.each; below = λ n is. let b : n < s.next = sound.below n is in omega arith; numbers = omega arith }
+
+-- one chunk changes, and takes batches after as before
+grows_put : (chunks : Held) (k : ℕ) (kept : Kept) (o : Opened) → (nat_eq k o.chunk ≡ true → CanGrow (map.get chunks o.chunk) → CanGrow (Some kept)) → CanGrow (map.get chunks o.chunk) → CanGrow (map.get (map.insert chunks k kept) o.chunk)
+grows_put chunks k kept o may can = subst CanGrow (sym (get_inserted chunks k kept o.chunk)) (by (nat_eq k o.chunk) may)
+  where
+    by : (b : Bool) → (b ≡ true → CanGrow (map.get chunks o.chunk) → CanGrow (Some kept)) → CanGrow (cond b (Some kept) (map.get chunks o.chunk))
+    by true may = may refl can
+    by false may = can
+
+held_put : (chunks : Held) (k : ℕ) (kept : Kept) (limit n : ℕ) → k < limit → ((n : ℕ) → IsSome (map.get chunks n) → n < limit) → IsSome (map.get (map.insert chunks k kept) n) → n < limit
+held_put chunks k kept limit n lt below is = by (nat_eq k n) refl (subst IsSome (get_inserted chunks k kept n) is)
+  where
+    by : (b : Bool) → nat_eq k n ≡ b → IsSome (cond b (Some kept) (map.get chunks n)) → n < limit
+    by true e there = let same : k ≡ n = (Decides-eqb k n).0 e in omega arith
+    by false e there = below n there
+
+pub sound_with_kept : (s : Stored) (n : ℕ) (old new : Kept) → map.get s.chunks n ≡ Some old → (CanGrow (Some old) → CanGrow (Some new)) → IsSound s → IsSound (with_kept s n new)
+sound_with_kept s n old new is may sound = record {
+  each = All-weaker (Grows s.chunks) (Grows (map.insert s.chunks n new))
+      (λ o can. grows_put s.chunks n new o (λ e here. may (subst CanGrow (ap (λ (k : ℕ). map.get s.chunks k) (sym ((Decides-eqb n o.chunk).0 e)) ∙ is) here)) can) s.opened sound.each;
+  below = λ k there. held_put s.chunks n new s.next k (sound.below n (subst IsSome (sym is) refl)) sound.below there;
+  numbers = sound.numbers;
+}
+
+pub sound_with_new : (s : Stored) (input : ℕ) (tag : List ℕ) (kept : Kept) → s.next < last_number → CanGrow (Some kept) → IsSound s → IsSound (with_new s input tag kept)
+sound_with_new s input tag kept lt can sound = record {
+  each = All-push (Grows (map.insert s.chunks s.next kept)) s.opened (record { input = input; tag = tag; chunk = s.next })
+      (All-weaker (Grows s.chunks) (Grows (map.insert s.chunks s.next kept)) (λ o grows. grows_put s.chunks s.next kept o (λ e here. can) grows) s.opened sound.each)
+      (subst CanGrow (sym (get_inserted s.chunks s.next kept s.next ∙ ap (λ (b : Bool). cond b (Some kept) (map.get s.chunks s.next)) ((Decides-eqb s.next s.next).1 refl))) can);
+  below = λ k there. held_put s.chunks s.next kept (s.next + 1) k (omega arith) (λ n is. let b : n < s.next = sound.below n is in omega arith) there;
+  numbers = omega arith;
+}
+
+pub sound_adopted : (s : Stored) (n : ℕ) (kept : Kept) → map.get s.chunks n ≡ None → n < s.next → IsSound s → IsSound (with_kept s n kept)
+sound_adopted s n kept none lt sound = record {
+  each = All-weaker (Grows s.chunks) (Grows (map.insert s.chunks n kept))
+      (λ o can. grows_put s.chunks n kept o (λ e here. absurd (subst CanGrow (ap (λ (k : ℕ). map.get s.chunks k) (sym ((Decides-eqb n o.chunk).0 e)) ∙ none) here)) can) s.opened sound.each;
+  below = λ k there. held_put s.chunks n kept s.next k lt sound.below there;
+  numbers = sound.numbers;
+}
+
+left_out : (chunks : Held) (n : ℕ) (opened : List Opened) → All (Grows chunks) opened → All (Grows (map.remove chunks n)) (without n opened)
+left_out chunks n [] all = All-nil (Grows (map.remove chunks n))
+left_out chunks n (o ∷ os) all = by (o.chunk == n) refl (left_out chunks n os (All-tail (Grows chunks) o os all))
+  where
+    by : (b : Bool) → (o.chunk == n) ≡ b → All (Grows (map.remove chunks n)) (without n os) → All (Grows (map.remove chunks n)) (if not b then o ∷ without n os else without n os)
+    by true e rest = rest
+    by false e rest = All-cons (Grows (map.remove chunks n)) o (without n os)
+        (subst CanGrow (sym (get_removed chunks n o.chunk ∙ ap (λ (b : Bool). cond b None (map.get chunks o.chunk)) (other (nat_eq n o.chunk) refl))) (All-head (Grows chunks) o os all)) rest
+      where
+        other : (b : Bool) → nat_eq n o.chunk ≡ b → nat_eq n o.chunk ≡ false
+        other true is = let same : (o.chunk == n) ≡ true = (Decides-eqb o.chunk n).1 (sym ((Decides-eqb n o.chunk).0 is)) in absurd (cc (same, e))
+        other false is = is
+
+pub sound_dropped : (s : Stored) (n : ℕ) → IsSound s → IsSound (dropped s n)
+sound_dropped s n sound = record {
+  each = left_out s.chunks n s.opened sound.each;
+  below = λ k is. sound.below k (there k (nat_eq n k) (subst IsSome (get_removed s.chunks n k) is));
+  numbers = sound.numbers;
+}
+  where
+    there : (k : ℕ) (b : Bool) → IsSome (cond b None (map.get s.chunks k)) → IsSome (map.get s.chunks k)
+    there k true is = absurd (cc is)
+    there k false is = is
+
+pub sound_given_up : (s : Stored) (n : ℕ) (o : Option Kept) → has_file o ≡ true → after_failed_append s n o ≡ sealed s n
+sound_given_up s n (Some (InFile head)) is = refl
+sound_given_up s n (Some (Adopted file)) is = refl
+sound_given_up s n (Some (InMemory content)) is = absurd (cc is)
+sound_given_up s n None is = absurd (cc is)
+
+pub kept_back : (s : Stored) (n : ℕ) (o : Option Kept) → has_file o ≡ false → after_failed_append s n o ≡ s
+kept_back s n (Some (InFile head)) is = absurd (cc is)
+kept_back s n (Some (Adopted file)) is = absurd (cc is)
+kept_back s n (Some (InMemory content)) is = refl
+kept_back s n None is = refl
+
+-- an open chunk takes batches
+pub open_grows : (s : Stored) (input : ℕ) (tag : List ℕ) (n : ℕ) → IsSound s → open_for s.opened input tag ≡ Some n → CanGrow (map.get s.chunks n)
+open_grows s input tag n sound is = found s.opened sound.each is
+  where
+    found : (opened : List Opened) → All (Grows s.chunks) opened → open_for opened input tag ≡ Some n → CanGrow (map.get s.chunks n)
+    found [] all none = absurd (cc none)
+    found (o ∷ os) all here = by (is_for input tag o) here (All-head (Grows s.chunks) o os all) (found os (All-tail (Grows s.chunks) o os all))
+      where
+        by : (b : Bool) → (if b then Some o.chunk else open_for os input tag) ≡ Some n → CanGrow (map.get s.chunks o.chunk) → (open_for os input tag ≡ Some n → CanGrow (map.get s.chunks n)) → CanGrow (map.get s.chunks n)
+        by true e can rest = let same : o.chunk ≡ n = cc e in subst (λ (k : ℕ). CanGrow (map.get s.chunks k)) same can
+        by false e can rest = rest e
+
+pub sound_as_new : (s : Stored) (input : ℕ) (tag : List ℕ) (kept : Kept) (next : ℕ) (chunks : Held) (opened : List Opened)
+    → next ≡ s.next + 1 → chunks ≡ map.insert s.chunks s.next kept → opened ≡ s.opened ++ record { input = input; tag = tag; chunk = s.next } ∷ []
+    → s.next < last_number → CanGrow (Some kept) → IsSound s → IsSound (record { root = s.root; full = s.full; next = next; chunks = chunks; opened = opened })
+sound_as_new s input tag kept next chunks opened is_next is_chunks is_opened lt can sound =
+    subst IsSound (λ i. record { root = s.root; full = s.full; next = sym is_next i; chunks = sym is_chunks i; opened = sym is_opened i }) (sound_with_new s input tag kept lt can sound)
+
+pub can_begin : (name tag : List ℕ) (home : Home) (batch : List ℕ) → length tag ≤ 1024 → CanGrow (Some (kept_as name tag home batch))
+can_begin name tag Disk batch le = omega arith
+can_begin name tag Ram batch le = tt
+
+pub can_go_on : (kept : Kept) (batch : List ℕ) → CanGrow (Some kept) → CanGrow (Some (grown kept batch))
+can_go_on (InFile head) batch can = can
+can_go_on (Adopted file) batch can = can
+can_go_on (InMemory content) batch can = can
+
+pub grows_some : (o : Option Kept) → CanGrow o → (kept : Kept) × (o ≡ Some kept)
+grows_some (Some kept) can = (kept, refl)
+grows_some None can = absurd can
+
+pub room_for : (kept : Kept) (batch : List ℕ) → CanGrow (Some kept) → size_of kept < 2048000 → length batch ≤ longest_batch → HasRoom kept batch
+room_for (InFile head) batch can small le = omega arith
+room_for (Adopted file) batch can small le = tt
+room_for (InMemory content) batch can small le = tt
+
+pub sound_as_kept : (s : Stored) (n : ℕ) (old new : Kept) (chunks : Held) → map.get s.chunks n ≡ Some old → chunks ≡ map.insert s.chunks n new → (CanGrow (Some old) → CanGrow (Some new)) → IsSound s
+    → IsSound (record { root = s.root; full = s.full; next = s.next; chunks = chunks; opened = s.opened })
+sound_as_kept s n old new chunks is is_chunks may sound =
+    subst IsSound (λ i. record { root = s.root; full = s.full; next = s.next; chunks = sym is_chunks i; opened = s.opened }) (sound_with_kept s n old new is may sound)
+
+pub sound_as_adopted : (s : Stored) (n : ℕ) (new : Kept) (chunks : Held) → map.get s.chunks n ≡ None → chunks ≡ map.insert s.chunks n new → n < s.next → IsSound s
+    → IsSound (record { root = s.root; full = s.full; next = s.next; chunks = chunks; opened = s.opened })
+sound_as_adopted s n new chunks none is_chunks lt sound =
+    subst IsSound (λ i. record { root = s.root; full = s.full; next = s.next; chunks = sym is_chunks i; opened = s.opened }) (sound_adopted s n new none lt sound)

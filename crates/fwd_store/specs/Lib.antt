@@ -1,0 +1,7 @@
+pub mod Name
+pub mod Opened
+pub mod Source
+pub mod Kept
+pub mod Stored
+pub mod Codes
+pub mod Store

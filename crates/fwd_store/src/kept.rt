@@ -1,0 +1,98 @@
+//! A chunk that is held.
+
+ghost use Rattle.std.specs.Prelude.{◌≡◌, ◌+◌, ◌≤◌, length, OnOk, OnErr, IsErrOf, is_some};
+ghost use Rattle.fwd_program.specs.Told.{Makes};
+ghost use Rattle.fwd_program.specs.Cause.{HasCause};
+ghost use Rattle.fwd_outside.specs.Disk.{disk_outcome};
+ghost use Rattle.fwd_outside.specs.declared.errors.DiskErr.TheVariants.{Failed};
+ghost use Rattle.fwd_chunk.specs.Layout.{longest};
+ghost use Rattle.fwd_chunk.specs.Append.{stages, commits, committed_head};
+ghost use Rattle.fwd_program.specs.Program.{and_then};
+ghost use Rattle.fwd_store.specs.Kept.{size_of, file_of, appends, grown, removals, HasRoom};
+
+use fwd_chunk::{ChunkHead, commit, stage};
+use fwd_outside::{Bytes, Disk, DiskErr};
+
+/// A file that was found: its name, and the lengths of its metadata and of its content in bytes.
+#[derive(Debug, Drop)]
+pub struct FoundFile {
+    pub name: Bytes,
+    pub meta: u64,
+    pub size: u64,
+}
+
+/// Where the content of a chunk is.
+#[derive(Debug, Drop)]
+pub enum Kept {
+    /// In a file that was made for it.
+    InFile(ChunkHead),
+    /// In a file that was found.
+    Adopted(FoundFile),
+    /// In memory alone.
+    InMemory(Bytes),
+}
+
+impl Kept {
+    /// The length of the content in bytes.
+    pub fn size(&self) -> u64
+        ensures { result ≡ size_of self.now }
+    {
+        match self {
+            Kept::InFile(head) => head.size,
+            Kept::Adopted(file) => file.size,
+            Kept::InMemory(content) => content.len() as u64,
+        }
+    }
+
+    /// Whether there is a file of it.
+    pub fn is_in_file(&self) -> bool
+        ensures { result ≡ is_some (file_of self.now) }
+    {
+        !matches!(self, Kept::InMemory(_))
+    }
+
+    /// Appends a batch. It changes at Ok alone.
+    pub fn append<D: Disk>(&mut self, disk: &mut D, batch: &[u8], full: bool) -> Result<(), DiskErr>
+        requires { HasRoom self.old batch.now }
+        ensures calls { Makes (D.told disk.old) (D.told disk.new) (appends self.old batch.now full) (disk_outcome result) }
+        ensures ok { OnOk result (self.new ≡ grown self.old batch.now) }
+        ensures err { OnErr result (self.new ≡ self.old) }
+        ensures cause { HasCause (D.faults disk.old) (D.faults disk.new) (IsErrOf result Failed) }
+    {
+        match self {
+            Kept::InFile(head) => append_to_file(disk, head, batch, full),
+            Kept::Adopted(_) => Ok(()),
+            Kept::InMemory(content) => Ok(content.extend_from_slice(batch)?),
+        }
+    }
+
+    /// Removes its file, where it is in one.
+    pub fn remove<D: Disk>(&self, disk: &mut D) -> Result<(), DiskErr>
+        ensures calls { Makes (D.told disk.old) (D.told disk.new) (removals self.now) (disk_outcome result) }
+        ensures cause { HasCause (D.faults disk.old) (D.faults disk.new) (IsErrOf result Failed) }
+    {
+        match self {
+            Kept::InFile(head) => disk.remove(head.name.as_slice()),
+            Kept::Adopted(file) => disk.remove(file.name.as_slice()),
+            Kept::InMemory(_) => Ok(()),
+        }
+    }
+}
+
+/// Appends a batch to a chunk's file. `head` changes at Ok alone.
+fn append_to_file<D: Disk>(
+    disk: &mut D,
+    head: &mut ChunkHead,
+    batch: &[u8],
+    full: bool,
+) -> Result<(), DiskErr>
+    requires { 24 + head.old.meta + head.old.size + length batch.now ≤ longest }
+    ensures calls { Makes (D.told disk.old) (D.told disk.new) (and_then (stages head.old batch.now full) (λ _. commits head.old full)) (disk_outcome result) }
+    ensures ok { OnOk result (head.new ≡ committed_head head.old (head.old.size + length batch.now)) }
+    ensures err { OnErr result (head.new ≡ head.old) }
+    ensures cause { HasCause (D.faults disk.old) (D.faults disk.new) (IsErrOf result Failed) }
+{
+    stage(disk, head, batch, full)?;
+    let size = head.size + batch.len() as u64;
+    commit(disk, head, size, full)
+}
