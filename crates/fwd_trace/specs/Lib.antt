@@ -1,0 +1,4 @@
+pub mod Fact
+pub mod Trace
+pub mod World
+pub mod Parts

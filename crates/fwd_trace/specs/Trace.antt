@@ -1,0 +1,74 @@
+-- The joined trace of a life: the calls on the loop, the disk and the files in their order, and between them the facts that
+-- the engine takes note of.
+use Rattle.std.specs.Prelude.{List, [], ◌∷◌, ◌++◌}
+use Rattle.fwd_program.specs.Program.{Entry, entry, Program, Return, Ask}
+use Rattle.fwd_outside.specs.Loop.{LoopCall, LoopAnswer, LoopEntry}
+use Rattle.fwd_outside.specs.Disk.{DiskCall, DiskAnswer, DiskEntry}
+use Rattle.fwd_outside.specs.Files.{FilesCall, FilesAnswer, FilesEntry}
+use Rattle.fwd_trace.specs.Fact.{Fact, History}
+
+pub data Call : Type 0 where
+  OnLoop : LoopCall → Call
+  OnDisk : DiskCall → Call
+  OnFiles : FilesCall → Call
+  -- no call, but a fact that is noted here
+  Note : Fact → Call
+
+abbrev pub Answer : Call → Type 0
+Answer (OnLoop call) = LoopAnswer call
+Answer (OnDisk call) = DiskAnswer call
+Answer (OnFiles call) = FilesAnswer call
+Answer (Note fact) = Unit {0}
+
+abbrev pub TraceEntry : Type 0
+TraceEntry = Entry Call Answer
+
+-- what is done step by step: a call and what follows its answer, or a fact and what follows it
+abbrev pub Act : Type 0 → Type 0
+Act R = Program Call Answer R
+
+-- what each device was asked
+abbrev pub loop_entry : (call : Call) → Answer call → List LoopEntry
+loop_entry (OnLoop call) answer = entry call answer ∷ []
+loop_entry (OnDisk call) answer = []
+loop_entry (OnFiles call) answer = []
+loop_entry (Note fact) answer = []
+
+abbrev pub disk_entry : (call : Call) → Answer call → List DiskEntry
+disk_entry (OnLoop call) answer = []
+disk_entry (OnDisk call) answer = entry call answer ∷ []
+disk_entry (OnFiles call) answer = []
+disk_entry (Note fact) answer = []
+
+abbrev pub files_entry : (call : Call) → Answer call → List FilesEntry
+files_entry (OnLoop call) answer = []
+files_entry (OnDisk call) answer = []
+files_entry (OnFiles call) answer = entry call answer ∷ []
+files_entry (Note fact) answer = []
+
+abbrev pub loop_part : List TraceEntry → List LoopEntry
+loop_part [] = []
+loop_part (e ∷ es) = loop_entry e.call e.answer ++ loop_part es
+
+abbrev pub disk_part : List TraceEntry → List DiskEntry
+disk_part [] = []
+disk_part (e ∷ es) = disk_entry e.call e.answer ++ disk_part es
+
+abbrev pub files_part : List TraceEntry → List FilesEntry
+files_part [] = []
+files_part (e ∷ es) = files_entry e.call e.answer ++ files_part es
+
+-- the facts noted behind those of before, the newest first
+abbrev pub behind_call : Call → History → History
+behind_call (OnLoop call) facts = facts
+behind_call (OnDisk call) facts = facts
+behind_call (OnFiles call) facts = facts
+behind_call (Note fact) facts = fact ∷ facts
+
+abbrev pub behind : List TraceEntry → History → History
+behind [] facts = facts
+behind (e ∷ es) facts = behind es (behind_call e.call facts)
+
+-- a fact is noted
+abbrev pub notes : {R : Type 0} → Fact → Act R → Act R
+notes fact next = Ask (Note fact) (λ _. next)
