@@ -172,7 +172,3 @@ ones-routes rs mask same is = (within rs mask (λ k set. (any_to k rs).1 ((is k)
 pub owed_none : (rs : List Route) → mask_of rs ≡ 0 → length rs ≡ 0
 owed_none [] none = refl
 owed_none (r ∷ rs) none = let some : 0 < 2 ^ r.output.0 = pow_pos r.output.0 in let sum = mask-cons r rs in absurd (omega (arith, some, sum, none))
-
-pub owed_some : (rs : List Route) → (mask_of rs ≡ 0 → ⊥) → length rs ≡ 0 → ⊥
-owed_some [] some none = some refl
-owed_some (r ∷ rs) some none = omega (arith, none)

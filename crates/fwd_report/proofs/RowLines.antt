@@ -4,9 +4,9 @@ use Rattle.std.specs.Prelude.{sum_by, slice_get, IfSome, option_map}
 use Rattle.std.specs.List.{flat_map}
 use Rattle.std.specs.Int.RustNames.{bit_and, count_ones}
 use Rattle.std.proofs.lemmas.Nat.{shr-shr}
-use Rattle.std.proofs.lemmas.List.{append-nil, drop_more, drop_all}
+use Rattle.std.proofs.lemmas.List.{append-nil, drop_more}
 use Rattle.std.proofs.lemmas.List.Sums.{sum_by_more}
-use Rattle.std.proofs.lemmas.Bool.{eq-eqb, ne_eqb}
+use Rattle.std.proofs.lemmas.Bool.{eq-eqb}
 use Prim.Native.Nat.{◌^◌}
 use Rattle.fwd_json.specs.Text.{json}
 use Rattle.fwd_value.specs.Val.{text}
@@ -16,7 +16,7 @@ use Rattle.fwd_table.specs.Routes.{mask_of, IsMaskOf}
 use Rattle.fwd_table.specs.Rows.{seen_of}
 use Rattle.fwd_report.specs.Report.{owed_routes, is_owed_to, names_from, chunk_line, row_lines}
 use Rattle.fwd_report.proofs.Lists.{lines_more}
-use Rattle.fwd_report.proofs.Masks.{owed_set, owed_clear, owed_none, owed_some, ones-routes}
+use Rattle.fwd_report.proofs.Masks.{owed_set, owed_clear, owed_none, ones-routes}
 
 -- ---- the names of outputs
 
@@ -65,13 +65,6 @@ pub chunk_text : (found : Option Row) (seen : RowSeen) (tag : List ℕ) (outputs
 chunk_text None seen tag outputs old sized named new is same bits first then last = tt
 chunk_text (Some row) seen tag outputs old sized named new is same bits first then last =
     chunk_of row seen tag outputs old sized named new (same_seen seen (seen_of row) is) (same_tag tag row.tag same) first (then row bits) last
-
-pub row_some : (found : Option Row) (seen : RowSeen) (outputs : List (List ℕ)) (old new : List ℕ) → Some seen ≡ option_map seen_of found → (seen.owed ≡ 0 → ⊥)
-    → IfSome found (λ row. new ≡ old ++ chunk_line outputs row) → IfSome found (λ row. new ≡ old ++ row_lines outputs row)
-row_some None seen outputs old new is owed line = tt
-row_some (Some row) seen outputs old new is owed line =
-    let mask : seen.owed ≡ mask_of row.routes = ap (λ (s : RowSeen). s.owed) (same_seen seen (seen_of row) is) in
-    rw (ne_eqb (length row.routes) 0 (owed_some row.routes (λ none. owed (mask ∙ none)))) line
 
 pub row_none : (found : Option Row) (seen : RowSeen) (outputs : List (List ℕ)) (old : List ℕ) → Some seen ≡ option_map seen_of found → seen.owed ≡ 0 → IfSome found (λ row. old ≡ old ++ row_lines outputs row)
 row_none None seen outputs old is owed = tt

@@ -11,7 +11,7 @@ ghost use Rattle.fwd_report.specs.Report.{owed_routes, names_from, chunk_line, r
 use crate::lines::push_count;
 use fwd_base::{Bytes, Memory};
 use fwd_json::{Value, json_text};
-use fwd_table::{RowSeen, Table};
+use fwd_table::Table;
 use std::alloc::Global;
 
 /// The number of owed routes.
