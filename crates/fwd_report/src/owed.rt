@@ -1,0 +1,118 @@
+//! The lines of what is owed.
+
+ghost use Rattle.std.specs.Prelude.{◌≡◌, ◌++◌, ◌<◌, length, slice_get, IfSome, OnOk};
+ghost use Rattle.std.specs.List.{flat_map};
+ghost use Rattle.fwd_json.specs.Text.{json};
+ghost use Rattle.fwd_value.specs.Val.{text as text_value};
+ghost use Rattle.fwd_table.specs.declared.row.Row.{Row};
+ghost use Rattle.fwd_table.specs.Routes.{IsMaskOf};
+ghost use Rattle.fwd_report.specs.Report.{owed_routes, names_from, chunk_line, row_lines, owed_part};
+
+use crate::lines::push_count;
+use fwd_base::{Bytes, Memory};
+use fwd_json::{Value, json_text};
+use fwd_table::Table;
+use std::alloc::Global;
+
+/// The number of owed routes.
+fn owed_routes(table: &Table) -> u64
+    ensures { result ≡ owed_routes table.now.rows }
+{
+    let mut owed: u64 = 0;
+    for index in 0..table.len() {
+        owed = owed.saturating_add(u64::from(table.row(index).owed.count_ones()));
+    }
+    owed
+}
+
+/// The JSON text of a tag.
+fn push_tag(alloc: Global, text: &mut Bytes, tag: &[u8]) -> Result<(), Memory>
+    ensures { OnOk result (text.new ≡ text.old ++ json (text_value tag.now)) }
+{
+    let tag = Value::Text(Bytes::from_slice(alloc, tag)?);
+    json_text(alloc, &tag, text)?;
+    Ok(())
+}
+
+/// The names of the outputs that a mask has, a blank before each.
+fn push_names(text: &mut Bytes, outputs: &[Bytes], owed: u64) -> Result<(), Memory>
+    ensures { OnOk result ((row : Row) → IsMaskOf row.routes owed → text.new ≡ text.old ++ names_from 0 outputs.now row) }
+{
+    let mut rest = owed;
+    for name in outputs {
+        if rest & 1 == 1 {
+            text.extend_from_slice(b" ")?;
+            text.extend_from_slice(name.as_slice())?;
+        }
+        rest >>= 1;
+    }
+    Ok(())
+}
+
+/// The line of the row at a place.
+fn push_chunk(
+    alloc: Global,
+    text: &mut Bytes,
+    outputs: &[Bytes],
+    table: &Table,
+    index: u64,
+) -> Result<(), Memory>
+    requires { index < length table.now.rows }
+    ensures { OnOk result (IfSome (slice_get table.now.rows index) (λ row. text.new ≡ text.old ++ chunk_line outputs.now row)) }
+{
+    let row = table.row(index);
+    push_count(text, b"chunk ", row.chunk.0)?;
+    text.extend_from_slice(b" ")?;
+    push_tag(alloc, text, table.tag(index))?;
+    push_count(text, b" ", row.size)?;
+    push_names(text, outputs, row.owed)?;
+    text.extend_from_slice(b"\n")?;
+    Ok(())
+}
+
+/// The line of the row at a place, where it is owed to an output.
+fn push_row(
+    alloc: Global,
+    text: &mut Bytes,
+    outputs: &[Bytes],
+    table: &Table,
+    index: u64,
+) -> Result<(), Memory>
+    requires { index < length table.now.rows }
+    ensures { OnOk result (IfSome (slice_get table.now.rows index) (λ row. text.new ≡ text.old ++ row_lines outputs.now row)) }
+{
+    if table.row(index).owed != 0 {
+        push_chunk(alloc, text, outputs, table, index)?;
+    }
+    Ok(())
+}
+
+/// A line for each row that is owed to an output.
+fn push_rows(
+    alloc: Global,
+    text: &mut Bytes,
+    outputs: &[Bytes],
+    table: &Table,
+) -> Result<(), Memory>
+    ensures { OnOk result (text.new ≡ text.old ++ flat_map (row_lines outputs.now) table.now.rows) }
+{
+    for index in 0..table.len() {
+        push_row(alloc, text, outputs, table, index)?;
+    }
+    Ok(())
+}
+
+/// The number of owed routes, and a line for each row that is owed to an output.
+pub fn push_owed(
+    alloc: Global,
+    text: &mut Bytes,
+    outputs: &[Bytes],
+    table: &Table,
+) -> Result<(), Memory>
+    ensures { OnOk result (text.new ≡ text.old ++ owed_part outputs.now table.now.rows) }
+{
+    push_count(text, b"owed ", owed_routes(table))?;
+    text.push(b'\n')?;
+    push_rows(alloc, text, outputs, table)?;
+    Ok(())
+}
