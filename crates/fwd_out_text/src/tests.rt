@@ -1,8 +1,8 @@
 //! Payloads as outputs are handed them.
 
-use crate::payload_text;
+use crate::{can_write_all, payload_text};
 use fwd_base::{Bytes, Form};
-use fwd_event::{Event, Events, can_write};
+use fwd_event::{Event, Events};
 use fwd_value::{Pairs, Value};
 use std::alloc::Global;
 use std::test::Fail;
@@ -85,7 +85,7 @@ fn stored_events_stand_one_after_another(rt: HostRuntime) -> Result<(), Fail> {
             body,
         })?;
     }
-    if !events.iter().all(|event| can_write(event)) {
+    if !can_write_all(&events) {
         return Ok(());
     }
     let stored = payload_text(alloc, Form::MsgPack, b"app", &events)?;
