@@ -106,7 +106,10 @@ fn a_file_comes_whole_or_not_at_all(rt: HostRuntime) -> Result<(), Fail> {
     for pick in 0..4 {
         let mut image = failing.image(alloc, 1, pick)?;
         let bytes = image.read(alloc, NAME, 0, 100);
-        let whole = matches!(bytes, Ok(bytes) if bytes.as_slice() == FIRST);
+        let whole = match &bytes {
+            Ok(bytes) => bytes.as_slice() == FIRST,
+            Err(_) => false,
+        };
         there.push_str(if whole { "whole " } else { "none " })?;
     }
     assert_eq!(rt; there.as_str(), "none whole whole whole ");
