@@ -9,7 +9,7 @@ mod record_text;
 
 pub use fwd_base::{Bytes, Form, Memory};
 pub use fwd_event::{Event, Events};
-pub use payload::{can_write_all, payload_text};
+pub use payload::payload_text;
 
 #[cfg(test)]
 mod tests;

@@ -1,13 +1,13 @@
 //! The payload of a chunk.
 
-ghost use Rattle.std.specs.Prelude.{◌≡◌, ◌↔◌, ◌++◌, All, IfOk, IsTrue, OnOk};
+ghost use Rattle.std.specs.Prelude.{◌≡◌, ◌++◌, All, IfOk, OnOk};
 ghost use Rattle.fwd_base.specs.declared.choices.Form.TheVariants.{MsgPack};
 ghost use Rattle.fwd_event.specs.Event.{EventFits};
 ghost use Rattle.fwd_out_text.specs.Payload.{record_of, payload_of};
 
 use crate::record_text::{write_json_line, write_tagged_line};
 use fwd_base::{Bytes, Form, Memory};
-use fwd_event::{Event, Events, can_write, write_event};
+use fwd_event::{Event, Events, write_event};
 use std::alloc::Global;
 
 /// The payload for events of a tag, in a form. As MessagePack it is written for events that have a spelling of their own.
@@ -20,18 +20,6 @@ pub fn payload_text(alloc: Global, form: Form, tag: &[u8], events: &Events) -> R
         write_record(alloc, form, tag, event, &mut payload)?;
     }
     Ok(payload)
-}
-
-/// Whether each event has a spelling of its own, as writing them as MessagePack asks.
-pub fn can_write_all(events: &Events) -> bool
-    ensures { IsTrue result ↔ All EventFits events.now }
-{
-    for event in events.as_slice() {
-        if !can_write(event) {
-            return false;
-        }
-    }
-    true
 }
 
 /// Appends what is written for one event.

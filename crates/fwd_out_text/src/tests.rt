@@ -1,6 +1,6 @@
 //! Payloads as outputs are handed them.
 
-use crate::{can_write_all, payload_text};
+use crate::payload_text;
 use fwd_base::{Bytes, Form};
 use fwd_event::{Event, Events};
 use fwd_value::{Pairs, Value};
@@ -68,29 +68,5 @@ fn events_and_pairs_keep_their_order(rt: HostRuntime) -> Result<(), Fail> {
     let wanted =
         b"{\"date\":0.000000000,\"a\":2,\"b\":3}\n{\"date\":4294967295.000001234,\"c\":null}\n{\"date\":1.4294967295}\n";
     assert!(rt; lines.as_slice() == wanted.as_slice());
-    Ok(())
-}
-
-#[test]
-fn stored_events_stand_one_after_another(rt: HostRuntime) -> Result<(), Fail> {
-    let alloc = rt.alloc();
-    let mut events = Events::new(alloc);
-    for sec in [1, 2] {
-        let mut body = Pairs::new(alloc);
-        body.push((Value::Uint(7), Value::Nil))?;
-        events.push(Event {
-            sec,
-            nsec: 0,
-            meta: Pairs::new(alloc),
-            body,
-        })?;
-    }
-    if !can_write_all(&events) {
-        return Ok(());
-    }
-    let stored = payload_text(alloc, Form::MsgPack, b"app", &events)?;
-    let wanted =
-        b"\x92\x92\xd7\x00\x00\x00\x00\x01\x00\x00\x00\x00\x80\x81\x07\xc0\x92\x92\xd7\x00\x00\x00\x00\x02\x00\x00\x00\x00\x80\x81\x07\xc0";
-    assert!(rt; stored.as_slice() == wanted.as_slice());
     Ok(())
 }
