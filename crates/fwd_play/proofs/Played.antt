@@ -83,6 +83,13 @@ module _ (lines : List Planned) (answers : List Given) (notes : List LoopNote) (
         stands = subst (λ (p : Place). Stands left2 p) (sym (behind_append place (entries_of notes) (entry_of note ∷ [])) ∙ ap (λ (es : List LoopEntry). behind place es) (sym entries)) stands;
       }
 
+  -- a call that leaves what is ahead
+  pub kept_call : (note : LoopNote) (reserved new : List LoopNote) (left2 : Answers) → reserved ≡ notes → new ≡ reserved ++ note ∷ []
+      → ((p : Place) → Stands left p → (entry_of note).answer ≡ answer_at p (entry_of note).call) → ((p : Place) → Stands left p → Stands left2 (after p (entry_of note).call))
+      → ahead ≡ ahead_after ahead (entry_of note).call → IsKept lines answers new ahead left2
+  kept_call note reserved new left2 same is answer stands goes =
+      kept_push note new ahead left2 (is ∙ ap (λ (l : List LoopNote). l ++ note ∷ []) same) (answer here stands_here) goes (stands here stands_here)
+
   -- nothing told
   pub kept_same : (ahead2 : List Coming) (left2 : Answers) → ahead2 ≡ ahead → ((p : Place) → Stands left p → Stands left2 p) → IsKept lines answers notes ahead2 left2
   kept_same ahead2 left2 goes stands = record { played = kept.played; ahead_is = goes ∙ kept.ahead_is; stands = stands _ kept.stands }

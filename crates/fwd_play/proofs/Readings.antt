@@ -16,6 +16,6 @@ ticks_saturated (suc count) line first step =
     let twice : min (min first (2 ^ 64 - 1)) (2 ^ 64 - 1) ≡ min first (2 ^ 64 - 1) = omega arith in
     let next : min (min first (2 ^ 64 - 1) + step) (2 ^ 64 - 1) ≡ min (first + step) (2 ^ 64 - 1) = omega arith in
     let rest : ticks line (min first (2 ^ 64 - 1) + step) step count ≡ ticks line (first + step) step count =
-        sym (ticks_saturated count line (min first (2 ^ 64 - 1) + step) step) ∙ ap (λ (n : ℕ). ticks line n step count) next ∙ ticks_saturated count line (first + step) step in
+    sym (ticks_saturated count line (min first (2 ^ 64 - 1) + step) step) ∙ ap (λ (n : ℕ). ticks line n step count) next ∙ ticks_saturated count line (first + step) step in
     ap (λ (n : ℕ). reading line count n ∷ ticks line (min first (2 ^ 64 - 1) + step) step count) twice
     ∙ ap (λ (l : List Coming). reading line count (min first (2 ^ 64 - 1)) ∷ l) rest

@@ -67,7 +67,7 @@ given_in lines answers = record {
   dials = filter_map dial_in answers;
   pushes = filter_map push_in answers;
   replies = filter_map reply_in answers;
-  words = filter_map word_in answers
+  words = filter_map word_in answers;
 }
 
 abbrev pub given_of : Life → LoopGiven

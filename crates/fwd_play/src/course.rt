@@ -88,7 +88,7 @@ impl Course {
         ensures { IfOk result (λ copy. next_happening paused (map happening_of (ahead_of self.now)) ≡ copy) }
     {
         match self.queue.get(at) {
-            Some(coming) => coming.happening.try_clone(alloc),
+            Some(coming) => Ok(coming.happening.try_clone(alloc)?),
             None => unreachable!(),
         }
     }

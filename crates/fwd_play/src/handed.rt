@@ -38,26 +38,37 @@ fn leads_to(outputs: u64, links: &[u32], link: u64) -> bool
 }
 
 /// Puts what a call's link took behind the bytes.
-fn add_taken(
-    bytes: &mut Bytes,
-    outputs: u64,
-    links: &[u32],
-    note: &LoopNote,
-) -> Result<(), Memory>
+fn add_taken(bytes: &mut Bytes, outputs: u64, links: &[u32], note: &LoopNote) -> Result<(), Memory>
     ensures { OnOk result (bytes.new ≡ bytes.old ++ taken_by outputs links.now (entry_of note.now).call (entry_of note.now).answer) }
 {
     match note {
-        LoopNote::Push { link, bytes: piece, answer } => {
+        LoopNote::Push {
+            link,
+            bytes: piece,
+            answer,
+        } => {
             if leads_to(outputs, links, link.0) {
                 add_piece(bytes, piece.as_slice(), *answer)?;
             }
             Ok(())
         }
         LoopNote::Start { ends: _ } => Ok(()),
-        LoopNote::Wait { until: _, paused: _, brought: _ } => Ok(()),
-        LoopNote::Dial { output: _, tag: _, link: _ } => Ok(()),
+        LoopNote::Wait {
+            until: _,
+            paused: _,
+            brought: _,
+        } => Ok(()),
+        LoopNote::Dial {
+            output: _,
+            tag: _,
+            link: _,
+        } => Ok(()),
         LoopNote::Close { link: _ } => Ok(()),
-        LoopNote::Reply { conn: _, bytes: _, taken: _ } => Ok(()),
+        LoopNote::Reply {
+            conn: _,
+            bytes: _,
+            taken: _,
+        } => Ok(()),
         LoopNote::DropConn { conn: _ } => Ok(()),
         LoopNote::Word { word: _ } => Ok(()),
     }
@@ -82,17 +93,34 @@ fn add_link(links: &mut Vec<u32>, note: &LoopNote) -> Result<(), Memory>
     ensures { OnOk result (links.new.items ≡ dialed_by links.old.items (entry_of note.now).call (entry_of note.now).answer) }
 {
     match note {
-        LoopNote::Dial { output, tag: _, link } => {
-            if link.is_some() {
+        LoopNote::Dial {
+            output,
+            tag: _,
+            link,
+        } => match link {
+            Some(_) => {
                 links.push(output.0)?;
+                Ok(())
             }
-            Ok(())
-        }
+            None => Ok(()),
+        },
         LoopNote::Start { ends: _ } => Ok(()),
-        LoopNote::Wait { until: _, paused: _, brought: _ } => Ok(()),
-        LoopNote::Push { link: _, bytes: _, answer: _ } => Ok(()),
+        LoopNote::Wait {
+            until: _,
+            paused: _,
+            brought: _,
+        } => Ok(()),
+        LoopNote::Push {
+            link: _,
+            bytes: _,
+            answer: _,
+        } => Ok(()),
         LoopNote::Close { link: _ } => Ok(()),
-        LoopNote::Reply { conn: _, bytes: _, taken: _ } => Ok(()),
+        LoopNote::Reply {
+            conn: _,
+            bytes: _,
+            taken: _,
+        } => Ok(()),
         LoopNote::DropConn { conn: _ } => Ok(()),
         LoopNote::Word { word: _ } => Ok(()),
     }

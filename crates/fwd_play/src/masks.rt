@@ -22,7 +22,11 @@ pub fn is_heard(paused: u64, happening: &Happening) -> bool
     match happening {
         Happening::Tick { now: _ } => true,
         Happening::Joined { input, conn: _ } => !is_set(paused, input.0),
-        Happening::Piece { input, conn: _, bytes: _ } => !is_set(paused, input.0),
+        Happening::Piece {
+            input,
+            conn: _,
+            bytes: _,
+        } => !is_set(paused, input.0),
         Happening::Gone { input, conn: _ } => !is_set(paused, input.0),
         Happening::Room { link: _ } => true,
         Happening::Back { link: _, bytes: _ } => true,
@@ -39,7 +43,11 @@ pub fn comes(happening: &Happening) -> bool
     ensures { result ≡ comes happening.now }
 {
     match happening {
-        Happening::Piece { input: _, conn: _, bytes } => {
+        Happening::Piece {
+            input: _,
+            conn: _,
+            bytes,
+        } => {
             let len = bytes.len();
             1 <= len && len <= 65_536
         }

@@ -7,7 +7,9 @@ use fwd_script::PushWord;
 #[derive(Debug, Drop)]
 pub enum LoopNote {
     /// It was started, and was ready.
-    Start { ends: Ends },
+    Start {
+        ends: Ends,
+    },
     /// It was waited for, and brought this.
     Wait {
         until: u64,
@@ -26,13 +28,19 @@ pub enum LoopNote {
         bytes: Bytes,
         answer: PushWord,
     },
-    Close { link: LinkId },
+    Close {
+        link: LinkId,
+    },
     /// A reply, which was taken or not.
     Reply {
         conn: ConnId,
         bytes: Bytes,
         taken: bool,
     },
-    DropConn { conn: ConnId },
-    Word { word: u64 },
+    DropConn {
+        conn: ConnId,
+    },
+    Word {
+        word: u64,
+    },
 }

@@ -1,9 +1,10 @@
 //! Happenings that a loop has come by while their inputs were paused.
 
-ghost use Rattle.std.specs.Prelude.{◌≡◌, ◌≤◌, ◌<◌, ◌++◌, ◌∷◌, List, [], MatchOption, IfSome, OnOk, OnErr, IsTrue, slice_index_or, find, length, remove, true};
+ghost use Rattle.std.specs.Prelude.{◌≡◌, ℕ, ◌<◌, ◌++◌, ◌∷◌, [], MatchOption, OnOk, OnErr, slice_index_or, find, length, remove, true, false};
 ghost use Rattle.std.specs.Slice.{IsItemAt};
 ghost use Rattle.fwd_play.specs.Heard.{comes, hears};
 ghost use Rattle.fwd_play.specs.First.{IsFirst};
+ghost use Rattle.fwd_play.specs.declared.queue.Coming.{Coming};
 
 use crate::masks::is_heard;
 use fwd_base::Memory;
@@ -66,19 +67,11 @@ impl Queue {
     pub fn first_heard(&self, paused: u64) -> Option<usize>
         ensures { MatchOption result (find (hears paused) self.now ≡ None) (IsFirst (hears paused) self.now) }
     {
-        let from = if paused == self.quiet {
-            self.known
+        if paused == self.quiet {
+            heard_from(&self.items, self.known, paused)
         } else {
-            0
-        };
-        for i in from..self.items.len() {
-            if let Some(coming) = self.items.get(i) {
-                if is_heard(paused, &coming.happening) {
-                    return Some(i);
-                }
-            }
+            heard_from(&self.items, 0, paused)
         }
-        None
     }
 
     /// The happening at a place.
@@ -116,4 +109,19 @@ impl Queue {
             None => unreachable!(),
         }
     }
+}
+
+/// The place of the first that is heard, where none before that place is.
+fn heard_from(items: &VecDeque<Coming>, from: usize, paused: u64) -> Option<usize>
+    requires { (k : ℕ) (d : Coming) → k < from → hears paused (slice_index_or items.now.items k d) ≡ false }
+    ensures { MatchOption result (find (hears paused) items.now.items ≡ None) (IsFirst (hears paused) items.now.items) }
+{
+    for i in from..items.len() {
+        if let Some(coming) = items.get(i) {
+            if is_heard(paused, &coming.happening) {
+                return Some(i);
+            }
+        }
+    }
+    None
 }

@@ -154,7 +154,8 @@ impl Loop for Script {
         let Ok(link) = self.left.dial(output.0) else {
             return Dialed::Memory;
         };
-        self.notes.push_reserved(LoopNote::Dial { output, tag, link });
+        self.notes
+            .push_reserved(LoopNote::Dial { output, tag, link });
         match link {
             Some(link) => Dialed::Link(LinkId(link)),
             None => {
@@ -207,7 +208,8 @@ impl Loop for Script {
             return Replied::Memory;
         };
         let taken = self.left.reply();
-        self.notes.push_reserved(LoopNote::Reply { conn, bytes, taken });
+        self.notes
+            .push_reserved(LoopNote::Reply { conn, bytes, taken });
         if taken {
             Replied::Taken
         } else {

@@ -44,9 +44,18 @@ fn a_link_of_an_output_answers_as_the_life_says(rt: HostRuntime) -> Result<(), F
     assert!(rt; script.word()? == 9);
     assert!(rt; script.word()? == 0);
     script.drop_conn(ConnId(1))?;
-    assert_eq!(rt; script.handed(alloc, 1)?, Bytes::from_slice(alloc, b"hello")?);
-    assert_eq!(rt; script.handed(alloc, 2)?, Bytes::from_slice(alloc, b"hello")?);
-    assert_eq!(rt; script.handed(alloc, 3)?, Bytes::from_slice(alloc, b"hellohello")?);
+    assert_eq!(rt;
+        script.handed(alloc, 1)?,
+        Bytes::from_slice(alloc, b"hello")?
+    );
+    assert_eq!(rt;
+        script.handed(alloc, 2)?,
+        Bytes::from_slice(alloc, b"hello")?
+    );
+    assert_eq!(rt;
+        script.handed(alloc, 3)?,
+        Bytes::from_slice(alloc, b"hellohello")?
+    );
     script.is_played();
     Ok(())
 }
@@ -65,7 +74,10 @@ fn a_push_takes_what_there_is(rt: HostRuntime) -> Result<(), Fail> {
     assert!(rt; script.push(LinkId(1), b"bytes") == Pushed::Took(5));
     assert!(rt; script.wait(alloc, 0, 0)? == Happening::Room { link: LinkId(2) });
     assert!(rt; script.wait(alloc, 0, 0)? == Happening::End);
-    assert_eq!(rt; script.handed(alloc, 2)?, Bytes::from_slice(alloc, b"twelve bytes")?);
+    assert_eq!(rt;
+        script.handed(alloc, 2)?,
+        Bytes::from_slice(alloc, b"twelve bytes")?
+    );
     Ok(())
 }
 

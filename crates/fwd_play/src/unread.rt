@@ -58,7 +58,7 @@ impl Unread {
         ensures same { unread self.new ≡ unread self.old }
         ensures ready { IsReady self.new }
     {
-        while self.ticks.count == 0 {
+        'lines: while self.ticks.count == 0 && self.at < self.lines.len() {
             match self.lines.get(self.at) {
                 Some(Planned::Happens(happening)) => {
                     if comes(happening) {
@@ -101,7 +101,13 @@ impl Unread {
                 behind: 0,
                 happening: happening.try_clone(alloc)?,
             })),
-            Some(Planned::Ticks { first: _, step: _, count: _ }) => Ok(None),
+            Some(
+                Planned::Ticks {
+                    first: _,
+                    step: _,
+                    count: _,
+                },
+            ) => Ok(None),
             Some(Planned::Changes(_)) => Ok(None),
             None => Ok(None),
         }
@@ -128,14 +134,7 @@ impl Unread {
         if self.ticks.count > 0 {
             return Some((self.ticks.line, self.ticks.count - 1));
         }
-        for i in self.at..self.lines.len() {
-            if let Some(planned) = self.lines.get(i) {
-                if let Some(behind) = heard_in(planned, paused) {
-                    return Some((i, behind));
-                }
-            }
-        }
-        None
+        heard_from(&self.lines, self.at, paused)
     }
 
     /// Whether nothing of the life stands behind that place.
@@ -144,6 +143,20 @@ impl Unread {
     {
         behind == 0 && is_silent_behind(&self.lines, line)
     }
+}
+
+/// The place of the first happening that is heard, from a line on.
+fn heard_from(lines: &Plan, from: usize, paused: u64) -> Option<(usize, u64)>
+    ensures { result ≡ place_in (find (hears paused) (coming from (drop from lines.now))) }
+{
+    for i in from..lines.len() {
+        if let Some(planned) = lines.get(i) {
+            if let Some(behind) = heard_in(planned, paused) {
+                return Some((i, behind));
+            }
+        }
+    }
+    None
 }
 
 /// Whether no line behind that one brings a happening.
@@ -169,7 +182,11 @@ fn brings(planned: &Planned) -> bool
 {
     match planned {
         Planned::Happens(happening) => comes(happening),
-        Planned::Ticks { first: _, step: _, count } => *count > 0,
+        Planned::Ticks {
+            first: _,
+            step: _,
+            count,
+        } => *count > 0,
         Planned::Changes(_) => false,
     }
 }
@@ -186,7 +203,11 @@ fn heard_in(planned: &Planned, paused: u64) -> Option<u64>
                 None
             }
         }
-        Planned::Ticks { first: _, step: _, count } => count.checked_sub(1),
+        Planned::Ticks {
+            first: _,
+            step: _,
+            count,
+        } => count.checked_sub(1),
         Planned::Changes(_) => None,
     }
 }
