@@ -33,7 +33,7 @@ module _ {X : Type 0} (test : X → Bool) where
 
   pub none_found : (xs : List X) → find test xs ≡ None → (k : ℕ) (d : X) → k < length xs → test (get_or xs k d) ≡ false
   none_found [] none k d lt = absurd (omega arith)
-  none_found (x ∷ xs) none = none_by (test x) x xs refl none (none_found xs)
+  none_found (x ∷ xs) none k d lt = none_by (test x) x xs refl none (none_found xs) k d lt
 
   pub first_behind : (xs : List X) (x : X) → find test xs ≡ None → test x ≡ true → IsFirst test (xs ++ x ∷ []) (length xs)
   first_behind [] x none is = record { within = omega arith; before = λ k d lt. absurd (omega arith); here = λ d. is }

@@ -15,9 +15,9 @@ module _ {T : Type 0} where
   next_picked output [] = refl
   next_picked output (x ∷ xs) = next_by (eqb x.0 output) x (find (is_for output) xs) (picked output xs) (next_picked output xs)
 
-  none_by : (b : Bool) → (if b then drop 1 ([] {A = T}) else []) ≡ []
-  none_by true = refl
-  none_by false = refl
+  none_by : (b : Bool) (empty : List T) → empty ≡ [] → (if b then drop 1 empty else empty) ≡ []
+  none_by true empty is = ap (λ (l : List T). drop 1 l) is
+  none_by false empty is = is
 
   cases : (o output : ℕ) (x : ℕ × T) (without mine : List T) (b there here : Bool) → eqb x.0 output ≡ b → eqb x.0 o ≡ there → eqb o output ≡ here
       → without ≡ (if here then drop 1 mine else mine)
@@ -36,7 +36,7 @@ module _ {T : Type 0} where
   picked_if o false xs ys = refl
 
   pub picked_without : (o output : ℕ) (xs : List (ℕ × T)) → picked o (without_first (is_for output) xs) ≡ (if eqb o output then drop 1 (picked o xs) else picked o xs)
-  picked_without o output [] = sym (none_by (eqb o output))
+  picked_without o output [] = sym (none_by (eqb o output) [] refl)
   picked_without o output (x ∷ xs) =
       picked_if o (eqb x.0 output) xs (x ∷ without_first (is_for output) xs)
       ∙ cases o output x (picked o (without_first (is_for output) xs)) (picked o xs) (eqb x.0 output) (eqb x.0 o) (eqb o output) refl refl refl (picked_without o output xs)
