@@ -5,5 +5,5 @@ use Rattle.fwd_play.proofs.unread.Unread.skip.Goals as goal
 
 pub returns-then-self-gt0-clause-rest : goal.returns-then-self-gt0-clause-rest
 returns-then-self-gt0-clause-rest c =
-    ap (λ (n : ℕ). ticks c.args.self.now.ticks.line n c.args.self.now.ticks.step (c.args.self.now.ticks.count - 1) ++ coming c.args.self.now.at (drop c.args.self.now.at c.args.self.now.lines)) c.saturating_add.ensures
+    ap (λ (n : ℕ). ticks c.args.self.now.ticks.line n c.args.self.now.ticks.step (c.args.self.now.ticks.count - 1) ++ coming c.args.self.now.at (drop c.args.self.now.at c.args.self.now.lines)) c.saturating_add-self.ensures
     ∙ tick_rest c.args.self.now.ticks.count c.args.self.now.ticks.line c.args.self.now.ticks.reading c.args.self.now.ticks.step (coming c.args.self.now.at (drop c.args.self.now.at c.args.self.now.lines)) c.if-self-gt0.true
