@@ -1,3 +1,4 @@
 pub mod Decimal
 pub mod Rewriting
 pub mod Names
+pub mod Crossing

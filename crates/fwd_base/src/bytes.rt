@@ -157,7 +157,7 @@ impl Eq for Bytes {
 /// Names, in order.
 pub type Names = Items<Bytes>;
 
-fn crosses<T: Send + Sync>(_: &T) {}
+pub(crate) fn crosses<T: Send + Sync>(_: &T) {}
 
 /// Threads may share bytes and hand them over.
 pub fn bytes_cross(bytes: &Bytes) {

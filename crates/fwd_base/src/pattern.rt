@@ -6,6 +6,7 @@ ghost use Rattle.regex.specs.Names.{names_of};
 ghost use Rattle.regex.specs.Bytes.{IsCapturesOf, match_haystack, match_span};
 ghost use Rattle.fwd_base.specs.Pattern.{groups_of, named_group};
 
+use crate::bytes::crosses;
 use crate::{Bytes, Items, Memory, rewrite};
 use regex::bytes::{Captures, Match, Regex};
 use std::alloc::Global;
@@ -128,4 +129,14 @@ fn push_named(
     let name = Bytes::from_slice(alloc, name.as_bytes())?;
     let bytes = Bytes::from_slice(alloc, found.as_bytes())?;
     groups.push(Group { name, bytes })
+}
+
+/// Threads may share patterns and hand them over.
+pub fn patterns_cross(pattern: &Pattern) {
+    crosses(pattern)
+}
+
+/// Threads may share the groups of a match and hand them over.
+pub fn groups_cross(groups: &Groups) {
+    crosses(groups)
 }

@@ -2,6 +2,7 @@
 #![tactic(auto)]
 
 use fwd_event::{Bytes, Event, Events, Memory, Pairs, Value, can_write, read_events, write_event};
+use fwd_msgpack::decode;
 use std::alloc::Global;
 use std::time::Instant;
 use std::{env, io};
@@ -45,34 +46,84 @@ fn write_events(events: &Events, bytes: &mut Bytes) -> Result<(), Memory> {
     Ok(())
 }
 
-/// Writes and reads so many events, and prints the bytes and the least times in microseconds.
-fn measure(rt: &HostRuntime, count: u32) -> io::Result<()> {
+/// Decodes the values one after another, each let go before the next, and gives their number.
+fn decode_values(alloc: Global, bytes: &[u8], count: u32) -> u32 {
+    let mut at = 0;
+    for number in 0..count {
+        let Some(rest) = bytes.get(at..) else {
+            return number;
+        };
+        let Ok((_value, length)) = decode(alloc, rest) else {
+            return number;
+        };
+        at = at.saturating_add(length as usize);
+    }
+    count
+}
+
+/// The time that writing takes so many times, in microseconds.
+fn write_time(
+    rt: &HostRuntime,
+    events: &Events,
+    bytes: &mut Bytes,
+    turns: u32,
+) -> io::Result<u128> {
+    let start = Instant::now(rt)?;
+    for _ in 0..turns {
+        if write_events(events, bytes).is_err() {
+            return Ok(u128::MAX);
+        }
+    }
+    Ok(start.elapsed(rt)?.as_micros())
+}
+
+/// The time that decoding one by one takes so many times, in microseconds.
+fn decode_time(rt: &HostRuntime, bytes: &[u8], count: u32, turns: u32) -> io::Result<u128> {
+    let start = Instant::now(rt)?;
+    for _ in 0..turns {
+        if decode_values(rt.alloc(), bytes, count) < count {
+            return Ok(u128::MAX);
+        }
+    }
+    Ok(start.elapsed(rt)?.as_micros())
+}
+
+/// The time that reading as a list takes so many times, in microseconds.
+fn list_time(rt: &HostRuntime, bytes: &[u8], turns: u32) -> io::Result<u128> {
+    let start = Instant::now(rt)?;
+    for _ in 0..turns {
+        if read_events(rt.alloc(), bytes).is_err() {
+            return Ok(u128::MAX);
+        }
+    }
+    Ok(start.elapsed(rt)?.as_micros())
+}
+
+/// Writes so many events, decodes them one by one, and reads them as a list, each so many times, and prints the number,
+/// the bytes and the least times in microseconds.
+fn measure(rt: &HostRuntime, count: u32, turns: u32) -> io::Result<()> {
     let alloc = rt.alloc();
     let Ok(events) = line_events(alloc, count) else {
         return rt.println("out of memory");
     };
-    let mut encoded = u128::MAX;
+    let mut written = u128::MAX;
     let mut decoded = u128::MAX;
+    let mut listed = u128::MAX;
     let mut bytes = Bytes::new(alloc);
-    let mut read = 0;
     for _ in 0..ROUNDS {
-        let start = Instant::now(rt)?;
-        if write_events(&events, &mut bytes).is_err() {
-            return rt.println("out of memory");
-        }
-        encoded = encoded.min(start.elapsed(rt)?.as_micros());
-        let start = Instant::now(rt)?;
-        if let Ok(again) = read_events(alloc, bytes.as_slice()) {
-            read = again.len();
-        }
-        decoded = decoded.min(start.elapsed(rt)?.as_micros());
+        written = written.min(write_time(rt, &events, &mut bytes, turns)?);
+        decoded = decoded.min(decode_time(rt, bytes.as_slice(), count, turns)?);
+        listed = listed.min(list_time(rt, bytes.as_slice(), turns)?);
     }
-    println!(rt; "{count} {} {read} {encoded} {decoded}", bytes.len())
+    println!(rt; "{count} {} {written} {decoded} {listed}", bytes.len())
 }
 
-fn count_of(words: &[String]) -> Option<u32> {
+/// How many events, and how often.
+fn counts_of(words: &[String]) -> Option<(u32, u32)> {
     match words {
-        [what, count] if what.as_str() == "values" => count.as_str().parse().ok(),
+        [what, count, turns] if what.as_str() == "values" => {
+            Some((count.as_str().parse().ok()?, turns.as_str().parse().ok()?))
+        }
         _ => None,
     }
 }
@@ -82,8 +133,8 @@ fn main(rt: HostRuntime) -> io::Result<()> {
     for word in env::args(&rt)?.skip(1) {
         words.push(word)?;
     }
-    match count_of(&words) {
-        Some(count) => measure(&rt, count),
-        None => rt.println("fwd_bench values COUNT"),
+    match counts_of(&words) {
+        Some((count, turns)) => measure(&rt, count, turns),
+        None => rt.println("fwd_bench values COUNT TURNS"),
     }
 }

@@ -1,2 +1,4 @@
 pub mod Through
 pub mod Matching
+pub mod Crossing
+pub mod Computed

@@ -3,11 +3,13 @@
 #![tactic(auto)]
 
 mod chain;
+mod laws;
 mod step;
 mod steps;
 
 pub use chain::filter;
-pub use steps::{FilterKind, FilterStep, FilterSteps};
+pub use laws::filtered_are_computed;
+pub use steps::{FilterKind, FilterStep, FilterSteps, steps_cross};
 
 #[cfg(test)]
 mod tests;

@@ -22,3 +22,10 @@ pub struct FilterStep {
 
 /// Filters, in the order of the configuration.
 pub type FilterSteps = Items<FilterStep>;
+
+fn crosses<T: Send + Sync>(_: &T) {}
+
+/// Threads may share filters and hand them over.
+pub fn steps_cross(steps: &FilterSteps) {
+    crosses(steps)
+}

@@ -70,3 +70,10 @@ fn matches(alloc: Global, pattern: &Pattern, value: &Value) -> Result<bool, Memo
         _ => Ok(false),
     }
 }
+
+fn crosses<T: Send + Sync>(_: &T) {}
+
+/// Threads may share rules and hand them over.
+pub fn rules_cross(rules: &GrepRules) {
+    crosses(rules)
+}

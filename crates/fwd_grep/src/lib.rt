@@ -3,7 +3,7 @@
 
 mod keeping;
 
-pub use keeping::{GrepRule, GrepRules, keeps};
+pub use keeping::{GrepRule, GrepRules, keeps, rules_cross};
 
 #[cfg(test)]
 mod tests;

@@ -2,3 +2,4 @@ pub mod Fitting
 pub mod Scanning
 pub mod Masks
 pub mod Stars
+pub mod Telling

@@ -1,2 +1,3 @@
 pub mod Glob
+pub mod Globs
 pub mod Steps

@@ -6,7 +6,10 @@ ghost use Rattle.std.specs.Prelude.{◌↔◌, ◌≤◌, IsTrue, length};
 ghost use Rattle.fwd_route.specs.Glob.{Glob, HasNoStar, RoutesTo};
 ghost use Rattle.fwd_route.specs.Steps.{IsEnd, Steps};
 
+mod laws;
+
 use fwd_base::Names;
+pub use laws::test_tells;
 
 /// How a glob and a tag go on.
 enum Step<'a> {

@@ -1,0 +1,12 @@
+use denote.Param.Send.{sendable}
+use Rattle.std.proofs.Crossing as std
+use Rattle.fwd_filters.proofs.Crossing.{crosses}
+use Rattle.fwd_filters.proofs.steps.steps_cross.Goals as goal
+
+-- src/steps.rt:30:5
+pub crosses-requires-send-T : goal.crosses-requires-send-T
+crosses-requires-send-T c κs = search (sendable, std.crosses, crosses) depth 40
+
+-- src/steps.rt:30:5
+pub crosses-requires-sync-T : goal.crosses-requires-sync-T
+crosses-requires-sync-T c κs = search (sendable, std.crosses, crosses) depth 40
