@@ -7,9 +7,17 @@ use Rattle.fwd_outside.specs.declared.happening.Happening.TheVariants.{Tick, Joi
 use Rattle.fwd_outside.specs.Loop.{IsHeard, MayCome}
 use Rattle.fwd_base.specs.declared.ids.InputId.{InputId}
 use Rattle.fwd_play.specs.declared.queue.Coming.{Coming}
+use Rattle.std.specs.Option.{option_or}
+use Rattle.std.proofs.lemmas.List.Folds.{find-append}
+use Rattle.fwd_script.specs.declared.schedule.Planned.{Planned}
+use Rattle.fwd_play.specs.declared.course.Course.{Course}
+use Rattle.fwd_play.specs.declared.course.Fetched.{Fetched}
+use Rattle.fwd_play.specs.declared.course.Fetched.TheVariants as fetched
+use Rattle.fwd_play.specs.Course.{Fetches, Finds, ahead_of}
 use Rattle.fwd_play.specs.First.{IsFirst, first_in, without_first}
+use Rattle.fwd_play.specs.Lines.{ends_life, is_last, line_ahead, place_in}
 use Rattle.fwd_play.specs.Heard.{comes, happening_of, hears, is_heard, is_set, next_happening}
-use Rattle.fwd_play.proofs.Firsts.{find_here, find_map, without_here}
+use Rattle.fwd_play.proofs.Firsts.{find_here, find_map, first_behind, without_here}
 use Rattle.fwd_play.proofs.Masked.{not_set}
 
 split_first : {X : Type 0} (xs : List X) (x : X) → first_in xs ≡ Some x → xs ≡ x ∷ drop 1 xs
@@ -43,6 +51,60 @@ module _ (paused : ℕ) (queue behind : List Coming) (at : ℕ) (is : IsFirst (h
 
   pub heard_here : (c : Coming) → c ≡ get_or queue at c → is_heard paused c.happening ≡ true
   heard_here c read = ap (λ (x : Coming). hears paused x) read ∙ is.here c
+
+  -- its line, and whether it ends the life
+  pub line_here : (lines : List Planned) (c : Coming) → c ≡ get_or queue at c → c.line ≡ line_ahead lines (find (hears paused) (queue ++ behind))
+  line_here lines c read = sym (ap (λ (o : Option Coming). line_ahead lines o) (found_here c read))
+
+  pub ends_here : (lines : List Planned) (c : Coming) → c ≡ get_or queue at c → is_last lines c.line c.behind ≡ ends_life lines (find (hears paused) (queue ++ behind))
+  ends_here lines c read = sym (ap (λ (o : Option Coming). ends_life lines o) (found_here c read))
+
+-- nothing is heard in the queue
+pub find_behind : (paused : ℕ) (queue behind : List Coming) → find (hears paused) queue ≡ None → find (hears paused) (queue ++ behind) ≡ find (hears paused) behind
+find_behind paused queue behind none =
+    find-append (hears paused) queue behind ∙ ap (λ (o : Option Coming). option_or o (find (hears paused) behind)) none
+
+pub none_more : (paused : ℕ) (queue : List Coming) (c : Coming) → find (hears paused) queue ≡ None → hears paused c ≡ false → find (hears paused) (queue ++ c ∷ []) ≡ None
+none_more paused queue c none quiet = find_behind paused queue (c ∷ []) none ∙ ap (λ (b : Bool). if b then Some c else None) quiet
+
+-- whether a place that was found ends the life
+ends_at : (lines : List Planned) (next : Option Coming) (place : ℕ × ℕ) → Some place ≡ place_in next → is_last lines place.0 place.1 ≡ ends_life lines next
+ends_at lines None place is = absurd (cc is)
+ends_at lines (Some c) place is = ap (λ (p : ℕ × ℕ). is_last lines p.0 p.1) (ap (λ (o : Option (ℕ × ℕ)). unwrap_or o place) is)
+
+no_place : (next : Option Coming) → None ≡ place_in next → next ≡ None
+no_place None is = refl
+no_place (Some c) is = absurd (cc is)
+
+pub ends_behind : (paused : ℕ) (queue behind : List Coming) (lines : List Planned) (place : ℕ × ℕ) → find (hears paused) queue ≡ None → Some place ≡ place_in (find (hears paused) behind)
+    → is_last lines place.0 place.1 ≡ ends_life lines (find (hears paused) (queue ++ behind))
+ends_behind paused queue behind lines place none is =
+    ends_at lines (find (hears paused) behind) place is ∙ sym (ap (λ (o : Option Coming). ends_life lines o) (find_behind paused queue behind none))
+
+pub ends_nothing : (paused : ℕ) (queue behind : List Coming) (lines : List Planned) → find (hears paused) queue ≡ None → None ≡ place_in (find (hears paused) behind)
+    → false ≡ ends_life lines (find (hears paused) (queue ++ behind))
+ends_nothing paused queue behind lines none is =
+    sym (ap (λ (o : Option Coming). ends_life lines o) (find_behind paused queue behind none ∙ no_place (find (hears paused) behind) is))
+
+-- a happening that was taken into the queue: it is the first that is heard, or none is yet
+module _ (paused : ℕ) (old new : Course) (what : Fetched) (heard : Bool) (gives : Fetches paused old new what) (is : what ≡ fetched.Coming heard) (none : find (hears paused) old.queue ≡ None) where
+  came : Fetches paused old new (fetched.Coming heard)
+  came = subst (λ (f : Fetched). Fetches paused old new f) is gives
+
+  pub fetched_heard : heard ≡ true → (at : ℕ) → at ≡ length old.queue → IsFirst (hears paused) new.queue at
+  fetched_heard loud at counted =
+      let first : IsFirst (hears paused) (old.queue ++ came.0 ∷ []) (length old.queue) = first_behind (hears paused) old.queue came.0 none (came.2 ∙ loud) in
+      subst (λ (n : ℕ). IsFirst (hears paused) new.queue n) (sym counted) (subst (λ (l : List Coming). IsFirst (hears paused) l (length old.queue)) (sym came.1) first)
+
+  pub fetched_quiet : heard ≡ false → find (hears paused) new.queue ≡ None
+  fetched_quiet quiet = ap (λ (l : List Coming). find (hears paused) l) came.1 ∙ none_more paused old.queue came.0 none (came.2 ∙ quiet)
+
+-- what was found, by what it is
+pub found_at : (paused : ℕ) (course : Course) (found : Option ℕ) (at : ℕ) → Finds paused course found → found ≡ Some at → IsFirst (hears paused) course.queue at
+found_at paused course found at finds is = subst (λ (o : Option ℕ). Finds paused course o) is finds
+
+pub found_nothing : (paused : ℕ) (course : Course) (found : Option ℕ) → Finds paused course found → found ≡ None → find (hears paused) (ahead_of course) ≡ None
+found_nothing paused course found finds is = subst (λ (o : Option ℕ). Finds paused course o) is finds
 
 -- nothing is heard
 pub next_end : (paused : ℕ) (ahead : List Coming) → find (hears paused) ahead ≡ None → next_happening paused (map happening_of ahead) ≡ End

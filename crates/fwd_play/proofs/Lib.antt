@@ -6,3 +6,5 @@ pub mod Masked
 pub mod Unreading
 pub mod Standing
 pub mod Coursing
+pub mod Handing
+pub mod Changing

@@ -1,5 +1,5 @@
 -- Calls that were played, behind one call more.
-use Rattle.std.proofs.Common.{◌≡◌, ℕ, Bool, List, [], ◌∷◌, ◌++◌, map, Option, Some, None, refl, sym, ap, subst, ◌∙◌}
+use Rattle.std.proofs.Common.{◌≡◌, ℕ, Bool, List, [], ◌∷◌, ◌++◌, map, find, Option, Some, None, is_some, refl, sym, ap, subst, ◌∙◌}
 use Rattle.std.proofs.lemmas.List.{map-append}
 use Rattle.fwd_outside.specs.declared.happening.Happening.{Happening}
 use Rattle.fwd_outside.specs.Loop.{LoopCall, LoopAnswer, LoopEntry, Start, Wait, Dial, Push, Close, Reply, DropConn, Word}
@@ -9,10 +9,16 @@ use Rattle.fwd_play.specs.declared.answers.Answers.{Answers}
 use Rattle.fwd_play.specs.declared.notes.LoopNote.{LoopNote}
 use Rattle.fwd_play.specs.declared.queue.Coming.{Coming}
 use Rattle.fwd_play.specs.First.{without_first}
-use Rattle.fwd_play.specs.Heard.{happening_of, is_heard}
+use Rattle.fwd_play.specs.Heard.{happening_of, hears, is_heard, next_happening}
+use Rattle.fwd_outside.specs.declared.happening.Happening.TheVariants.{End}
+use Rattle.fwd_play.specs.declared.notes.LoopNote.TheVariants as note
+use Rattle.fwd_play.proofs.Coursing.{next_end, without_none}
+use Rattle.fwd_play.proofs.Standing.{waits}
 use Rattle.fwd_play.specs.Lines.{coming, given_in}
 use Rattle.fwd_play.specs.Place.{ArePlayed, Place, after, after_push_to, answer_at, beginning, behind, output_of}
-use Rattle.fwd_play.specs.Held.{IsKept, ahead_after, ahead_behind}
+use Rattle.fwd_script.specs.declared.schedule.Life.{Life}
+use Rattle.fwd_play.specs.ScriptHeld.{ScriptHeld}
+use Rattle.fwd_play.specs.Held.{IsKept, ahead_after, ahead_behind, new_held}
 use Rattle.fwd_play.specs.Stands.{Stands}
 use Rattle.fwd_play.specs.Told.{entries_of, entry_of}
 use Rattle.fwd_play.proofs.Firsts.{without_map}
@@ -93,3 +99,41 @@ module _ (lines : List Planned) (answers : List Given) (notes : List LoopNote) (
   -- nothing told
   pub kept_same : (ahead2 : List Coming) (left2 : Answers) → ahead2 ≡ ahead → ((p : Place) → Stands left p → Stands left2 p) → IsKept lines answers notes ahead2 left2
   kept_same ahead2 left2 goes stands = record { played = kept.played; ahead_is = goes ∙ kept.ahead_is; stands = stands _ kept.stands }
+
+  -- nothing told, and room made for a note
+  pub kept_reserved : (reserved : List LoopNote) (left2 : Answers) → reserved ≡ notes → ((p : Place) → Stands left p → Stands left2 p) → IsKept lines answers reserved ahead left2
+  kept_reserved reserved left2 same stands = subst (λ (n : List LoopNote). IsKept lines answers n ahead left2) (sym same) (kept_same ahead left2 refl stands)
+
+  -- a wait that brings the end
+  pub kept_end : (until paused : ℕ) (reserved new : List LoopNote) (ahead2 : List Coming) → reserved ≡ notes → new ≡ reserved ++ note.Wait until paused End ∷ [] → ahead2 ≡ ahead
+      → find (hears paused) ahead2 ≡ None → IsKept lines answers new ahead2 left
+  kept_end until paused reserved new ahead2 reserves is same none =
+      let none_old : find (hears paused) ahead ≡ None = subst (λ (l : List Coming). find (hears paused) l ≡ None) same none in
+      kept_push (note.Wait until paused End) new ahead2 left (is ∙ ap (λ (l : List LoopNote). l ++ note.Wait until paused End ∷ []) reserves)
+      (sym (next_end paused ahead none_old) ∙ ap (λ (l : List Happening). next_happening paused l) ahead_here)
+      (same ∙ sym (without_none paused ahead none_old)) (waits left here paused stands_here)
+
+  -- a wait that brings the first that is heard
+  pub kept_brought : (until paused : ℕ) (brought : Happening) (reserved new : List LoopNote) (mid ahead2 : List Coming) → reserved ≡ notes → new ≡ reserved ++ note.Wait until paused brought ∷ []
+      → mid ≡ ahead → next_happening paused (map happening_of mid) ≡ brought → ahead2 ≡ without_first (hears paused) mid → IsKept lines answers new ahead2 left
+  kept_brought until paused brought reserved new mid ahead2 reserves is same brings goes =
+      kept_push (note.Wait until paused brought) new ahead2 left (is ∙ ap (λ (l : List LoopNote). l ++ note.Wait until paused brought ∷ []) reserves)
+      (sym brings ∙ ap (λ (l : List Coming). next_happening paused (map happening_of l)) same ∙ ap (λ (l : List Happening). next_happening paused l) ahead_here)
+      (goes ∙ ap (λ (l : List Coming). without_first (hears paused) l) same) (waits left here paused stands_here)
+
+held_by : List Planned → List Given → Bool → List LoopNote → ℕ → ScriptHeld
+held_by l a b m n = record { lines = l; answers = a; crashes = b; changed = 0; notes = m; brought = 0; greatest = n; faults = 0 }
+
+-- a life that nothing was asked of
+pub new_is : (life : Life) (lines : List Planned) (answers : List Given) (crashes : Bool) (notes : List LoopNote) (greatest : ℕ) → lines ≡ life.lines → answers ≡ life.answers → crashes ≡ is_some life.cut → notes ≡ [] → greatest ≡ 0
+    → record { lines = lines; answers = answers; crashes = crashes; changed = 0; notes = notes; brought = 0; greatest = greatest; faults = 0 } ≡ new_held life
+unfolding held_by
+new_is life lines answers crashes notes greatest same given cut empty none =
+    ap (λ (l : List Planned). held_by l answers crashes notes greatest) same
+    ∙ ap (λ (a : List Given). held_by life.lines a crashes notes greatest) given
+    ∙ ap (λ (b : Bool). held_by life.lines life.answers b notes greatest) cut
+    ∙ ap (λ (m : List LoopNote). held_by life.lines life.answers (is_some life.cut) m greatest) empty
+    ∙ ap (λ (n : ℕ). held_by life.lines life.answers (is_some life.cut) [] n) none
+
+pub kept_new : (lines : List Planned) (answers : List Given) (ahead : List Coming) (left : Answers) → ahead ≡ coming 0 lines → Stands left (beginning (given_in lines answers)) → IsKept lines answers [] ahead left
+kept_new lines answers ahead left is stands = record { played = tt; ahead_is = is; stands = stands }

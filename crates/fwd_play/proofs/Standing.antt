@@ -1,14 +1,18 @@
 -- The answers that are left, behind one that was used up.
-use Rattle.std.proofs.Common.{◌≡◌, ◌⊎◌, inl, inr, ℕ, zero, suc, ◌+◌, ◌-◌, ◌^◌, ◌<◌, ◌≤◌, Bool, true, false, ◌&&◌, eqb, ltb, if◌then◌else◌, List, [], ◌∷◌, ◌++◌, length, map, drop, Option, Some, None, option_map, unwrap_or, refl, sym, ap, subst, ◌∙◌, arith}
+use Rattle.std.proofs.Common.{◌≡◌, ◌⊎◌, inl, inr, ℕ, zero, suc, ◌+◌, ◌-◌, ◌^◌, ◌<◌, ◌≤◌, Bool, true, false, ◌&&◌, eqb, ltb, if◌then◌else◌, List, [], ◌∷◌, ◌++◌, length, map, drop, take, get_or, min, Option, Some, None, option_map, unwrap_or, refl, sym, ap, subst, ◌∙◌, arith}
 use Rattle.std.proofs.lemmas.List.{map-append, append-nil}
 use Rattle.std.specs.List.{cons_option, filter_map}
 use Rattle.fwd_outside.specs.Loop.{PushAnswer}
 use Rattle.fwd_script.specs.declared.schedule.Given.{Given}
 use Rattle.fwd_script.specs.declared.schedule.PushWord.{PushWord}
 use Rattle.fwd_play.specs.First.{first_in, without_first}
-use Rattle.fwd_play.specs.Lanes.{picked}
-use Rattle.fwd_play.specs.Lines.{word_answer}
-use Rattle.fwd_play.specs.Place.{Place, dialed, is_for, next_for}
+use Rattle.fwd_play.specs.Lanes.{lane_of, picked}
+use Rattle.fwd_play.specs.Lines.{dial_in, given_in, push_in, reply_in, word_answer, word_in}
+use Rattle.fwd_play.specs.Place.{Place, after_dial, after_push, after_push_to, after_wait, beginning, capped, dialed, is_for, linked_to, next_for, output_of, pushed, pushed_to}
+use Rattle.fwd_play.specs.Stands.{Adds, Stands}
+use Rattle.fwd_play.specs.declared.answers.Answers.{Answers}
+use Rattle.fwd_script.specs.declared.schedule.Planned.{Planned}
+use Rattle.fwd_outside.specs.Loop as outside
 use Rattle.fwd_play.proofs.Picked.{next_picked, picked_append, picked_without}
 
 -- one answer of an output is used up
@@ -57,3 +61,76 @@ kinds_append {X} {Y} f (y ∷ xs) x = ap (λ (l : List Y). cons_option (f y) l) 
     by : (o : Option Y) → cons_option o (filter_map f xs ++ cons_option (f x) []) ≡ cons_option o (filter_map f xs) ++ cons_option (f x) []
     by None = refl
     by (Some z) = refl
+
+-- one answer more stands, where it was put behind those of its kind
+added : (lines : List Planned) (answers : List Given) (given : Given) (old new : Answers) → Stands old (beginning (given_in lines answers)) → Adds old new given
+    → Stands new (beginning (given_in lines (answers ++ given ∷ [])))
+added lines answers given old new stands adds = record {
+  dials = λ o. adds.dials o ∙ ap (λ (l : List Bool). l ++ picked o (cons_option (dial_in given) [])) (stands.dials o)
+      ∙ sym (picked_append o (filter_map dial_in answers) (cons_option (dial_in given) [])) ∙ ap (λ (l : List (ℕ × Bool)). picked o l) (sym (kinds_append dial_in answers given));
+  pushes = λ o. adds.pushes o ∙ ap (λ (l : List PushAnswer). l ++ picked o (cons_option (push_in given) [])) (stands.pushes o)
+      ∙ sym (picked_append o (filter_map push_in answers) (cons_option (push_in given) [])) ∙ ap (λ (l : List (ℕ × PushAnswer)). picked o l) (sym (kinds_append push_in answers given));
+  replies = adds.replies ∙ ap (λ (l : List Bool). l ++ cons_option (reply_in given) []) stands.replies ∙ sym (kinds_append reply_in answers given);
+  words = adds.words ∙ ap (λ (l : List ℕ). l ++ cons_option (word_in given) []) stands.words ∙ sym (kinds_append word_in answers given);
+  links = adds.links ∙ stands.links;
+}
+
+pub added_at : (lines : List Planned) (items : List Given) (i : ℕ) (given : Given) (old new : Answers) → take (i + 1) items ≡ take i items ++ given ∷ []
+    → Stands old (beginning (given_in lines (take i items))) → Adds old new given → Stands new (beginning (given_in lines (take (i + 1) items)))
+added_at lines items i given old new more stands adds =
+    subst (λ (l : List Given). Stands new (beginning (given_in lines l))) (sym more)
+    (added lines (take i items) given old new stands adds)
+
+-- a dial uses up an answer of its output
+pub dialed_after : (p : Place) (old new : Answers) (output : ℕ) (number : Option ℕ) → Stands old p → number ≡ dialed p output
+    → ((o : ℕ) → lane_of new.dials.lanes o ≡ (if eqb o output then drop 1 (lane_of old.dials.lanes o) else lane_of old.dials.lanes o))
+    → ((o : ℕ) → lane_of new.pushes.lanes o ≡ lane_of old.pushes.lanes o) → new.replies.items ≡ old.replies.items → new.words.items ≡ old.words.items → new.links.items ≡ linked_to old.links.items output number
+    → Stands new (after_dial p output)
+dialed_after p old new output number stands is takes pushes replies words links = record {
+  dials = λ o. lane_after o output (lane_of old.dials.lanes o) (lane_of new.dials.lanes o) p.left.dials (takes o) (stands.dials o);
+  pushes = λ o. ap (λ (l : List PushWord). map word_answer l) (pushes o) ∙ stands.pushes o;
+  replies = replies ∙ stands.replies;
+  words = words ∙ stands.words;
+  links = links ∙ ap (λ (l : List (Option ℕ)). linked_to l output number) stands.links ∙ ap (λ (n : Option ℕ). linked_to p.links output n) is;
+}
+
+-- a push to an open link is answered as its output is
+pub pushed_when : (p : Place) (a : Answers) (link len output : ℕ) (word : Option PushWord) (answer : PushWord) → Stands a p → Some output ≡ output_of a.links.items link
+    → word ≡ first_in (lane_of a.pushes.lanes output) → word_answer answer ≡ capped (option_map word_answer word) len → word_answer answer ≡ pushed p link len
+pushed_when p a link len output word answer stands opens first is =
+    is
+    ∙ ap (λ (w : Option PushWord). capped (option_map word_answer w) len) first
+    ∙ ap (λ (o : Option PushAnswer). capped o len) (next_mapped word_answer output (lane_of a.pushes.lanes output) p.left.pushes (stands.pushes output))
+    ∙ ap (λ (o : Option ℕ). pushed_to p o len) (opens ∙ ap (λ (l : List (Option ℕ)). output_of l link) stands.links)
+
+pub pushed_after : (p : Place) (old new : Answers) (link output : ℕ) → Stands old p → Some output ≡ output_of old.links.items link
+    → ((o : ℕ) → lane_of new.pushes.lanes o ≡ (if eqb o output then drop 1 (lane_of old.pushes.lanes o) else lane_of old.pushes.lanes o))
+    → ((o : ℕ) → lane_of new.dials.lanes o ≡ lane_of old.dials.lanes o) → new.replies.items ≡ old.replies.items → new.words.items ≡ old.words.items → new.links.items ≡ old.links.items
+    → Stands new (after_push p link)
+pushed_after p old new link output stands opens takes dials replies words links =
+    let goes : Stands new (after_push_to p (Some output)) = record {
+      dials = λ o. dials o ∙ stands.dials o;
+      pushes = λ o. mapped_after word_answer o output (lane_of old.pushes.lanes o) (lane_of new.pushes.lanes o) p.left.pushes (takes o) (stands.pushes o);
+      replies = replies ∙ stands.replies;
+      words = words ∙ stands.words;
+      links = links ∙ stands.links;
+    } in
+    subst (λ (o : Option ℕ). Stands new (after_push_to p o)) (opens ∙ ap (λ (l : List (Option ℕ)). output_of l link) stands.links) goes
+
+-- no push takes more than there is
+capped_within : (answer : Option PushAnswer) (len taken : ℕ) → outside.Took taken ≡ capped answer len → taken ≤ len
+capped_within None len taken is = let same : taken ≡ len = cc is in omega arith
+capped_within (Some (outside.Took bytes)) len taken is = let same : taken ≡ min bytes len = cc is in omega arith
+capped_within (Some outside.Again) len taken is = absurd (cc is)
+capped_within (Some outside.Broke) len taken is = absurd (cc is)
+
+pushed_to_within : (p : Place) (output : Option ℕ) (len taken : ℕ) → outside.Took taken ≡ pushed_to p output len → taken ≤ len
+pushed_to_within p (Some output) len taken is = capped_within (next_for output p.left.pushes) len taken is
+pushed_to_within p None len taken is = absurd (cc is)
+
+pub pushed_within : (p : Place) (link len taken : ℕ) → outside.Took taken ≡ pushed p link len → taken ≤ len
+pushed_within p link len taken is = pushed_to_within p (output_of p.links link) len taken is
+
+-- a wait leaves the answers
+pub waits : (a : Answers) (p : Place) (paused : ℕ) → Stands a p → Stands a (after_wait p paused)
+waits a p paused stands = record { dials = stands.dials; pushes = stands.pushes; replies = stands.replies; words = stands.words; links = stands.links }

@@ -1,9 +1,10 @@
 -- The lines that weren't come to, from one line to the next.
-use Rattle.std.proofs.Common.{◌≡◌, ℕ, zero, suc, ◌+◌, ◌-◌, ◌^◌, ◌<◌, ◌≤◌, min, Bool, true, false, if◌then◌else◌, List, [], ◌∷◌, ◌++◌, length, get_or, drop, find, Option, Some, None, option_map, is_none, not, refl, sym, ap, subst, ◌∙◌, add-one, arith}
+use Rattle.std.proofs.Common.{◌≡◌, ◌⊎◌, ⊎_elim, ℕ, zero, suc, ◌+◌, ◌-◌, ◌^◌, ◌<◌, ◌≤◌, min, Bool, true, false, if◌then◌else◌, List, [], ◌∷◌, ◌++◌, length, get_or, drop, find, Option, Some, None, option_map, is_none, not, refl, sym, ap, subst, ◌∙◌, add-one, arith}
 use Rattle.std.proofs.Math.Seq.{drop-cons}
 use Rattle.std.proofs.Math.ListN.{drop_of_length-le}
 use Rattle.std.proofs.lemmas.List.{append-nil}
 use Rattle.std.specs.List.{slice_get}
+use Rattle.std.proofs.lemmas.Option.{slice_get_cases}
 use Rattle.std.specs.Option.{option_or}
 use Rattle.std.proofs.lemmas.List.Folds.{find-append}
 use Rattle.fwd_outside.specs.declared.happening.Happening.{Happening}
@@ -69,18 +70,17 @@ module _ (lines : List Planned) (at : ℕ) (line reading step count : ℕ) (none
 pub nothing_left : (lines : List Planned) (at line reading step count : ℕ) → count ≡ 0 → length lines ≤ at → ticks line reading step count ++ coming at (drop at lines) ≡ []
 nothing_left lines at line reading step count none over = whole line reading step count at (coming at (drop at lines)) none ∙ coming_over lines at over
 
-tick_of : ℕ → ℕ → ℕ → Coming
-tick_of line behind now = record { line = line; behind = behind; happening = happening.Tick now }
+tick_of : ℕ → ℕ → Happening → Coming
+tick_of line behind brought = record { line = line; behind = behind; happening = brought }
 
 -- the first clock reading that is left
-pub tick_first : (count line reading step : ℕ) (rest : List Coming) → 0 < count → reading < 2 ^ 64
-    → first_in (ticks line reading step count ++ rest) ≡ Some (record { line = line; behind = count - 1; happening = happening.Tick reading })
+pub tick_first : (count line reading step : ℕ) (rest : List Coming) (brought : Happening) → 0 < count → brought ≡ happening.Tick (min reading (2 ^ 64 - 1))
+    → Some (record { line = line; behind = count - 1; happening = brought }) ≡ first_in (ticks line reading step count ++ rest)
 unfolding tick_of
-tick_first zero line reading step rest some word = absurd (omega arith)
-tick_first (suc count) line reading step rest some word =
-    let same : min reading (2 ^ 64 - 1) ≡ reading = omega arith in
-    let less : count ≡ suc count - 1 = omega arith in
-    ap (λ (n : ℕ). Some (tick_of line count n)) same ∙ ap (λ (n : ℕ). Some (tick_of line n reading)) less
+tick_first zero line reading step rest brought some is = absurd (omega arith)
+tick_first (suc count) line reading step rest brought some is =
+    let less : suc count - 1 ≡ count = omega arith in
+    ap (λ (n : ℕ). Some (tick_of line n brought)) less ∙ ap (λ (h : Happening). Some (tick_of line count h)) is
 
 pub tick_rest : (count line reading step : ℕ) (rest : List Coming) → 0 < count
     → ticks line (min (reading + step) (2 ^ 64 - 1)) step (count - 1) ++ rest ≡ drop 1 (ticks line reading step count ++ rest)
@@ -145,3 +145,31 @@ module _ (lines : List Planned) (at : ℕ) (planned : Planned) (within : at < le
   pub loud_here : is_none (first_in (brought_by at planned)) ≡ false → is_none (first_in (coming at (drop at lines))) ≡ false
   loud_here loud =
       ap (λ (l : List Coming). is_none (first_in l)) (coming_step lines at planned within is) ∙ loud_append (brought_by at planned) (coming (at + 1) (drop (at + 1) lines)) loud
+
+one_of : ℕ → Happening → Coming
+one_of line brought = record { line = line; behind = 0; happening = brought }
+
+-- the first of a line that brings one happening, whatever stands behind
+pub happens_alone : (planned : Planned) (line : ℕ) (brought copy : Happening) (rest : List Coming) → planned ≡ Happens brought → Brings (Some planned) → copy ≡ brought
+    → Some (record { line = line; behind = 0; happening = copy }) ≡ first_in (brought_by line planned ++ rest)
+unfolding one_of
+happens_alone planned line brought copy rest is ready same =
+    let may : comes brought ≡ true = subst (λ (p : Planned). Brings (Some p)) is ready in
+    ap (λ (h : Happening). Some (one_of line h)) same
+    ∙ sym (ap (λ (p : Planned). first_in (brought_by line p ++ rest)) is
+    ∙ ap (λ (b : Bool). first_in ((if b then one_of line brought ∷ [] else []) ++ rest)) may)
+
+-- past the happening that a place is at
+pub skipped : (lines : List Planned) (at line reading step count : ℕ) → count ≡ 0 → at < length lines → Brings (slice_get lines at)
+    → ticks line reading step count ++ coming (at + 1) (drop (at + 1) lines) ≡ drop 1 (ticks line reading step count ++ coming at (drop at lines))
+skipped lines at line reading step count none within ready =
+    ⊎_elim
+    (λ (read : (x : Planned) × (at < length lines) × (slice_get lines at ≡ Some x) × (get_or lines at x ≡ x)). by read.0 (sym read.3))
+    (λ (past : (length lines ≤ at) × (slice_get lines at ≡ None)). absurd (omega (arith, past.0)))
+    (slice_get_cases lines at).1
+  where
+    by : (planned : Planned) → planned ≡ get_or lines at planned
+        → ticks line reading step count ++ coming (at + 1) (drop (at + 1) lines) ≡ drop 1 (ticks line reading step count ++ coming at (drop at lines))
+    by (Happens brought) is = happens_rest lines at line reading step count none within brought is (may_come lines at brought ready within is)
+    by (Ticks first by_step times) is = absurd (not_ticks lines at first by_step times ready within is)
+    by (Changes change) is = absurd (not_changes lines at change ready within is)

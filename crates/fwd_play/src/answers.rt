@@ -63,15 +63,30 @@ impl Answers {
         ensures err { OnErr result ((p : Place) → Stands self.old p → Stands self.new p) }
         ensures err_links { OnErr result (self.new.links.items ≡ self.old.links.items) }
     {
+        match self.number_for(output) {
+            Some(number) => {
+                self.links.push(Some(output))?;
+                self.dials.take(output);
+                Ok(Some(number))
+            }
+            None => {
+                self.dials.take(output);
+                Ok(None)
+            }
+        }
+    }
+
+    /// The number of the link that a dial would give. None where it would be refused.
+    fn number_for(&self, output: u32) -> Option<u64>
+        ensures answer { (p : Place) → Stands self.now p → result ≡ dialed p output }
+        ensures newest { IfSome result (λ number. number ≡ length self.now.links.items + 1) }
+    {
         let taken = self.dials.next(output).unwrap_or(true);
         let given = self.links.len() as u64;
         if taken && given < u64::MAX {
-            self.links.push(Some(output))?;
-            self.dials.take(output);
-            Ok(Some(given + 1))
+            Some(given + 1)
         } else {
-            self.dials.take(output);
-            Ok(None)
+            None
         }
     }
 

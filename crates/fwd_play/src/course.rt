@@ -130,7 +130,7 @@ impl Course {
                 None => false,
             },
             None => match self.unread.next_heard(paused) {
-                Some((line, behind)) => self.unread.is_last(line, behind),
+                Some(place) => self.unread.is_last(place.0, place.1),
                 None => false,
             },
         }

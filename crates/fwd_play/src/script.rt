@@ -1,12 +1,13 @@
 //! A loop in memory that plays a life.
 
-ghost use Rattle.std.specs.Prelude.{◌≡◌, ◌+◌, ◌-◌, ◌^◌, ℕ, ◌≤◌, min, [], if◌then◌else◌, IfOk, OnOk, OnErr};
+ghost use Rattle.std.specs.Prelude.{◌≡◌, ◌+◌, ◌-◌, ◌^◌, ℕ, ◌≤◌, ◌++◌, min, [], if◌then◌else◌, IfOk, OnOk, OnErr};
+ghost use Rattle.std.specs.List.{cons_option};
 ghost use Rattle.fwd_program.specs.Told.{Grew, asking};
 ghost use Rattle.fwd_program.specs.Cause.{HasCause};
 ghost use Rattle.fwd_outside.specs.Loop as outside;
 ghost use Rattle.fwd_outside.specs.declared.happening.Happening.TheVariants as happening;
 ghost use Rattle.fwd_play.specs.Handed.{handed};
-ghost use Rattle.fwd_play.specs.Held.{changed, changes_between, changes_in, counts_of, is_before_crash, new_held, told_of};
+ghost use Rattle.fwd_play.specs.Held.{change_in, changed, changes_between, changes_in, counts_of, is_before_crash, new_held, told_of};
 ghost use Rattle.fwd_play.specs.Lines.{given_in};
 ghost use Rattle.fwd_play.specs.Place.{IsPlayed};
 ghost use Rattle.fwd_play.specs.Told.{entries_of};
@@ -246,11 +247,27 @@ fn faults_after(faults: u64, brought: &Happening) -> u64
 fn changes_of(alloc: Global, lines: &Plan, from: usize, upto: usize) -> Result<FileChanges, Memory>
     ensures { IfOk result (λ changes. changes ≡ changes_between lines.now from upto) }
 {
+    let all = lines.as_slice();
+    let ahead = &all[..upto.min(all.len())];
+    let left = &ahead[from.min(ahead.len())..];
     let mut changes = Items::new(alloc);
-    for i in from..upto {
-        if let Some(Planned::Changes(change)) = lines.get(i) {
-            changes.push(change.try_clone(alloc)?)?;
-        }
+    for planned in left {
+        add_change(alloc, &mut changes, planned)?;
     }
     Ok(changes)
+}
+
+/// Puts the change of a line behind those before it.
+fn add_change(alloc: Global, changes: &mut FileChanges, planned: &Planned) -> Result<(), Memory>
+    ensures { OnOk result (changes.new ≡ changes.old ++ cons_option (change_in planned.now) []) }
+{
+    match planned {
+        Planned::Changes(change) => changes.push(change.try_clone(alloc)?),
+        Planned::Happens(_) => Ok(()),
+        Planned::Ticks {
+            first: _,
+            step: _,
+            count: _,
+        } => Ok(()),
+    }
 }

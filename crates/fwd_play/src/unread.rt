@@ -1,10 +1,12 @@
 //! The lines of a life that weren't come to yet.
 
-ghost use Rattle.std.specs.Prelude.{◌≡◌, ◌+◌, ℕ, drop, find, not, is_none, option_map, IfOk, IfSome, true};
+ghost use Rattle.std.specs.Prelude.{◌≡◌, ◌+◌, ℕ, ◌++◌, ◌-◌, ◌^◌, min, List, Some, drop, find, not, is_none, option_map, IfOk, IfSome, true};
+ghost use Rattle.fwd_outside.specs.declared.happening.Happening.TheVariants as happening;
 ghost use Rattle.fwd_play.specs.Heard.{comes, hears};
 ghost use Rattle.fwd_play.specs.First.{first_in};
 ghost use Rattle.fwd_play.specs.Lines.{brought_by, coming, is_last, place_in};
-ghost use Rattle.fwd_play.specs.Unread.{IsReady, unread};
+ghost use Rattle.fwd_play.specs.Unread.{Brings, IsReady, unread};
+ghost use Rattle.fwd_play.specs.declared.queue.Coming.{Coming};
 
 use crate::copies::copy_of_lines;
 use crate::masks::{comes, is_heard};
@@ -90,25 +92,11 @@ impl Unread {
             return Ok(Some(Coming {
                 line: self.ticks.line,
                 behind: self.ticks.count - 1,
-                happening: Happening::Tick {
-                    now: self.ticks.reading,
-                },
+                happening: tick(self.ticks.reading),
             }));
         }
         match self.lines.get(self.at) {
-            Some(Planned::Happens(happening)) => Ok(Some(Coming {
-                line: self.at,
-                behind: 0,
-                happening: happening.try_clone(alloc)?,
-            })),
-            Some(
-                Planned::Ticks {
-                    first: _,
-                    step: _,
-                    count: _,
-                },
-            ) => Ok(None),
-            Some(Planned::Changes(_)) => Ok(None),
+            Some(planned) => Ok(first_of(alloc, self.at, planned)?),
             None => Ok(None),
         }
     }
@@ -134,7 +122,7 @@ impl Unread {
         if self.ticks.count > 0 {
             return Some((self.ticks.line, self.ticks.count - 1));
         }
-        heard_from(&self.lines, self.at, paused)
+        heard_from(self.lines.as_slice(), self.at, paused)
     }
 
     /// Whether nothing of the life stands behind that place.
@@ -145,28 +133,57 @@ impl Unread {
     }
 }
 
+/// A clock reading.
+fn tick(now: u64) -> Happening
+    ensures { result ≡ happening.Tick (min now (2 ^ 64 - 1)) }
+{
+    Happening::Tick { now }
+}
+
+/// A copy of the happening that a line brings. None where it brings nothing.
+fn first_of(alloc: Global, line: usize, planned: &Planned) -> Result<Option<Coming>, Memory>
+    requires { Brings (Some planned.now) }
+    ensures first { IfOk result (λ first. (rest : List Coming) → first ≡ first_in (brought_by line planned.now ++ rest)) }
+    ensures comes { IfOk result (λ first. IfSome first (λ coming. comes coming.happening ≡ true)) }
+{
+    match planned {
+        Planned::Happens(happening) => Ok(Some(Coming {
+            line,
+            behind: 0,
+            happening: happening.try_clone(alloc)?,
+        })),
+        Planned::Ticks {
+            first: _,
+            step: _,
+            count: _,
+        } => Ok(None),
+        Planned::Changes(_) => Ok(None),
+    }
+}
+
 /// The place of the first happening that is heard, from a line on.
-fn heard_from(lines: &Plan, from: usize, paused: u64) -> Option<(usize, u64)>
+fn heard_from(lines: &[Planned], from: usize, paused: u64) -> Option<(usize, u64)>
     ensures { result ≡ place_in (find (hears paused) (coming from (drop from lines.now))) }
 {
     for i in from..lines.len() {
-        if let Some(planned) = lines.get(i) {
-            if let Some(behind) = heard_in(planned, paused) {
-                return Some((i, behind));
-            }
+        if let Some(behind) = heard_in(&lines[i], paused) {
+            return Some((i, behind));
         }
     }
     None
 }
 
 /// Whether no line behind that one brings a happening.
+#[tactic(auto, using(crate::proofs::Unreading::coming_over))]
 fn is_silent_behind(lines: &Plan, line: usize) -> bool
     ensures { result ≡ is_none (first_in (coming (line + 1) (drop (line + 1) lines.now))) }
 {
-    let Some(from) = line.checked_add(1) else {
+    let len = lines.len();
+    if line >= len {
         return true;
-    };
-    for i in from..lines.len() {
+    }
+    let from = line + 1;
+    for i in from..len {
         if let Some(planned) = lines.get(i) {
             if brings(planned) {
                 return false;
