@@ -1,10 +1,9 @@
 -- The changes of files of lines, from one line to the next.
-use Rattle.std.proofs.Common.{◌≡◌, ⊎_elim, ℕ, ◌+◌, ◌<◌, ◌≤◌, min, List, [], ◌∷◌, ◌++◌, length, get_or, take, drop, refl, sym, ap, ◌∙◌, arith}
+use Rattle.std.proofs.Common.{◌≡◌, ⊎_elim, ℕ, ◌+◌, ◌<◌, ◌≤◌, min, List, [], ◌∷◌, ◌++◌, length, get_or, take, drop, sym, ap, ◌∙◌, arith}
 use Rattle.std.specs.List.{cons_option, filter_map}
 use Rattle.std.proofs.lemmas.Bool.{cases_lt}
 use Rattle.std.proofs.lemmas.List.{take_all, take_min, take_more}
 use Rattle.std.proofs.Math.ListN.{drop_of_length-le}
-use Rattle.fwd_script.specs.declared.schedule.FileChange.{FileChange}
 use Rattle.fwd_script.specs.declared.schedule.Planned.{Planned}
 use Rattle.fwd_play.specs.Held.{change_in, changes_between}
 use Rattle.fwd_play.proofs.Standing.{kinds_append}
@@ -20,8 +19,8 @@ drop_min : (n : ℕ) (lines : List Planned) → drop (min n (length lines)) line
 drop_min n lines = ⊎_elim
     (λ (less : n < length lines). let same : min n (length lines) ≡ n = omega arith in ap (λ (k : ℕ). drop k lines) same)
     (λ (more : length lines ≤ n).
-      let end : length lines ≤ min n (length lines) = omega arith in
-      drop_of_length-le lines end ∙ sym (drop_of_length-le lines more))
+    let end : length lines ≤ min n (length lines) = omega arith in
+    drop_of_length-le lines end ∙ sym (drop_of_length-le lines more))
     (cases_lt n (length lines))
 
 pub changes_whole : (lines ahead left : List Planned) (from upto i : ℕ) → ahead ≡ take (min upto (length lines)) lines → left ≡ drop (min from (length ahead)) ahead → length left ≤ i

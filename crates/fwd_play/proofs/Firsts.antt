@@ -1,6 +1,6 @@
 -- The first of a list that passes a test.
-use Rattle.std.proofs.Common.{◌≡◌, ℕ, zero, suc, ◌+◌, ◌<◌, Bool, true, false, if◌then◌else◌, List, [], ◌∷◌, ◌++◌, length, get_or, take, drop, find, map, remove, Option, Some, None, option_map, refl, sym, ap, ◌∙◌, arith}
-use Rattle.fwd_play.specs.First.{IsFirst, without_first, first_in}
+use Rattle.std.proofs.Common.{◌≡◌, ℕ, zero, suc, ◌<◌, Bool, true, false, if◌then◌else◌, List, [], ◌∷◌, ◌++◌, length, get_or, find, map, remove, Option, Some, None, option_map, refl, ap, ◌∙◌, arith}
+use Rattle.fwd_play.specs.First.{IsFirst, without_first}
 
 module _ {X : Type 0} (test : X → Bool) where
   pub further : (x : X) (xs : List X) (place : ℕ) → IsFirst test (x ∷ xs) (suc place) → IsFirst test xs place

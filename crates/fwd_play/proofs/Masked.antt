@@ -1,5 +1,5 @@
 -- Bits of a mask.
-use Rattle.std.proofs.Common.{◌≡◌, ℕ, ◌/◌, ◌%◌, ◌≤◌, ◌<◌, false, true, eqb, sym, ap, ◌∙◌, arith}
+use Rattle.std.proofs.Common.{◌≡◌, ℕ, ◌%◌, ◌≤◌, ◌<◌, false, eqb, sym, ap, ◌∙◌, arith}
 use Prim.Native.Nat.{◌^◌}
 use Rattle.std.specs.Int.{IsBitSet, bit_at}
 use Rattle.std.proofs.Math.Nat.{div-eq_of_lt}

@@ -2,7 +2,7 @@
 use Rattle.std.proofs.Common.{◌≡◌, ℕ, Bool, List, [], ◌∷◌, ◌++◌, map, find, Option, Some, None, is_some, refl, sym, ap, subst, ◌∙◌}
 use Rattle.std.proofs.lemmas.List.{map-append}
 use Rattle.fwd_outside.specs.declared.happening.Happening.{Happening}
-use Rattle.fwd_outside.specs.Loop.{LoopCall, LoopAnswer, LoopEntry, Start, Wait, Dial, Push, Close, Reply, DropConn, Word}
+use Rattle.fwd_outside.specs.Loop.{LoopCall, LoopEntry, Start, Wait, Dial, Push, Close, Reply, DropConn, Word}
 use Rattle.fwd_script.specs.declared.schedule.Planned.{Planned}
 use Rattle.fwd_script.specs.declared.schedule.Given.{Given}
 use Rattle.fwd_play.specs.declared.answers.Answers.{Answers}

@@ -1,8 +1,7 @@
 -- The lines that weren't come to, from one line to the next.
-use Rattle.std.proofs.Common.{◌≡◌, ◌⊎◌, ⊎_elim, ℕ, zero, suc, ◌+◌, ◌-◌, ◌^◌, ◌<◌, ◌≤◌, min, Bool, true, false, if◌then◌else◌, List, [], ◌∷◌, ◌++◌, length, get_or, drop, find, Option, Some, None, option_map, is_none, not, refl, sym, ap, subst, ◌∙◌, add-one, arith}
+use Rattle.std.proofs.Common.{◌≡◌, ⊎_elim, ℕ, zero, suc, ◌+◌, ◌-◌, ◌^◌, ◌<◌, ◌≤◌, min, Bool, true, false, if◌then◌else◌, List, [], ◌∷◌, ◌++◌, length, get_or, drop, find, Option, Some, None, is_none, refl, sym, ap, subst, ◌∙◌, add-one, arith}
 use Rattle.std.proofs.Math.Seq.{drop-cons}
 use Rattle.std.proofs.Math.ListN.{drop_of_length-le}
-use Rattle.std.proofs.lemmas.List.{append-nil}
 use Rattle.std.specs.List.{slice_get}
 use Rattle.std.proofs.lemmas.Option.{slice_get_cases}
 use Rattle.std.specs.Option.{option_or}
@@ -14,7 +13,7 @@ use Rattle.fwd_script.specs.declared.schedule.Planned.TheVariants.{Happens, Tick
 use Rattle.fwd_script.specs.declared.schedule.FileChange.{FileChange}
 use Rattle.fwd_play.specs.declared.queue.Coming.{Coming}
 use Rattle.fwd_play.specs.First.{first_in}
-use Rattle.fwd_play.specs.Heard.{comes, hears, is_heard}
+use Rattle.fwd_play.specs.Heard.{comes, hears}
 use Rattle.fwd_play.specs.Lines.{brought_by, coming, place_in, ticks}
 use Rattle.fwd_play.specs.Unread.{Brings}
 use Rattle.fwd_play.proofs.Readings.{ticks_saturated}

@@ -1,5 +1,5 @@
 -- The happenings of a life that are left.
-use Rattle.std.specs.Prelude.{◌≡◌, ℕ, ◌+◌, Bool, List, [], ◌∷◌, ◌++◌, length, find, Option, Some, None}
+use Rattle.std.specs.Prelude.{◌≡◌, ℕ, ◌+◌, List, [], ◌∷◌, ◌++◌, length, find, Option, Some, None}
 use Rattle.fwd_play.specs.declared.queue.Coming.{Coming}
 use Rattle.fwd_play.specs.declared.course.Course.{Course}
 use Rattle.fwd_play.specs.declared.course.Fetched.{Fetched}

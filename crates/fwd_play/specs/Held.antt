@@ -1,5 +1,5 @@
 -- A script: what it tells, what is still ahead of it, and the changes of files before that.
-use Rattle.std.specs.Prelude.{◌≡◌, ℕ, ◌&&◌, max, List, [], ◌∷◌, length, drop, take, find, Option, Some, None, is_some}
+use Rattle.std.specs.Prelude.{◌≡◌, ℕ, ◌&&◌, max, List, [], ◌∷◌, drop, take, find, Option, Some, None, is_some}
 use Rattle.std.specs.List.{filter_map}
 use Rattle.fwd_outside.specs.Loop.{LoopCall, LoopCounts, LoopEntry, LoopTold, Wait}
 use Rattle.fwd_script.specs.declared.schedule.FileChange.{FileChange}

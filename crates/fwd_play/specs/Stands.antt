@@ -1,5 +1,5 @@
 -- The answers that are left, by output and in lists.
-use Rattle.std.specs.Prelude.{◌≡◌, ℕ, ◌+◌, List, [], ◌∷◌, ◌++◌, map}
+use Rattle.std.specs.Prelude.{◌≡◌, ℕ, [], ◌++◌, map}
 use Rattle.std.specs.List.{cons_option}
 use Rattle.fwd_script.specs.declared.schedule.Given.{Given}
 use Rattle.fwd_play.specs.declared.answers.Answers.{Answers}

@@ -1,5 +1,5 @@
 -- The lines of a life that weren't come to.
-use Rattle.std.specs.Prelude.{◌≡◌, ℕ, zero, suc, true, List, ◌++◌, drop, slice_get, Option, Some, None}
+use Rattle.std.specs.Prelude.{◌≡◌, true, List, ◌++◌, drop, slice_get, Option, Some, None}
 use Rattle.fwd_script.specs.declared.schedule.Planned.{Planned}
 use Rattle.fwd_script.specs.declared.schedule.Planned.TheVariants.{Happens, Ticks, Changes}
 use Rattle.fwd_play.specs.declared.queue.Coming.{Coming}

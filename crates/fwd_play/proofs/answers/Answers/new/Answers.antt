@@ -1,4 +1,4 @@
-use Rattle.std.proofs.Common.{List, take, ap, subst, ◌∙◌, arith}
+use Rattle.std.proofs.Common.{List, subst, ◌∙◌, arith}
 use Rattle.std.proofs.lemmas.List.{take_all, take_more}
 use Rattle.fwd_script.specs.declared.schedule.Given.{Given}
 use Rattle.fwd_play.specs.Lines.{given_in}

@@ -1,7 +1,6 @@
-use Rattle.std.proofs.Common.{refl, ap, Bool}
+use Rattle.std.proofs.Common.{refl}
 use Rattle.fwd_play.specs.declared.notes.LoopNote.TheVariants as note
 use Rattle.fwd_play.specs.Course.{ahead_of}
-use Rattle.fwd_play.specs.Place.{taken_answer}
 use Rattle.fwd_play.proofs.Played.{kept_call}
 use Rattle.fwd_play.proofs.script.ScriptLoop.drop_conn.Goals as goal
 

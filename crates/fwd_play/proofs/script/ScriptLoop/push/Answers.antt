@@ -1,4 +1,4 @@
-use Rattle.std.proofs.Common.{refl, ap, Bool, ℕ, length, sym, ◌∙◌}
+use Rattle.std.proofs.Common.{refl, ap, ℕ, length, sym, ◌∙◌}
 use Rattle.fwd_play.specs.declared.notes.LoopNote.TheVariants as note
 use Rattle.fwd_play.specs.Course.{ahead_of}
 use Rattle.fwd_play.specs.Lines.{word_answer}

@@ -1,4 +1,4 @@
-use Rattle.std.proofs.Common.{refl, ap, Bool}
+use Rattle.std.proofs.Common.{refl, ap}
 use Rattle.fwd_play.specs.declared.notes.LoopNote.TheVariants as note
 use Rattle.fwd_play.specs.Course.{ahead_of}
 use Rattle.fwd_play.specs.Place.{taken_answer}

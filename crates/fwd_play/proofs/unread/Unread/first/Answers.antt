@@ -1,4 +1,4 @@
-use Rattle.std.proofs.Common.{◌≡◌, ℕ, ◌+◌, ◌<◌, List, Option, drop, sym, ap, subst, ◌∙◌, arith}
+use Rattle.std.proofs.Common.{◌≡◌, ◌+◌, List, Option, drop, sym, ap, subst, ◌∙◌, arith}
 use Rattle.fwd_script.specs.declared.schedule.Planned.{Planned}
 use Rattle.fwd_play.specs.declared.queue.Coming.{Coming}
 use Rattle.fwd_play.specs.First.{first_in}
