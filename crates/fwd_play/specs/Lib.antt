@@ -1,0 +1,13 @@
+pub mod First
+pub mod Heard
+pub mod Queued
+pub mod Lines
+pub mod Unread
+pub mod Course
+pub mod Lanes
+pub mod Place
+pub mod Stands
+pub mod Told
+pub mod ScriptHeld
+pub mod Held
+pub mod Handed

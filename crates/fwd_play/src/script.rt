@@ -1,0 +1,273 @@
+//! A loop in memory that plays a life.
+
+ghost use Rattle.std.specs.Prelude.{◌≡◌, ◌+◌, ◌-◌, ◌^◌, ℕ, ◌≤◌, ◌++◌, min, [], if◌then◌else◌, IfOk, OnOk, OnErr};
+ghost use Rattle.std.specs.List.{cons_option};
+ghost use Rattle.fwd_program.specs.Told.{Grew, asking};
+ghost use Rattle.fwd_program.specs.Cause.{HasCause};
+ghost use Rattle.fwd_outside.specs.Loop as outside;
+ghost use Rattle.fwd_outside.specs.declared.happening.Happening.TheVariants as happening;
+ghost use Rattle.fwd_play.specs.Handed.{handed};
+ghost use Rattle.fwd_play.specs.Held.{change_in, changed, changes_between, changes_in, counts_of, is_before_crash, new_held, told_of};
+ghost use Rattle.fwd_play.specs.Lines.{given_in};
+ghost use Rattle.fwd_play.specs.Place.{IsPlayed};
+ghost use Rattle.fwd_play.specs.Told.{entries_of};
+
+use crate::answers::Answers;
+use crate::copies::copy_of_ends;
+use crate::course::Course;
+use crate::handed::handed_of;
+use crate::notes::LoopNote;
+use fwd_base::{Bytes, ConnId, Items, LinkId, Memory, OutputId};
+use fwd_outside::{Begun, Dialed, Ends, Happening, Loop, Pushed, Replied};
+use fwd_script::{FileChanges, GivenList, Life, Plan, Planned, PushWord};
+use std::alloc::Global;
+use std::marker::Model;
+
+/// A life, played: it brings the happenings of the life's lines, answers what the life gives, and tells its calls.
+#[derive(Debug, Drop)]
+pub struct Script {
+    alloc: Global,
+    course: Course,
+    answers: GivenList,
+    crashes: bool,
+    changed: usize,
+    left: Answers,
+    notes: Vec<LoopNote>,
+    brought: u64,
+    faults: u64,
+}
+
+impl Model for Script {
+    ghost use Rattle.std.specs.Prelude.{length};
+    ghost use Rattle.fwd_play.specs.ScriptHeld.{ScriptHeld};
+
+    ghost Value = { ScriptHeld };
+
+    ghost view = { λ s. record { lines = s.course.unread.lines; answers = s.answers; crashes = s.crashes; changed = s.changed; notes = s.notes.items; brought = s.brought; greatest = length s.left.links.items; faults = s.faults } };
+
+    ghost use Rattle.fwd_play.specs.Course.{ahead_of};
+    ghost use Rattle.fwd_play.specs.Held.{IsKept};
+
+    ghost invariant = { λ s. IsKept s.course.unread.lines s.answers s.notes.items (ahead_of s.course) s.left };
+}
+
+impl Script {
+    /// The life from its beginning.
+    pub fn new(alloc: Global, life: &Life) -> Result<Script, Memory>
+        ensures { IfOk result (λ script. script ≡ new_held life.now) }
+    {
+        Ok(Script {
+            alloc,
+            course: Course::new(alloc, &life.lines)?,
+            answers: Items::from_vec(Vec::from_slice(alloc, life.answers.as_slice())?),
+            crashes: life.cut.is_some(),
+            changed: 0,
+            left: Answers::new(alloc, &life.answers)?,
+            notes: Vec::new(alloc),
+            brought: 0,
+            faults: 0,
+        })
+    }
+
+    /// Each answer so far is the one that the life gives at its place.
+    pub fn is_played(&self)
+        ensures { IsPlayed (given_in self.now.lines self.now.answers) (entries_of self.now.notes) }
+    {
+        let _ = &self.alloc;
+    }
+
+    /// Takes out the changes of files that stand before the line that `wait` would bring, or all that are left where it
+    /// would bring the end. After `Err` nothing has changed.
+    pub fn changes(&mut self, alloc: Global, paused: u64) -> Result<FileChanges, Memory>
+        ensures changes { IfOk result (λ changes. changes ≡ changes_in paused self.old) }
+        ensures ok { OnOk result (self.new ≡ changed paused self.old) }
+        ensures err { OnErr result (self.new ≡ self.old) }
+    {
+        let upto = self.course.line_ahead(alloc, paused)?;
+        let changes = changes_of(alloc, &self.course.unread.lines, self.changed, upto)?;
+        self.changed = self.changed.max(upto);
+        Ok(changes)
+    }
+
+    /// Whether the life has a cut and `wait` would bring its happening, which is the last of the life.
+    pub fn before_crash(&self, paused: u64) -> bool
+        ensures { result ≡ is_before_crash paused self.now }
+    {
+        self.crashes && self.course.ends_life(paused)
+    }
+
+    /// The bytes taken by links of the outputs whose bits are set, in the order in which they were taken.
+    pub fn handed(&self, alloc: Global, outputs: u64) -> Result<Bytes, Memory>
+        ensures { IfOk result (λ bytes. bytes ≡ handed outputs [] (entries_of self.now.notes)) }
+    {
+        handed_of(alloc, outputs, &self.notes)
+    }
+}
+
+impl Loop for Script {
+    ghost faults = { λ s. s.faults };
+
+    ghost counts = { counts_of };
+
+    ghost told = { told_of };
+
+    fn start(&mut self, ends: &Ends) -> Begun {
+        let Ok(()) = self.notes.reserve(1) else {
+            return Begun::Memory;
+        };
+        let Ok(ends) = copy_of_ends(self.alloc, ends) else {
+            return Begun::Memory;
+        };
+        self.notes.push_reserved(LoopNote::Start { ends });
+        Begun::Ready
+    }
+
+    fn wait(&mut self, alloc: Global, until: u64, paused: u64) -> Result<Happening, Memory> {
+        self.notes.reserve(1)?;
+        let Some(at) = self.course.seek(alloc, paused)? else {
+            self.notes.push_reserved(LoopNote::Wait {
+                until,
+                paused,
+                brought: Happening::End,
+            });
+            self.brought = self.brought.saturating_add(1);
+            return Ok(Happening::End);
+        };
+        let brought = self.course.copy(self.alloc, paused, at)?;
+        self.notes.push_reserved(LoopNote::Wait {
+            until,
+            paused,
+            brought,
+        });
+        let happening = self.course.take(paused, at);
+        self.brought = self.brought.saturating_add(1);
+        self.faults = faults_after(self.faults, &happening);
+        Ok(happening)
+    }
+
+    fn dial(&mut self, output: OutputId, tag: &[u8]) -> Dialed {
+        let Ok(()) = self.notes.reserve(1) else {
+            return Dialed::Memory;
+        };
+        let Ok(tag) = Bytes::from_slice(self.alloc, tag) else {
+            return Dialed::Memory;
+        };
+        let Ok(link) = self.left.dial(output.0) else {
+            return Dialed::Memory;
+        };
+        self.notes
+            .push_reserved(LoopNote::Dial { output, tag, link });
+        match link {
+            Some(link) => Dialed::Link(LinkId(link)),
+            None => {
+                self.faults = self.faults.saturating_add(1);
+                Dialed::Refused
+            }
+        }
+    }
+
+    fn push(&mut self, link: LinkId, bytes: &[u8]) -> Pushed {
+        let Ok(()) = self.notes.reserve(1) else {
+            return Pushed::Memory;
+        };
+        let Ok(piece) = Bytes::from_slice(self.alloc, bytes) else {
+            return Pushed::Memory;
+        };
+        let answer = self.left.push(link.0, bytes.len() as u64);
+        self.notes.push_reserved(LoopNote::Push {
+            link,
+            bytes: piece,
+            answer,
+        });
+        match answer {
+            PushWord::Took(taken) => {
+                if taken == 0 && !bytes.is_empty() {
+                    self.faults = self.faults.saturating_add(1);
+                }
+                Pushed::Took(taken)
+            }
+            PushWord::Again => Pushed::Again,
+            PushWord::Broken => {
+                self.faults = self.faults.saturating_add(1);
+                Pushed::Broken
+            }
+        }
+    }
+
+    fn close(&mut self, link: LinkId) -> Result<(), Memory> {
+        self.notes.reserve(1)?;
+        self.notes.push_reserved(LoopNote::Close { link });
+        self.left.close(link.0);
+        Ok(())
+    }
+
+    fn reply(&mut self, conn: ConnId, bytes: &[u8]) -> Replied {
+        let Ok(()) = self.notes.reserve(1) else {
+            return Replied::Memory;
+        };
+        let Ok(bytes) = Bytes::from_slice(self.alloc, bytes) else {
+            return Replied::Memory;
+        };
+        let taken = self.left.reply();
+        self.notes
+            .push_reserved(LoopNote::Reply { conn, bytes, taken });
+        if taken {
+            Replied::Taken
+        } else {
+            self.faults = self.faults.saturating_add(1);
+            Replied::Broken
+        }
+    }
+
+    fn drop_conn(&mut self, conn: ConnId) -> Result<(), Memory> {
+        self.notes.reserve(1)?;
+        self.notes.push_reserved(LoopNote::DropConn { conn });
+        Ok(())
+    }
+
+    fn word(&mut self) -> Result<u64, Memory> {
+        self.notes.reserve(1)?;
+        let word = self.left.word();
+        self.notes.push_reserved(LoopNote::Word { word });
+        Ok(word)
+    }
+}
+
+/// The count of faults behind a happening.
+fn faults_after(faults: u64, brought: &Happening) -> u64
+    ensures { HasCause faults result (brought.now ≡ happening.Failed) }
+{
+    match brought {
+        Happening::Failed => faults.saturating_add(1),
+        _ => faults,
+    }
+}
+
+/// The changes of files of the lines from one place on, up to another.
+fn changes_of(alloc: Global, lines: &Plan, from: usize, upto: usize) -> Result<FileChanges, Memory>
+    ensures { IfOk result (λ changes. changes ≡ changes_between lines.now from upto) }
+{
+    let all = lines.as_slice();
+    let ahead = &all[..upto.min(all.len())];
+    let left = &ahead[from.min(ahead.len())..];
+    let mut changes = Items::new(alloc);
+    for planned in left {
+        add_change(alloc, &mut changes, planned)?;
+    }
+    Ok(changes)
+}
+
+/// Puts the change of a line behind those before it.
+fn add_change(alloc: Global, changes: &mut FileChanges, planned: &Planned) -> Result<(), Memory>
+    ensures { OnOk result (changes.new ≡ changes.old ++ cons_option (change_in planned.now) []) }
+{
+    match planned {
+        Planned::Changes(change) => changes.push(change.try_clone(alloc)?),
+        Planned::Happens(_) => Ok(()),
+        Planned::Ticks {
+            first: _,
+            step: _,
+            count: _,
+        } => Ok(()),
+    }
+}
