@@ -1,5 +1,5 @@
 -- A worked row, computed: a line comes over tcp for two outputs, and the second one's link breaks behind three bytes.
-use Rattle.std.proofs.Common.{◌≡◌, ℕ, List, [], ◌∷◌, Some, None, refl}
+use Rattle.std.proofs.Common.{◌≡◌, ℕ, false, List, [], ◌∷◌, Some, None, refl}
 use Rattle.std.specs.Prelude.{codes, drop, length}
 use Rattle.fwd_base.specs.declared.choices.Form.TheVariants.{JsonLines}
 use Rattle.fwd_base.specs.declared.choices.Retries.TheVariants.{Times}
@@ -20,7 +20,7 @@ use Rattle.fwd_trace.specs.Trace.{TraceEntry, OnLoop, Note}
 use Rattle.fwd_history.specs.Routes.{route}
 use Rattle.fwd_run.specs.Acts.{step, ticks, joins, pieces, says, accepts, stores, grows, fills, closes_due, walk, turn, begins, lands, stands, retries}
 
-settings : AllSettings
+pub settings : AllSettings
 settings = record {
   service = record { flush_ms = 1000; grace_s = 5; path = None; full = false; max_up = 128; backlog_limit = 5000000; base = 5; cap = 2000 };
   inputs = record { name = codes "tcp.0"; kind = Tcp (codes "0.0.0.0") 5170; tag = Some (codes "app"); stored = false; mem_limit = None; parser = record { shape = Plain; time = None } } ∷ [];
@@ -31,19 +31,19 @@ settings = record {
       ∷ [];
 }
 
-hello : Event
+pub hello : Event
 hello = record { sec = 0; nsec = 0; meta = []; body = (text (codes "log"), text (codes "hello")) ∷ [] }
 
-joined : History
+pub joined : History
 joined = Joined 0 1 ∷ []
 
-accepted : History
+pub accepted : History
 accepted = Grown 1 (hello ∷ []) ∷ Accepted 0 1 ∷ Opened 0 (codes "app") ∷ Said (Connection 1) (codes "hello\n") ∷ joined
 
-line : List ℕ
+pub line : List ℕ
 line = codes "{\"date\":0.000000000,\"log\":\"hello\"}\n"
 
-after_tick : History
+pub after_tick : History
 after_tick =
     OnRoute (route 1 1) (Retries 5) ∷ Handed 1 3 ∷ OnRoute (route 1 0) Delivered ∷ Handed 0 35 ∷ Shut 1 ∷ Closing ∷ Ticked 1000 ∷ accepted
 
