@@ -1,5 +1,5 @@
 -- What a loop connects the engine with, by the settings.
-use Rattle.std.specs.Prelude.{ℕ, List, map}
+use Rattle.std.specs.Prelude.{map}
 use Rattle.fwd_outside.specs.declared.ends.InEnd.{InEnd}
 use Rattle.fwd_outside.specs.declared.ends.InEnd.TheVariants as in_end
 use Rattle.fwd_outside.specs.declared.ends.OutEnd.{OutEnd}

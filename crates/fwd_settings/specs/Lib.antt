@@ -1,1 +1,12 @@
+pub mod Keys
+pub mod Said
+pub mod Reading
+pub mod Values
+pub mod Service
+pub mod Parsers
+pub mod Inputs
+pub mod Filters
+pub mod Outputs
+pub mod Settings
+pub mod Sound
 pub mod Ends

@@ -1,0 +1,203 @@
+-- What the table says of every key of a section or plugin, and so of what its entries say.
+use Rattle.std.proofs.Common.{◌≡◌, ℕ, ◌≤◌, Bool, true, false, cond, not, ◌&&◌, ◌||◌, nat_le, nat_lt, if◌then◌else◌, List, [], ◌∷◌, length, Option, Some, None, Result, Ok, Err, IsSome, refl, subst, arith, option_and_then}
+use Rattle.std.specs.List.{AllByRecursion, find, filter_map, last_or, list_all, list_any, cons_option}
+use Rattle.std.specs.Str.{bytes_eq, is_utf8}
+use Rattle.std.proofs.lemmas.Bool.Decides.{nat_tests}
+use Rattle.std.proofs.lemmas.Str.{IsUtf8-from_is_utf8}
+use Rattle.fwd_program.specs.Program.{Return, Ask}
+use Rattle.fwd_parser.specs.declared.parser.Parser.{Parser}
+use Rattle.fwd_choices.specs.declared.kind.SettingKind.{SettingKind}
+use Rattle.fwd_choices.specs.declared.kind.SettingKind.TheVariants.{BadNumber, BadChoice}
+use Rattle.fwd_choices.specs.Number.{number_of, positive_of, within}
+use Rattle.fwd_choices.specs.Text.{is_tag_text, is_plain_text}
+use Rattle.fwd_config.specs.declared.section.Entry.{Entry}
+use Rattle.fwd_settings.specs.declared.keys.Key.{Key}
+use Rattle.fwd_settings.specs.declared.keys.Kind.{Kind}
+use Rattle.fwd_settings.specs.declared.keys.Kind.TheVariants as kind
+use Rattle.fwd_settings.specs.declared.keys.Plain.{Plain}
+use Rattle.fwd_settings.specs.declared.keys.Plain.TheVariants as plain
+use Rattle.fwd_settings.specs.declared.parts.Part.{Part}
+use Rattle.fwd_settings.specs.declared.said.Value.{Value}
+use Rattle.fwd_settings.specs.declared.said.Value.TheVariants as value
+use Rattle.fwd_settings.specs.declared.said.Said.{Said}
+use Rattle.fwd_settings.specs.Keys.{name_of, keys_of, kind_of, key_of, is_key_named}
+use Rattle.fwd_settings.specs.Said.{value_for, last_value}
+use Rattle.fwd_settings.specs.Reading.{Reading, known}
+use Rattle.fwd_settings.specs.Values.{or_else, when, value_of, value_said, key_said, entry_said}
+use Rattle.fwd_settings.specs.Sound.{IsTagText}
+use Rattle.fwd_settings.proofs.Always.{Always, always_then, always_at}
+
+-- ---- values by their kind
+
+abbrev pub IsPositive : Value → Type 0
+IsPositive (value.Number n) = 1 ≤ n
+IsPositive _ = ⊥
+
+abbrev pub IsTagValue : Value → Type 0
+IsTagValue (value.Text t) = IsTagText t
+IsTagValue _ = ⊥
+
+abbrev pub IsText : Value → Type 0
+IsText (value.Text t) = Unit {0}
+IsText _ = ⊥
+
+abbrev pub IsOfPlain : Plain → Value → Type 0
+IsOfPlain plain.Positive v = IsPositive v
+IsOfPlain plain.Tag v = IsTagValue v
+IsOfPlain plain.PlainTag v = IsTagValue v
+IsOfPlain plain.Text v = IsText v
+IsOfPlain _ v = Unit {0}
+
+abbrev pub IsOfKind : Kind → Value → Type 0
+IsOfKind (kind.Plain plain) v = IsOfPlain plain v
+IsOfKind _ v = Unit {0}
+
+within_is : (least most n : ℕ) (m : ℕ) → within least most n ≡ Some m → least ≤ m
+within_is least most n m is = by_tests (nat_le least n) (nat_le n most) refl is
+  where
+    by_tests : (a b : Bool) → nat_le least n ≡ a → (if a && b then Some n else None) ≡ Some m → least ≤ m
+    by_tests true true low e = grind (arith, nat_tests, low, e)
+    by_tests true false low e = absurd (cc e)
+    by_tests false b low e = absurd (cc e)
+
+positive_is : (o : Option ℕ) (m : ℕ) → option_and_then (within 1 18446744073709551615) o ≡ Some m → 1 ≤ m
+positive_is (Some n) m is = within_is 1 18446744073709551615 n m is
+positive_is None m is = absurd (cc is)
+
+number_is : (o : Option ℕ) (v : Value) → ((m : ℕ) → o ≡ Some m → 1 ≤ m) → or_else BadNumber value.Number o ≡ Ok v → IsPositive v
+number_is (Some n) v least is = subst IsPositive (ok_value is) (least n refl)
+  where
+    ok_value : ◌≡◌ {A = Result Value SettingKind} (Ok (value.Number n)) (Ok v) → value.Number n ≡ v
+    ok_value e = cc
+number_is None v least is = absurd (cc is)
+
+tag_is : (text : List ℕ) (first second third : Bool) → nat_lt 0 (length text) ≡ first → nat_le (length text) 1024 ≡ second → is_utf8 text ≡ third → (first && (second && third)) ≡ true → IsTagText text
+tag_is text true true true a b c all = (grind (arith, nat_tests, a), grind (arith, nat_tests, b), IsUtf8-from_is_utf8 text c)
+tag_is text true true false a b c all = absurd (cc all)
+tag_is text true false third a b c all = absurd (cc all)
+tag_is text false second third a b c all = absurd (cc all)
+
+text_when : (test : Bool) (text : List ℕ) (v : Value) → (test ≡ true → IsTagText text) → or_else BadChoice value.Text (when test text) ≡ Ok v → IsTagValue v
+text_when true text v gives is = subst IsTagValue (ok_value is) (gives refl)
+  where
+    ok_value : ◌≡◌ {A = Result Value SettingKind} (Ok (value.Text text)) (Ok v) → value.Text text ≡ v
+    ok_value e = cc
+text_when false text v gives is = absurd (cc is)
+
+second_so : (a b : Bool) → (a && b) ≡ true → b ≡ true
+second_so true b so = so
+second_so false b so = absurd (cc so)
+
+text_is : (text : List ℕ) (v : Value) → ◌≡◌ {A = Result Value SettingKind} (Ok (value.Text text)) (Ok v) → IsText v
+text_is text v is = subst IsText (ok_value is) tt
+  where
+    ok_value : ◌≡◌ {A = Result Value SettingKind} (Ok (value.Text text)) (Ok v) → value.Text text ≡ v
+    ok_value e = cc
+
+is_tag_so : (text : List ℕ) → is_tag_text text ≡ true → IsTagText text
+is_tag_so text so = tag_is text _ _ _ refl refl refl so
+
+plain_is : (p : Plain) (text : List ℕ) (v : Value) → value_of p text ≡ Ok v → IsOfPlain p v
+plain_is plain.Positive text v is = number_is (positive_of text) v (positive_is (number_of text)) is
+plain_is plain.Tag text v is = text_when (is_tag_text text) text v (is_tag_so text) is
+plain_is plain.PlainTag text v is = text_when (is_plain_text text && is_tag_text text) text v (λ so. is_tag_so text (second_so (is_plain_text text) (is_tag_text text) so)) is
+plain_is plain.Text text v is = text_is text v is
+plain_is plain.Ignored text v is = tt
+plain_is plain.Number text v is = tt
+plain_is plain.Port text v is = tt
+plain_is plain.Size text v is = tt
+plain_is plain.Flush text v is = tt
+plain_is plain.Truth text v is = tt
+plain_is plain.False text v is = tt
+plain_is (plain.Choice menu) text v is = tt
+plain_is plain.Paths text v is = tt
+plain_is plain.Retries text v is = tt
+plain_is plain.Types text v is = tt
+plain_is plain.Condition text v is = tt
+plain_is (plain.Change word) text v is = tt
+plain_is plain.Wildcard text v is = tt
+
+-- whatever is read, where nothing is asked of it
+always_any : {X : Type 0} (reading : Reading X) → Always (λ _. Unit {0}) reading
+always_any (Return (Ok x)) = tt
+always_any (Return (Err refusal)) = tt
+always_any (Ask text go) = λ answer. always_any (go answer)
+
+-- what an entry of a section or plugin says
+abbrev pub IsSaidBy : Part → Entry → Said → Type 0
+IsSaidBy p entry said = (key_of p entry.key ≡ Some said.key) × IsOfKind (kind_of said.key) said.value
+
+module _ (named : Entry → Reading Parser) where
+  always_value : (k : Kind) (entry : Entry) → Always (IsOfKind k) (value_said named k entry)
+  always_value (kind.Plain p) entry = always_at (IsOfPlain p) entry.place (value_of p entry.value) (plain_is p entry.value)
+  always_value kind.Pattern entry = always_any (value_said named kind.Pattern entry)
+  always_value (kind.Grep exclude) entry = always_any (value_said named (kind.Grep exclude) entry)
+  always_value kind.Parser entry = always_any (value_said named kind.Parser entry)
+
+  always_key : (p : Part) (entry : Entry) (o : Option Key) → key_of p entry.key ≡ o → Always (IsSaidBy p entry) (key_said named entry o)
+  always_key p entry None is = tt
+  always_key p entry (Some k) is =
+      always_then (IsOfKind (kind_of k)) (IsSaidBy p entry) (value_said named (kind_of k) entry) (λ v. known (Ok (record { key = k; value = v })))
+      (always_value (kind_of k) entry) (λ v of_kind. (is, of_kind))
+
+  pub always_said : (p : Part) (entry : Entry) → Always (IsSaidBy p entry) (entry_said named p entry)
+  always_said p entry = always_key p entry (key_of p entry.key) refl
+
+-- ---- the table, by computing
+
+pub found_passes : {X : Type 0} (test found : X → Bool) (keys : List X) (k : X) → list_all test keys ≡ true → find found keys ≡ Some k → test k ≡ true
+found_passes test found [] k all is = absurd (cc is)
+found_passes {X = X} test found (first ∷ keys) k all is = here (test first) (found first) (found_passes test found keys k) refl all is
+  where
+    some_is : ◌≡◌ {A = Option X} (Some first) (Some k) → first ≡ k
+    some_is e = cc
+
+    here : (t f : Bool) → (list_all test keys ≡ true → find found keys ≡ Some k → test k ≡ true) → test first ≡ t → (t && list_all test keys) ≡ true → cond f (Some first) (find found keys) ≡ Some k → test k ≡ true
+    here true true later so all is = subst (λ (x : X). test x ≡ true) (some_is is) so
+    here true false later so all is = later all is
+    here false f later so all is = absurd (cc all)
+
+-- every key of the part that is written as `named` has a kind that passes the test
+abbrev pub named_passes : Key → (Kind → Bool) → Key → Bool
+named_passes named test k = not (bytes_eq (name_of named) (name_of k)) || test (kind_of k)
+
+pub kind_passes : (named : Key) (test : Kind → Bool) (p : Part) → list_all (named_passes named test) (keys_of p) ≡ true → (k : Key) (name : List ℕ) → key_of p name ≡ Some k → bytes_eq (name_of named) (name_of k) ≡ true → test (kind_of k) ≡ true
+kind_passes named test p all k name is same = by_test (bytes_eq (name_of named) (name_of k)) same (found_passes (named_passes named test) (is_key_named name) (keys_of p) k all is)
+  where
+    by_test : (b : Bool) → b ≡ true → (not b || test (kind_of k)) ≡ true → test (kind_of k) ≡ true
+    by_test true so passes = passes
+    by_test false so passes = absurd (cc so)
+
+-- ---- the last value of a key
+
+abbrev pub Holds : {X : Type 0} → (X → Type 0) → Option X → Type 0
+Holds P None = Unit {0}
+Holds P (Some x) = P x
+
+module _ (named : Key) (P : Value → Type 0) where
+  last_from : (o : Option Value) → Holds P o → (said : List Said) → AllByRecursion (λ s. bytes_eq (name_of named) (name_of s.key) ≡ true → P s.value) said → Holds P (last_or o (filter_map (value_for named) said))
+  last_from o here [] all = here
+  last_from o here (s ∷ said) all = by_test (bytes_eq (name_of named) (name_of s.key)) (λ p. last_from (Some s.value) p said all.1) (last_from o here said all.1) refl
+    where
+      rest : List Value
+      rest = filter_map (value_for named) said
+
+      by_test : (b : Bool) → (P s.value → Holds P (last_or (Some s.value) rest)) → Holds P (last_or o rest) → bytes_eq (name_of named) (name_of s.key) ≡ b → Holds P (last_or o (cons_option (if b then Some s.value else None) rest))
+      by_test true this others so = this (all.0 so)
+      by_test false this others so = others
+
+  pub last_holds : (said : List Said) → AllByRecursion (λ s. bytes_eq (name_of named) (name_of s.key) ≡ true → P s.value) said → Holds P (last_value named said)
+  last_holds said all = last_from None tt said all
+
+last_stays : (o : Option Value) → IsSome o → (xs : List Value) → IsSome (last_or o xs)
+last_stays o some [] = some
+last_stays o some (x ∷ xs) = last_stays (Some x) refl xs
+
+pub last_there : (written : Key) (said : List Said) → list_any (λ s. bytes_eq (name_of written) (name_of s.key)) said ≡ true → (o : Option Value) → IsSome (last_or o (filter_map (value_for written) said))
+last_there written [] any o = absurd (cc any)
+last_there written (s ∷ said) any o = by_test (bytes_eq (name_of written) (name_of s.key)) (λ so. last_there written said so o) any
+  where
+    by_test : (b : Bool) → (list_any (λ s. bytes_eq (name_of written) (name_of s.key)) said ≡ true → IsSome (last_or o (filter_map (value_for written) said)))
+        → (b || list_any (λ s. bytes_eq (name_of written) (name_of s.key)) said) ≡ true → IsSome (last_or o (cons_option (if b then Some s.value else None) (filter_map (value_for written) said)))
+    by_test true later so = last_stays (Some s.value) refl (filter_map (value_for written) said)
+    by_test false later so = later so

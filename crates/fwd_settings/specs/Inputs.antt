@@ -1,0 +1,116 @@
+-- Inputs, from what their sections say.
+use Rattle.std.specs.Prelude.{ℕ, Bool, true, false, ◌&&◌, not, if◌then◌else◌, List, ◌++◌, codes, count_by, decimal, Option, Some, None, Ok, Err, unwrap_or}
+use Rattle.std.specs.List.{list_any}
+use Rattle.std.specs.Str.{bytes_eq}
+use Rattle.fwd_parser.specs.declared.parser.Parser.{Parser}
+use Rattle.fwd_parser.specs.declared.parser.Shape.{Shape}
+use Rattle.fwd_parser.specs.declared.parser.Shape.TheVariants as shape
+use Rattle.fwd_choices.specs.Text.{parts_of}
+use Rattle.fwd_choices.specs.declared.kind.SettingKind.TheVariants.{Missing}
+use Rattle.fwd_config.specs.declared.section.Place.{Place}
+use Rattle.fwd_config.specs.declared.section.Entry.{Entry}
+use Rattle.fwd_config.specs.declared.section.Section.{Section}
+use Rattle.fwd_settings.specs.declared.chosen.InputKind.{InputKind}
+use Rattle.fwd_settings.specs.declared.chosen.InputKind.TheVariants as input
+use Rattle.fwd_settings.specs.declared.chosen.InputSet.{InputSet}
+use Rattle.fwd_settings.specs.declared.parts.Head.{Head}
+use Rattle.fwd_settings.specs.declared.parts.Head.TheVariants as head
+use Rattle.fwd_settings.specs.declared.parts.Part.{Part}
+use Rattle.fwd_settings.specs.declared.parts.Part.TheVariants as part
+use Rattle.fwd_settings.specs.declared.keys.Key.{Key}
+use Rattle.fwd_settings.specs.declared.keys.Key.TheVariants as key
+use Rattle.fwd_settings.specs.declared.words.Word.{Word}
+use Rattle.fwd_settings.specs.declared.words.Word.TheVariants as word
+use Rattle.fwd_settings.specs.declared.said.Said.{Said}
+use Rattle.fwd_settings.specs.Keys.{name_of, name_of_plugin, key_of, head_of}
+use Rattle.fwd_settings.specs.Said.{number_at, port_at, truth_at, word_at, text_at, last_in, parser_in}
+use Rattle.fwd_settings.specs.Reading.{Checked, fault}
+use Rattle.fwd_settings.specs.Parsers.{timeless}
+
+-- an instance is named by its plugin, a dot and its number
+abbrev pub instance : Part → ℕ → List ℕ
+instance plugin number = name_of_plugin plugin ++ codes "." ++ decimal number
+
+-- whether an input is of the plugin
+abbrev pub is_input_of : Part → InputSet → Bool
+is_input_of plugin set = of_kind plugin set.kind
+  where
+    of_kind : Part → InputKind → Bool
+    of_kind part.Tail (input.Tail paths from_head) = true
+    of_kind part.Tcp (input.Tcp host port) = true
+    of_kind part.Forward (input.Forward host port) = true
+    of_kind part.Stdin input.Stdin = true
+    of_kind _ _ = false
+
+-- its number among the inputs of the plugin, from 0
+abbrev pub input_name : List InputSet → Part → List ℕ
+input_name before plugin = instance plugin (count_by (is_input_of plugin) before)
+
+abbrev pub tail_by : Place → List Said → Option (List ℕ) → Checked InputKind
+tail_by place said None = Err (fault Missing place)
+tail_by place said (Some paths) = Ok (input.Tail (parts_of (codes ",") paths) (unwrap_or (truth_at key.ReadFromHead said) false))
+
+-- a tail input wants its Path, which is parted at each comma
+abbrev pub input_kind : Part → Place → List Said → Checked InputKind
+input_kind part.Tail place said = tail_by place said (text_at key.Paths said)
+input_kind part.Tcp place said = Ok (input.Tcp (unwrap_or (text_at key.Listen said) (codes "0.0.0.0")) (unwrap_or (port_at key.Port said) 5170))
+input_kind part.Forward place said = Ok (input.Forward (unwrap_or (text_at key.Listen said) (codes "0.0.0.0")) (unwrap_or (port_at key.Port said) 24224))
+input_kind _ place said = Ok input.Stdin
+
+-- without a Tag the instance's name is the tag, but for forward, whose messages bring theirs
+abbrev pub tag_of : Part → List ℕ → Option (List ℕ) → Option (List ℕ)
+tag_of part.Forward name tag = tag
+tag_of _ name None = Some name
+tag_of _ name (Some tag) = Some tag
+
+abbrev pub is_stored : Option Word → Bool
+is_stored (Some word.Filesystem) = true
+is_stored _ = false
+
+abbrev pub lines_shape : Option Word → Shape
+lines_shape (Some word.Plain) = shape.Plain
+lines_shape _ = shape.Json
+
+-- a Parser of tail and stdin, by default none and JSON; tcp has its Format
+abbrev pub input_parser : Part → List Said → Parser
+input_parser part.Tail said = unwrap_or (last_in parser_in said) (timeless shape.Plain)
+input_parser part.Stdin said = unwrap_or (last_in parser_in said) (timeless shape.Json)
+input_parser part.Tcp said = timeless (lines_shape (word_at key.LineFormat said))
+input_parser _ said = timeless shape.Plain
+
+-- some SERVICE section has a storage.path
+abbrev pub names_path : Option Key → Bool
+names_path None = false
+names_path (Some k) = bytes_eq (name_of key.StoragePath) (name_of k)
+
+abbrev pub is_path_entry : Entry → Bool
+is_path_entry entry = names_path (key_of part.Service entry.key)
+
+abbrev pub is_service_head : Option Head → Bool
+is_service_head (Some head.Service) = true
+is_service_head _ = false
+
+abbrev pub has_path : Section → Bool
+has_path section = is_service_head (head_of section.name) && list_any is_path_entry section.entries
+
+abbrev pub input_set : Part → List ℕ → List Said → InputKind → InputSet
+input_set plugin name said kind = record {
+  name = name;
+  kind = kind;
+  tag = tag_of plugin name (text_at key.Tag said);
+  stored = is_stored (word_at key.StorageType said);
+  mem_limit = number_at key.MemBufLimit said;
+  parser = input_parser plugin said;
+}
+
+-- an input whose chunks are files wants a storage.path
+abbrev pub stored_in : Bool → Place → InputSet → Checked InputSet
+stored_in path place set = if set.stored && not path then Err (fault Missing place) else Ok set
+
+abbrev pub input_by : Bool → Part → Place → List ℕ → List Said → Checked InputKind → Checked InputSet
+input_by path plugin place name said (Ok kind) = stored_in path place (input_set plugin name said kind)
+input_by path plugin place name said (Err refusal) = Err refusal
+
+-- an input behind those before it
+abbrev pub input_from : Bool → Part → Place → List InputSet → List Said → Checked InputSet
+input_from path plugin place before said = input_by path plugin place (input_name before plugin) said (input_kind plugin place said)

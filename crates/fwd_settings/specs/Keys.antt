@@ -1,0 +1,277 @@
+-- The table of sections, plugins and keys. Names are in lower case; those of sections and keys ignore case, those of plugins
+-- and the words of a choice don't.
+use Rattle.std.specs.Prelude.{ℕ, Bool, true, false, List, [], ◌∷◌, codes, Option}
+use Rattle.std.specs.List.{find}
+use Rattle.std.specs.Str.{bytes_eq, str_eq_ignore_ascii_case}
+use Rattle.fwd_choices.specs.declared.rules.ChangeWord.TheVariants as change
+use Rattle.fwd_settings.specs.declared.keys.Key.{Key}
+use Rattle.fwd_settings.specs.declared.keys.Key.TheVariants as key
+use Rattle.fwd_settings.specs.declared.keys.Kind.{Kind}
+use Rattle.fwd_settings.specs.declared.keys.Kind.TheVariants as kind
+use Rattle.fwd_settings.specs.declared.keys.Plain.TheVariants as plain
+use Rattle.fwd_settings.specs.declared.words.Menu.{Menu}
+use Rattle.fwd_settings.specs.declared.words.Menu.TheVariants as menu
+use Rattle.fwd_settings.specs.declared.words.Word.{Word}
+use Rattle.fwd_settings.specs.declared.words.Word.TheVariants as word
+use Rattle.fwd_settings.specs.declared.parts.Head.{Head}
+use Rattle.fwd_settings.specs.declared.parts.Head.TheVariants as head
+use Rattle.fwd_settings.specs.declared.parts.Part.{Part}
+use Rattle.fwd_settings.specs.declared.parts.Part.TheVariants as part
+
+-- the sections
+abbrev pub name_of_head : Head → List ℕ
+name_of_head head.Service = codes "service"
+name_of_head head.Input = codes "input"
+name_of_head head.Parser = codes "parser"
+name_of_head head.Filter = codes "filter"
+name_of_head head.Output = codes "output"
+
+unfoldable pub heads : List Head
+heads = head.Service ∷ head.Input ∷ head.Parser ∷ head.Filter ∷ head.Output ∷ []
+
+-- the plugins of each
+abbrev pub plugins_of : Head → List Part
+plugins_of head.Service = []
+plugins_of head.Input = part.Tail ∷ part.Tcp ∷ part.Forward ∷ part.Stdin ∷ []
+plugins_of head.Parser = []
+plugins_of head.Filter = part.Grep ∷ part.Modify ∷ part.Nest ∷ []
+plugins_of head.Output = part.Stdout ∷ part.File ∷ part.TcpPeer ∷ part.ForwardPeer ∷ []
+
+abbrev pub name_of_plugin : Part → List ℕ
+name_of_plugin part.Service = []
+name_of_plugin part.Tail = codes "tail"
+name_of_plugin part.Tcp = codes "tcp"
+name_of_plugin part.Forward = codes "forward"
+name_of_plugin part.Stdin = codes "stdin"
+name_of_plugin part.Parser = []
+name_of_plugin part.Grep = codes "grep"
+name_of_plugin part.Modify = codes "modify"
+name_of_plugin part.Nest = codes "nest"
+name_of_plugin part.Stdout = codes "stdout"
+name_of_plugin part.File = codes "file"
+name_of_plugin part.TcpPeer = codes "tcp"
+name_of_plugin part.ForwardPeer = codes "forward"
+
+-- the keys of each section and plugin
+abbrev pub keys_of : Part → List Key
+keys_of part.Service = key.Flush ∷ key.Grace ∷ key.StoragePath ∷ key.StorageSync ∷ key.StorageChecksum ∷ key.MaxChunksUp ∷ key.BacklogMemLimit ∷ key.SchedulerBase ∷ key.SchedulerCap ∷ key.ParsersFile ∷ key.Daemon ∷ key.LogLevel ∷ key.LogFile ∷ key.HttpServer ∷ key.HttpListen ∷ key.HttpPort ∷ key.HealthCheck ∷ key.StorageMetrics ∷ key.PluginsFile ∷ []
+keys_of part.Tail = key.Name ∷ key.PlainTag ∷ key.StorageType ∷ key.MemBufLimit ∷ key.Alias ∷ key.LogLevel ∷ key.Paths ∷ key.ParserName ∷ key.ReadFromHead ∷ key.RefreshInterval ∷ key.RotateWait ∷ key.SkipLongLines ∷ key.BufferChunkSize ∷ key.BufferMaxSize ∷ []
+keys_of part.Tcp = key.Name ∷ key.Tag ∷ key.StorageType ∷ key.MemBufLimit ∷ key.Alias ∷ key.LogLevel ∷ key.Listen ∷ key.Port ∷ key.LineFormat ∷ key.ChunkSize ∷ key.BufferSize ∷ []
+keys_of part.Forward = key.Name ∷ key.Tag ∷ key.StorageType ∷ key.MemBufLimit ∷ key.Alias ∷ key.LogLevel ∷ key.Listen ∷ key.Port ∷ key.BufferChunkSize ∷ key.BufferMaxSize ∷ []
+keys_of part.Stdin = key.Name ∷ key.Tag ∷ key.StorageType ∷ key.MemBufLimit ∷ key.Alias ∷ key.LogLevel ∷ key.ParserName ∷ []
+keys_of part.Parser = key.Name ∷ key.ParserFormat ∷ key.Regex ∷ key.TimeKey ∷ key.TimeFormat ∷ key.TimeKeep ∷ key.Types ∷ key.SkipEmptyValues ∷ []
+keys_of part.Grep = key.Name ∷ key.Match ∷ key.GrepRegex ∷ key.GrepExclude ∷ []
+keys_of part.Modify = key.Name ∷ key.Match ∷ key.Condition ∷ key.Set ∷ key.Add ∷ key.Remove ∷ key.RemoveWildcard ∷ key.Rename ∷ key.HardRename ∷ key.Copy ∷ key.HardCopy ∷ []
+keys_of part.Nest = key.Name ∷ key.Match ∷ key.Operation ∷ key.Wildcard ∷ key.NestUnder ∷ key.NestedUnder ∷ key.RemovePrefix ∷ key.AddPrefix ∷ []
+keys_of part.Stdout = key.Name ∷ key.Match ∷ key.RetryLimit ∷ key.TotalLimit ∷ key.Tls ∷ key.Alias ∷ key.LogLevel ∷ key.Workers ∷ key.RecordFormat ∷ []
+keys_of part.File = key.Name ∷ key.Match ∷ key.RetryLimit ∷ key.TotalLimit ∷ key.Tls ∷ key.Alias ∷ key.LogLevel ∷ key.Workers ∷ key.Folder ∷ key.File ∷ key.FileFormat ∷ key.Mkdir ∷ []
+keys_of part.TcpPeer = key.Name ∷ key.Match ∷ key.RetryLimit ∷ key.TotalLimit ∷ key.Tls ∷ key.Alias ∷ key.LogLevel ∷ key.Workers ∷ key.Host ∷ key.Port ∷ key.RecordFormat ∷ []
+keys_of part.ForwardPeer = key.Name ∷ key.Match ∷ key.RetryLimit ∷ key.TotalLimit ∷ key.Tls ∷ key.Alias ∷ key.LogLevel ∷ key.Workers ∷ key.Host ∷ key.Port ∷ key.RequireAck ∷ key.TimeAsInteger ∷ []
+
+-- how each key is written
+abbrev pub name_of : Key → List ℕ
+name_of key.Name = codes "name"
+name_of key.Flush = codes "flush"
+name_of key.Grace = codes "grace"
+name_of key.StoragePath = codes "storage.path"
+name_of key.StorageSync = codes "storage.sync"
+name_of key.StorageChecksum = codes "storage.checksum"
+name_of key.MaxChunksUp = codes "storage.max_chunks_up"
+name_of key.BacklogMemLimit = codes "storage.backlog.mem_limit"
+name_of key.SchedulerBase = codes "scheduler.base"
+name_of key.SchedulerCap = codes "scheduler.cap"
+name_of key.ParsersFile = codes "parsers_file"
+name_of key.Daemon = codes "daemon"
+name_of key.LogLevel = codes "log_level"
+name_of key.LogFile = codes "log_file"
+name_of key.HttpServer = codes "http_server"
+name_of key.HttpListen = codes "http_listen"
+name_of key.HttpPort = codes "http_port"
+name_of key.HealthCheck = codes "health_check"
+name_of key.StorageMetrics = codes "storage.metrics"
+name_of key.PluginsFile = codes "plugins_file"
+name_of key.Tag = codes "tag"
+name_of key.PlainTag = codes "tag"
+name_of key.StorageType = codes "storage.type"
+name_of key.MemBufLimit = codes "mem_buf_limit"
+name_of key.Alias = codes "alias"
+name_of key.Paths = codes "path"
+name_of key.ParserName = codes "parser"
+name_of key.ReadFromHead = codes "read_from_head"
+name_of key.RefreshInterval = codes "refresh_interval"
+name_of key.RotateWait = codes "rotate_wait"
+name_of key.SkipLongLines = codes "skip_long_lines"
+name_of key.BufferChunkSize = codes "buffer_chunk_size"
+name_of key.BufferMaxSize = codes "buffer_max_size"
+name_of key.Listen = codes "listen"
+name_of key.Port = codes "port"
+name_of key.LineFormat = codes "format"
+name_of key.ChunkSize = codes "chunk_size"
+name_of key.BufferSize = codes "buffer_size"
+name_of key.ParserFormat = codes "format"
+name_of key.Regex = codes "regex"
+name_of key.TimeKey = codes "time_key"
+name_of key.TimeFormat = codes "time_format"
+name_of key.TimeKeep = codes "time_keep"
+name_of key.Types = codes "types"
+name_of key.SkipEmptyValues = codes "skip_empty_values"
+name_of key.Match = codes "match"
+name_of key.GrepRegex = codes "regex"
+name_of key.GrepExclude = codes "exclude"
+name_of key.Condition = codes "condition"
+name_of key.Set = codes "set"
+name_of key.Add = codes "add"
+name_of key.Remove = codes "remove"
+name_of key.RemoveWildcard = codes "remove_wildcard"
+name_of key.Rename = codes "rename"
+name_of key.HardRename = codes "hard_rename"
+name_of key.Copy = codes "copy"
+name_of key.HardCopy = codes "hard_copy"
+name_of key.Operation = codes "operation"
+name_of key.Wildcard = codes "wildcard"
+name_of key.NestUnder = codes "nest_under"
+name_of key.NestedUnder = codes "nested_under"
+name_of key.RemovePrefix = codes "remove_prefix"
+name_of key.AddPrefix = codes "add_prefix"
+name_of key.RetryLimit = codes "retry_limit"
+name_of key.TotalLimit = codes "storage.total_limit_size"
+name_of key.Tls = codes "tls"
+name_of key.Workers = codes "workers"
+name_of key.RecordFormat = codes "format"
+name_of key.Folder = codes "path"
+name_of key.File = codes "file"
+name_of key.FileFormat = codes "format"
+name_of key.Mkdir = codes "mkdir"
+name_of key.Host = codes "host"
+name_of key.RequireAck = codes "require_ack_response"
+name_of key.TimeAsInteger = codes "time_as_integer"
+
+-- how the value of each key is read
+abbrev pub kind_of : Key → Kind
+kind_of key.Name = kind.Plain plain.Ignored
+kind_of key.Flush = kind.Plain plain.Flush
+kind_of key.Grace = kind.Plain plain.Number
+kind_of key.StoragePath = kind.Plain plain.Text
+kind_of key.StorageSync = kind.Plain (plain.Choice menu.Sync)
+kind_of key.StorageChecksum = kind.Plain plain.False
+kind_of key.MaxChunksUp = kind.Plain plain.Positive
+kind_of key.BacklogMemLimit = kind.Plain plain.Size
+kind_of key.SchedulerBase = kind.Plain plain.Positive
+kind_of key.SchedulerCap = kind.Plain plain.Positive
+kind_of key.ParsersFile = kind.Plain plain.Ignored
+kind_of key.Daemon = kind.Plain plain.Ignored
+kind_of key.LogLevel = kind.Plain plain.Ignored
+kind_of key.LogFile = kind.Plain plain.Ignored
+kind_of key.HttpServer = kind.Plain plain.Ignored
+kind_of key.HttpListen = kind.Plain plain.Ignored
+kind_of key.HttpPort = kind.Plain plain.Ignored
+kind_of key.HealthCheck = kind.Plain plain.Ignored
+kind_of key.StorageMetrics = kind.Plain plain.Ignored
+kind_of key.PluginsFile = kind.Plain plain.Ignored
+kind_of key.Tag = kind.Plain plain.Tag
+kind_of key.PlainTag = kind.Plain plain.PlainTag
+kind_of key.StorageType = kind.Plain (plain.Choice menu.Store)
+kind_of key.MemBufLimit = kind.Plain plain.Size
+kind_of key.Alias = kind.Plain plain.Ignored
+kind_of key.Paths = kind.Plain plain.Paths
+kind_of key.ParserName = kind.Parser
+kind_of key.ReadFromHead = kind.Plain plain.Truth
+kind_of key.RefreshInterval = kind.Plain plain.Ignored
+kind_of key.RotateWait = kind.Plain plain.Ignored
+kind_of key.SkipLongLines = kind.Plain plain.Ignored
+kind_of key.BufferChunkSize = kind.Plain plain.Ignored
+kind_of key.BufferMaxSize = kind.Plain plain.Ignored
+kind_of key.Listen = kind.Plain plain.Text
+kind_of key.Port = kind.Plain plain.Port
+kind_of key.LineFormat = kind.Plain (plain.Choice menu.Lines)
+kind_of key.ChunkSize = kind.Plain plain.Ignored
+kind_of key.BufferSize = kind.Plain plain.Ignored
+kind_of key.ParserFormat = kind.Plain (plain.Choice menu.Shapes)
+kind_of key.Regex = kind.Pattern
+kind_of key.TimeKey = kind.Plain plain.Text
+kind_of key.TimeFormat = kind.Plain plain.Text
+kind_of key.TimeKeep = kind.Plain plain.Truth
+kind_of key.Types = kind.Plain plain.Types
+kind_of key.SkipEmptyValues = kind.Plain plain.Truth
+kind_of key.Match = kind.Plain plain.Text
+kind_of key.GrepRegex = kind.Grep false
+kind_of key.GrepExclude = kind.Grep true
+kind_of key.Condition = kind.Plain plain.Condition
+kind_of key.Set = kind.Plain (plain.Change change.Set)
+kind_of key.Add = kind.Plain (plain.Change change.Add)
+kind_of key.Remove = kind.Plain (plain.Change change.Remove)
+kind_of key.RemoveWildcard = kind.Plain (plain.Change change.RemoveWildcard)
+kind_of key.Rename = kind.Plain (plain.Change change.Rename)
+kind_of key.HardRename = kind.Plain (plain.Change change.HardRename)
+kind_of key.Copy = kind.Plain (plain.Change change.Copy)
+kind_of key.HardCopy = kind.Plain (plain.Change change.HardCopy)
+kind_of key.Operation = kind.Plain (plain.Choice menu.Operations)
+kind_of key.Wildcard = kind.Plain plain.Wildcard
+kind_of key.NestUnder = kind.Plain plain.Text
+kind_of key.NestedUnder = kind.Plain plain.Text
+kind_of key.RemovePrefix = kind.Plain plain.Text
+kind_of key.AddPrefix = kind.Plain plain.Text
+kind_of key.RetryLimit = kind.Plain plain.Retries
+kind_of key.TotalLimit = kind.Plain plain.Size
+kind_of key.Tls = kind.Plain plain.False
+kind_of key.Workers = kind.Plain plain.Ignored
+kind_of key.RecordFormat = kind.Plain (plain.Choice menu.Records)
+kind_of key.Folder = kind.Plain plain.Text
+kind_of key.File = kind.Plain plain.Text
+kind_of key.FileFormat = kind.Plain (plain.Choice menu.FileRecords)
+kind_of key.Mkdir = kind.Plain plain.Ignored
+kind_of key.Host = kind.Plain plain.Text
+kind_of key.RequireAck = kind.Plain plain.Truth
+kind_of key.TimeAsInteger = kind.Plain plain.Truth
+
+-- the words of each choice
+abbrev pub words_of : Menu → List Word
+words_of menu.Sync = word.Normal ∷ word.Full ∷ []
+words_of menu.Store = word.Memory ∷ word.Filesystem ∷ []
+words_of menu.Lines = word.Json ∷ word.Plain ∷ []
+words_of menu.Shapes = word.Json ∷ word.Regex ∷ word.Plain ∷ []
+words_of menu.Records = word.JsonLines ∷ word.MsgPack ∷ []
+words_of menu.FileRecords = word.OutFile ∷ word.JsonLines ∷ []
+words_of menu.Operations = word.Nest ∷ word.Lift ∷ []
+
+abbrev pub text_of : Word → List ℕ
+text_of word.Normal = codes "normal"
+text_of word.Full = codes "full"
+text_of word.Memory = codes "memory"
+text_of word.Filesystem = codes "filesystem"
+text_of word.Json = codes "json"
+text_of word.Regex = codes "regex"
+text_of word.Plain = codes "none"
+text_of word.JsonLines = codes "json_lines"
+text_of word.MsgPack = codes "msgpack"
+text_of word.OutFile = codes "out_file"
+text_of word.Nest = codes "nest"
+text_of word.Lift = codes "lift"
+
+-- the section of that name
+abbrev pub is_head_named : List ℕ → Head → Bool
+is_head_named name head = str_eq_ignore_ascii_case (name_of_head head) name
+
+abbrev pub head_of : List ℕ → Option Head
+head_of name = find (is_head_named name) heads
+
+-- the plugin of that name
+abbrev pub is_plugin_named : List ℕ → Part → Bool
+is_plugin_named name plugin = bytes_eq (name_of_plugin plugin) name
+
+abbrev pub plugin_of : Head → List ℕ → Option Part
+plugin_of head name = find (is_plugin_named name) (plugins_of head)
+
+-- the key of that name, where the section or plugin has it
+abbrev pub is_key_named : List ℕ → Key → Bool
+is_key_named name key = str_eq_ignore_ascii_case (name_of key) name
+
+abbrev pub key_of : Part → List ℕ → Option Key
+key_of part name = find (is_key_named name) (keys_of part)
+
+-- the word of a choice
+abbrev pub is_written : List ℕ → Word → Bool
+is_written text word = bytes_eq (text_of word) text
+
+abbrev pub word_of : Menu → List ℕ → Option Word
+word_of menu text = find (is_written text) (words_of menu)

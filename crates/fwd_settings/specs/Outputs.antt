@@ -1,0 +1,62 @@
+-- Outputs, from what their sections say.
+use Rattle.std.specs.Prelude.{ℕ, Bool, true, false, List, codes, count_by, Option, Some, unwrap_or}
+use Rattle.fwd_base.specs.declared.choices.Form.{Form}
+use Rattle.fwd_base.specs.declared.choices.Form.TheVariants as form
+use Rattle.fwd_base.specs.declared.choices.Retries.TheVariants.{Times}
+use Rattle.fwd_settings.specs.declared.chosen.OutputKind.{OutputKind}
+use Rattle.fwd_settings.specs.declared.chosen.OutputKind.TheVariants as output
+use Rattle.fwd_settings.specs.declared.chosen.OutputSet.{OutputSet}
+use Rattle.fwd_settings.specs.declared.parts.Part.{Part}
+use Rattle.fwd_settings.specs.declared.parts.Part.TheVariants as part
+use Rattle.fwd_settings.specs.declared.keys.Key.TheVariants as key
+use Rattle.fwd_settings.specs.declared.words.Word.{Word}
+use Rattle.fwd_settings.specs.declared.words.Word.TheVariants as word
+use Rattle.fwd_settings.specs.declared.said.Said.{Said}
+use Rattle.fwd_settings.specs.Said.{number_at, port_at, truth_at, word_at, text_at, retries_at}
+use Rattle.fwd_settings.specs.Inputs.{instance}
+use Rattle.fwd_settings.specs.Filters.{glob_of}
+
+-- whether an output is of the plugin
+abbrev pub is_output_of : Part → OutputSet → Bool
+is_output_of plugin set = of_kind plugin set.kind
+  where
+    of_kind : Part → OutputKind → Bool
+    of_kind part.Stdout (output.Stdout form) = true
+    of_kind part.File (output.File folder file form) = true
+    of_kind part.TcpPeer (output.Tcp host port form) = true
+    of_kind part.ForwardPeer (output.Forward host port ack whole_time) = true
+    of_kind _ _ = false
+
+-- its number among the outputs of the plugin, from 0
+abbrev pub output_name : List OutputSet → Part → List ℕ
+output_name before plugin = instance plugin (count_by (is_output_of plugin) before)
+
+-- lines of JSON are the default
+abbrev pub record_form : Option Word → Form
+record_form (Some word.MsgPack) = form.MsgPack
+record_form _ = form.JsonLines
+
+-- of a file, lines with the tag
+abbrev pub file_form : Option Word → Form
+file_form (Some word.JsonLines) = form.JsonLines
+file_form _ = form.OutFile
+
+abbrev pub host_of : List Said → List ℕ
+host_of said = unwrap_or (text_at key.Host said) (codes "127.0.0.1")
+
+abbrev pub output_kind : Part → List Said → OutputKind
+output_kind part.File said = output.File (unwrap_or (text_at key.Folder said) (codes ".")) (text_at key.File said) (file_form (word_at key.FileFormat said))
+output_kind part.TcpPeer said = output.Tcp (host_of said) (unwrap_or (port_at key.Port said) 5170) (record_form (word_at key.RecordFormat said))
+output_kind part.ForwardPeer said =
+    output.Forward (host_of said) (unwrap_or (port_at key.Port said) 24224) (unwrap_or (truth_at key.RequireAck said) false) (unwrap_or (truth_at key.TimeAsInteger said) false)
+output_kind _ said = output.Stdout (record_form (word_at key.RecordFormat said))
+
+-- an output behind those before it
+abbrev pub output_from : Part → List OutputSet → List Said → OutputSet
+output_from plugin before said = record {
+  name = output_name before plugin;
+  glob = glob_of said;
+  kind = output_kind plugin said;
+  retries = unwrap_or (retries_at key.RetryLimit said) (Times 1);
+  total_limit = number_at key.TotalLimit said;
+}

@@ -1,0 +1,53 @@
+-- What the engine asks of its settings.
+use Rattle.std.specs.Prelude.{◌≡◌, ℕ, ◌≤◌, IsTrue, List, [], ◌∷◌, ◌++◌, length, Option, Some, None, IsSome, IsUtf8}
+use Rattle.std.specs.List.{AllByRecursion}
+use Rattle.fwd_settings.specs.declared.chosen.AllSettings.{AllSettings}
+use Rattle.fwd_settings.specs.declared.chosen.InputSet.{InputSet}
+use Rattle.fwd_settings.specs.declared.chosen.InputKind.{InputKind}
+use Rattle.fwd_settings.specs.declared.chosen.InputKind.TheVariants as input
+use Rattle.fwd_settings.specs.declared.chosen.OutputSet.{OutputSet}
+use Rattle.fwd_settings.specs.declared.chosen.OutputKind.{OutputKind}
+use Rattle.fwd_settings.specs.declared.chosen.OutputKind.TheVariants as output
+use Rattle.fwd_settings.specs.declared.parts.Part.{Part}
+use Rattle.fwd_settings.specs.declared.parts.Part.TheVariants as part
+use Rattle.fwd_settings.specs.Inputs.{input_name}
+use Rattle.fwd_settings.specs.Outputs.{output_name}
+
+abbrev pub input_plugin : InputKind → Part
+input_plugin (input.Tail paths from_head) = part.Tail
+input_plugin (input.Tcp host port) = part.Tcp
+input_plugin (input.Forward host port) = part.Forward
+input_plugin input.Stdin = part.Stdin
+
+abbrev pub output_plugin : OutputKind → Part
+output_plugin (output.Stdout form) = part.Stdout
+output_plugin (output.File folder file form) = part.File
+output_plugin (output.Tcp host port form) = part.TcpPeer
+output_plugin (output.Forward host port ack whole_time) = part.ForwardPeer
+
+-- each is named by its plugin and its number among those of the plugin
+abbrev pub AreInputsNamed : List InputSet → List InputSet → Type 0
+AreInputsNamed before [] = Unit {0}
+AreInputsNamed before (set ∷ more) = (set.name ≡ input_name before (input_plugin set.kind)) × AreInputsNamed (before ++ set ∷ []) more
+
+abbrev pub AreOutputsNamed : List OutputSet → List OutputSet → Type 0
+AreOutputsNamed before [] = Unit {0}
+AreOutputsNamed before (set ∷ more) = (set.name ≡ output_name before (output_plugin set.kind)) × AreOutputsNamed (before ++ set ∷ []) more
+
+-- a tag has 1 to 1,024 bytes of UTF-8; forward alone may have none
+abbrev pub IsTagText : List ℕ → Type 0
+IsTagText tag = (1 ≤ length tag) × (length tag ≤ 1024) × IsUtf8 tag
+
+abbrev pub HasTag : InputKind → Option (List ℕ) → Type 0
+HasTag kind (Some tag) = IsTagText tag
+HasTag (input.Forward host port) None = Unit {0}
+HasTag _ None = ⊥
+
+pub record IsSound (settings : AllSettings) : Type 0 where
+  pub few_inputs : length settings.inputs ≤ 64
+  pub few_outputs : length settings.outputs ≤ 64
+  pub inputs_named : AreInputsNamed [] settings.inputs
+  pub outputs_named : AreOutputsNamed [] settings.outputs
+  pub tagged : AllByRecursion (λ set. HasTag set.kind set.tag) settings.inputs
+  pub base : 1 ≤ settings.service.base
+  pub stored : AllByRecursion (λ set. IsTrue set.stored → IsSome settings.service.path) settings.inputs

@@ -1,0 +1,104 @@
+//! Outputs.
+
+ghost use Rattle.std.specs.Prelude.{◌≡◌, IfOk, count_by};
+ghost use Rattle.fwd_settings.specs.Outputs.{is_output_of, record_form, file_form, host_of, output_kind, output_from};
+
+use crate::filters::glob_of;
+use crate::inputs::instance;
+use crate::keys::Key;
+use crate::parts::Part;
+use crate::said::{Said, number_at, own_text, port_at, retries_at, text_or, truth_at, word_at};
+use crate::words::Word;
+use crate::{OutputKind, OutputSet};
+use fwd_base::{Bytes, Form, Memory, Retries};
+use std::alloc::Global;
+
+fn is_output_of(plugin: Part, set: &OutputSet) -> bool
+    ensures { result ≡ is_output_of plugin set.now }
+{
+    match (plugin, &set.kind) {
+        (Part::Stdout, OutputKind::Stdout { .. })
+        | (Part::File, OutputKind::File { .. })
+        | (Part::TcpPeer, OutputKind::Tcp { .. })
+        | (Part::ForwardPeer, OutputKind::Forward { .. }) => true,
+        _ => false,
+    }
+}
+
+fn count_of(plugin: Part, before: &[OutputSet]) -> usize
+    ensures { result ≡ count_by (is_output_of plugin) before.now }
+{
+    before
+        .iter()
+        .filter(|set| is_output_of(plugin, set))
+        .count()
+}
+
+fn record_form(word: Option<Word>) -> Form
+    ensures { result ≡ record_form word }
+{
+    match word {
+        Some(Word::MsgPack) => Form::MsgPack,
+        _ => Form::JsonLines,
+    }
+}
+
+fn file_form(word: Option<Word>) -> Form
+    ensures { result ≡ file_form word }
+{
+    match word {
+        Some(Word::JsonLines) => Form::JsonLines,
+        _ => Form::OutFile,
+    }
+}
+
+fn host_of(alloc: Global, said: &[Said]) -> Result<Bytes, Memory>
+    ensures { IfOk result (λ host. host ≡ host_of said.now) }
+{
+    text_or(alloc, said, Key::Host, b"127.0.0.1")
+}
+
+/// The kind of an output.
+fn output_kind(alloc: Global, plugin: Part, said: &[Said]) -> Result<OutputKind, Memory>
+    ensures { IfOk result (λ kind. kind ≡ output_kind plugin said.now) }
+{
+    match plugin {
+        Part::File => Ok(OutputKind::File {
+            folder: text_or(alloc, said, Key::Folder, b".")?,
+            file: own_text(alloc, said, Key::File)?,
+            form: file_form(word_at(said, Key::FileFormat)),
+        }),
+        Part::TcpPeer => Ok(OutputKind::Tcp {
+            host: host_of(alloc, said)?,
+            port: port_at(said, Key::Port).unwrap_or(5170),
+            form: record_form(word_at(said, Key::RecordFormat)),
+        }),
+        Part::ForwardPeer => Ok(OutputKind::Forward {
+            host: host_of(alloc, said)?,
+            port: port_at(said, Key::Port).unwrap_or(24224),
+            ack: truth_at(said, Key::RequireAck).unwrap_or(false),
+            whole_time: truth_at(said, Key::TimeAsInteger).unwrap_or(false),
+        }),
+        _ => Ok(OutputKind::Stdout {
+            form: record_form(word_at(said, Key::RecordFormat)),
+        }),
+    }
+}
+
+/// An output behind those before it.
+pub fn output_from(
+    alloc: Global,
+    plugin: Part,
+    before: &[OutputSet],
+    said: &[Said],
+) -> Result<OutputSet, Memory>
+    ensures { IfOk result (λ set. set ≡ output_from plugin before.now said.now) }
+{
+    Ok(OutputSet {
+        name: instance(alloc, plugin, count_of(plugin, before))?,
+        glob: glob_of(alloc, said)?,
+        kind: output_kind(alloc, plugin, said)?,
+        retries: retries_at(said, Key::RetryLimit).unwrap_or(Retries::Times(1)),
+        total_limit: number_at(said, Key::TotalLimit),
+    })
+}

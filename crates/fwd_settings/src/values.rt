@@ -1,0 +1,148 @@
+//! How values are read.
+
+ghost use Rattle.std.specs.Prelude.{◌≡◌, ◌≢◌, IfOk, IfErr};
+ghost use Rattle.fwd_choices.specs.declared.kind.SettingKind.TheVariants.{Memory};
+ghost use Rattle.fwd_choices.specs.declared.kind.SettingKind.TheVariants.{BadNumber, BadChoice};
+ghost use Rattle.fwd_settings.specs.Values.{value_of, or_else, when};
+ghost use Rattle.fwd_settings.specs.declared.keys.Plain.TheVariants as plain;
+
+use crate::keys::Plain;
+use crate::said::Value;
+use crate::words::{Menu, Word};
+use fwd_base::{Bytes, parse_size};
+use fwd_choices::{
+    ChangeWord, SettingKind, change, condition, field_types, flush_ms, is_false, is_plain, is_tag,
+    number, port, positive, retries, truth,
+};
+use std::alloc::Global;
+
+/// A number, if there is one.
+fn numeral(number: Option<u64>) -> Result<Value, SettingKind>
+    ensures { result ≡ or_else BadNumber Value.Number number }
+{
+    match number {
+        Some(number) => Ok(Value::Number(number)),
+        None => Err(SettingKind::BadNumber),
+    }
+}
+
+fn read_port(text: &[u8]) -> Result<Value, SettingKind>
+    ensures { result ≡ value_of plain.Port text.now }
+{
+    match port(text) {
+        Some(port) => Ok(Value::Port(port)),
+        None => Err(SettingKind::BadNumber),
+    }
+}
+
+fn read_retries(text: &[u8]) -> Result<Value, SettingKind>
+    ensures { result ≡ value_of plain.Retries text.now }
+{
+    match retries(text) {
+        Some(retries) => Ok(Value::Retries(retries)),
+        None => Err(SettingKind::BadNumber),
+    }
+}
+
+fn read_size(text: &[u8]) -> Result<Value, SettingKind>
+    ensures { result ≡ value_of plain.Size text.now }
+{
+    match parse_size(text) {
+        Ok(size) => Ok(Value::Number(size)),
+        Err(_) => Err(SettingKind::BadSize),
+    }
+}
+
+fn read_truth(text: &[u8]) -> Result<Value, SettingKind>
+    ensures { result ≡ value_of plain.Truth text.now }
+{
+    match truth(text) {
+        Some(truth) => Ok(Value::Truth(truth)),
+        None => Err(SettingKind::BadChoice),
+    }
+}
+
+fn read_false(text: &[u8]) -> Result<Value, SettingKind>
+    ensures { result ≡ value_of plain.False text.now }
+{
+    if is_false(text) {
+        Ok(Value::Truth(false))
+    } else {
+        Err(SettingKind::BadChoice)
+    }
+}
+
+fn read_word(menu: Menu, text: &[u8]) -> Result<Value, SettingKind>
+    ensures { result ≡ value_of (plain.Choice menu) text.now }
+{
+    match Word::of(menu, text) {
+        Some(word) => Ok(Value::Word(word)),
+        None => Err(SettingKind::BadChoice),
+    }
+}
+
+/// A copy of the text, if it may be taken.
+fn text_if(alloc: Global, takes: bool, text: &[u8]) -> Result<Value, SettingKind>
+    ensures ok { IfOk result (λ value. or_else BadChoice Value.Text (when takes text.now) ≡ Ok value) }
+    ensures err { IfErr result (λ kind. kind ≢ Memory → or_else BadChoice Value.Text (when takes text.now) ≡ Err kind) }
+{
+    if takes {
+        Ok(Value::Text(Bytes::from_slice(alloc, text)?))
+    } else {
+        Err(SettingKind::BadChoice)
+    }
+}
+
+fn read_types(alloc: Global, text: &[u8]) -> Result<Value, SettingKind>
+    ensures ok { IfOk result (λ value. value_of plain.Types text.now ≡ Ok value) }
+    ensures err { IfErr result (λ kind. kind ≢ Memory → value_of plain.Types text.now ≡ Err kind) }
+{
+    text_if(alloc, field_types(alloc, text)?.is_some(), text)
+}
+
+fn read_condition(alloc: Global, text: &[u8]) -> Result<Value, SettingKind>
+    ensures ok { IfOk result (λ value. value_of plain.Condition text.now ≡ Ok value) }
+    ensures err { IfErr result (λ kind. kind ≢ Memory → value_of plain.Condition text.now ≡ Err kind) }
+{
+    match condition(alloc, text)? {
+        Some(condition) => Ok(Value::Condition(condition)),
+        None => Err(SettingKind::BadChoice),
+    }
+}
+
+fn read_change(alloc: Global, word: ChangeWord, text: &[u8]) -> Result<Value, SettingKind>
+    ensures ok { IfOk result (λ value. value_of (plain.Change word) text.now ≡ Ok value) }
+    ensures err { IfErr result (λ kind. kind ≢ Memory → value_of (plain.Change word) text.now ≡ Err kind) }
+{
+    match change(alloc, word, text)? {
+        Some(change) => Ok(Value::Change(change)),
+        None => Err(SettingKind::BadChoice),
+    }
+}
+
+/// A value that is neither a pattern nor a parser.
+pub fn read_plain(alloc: Global, plain: Plain, text: &[u8]) -> Result<Value, SettingKind>
+    ensures ok { IfOk result (λ value. value_of plain text.now ≡ Ok value) }
+    ensures err { IfErr result (λ kind. kind ≢ Memory → value_of plain text.now ≡ Err kind) }
+{
+    match plain {
+        Plain::Ignored => Ok(Value::Nothing),
+        Plain::Number => numeral(number(text)),
+        Plain::Positive => numeral(positive(text)),
+        Plain::Flush => numeral(flush_ms(text)),
+        Plain::Port => read_port(text),
+        Plain::Retries => read_retries(text),
+        Plain::Size => read_size(text),
+        Plain::Truth => read_truth(text),
+        Plain::False => read_false(text),
+        Plain::Choice(menu) => read_word(menu, text),
+        Plain::Text => Ok(Value::Text(Bytes::from_slice(alloc, text)?)),
+        Plain::Tag => text_if(alloc, is_tag(text), text),
+        Plain::PlainTag => text_if(alloc, is_plain(text) && is_tag(text), text),
+        Plain::Paths => text_if(alloc, is_plain(text), text),
+        Plain::Types => read_types(alloc, text),
+        Plain::Condition => read_condition(alloc, text),
+        Plain::Change(word) => read_change(alloc, word, text),
+        Plain::Wildcard => Ok(Value::Wildcard(Bytes::from_slice(alloc, text)?)),
+    }
+}

@@ -1,0 +1,116 @@
+//! The words of choices.
+
+ghost use Rattle.std.specs.Prelude.{◌≡◌};
+ghost use Rattle.std.specs.List.{find};
+ghost use Rattle.std.specs.Str.{str_eq_ignore_ascii_case};
+ghost use Rattle.fwd_settings.specs.Keys.{text_of, words_of, is_written, word_of};
+
+/// A word of a choice.
+#[derive(Clone, Copy)]
+pub enum Word {
+    Normal,
+    Full,
+    Memory,
+    Filesystem,
+    Json,
+    Regex,
+    Plain,
+    JsonLines,
+    MsgPack,
+    OutFile,
+    Nest,
+    Lift,
+}
+
+/// The words that a key may choose from.
+#[derive(Clone, Copy)]
+pub enum Menu {
+    Sync,
+    Store,
+    Lines,
+    Shapes,
+    Records,
+    FileRecords,
+    Operations,
+}
+
+const SYNC: [Word; 2] = [Word::Normal, Word::Full];
+
+const STORE: [Word; 2] = [Word::Memory, Word::Filesystem];
+
+const LINES: [Word; 2] = [Word::Json, Word::Plain];
+
+const SHAPES: [Word; 3] = [Word::Json, Word::Regex, Word::Plain];
+
+const RECORDS: [Word; 2] = [Word::JsonLines, Word::MsgPack];
+
+const FILE_RECORDS: [Word; 2] = [Word::OutFile, Word::JsonLines];
+
+const OPERATIONS: [Word; 2] = [Word::Nest, Word::Lift];
+
+impl Word {
+    /// As it is written.
+    fn text(self) -> &'static [u8]
+        ensures { result.now ≡ text_of self }
+    {
+        match self {
+            Word::Normal => b"normal",
+            Word::Full => b"full",
+            Word::Memory => b"memory",
+            Word::Filesystem => b"filesystem",
+            Word::Json => b"json",
+            Word::Regex => b"regex",
+            Word::Plain => b"none",
+            Word::JsonLines => b"json_lines",
+            Word::MsgPack => b"msgpack",
+            Word::OutFile => b"out_file",
+            Word::Nest => b"nest",
+            Word::Lift => b"lift",
+        }
+    }
+
+    fn is_written(self, text: &[u8]) -> bool
+        ensures { result ≡ is_written text.now self }
+    {
+        self.text() == text
+    }
+
+    /// The word of a choice that a text is.
+    pub fn of(menu: Menu, text: &[u8]) -> Option<Word>
+        ensures { result ≡ word_of menu text.now }
+    {
+        first_written(words(menu), text)
+    }
+}
+
+/// Whether two names are the same, case ignored.
+pub fn same_name(name: &[u8], other: &[u8]) -> bool
+    ensures { result ≡ str_eq_ignore_ascii_case name.now other.now }
+{
+    name.eq_ignore_ascii_case(other)
+}
+
+fn words(menu: Menu) -> &'static [Word]
+    ensures { result.now ≡ words_of menu }
+{
+    match menu {
+        Menu::Sync => &SYNC,
+        Menu::Store => &STORE,
+        Menu::Lines => &LINES,
+        Menu::Shapes => &SHAPES,
+        Menu::Records => &RECORDS,
+        Menu::FileRecords => &FILE_RECORDS,
+        Menu::Operations => &OPERATIONS,
+    }
+}
+
+fn first_written(words: &[Word], text: &[u8]) -> Option<Word>
+    ensures { result ≡ find (is_written text.now) words.now }
+{
+    for word in words {
+        if word.is_written(text) {
+            return Some(*word);
+        }
+    }
+    None
+}
