@@ -5,3 +5,10 @@ mod Opening
 mod Holding
 mod Sound
 mod Moments
+mod Reading
+mod Contents
+mod Standing
+mod Own
+mod Others
+mod Crashes
+mod Staying

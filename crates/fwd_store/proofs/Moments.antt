@@ -1,6 +1,6 @@
 -- What each moment of an acceptance keeps.
 use Rattle.std.proofs.Common.{◌≡◌, inl, ℕ, ◌+◌, ◌≤◌, true, refl, IsSome, Option, Some, None, List, ◌++◌, length, sym, ◌∙◌, subst}
-use Rattle.fwd_program.specs.Program.{Program, Return, Ask}
+use Rattle.fwd_program.specs.Program.{Return, Ask}
 use Rattle.fwd_program.specs.Moments.{Holds}
 use Rattle.fwd_program.proofs.Holding.{holds_weaker}
 use Rattle.fwd_program.proofs.Going.{holds_and_then}
@@ -12,7 +12,7 @@ use Rattle.fwd_chunk.specs.declared.append.ChunkHead.{ChunkHead}
 use Rattle.fwd_chunk.specs.Layout.{longest, new_file, new_meta}
 use Rattle.fwd_chunk.specs.Append.{Leaves, LeavesEither, IsSettled, SettledIn, StagedIn, KeepsOld, KeepsEither, ComesWhole, stages, commits, creates, new_head, committed_head}
 use Rattle.fwd_chunk.proofs.Staging.{Staged, stage_keeps, good_leaves}
-use Rattle.fwd_chunk.proofs.Committing.{Committed, commit_keeps, either_leaves}
+use Rattle.fwd_chunk.proofs.Committing.{Committed, commit_keeps}
 use Rattle.fwd_chunk.proofs.Creating.{Created, create_keeps, new_settled}
 use Rattle.fwd_store.specs.declared.kept.Kept.TheVariants.{InFile}
 use Rattle.fwd_outside.specs.declared.home.Home.TheVariants.{Disk}

@@ -1,6 +1,6 @@
 -- The open chunks as the entries of a map.
-use Rattle.std.proofs.Common.{◌≡◌, ℕ, ◌==◌, ◌||◌, Bool, true, false, not, cond, if◌then◌else◌, is_some, List, [], ◌∷◌, ◌++◌, map, filter, Option, Some, None, slice_get, refl, sym, ◌∙◌, ap, subst}
-use Rattle.std.specs.Map.{lookup, keys_of}
+use Rattle.std.proofs.Common.{◌≡◌, ℕ, ◌==◌, Bool, true, false, not, cond, if◌then◌else◌, List, [], ◌∷◌, ◌++◌, map, filter, Option, Some, None, slice_get, refl, ◌∙◌, ap}
+use Rattle.std.specs.Map.{lookup}
 use Rattle.fwd_store.specs.declared.opened.Source.{Source}
 use Rattle.fwd_store.specs.Source.{opened_at}
 use Rattle.fwd_store.specs.Opened.{Opened, is_for, open_for, without, first_of}
@@ -29,20 +29,6 @@ others n (e ∷ es) = by (not (e.1 == n)) (others n es)
     by : (b : Bool) → map opened_at (filter (λ e. not (e.1 == n)) es) ≡ without n (map opened_at es)
         → map opened_at (if b then e ∷ filter (λ e. not (e.1 == n)) es else filter (λ e. not (e.1 == n)) es) ≡ (if b then opened_at e ∷ without n (map opened_at es) else without n (map opened_at es))
     by true rest = ap (λ (l : List Opened). opened_at e ∷ l) rest
-    by false rest = rest
-
--- whether one of the sources is that of the input and the tag
-abbrev pub has_source : ℕ → List ℕ → List Source → Bool
-has_source input tag [] = false
-has_source input tag (s ∷ ss) = is_for input tag (opened_at (s, 0)) || has_source input tag ss
-
-pub has_one : (input : ℕ) (tag : List ℕ) (es : List (Source × ℕ)) → is_some (open_for (map opened_at es) input tag) ≡ has_source input tag (keys_of es)
-has_one input tag [] = refl
-has_one input tag (e ∷ es) = by (is_for input tag (opened_at e)) (has_one input tag es)
-  where
-    by : (b : Bool) → is_some (open_for (map opened_at es) input tag) ≡ has_source input tag (keys_of es)
-        → is_some (if b then Some e.1 else open_for (map opened_at es) input tag) ≡ (b || has_source input tag (keys_of es))
-    by true rest = refl
     by false rest = rest
 
 pub first_at : (es : List (Source × ℕ)) (s : Source) (n : ℕ) → Some (s, n) ≡ slice_get es 0 → Some n ≡ first_of (map opened_at es)

@@ -1,5 +1,6 @@
 -- What changes of a store keep.
-use Rattle.std.proofs.Common.{◌≡◌, ℕ, ◌+◌, ◌<◌, ◌≤◌, ◌==◌, length, nat_eq, Bool, true, false, not, cond, if◌then◌else◌, List, [], ◌∷◌, ◌++◌, filter, All, Option, Some, None, IsSome, refl, sym, ◌∙◌, ap, subst, arith}
+use Rattle.std.proofs.Common.{◌≡◌, ℕ, ◌+◌, ◌<◌, ◌≤◌, ◌==◌, length, nat_eq, nat_lt, Bool, true, false, IsTrue, not, cond, if◌then◌else◌, List, [], ◌∷◌, ◌++◌, All, Option, Some, None, IsSome, unwrap_or, refl, sym, ◌∙◌, ap, subst, arith}
+use Rattle.std.proofs.lemmas.Bool.{ltb-true}
 use Rattle.std.proofs.lemmas.Bool.Decides.{Decides-eqb}
 use Rattle.std.proofs.lemmas.List.Elements.{All-nil, All-cons, All-head, All-tail, All-push, All-filter, All-weaker}
 use Rattle.std.specs.FinMap as map
@@ -8,10 +9,11 @@ use Rattle.fwd_outside.specs.declared.home.Home.{Home}
 use Rattle.fwd_outside.specs.declared.home.Home.TheVariants.{Disk, Ram}
 use Rattle.fwd_store.specs.declared.kept.Kept.{Kept}
 use Rattle.fwd_store.specs.declared.kept.Kept.TheVariants.{InFile, Adopted, InMemory}
-use Rattle.fwd_store.specs.Kept.{size_of, grown, HasRoom}
+use Rattle.fwd_store.specs.Kept.{size_of, size_held, grown, HasRoom}
+use Rattle.fwd_store.specs.Name.{file_name}
 use Rattle.fwd_store.specs.Opened.{Opened, is_for, open_for, without}
 use Rattle.fwd_store.specs.Stored.{Held, Stored}
-use Rattle.fwd_store.specs.Store.{CanGrow, IsSound, last_number, used, with_new, with_kept, sealed, dropped, after_failed_append, has_file, kept_as, longest_batch}
+use Rattle.fwd_store.specs.Store.{CanGrow, IsHeldAs, IsSound, last_number, used, with_new, with_kept, sealed, dropped, after_failed_append, has_file, has_room, kept_as, longest_batch}
 use Rattle.fwd_store.proofs.Holding.{get_inserted, get_removed}
 
 abbrev Grows : Held → Opened → Type 0
@@ -20,14 +22,32 @@ Grows chunks o = CanGrow (map.get chunks o.chunk)
 none_held : (q : ℕ) → IsSome (map.get (map.empty {X = Kept} {R = nat_cmp}) q) → ⊥
 none_held q is = let none : IsSome {T = Kept} None = subst IsSome (map.get-empty nat_cmp q) is in absurd (cc none)
 
+-- what is held of each chunk, as one of them comes, changes or goes
+held_new : (root : Option (List ℕ)) (n : ℕ) → IsHeldAs root n (map.get (map.empty {X = Kept} {R = nat_cmp}) n)
+held_new root n = subst (IsHeldAs root n) (sym (map.get-empty nat_cmp n)) tt
+
+held_with : (root : Option (List ℕ)) (chunks : Held) (k : ℕ) (kept : Kept) → IsHeldAs root k (Some kept) → ((n : ℕ) → IsHeldAs root n (map.get chunks n)) → (n : ℕ) → IsHeldAs root n (map.get (map.insert chunks k kept) n)
+held_with root chunks k kept here held n = subst (IsHeldAs root n) (sym (get_inserted chunks k kept n)) (by (nat_eq k n) refl)
+  where
+    by : (b : Bool) → nat_eq k n ≡ b → IsHeldAs root n (cond b (Some kept) (map.get chunks n))
+    by true e = subst (λ (m : ℕ). IsHeldAs root m (Some kept)) ((Decides-eqb k n).0 e) here
+    by false e = held n
+
+held_without : (root : Option (List ℕ)) (chunks : Held) (k : ℕ) → ((n : ℕ) → IsHeldAs root n (map.get chunks n)) → (n : ℕ) → IsHeldAs root n (map.get (map.remove chunks k) n)
+held_without root chunks k held n = subst (IsHeldAs root n) (sym (get_removed chunks k n)) (by (nat_eq k n))
+  where
+    by : (b : Bool) → IsHeldAs root n (cond b None (map.get chunks n))
+    by true = tt
+    by false = held n
+
 pub sound_new : (root : Option (List ℕ)) (full : Bool) (next : ℕ) → next ≤ last_number → IsSound (record { root = root; full = full; next = next; chunks = map.empty; opened = [] })
-sound_new root full next le = record { each = All-nil (Grows map.empty); below = λ n is. absurd (none_held n is); numbers = le }
+sound_new root full next le = record { each = All-nil (Grows map.empty); held = held_new root; below = λ n is. absurd (none_held n is); numbers = le }
 
 pub sound_sealed : (s : Stored) (n : ℕ) → IsSound s → IsSound (sealed s n)
-sound_sealed s n sound = record { each = All-filter (λ o. not (o.chunk == n)) (Grows s.chunks) s.opened sound.each; below = sound.below; numbers = sound.numbers }
+sound_sealed s n sound = record { each = All-filter (λ o. not (o.chunk == n)) (Grows s.chunks) s.opened sound.each; held = sound.held; below = sound.below; numbers = sound.numbers }
 
 pub sound_used : (s : Stored) → s.next < last_number → IsSound s → IsSound (used s)
-sound_used s lt sound = record { each = sound.each; below = λ n is. let b : n < s.next = sound.below n is in omega arith; numbers = omega arith }
+sound_used s lt sound = record { each = sound.each; held = sound.held; below = λ n is. let b : n < s.next = sound.below n is in omega arith; numbers = omega arith }
 
 -- one chunk changes, and takes batches after as before
 grows_put : (chunks : Held) (k : ℕ) (kept : Kept) (o : Opened) → (nat_eq k o.chunk ≡ true → CanGrow (map.get chunks o.chunk) → CanGrow (Some kept)) → CanGrow (map.get chunks o.chunk) → CanGrow (map.get (map.insert chunks k kept) o.chunk)
@@ -44,27 +64,30 @@ held_put chunks k kept limit n lt below is = by (nat_eq k n) refl (subst IsSome 
     by true e there = let same : k ≡ n = (Decides-eqb k n).0 e in omega arith
     by false e there = below n there
 
-pub sound_with_kept : (s : Stored) (n : ℕ) (old new : Kept) → map.get s.chunks n ≡ Some old → (CanGrow (Some old) → CanGrow (Some new)) → IsSound s → IsSound (with_kept s n new)
-sound_with_kept s n old new is may sound = record {
+pub sound_with_kept : (s : Stored) (n : ℕ) (old new : Kept) → map.get s.chunks n ≡ Some old → (CanGrow (Some old) → CanGrow (Some new)) → (IsHeldAs s.root n (Some old) → IsHeldAs s.root n (Some new)) → IsSound s → IsSound (with_kept s n new)
+sound_with_kept s n old new is may stays sound = record {
   each = All-weaker (Grows s.chunks) (Grows (map.insert s.chunks n new))
       (λ o can. grows_put s.chunks n new o (λ e here. may (subst CanGrow (ap (λ (k : ℕ). map.get s.chunks k) (sym ((Decides-eqb n o.chunk).0 e)) ∙ is) here)) can) s.opened sound.each;
+  held = held_with s.root s.chunks n new (stays (subst (IsHeldAs s.root n) is (sound.held n))) sound.held;
   below = λ k there. held_put s.chunks n new s.next k (sound.below n (subst IsSome (sym is) refl)) sound.below there;
   numbers = sound.numbers;
 }
 
-pub sound_with_new : (s : Stored) (input : ℕ) (tag : List ℕ) (kept : Kept) → s.next < last_number → CanGrow (Some kept) → IsSound s → IsSound (with_new s input tag kept)
-sound_with_new s input tag kept lt can sound = record {
+pub sound_with_new : (s : Stored) (input : ℕ) (tag : List ℕ) (kept : Kept) → s.next < last_number → CanGrow (Some kept) → IsHeldAs s.root s.next (Some kept) → IsSound s → IsSound (with_new s input tag kept)
+sound_with_new s input tag kept lt can as_held sound = record {
   each = All-push (Grows (map.insert s.chunks s.next kept)) s.opened (record { input = input; tag = tag; chunk = s.next })
       (All-weaker (Grows s.chunks) (Grows (map.insert s.chunks s.next kept)) (λ o grows. grows_put s.chunks s.next kept o (λ e here. can) grows) s.opened sound.each)
       (subst CanGrow (sym (get_inserted s.chunks s.next kept s.next ∙ ap (λ (b : Bool). cond b (Some kept) (map.get s.chunks s.next)) ((Decides-eqb s.next s.next).1 refl))) can);
+  held = held_with s.root s.chunks s.next kept as_held sound.held;
   below = λ k there. held_put s.chunks s.next kept (s.next + 1) k (omega arith) (λ n is. let b : n < s.next = sound.below n is in omega arith) there;
   numbers = omega arith;
 }
 
-pub sound_adopted : (s : Stored) (n : ℕ) (kept : Kept) → map.get s.chunks n ≡ None → n < s.next → IsSound s → IsSound (with_kept s n kept)
-sound_adopted s n kept none lt sound = record {
+pub sound_adopted : (s : Stored) (n : ℕ) (kept : Kept) → map.get s.chunks n ≡ None → n < s.next → IsHeldAs s.root n (Some kept) → IsSound s → IsSound (with_kept s n kept)
+sound_adopted s n kept none lt as_held sound = record {
   each = All-weaker (Grows s.chunks) (Grows (map.insert s.chunks n kept))
       (λ o can. grows_put s.chunks n kept o (λ e here. absurd (subst CanGrow (ap (λ (k : ℕ). map.get s.chunks k) (sym ((Decides-eqb n o.chunk).0 e)) ∙ none) here)) can) s.opened sound.each;
+  held = held_with s.root s.chunks n kept as_held sound.held;
   below = λ k there. held_put s.chunks n kept s.next k lt sound.below there;
   numbers = sound.numbers;
 }
@@ -85,6 +108,7 @@ left_out chunks n (o ∷ os) all = by (o.chunk == n) refl (left_out chunks n os 
 pub sound_dropped : (s : Stored) (n : ℕ) → IsSound s → IsSound (dropped s n)
 sound_dropped s n sound = record {
   each = left_out s.chunks n s.opened sound.each;
+  held = held_without s.root s.chunks n sound.held;
   below = λ k is. sound.below k (there k (nat_eq n k) (subst IsSome (get_removed s.chunks n k) is));
   numbers = sound.numbers;
 }
@@ -119,13 +143,22 @@ open_grows s input tag n sound is = found s.opened sound.each is
 
 pub sound_as_new : (s : Stored) (input : ℕ) (tag : List ℕ) (kept : Kept) (next : ℕ) (chunks : Held) (opened : List Opened)
     → next ≡ s.next + 1 → chunks ≡ map.insert s.chunks s.next kept → opened ≡ s.opened ++ record { input = input; tag = tag; chunk = s.next } ∷ []
-    → s.next < last_number → CanGrow (Some kept) → IsSound s → IsSound (record { root = s.root; full = s.full; next = next; chunks = chunks; opened = opened })
-sound_as_new s input tag kept next chunks opened is_next is_chunks is_opened lt can sound =
-    subst IsSound (λ i. record { root = s.root; full = s.full; next = sym is_next i; chunks = sym is_chunks i; opened = sym is_opened i }) (sound_with_new s input tag kept lt can sound)
+    → s.next < last_number → CanGrow (Some kept) → IsHeldAs s.root s.next (Some kept) → IsSound s → IsSound (record { root = s.root; full = s.full; next = next; chunks = chunks; opened = opened })
+sound_as_new s input tag kept next chunks opened is_next is_chunks is_opened lt can as_held sound =
+    subst IsSound (λ i. record { root = s.root; full = s.full; next = sym is_next i; chunks = sym is_chunks i; opened = sym is_opened i }) (sound_with_new s input tag kept lt can as_held sound)
 
 pub can_begin : (name tag : List ℕ) (home : Home) (batch : List ℕ) → length tag ≤ 1024 → CanGrow (Some (kept_as name tag home batch))
 can_begin name tag Disk batch le = omega arith
 can_begin name tag Ram batch le = tt
+
+pub begins_held : (root : Option (List ℕ)) (stream : List ℕ) (n : ℕ) (tag : List ℕ) (home : Home) (batch : List ℕ) → length tag ≤ 1024 → length batch ≤ longest_batch → IsHeldAs root n (Some (kept_as (file_name (unwrap_or root []) stream n) tag home batch))
+begins_held root stream n tag Disk batch short le = (omega arith, stream, refl)
+begins_held root stream n tag Ram batch short le = omega arith
+
+pub goes_on_held : (root : Option (List ℕ)) (n : ℕ) (kept : Kept) (batch : List ℕ) → HasRoom kept batch → IsHeldAs root n (Some kept) → IsHeldAs root n (Some (grown kept batch))
+goes_on_held root n (InFile head) batch room is = (omega arith, is.1, is.2)
+goes_on_held root n (Adopted file) batch room is = is
+goes_on_held root n (InMemory content) batch room is = is
 
 pub can_go_on : (kept : Kept) (batch : List ℕ) → CanGrow (Some kept) → CanGrow (Some (grown kept batch))
 can_go_on (InFile head) batch can = can
@@ -136,17 +169,21 @@ pub grows_some : (o : Option Kept) → CanGrow o → (kept : Kept) × (o ≡ Som
 grows_some (Some kept) can = (kept, refl)
 grows_some None can = absurd can
 
-pub room_for : (kept : Kept) (batch : List ℕ) → CanGrow (Some kept) → size_of kept < 2048000 → length batch ≤ longest_batch → HasRoom kept batch
-room_for (InFile head) batch can small le = omega arith
-room_for (Adopted file) batch can small le = tt
-room_for (InMemory content) batch can small le = tt
+room_in : (kept : Kept) (batch : List ℕ) → CanGrow (Some kept) → size_of kept < 2048000 → length batch ≤ longest_batch → HasRoom kept batch
+room_in (InFile head) batch can small le = omega arith
+room_in (Adopted file) batch can small le = tt
+room_in (InMemory content) batch can small le = tt
 
-pub sound_as_kept : (s : Stored) (n : ℕ) (old new : Kept) (chunks : Held) → map.get s.chunks n ≡ Some old → chunks ≡ map.insert s.chunks n new → (CanGrow (Some old) → CanGrow (Some new)) → IsSound s
-    → IsSound (record { root = s.root; full = s.full; next = s.next; chunks = chunks; opened = s.opened })
-sound_as_kept s n old new chunks is is_chunks may sound =
-    subst IsSound (λ i. record { root = s.root; full = s.full; next = s.next; chunks = sym is_chunks i; opened = s.opened }) (sound_with_kept s n old new is may sound)
+pub room_for : (s : Stored) (n : ℕ) (kept : Kept) (batch : List ℕ) → map.get s.chunks n ≡ Some kept → CanGrow (map.get s.chunks n) → IsTrue (has_room s (Some n)) → length batch ≤ longest_batch → HasRoom kept batch
+room_for s n kept batch is can small le =
+    room_in kept batch (subst CanGrow is can) (ltb-true (size_of kept) 2048000 (subst (λ (o : Option Kept). IsTrue (nat_lt (size_held o) 2048000)) is small)) le
 
-pub sound_as_adopted : (s : Stored) (n : ℕ) (new : Kept) (chunks : Held) → map.get s.chunks n ≡ None → chunks ≡ map.insert s.chunks n new → n < s.next → IsSound s
+pub sound_as_kept : (s : Stored) (n : ℕ) (old new : Kept) (chunks : Held) → map.get s.chunks n ≡ Some old → chunks ≡ map.insert s.chunks n new → (CanGrow (Some old) → CanGrow (Some new)) → (IsHeldAs s.root n (Some old) → IsHeldAs s.root n (Some new)) → IsSound s
     → IsSound (record { root = s.root; full = s.full; next = s.next; chunks = chunks; opened = s.opened })
-sound_as_adopted s n new chunks none is_chunks lt sound =
-    subst IsSound (λ i. record { root = s.root; full = s.full; next = s.next; chunks = sym is_chunks i; opened = s.opened }) (sound_adopted s n new none lt sound)
+sound_as_kept s n old new chunks is is_chunks may stays sound =
+    subst IsSound (λ i. record { root = s.root; full = s.full; next = s.next; chunks = sym is_chunks i; opened = s.opened }) (sound_with_kept s n old new is may stays sound)
+
+pub sound_as_adopted : (s : Stored) (n : ℕ) (new : Kept) (chunks : Held) → map.get s.chunks n ≡ None → chunks ≡ map.insert s.chunks n new → n < s.next → IsHeldAs s.root n (Some new) → IsSound s
+    → IsSound (record { root = s.root; full = s.full; next = s.next; chunks = chunks; opened = s.opened })
+sound_as_adopted s n new chunks none is_chunks lt as_held sound =
+    subst IsSound (λ i. record { root = s.root; full = s.full; next = s.next; chunks = sym is_chunks i; opened = s.opened }) (sound_adopted s n new none lt as_held sound)

@@ -1,6 +1,5 @@
 -- A chunk that is held: where its content is, and what an append asks of the disk and makes of it.
-use Rattle.std.specs.Prelude.{ℕ, ◌+◌, ◌≤◌, ◌<◌, ◌^◌, Bool, List, ◌++◌, length, Option, Some, None, refl}
-use Rattle.std.specs.Coded.{Coded, code_by, coded×, coded⊎, coded_ℕ, coded_list}
+use Rattle.std.specs.Prelude.{ℕ, ◌+◌, ◌≤◌, Bool, List, ◌++◌, length, Option, Some, None}
 use Rattle.fwd_program.specs.Program.{Return, and_then}
 use Rattle.fwd_outside.specs.Disk.{DiskProgram, removes}
 use Rattle.fwd_chunk.specs.Layout.{longest}
@@ -13,6 +12,17 @@ abbrev pub size_of : Kept → ℕ
 size_of (InFile head) = head.size
 size_of (Adopted file) = file.size
 size_of (InMemory content) = length content
+
+-- the same, where it is held
+abbrev pub size_held : Option Kept → ℕ
+size_held (Some kept) = size_of kept
+size_held None = 0
+
+-- where its content ends in its file
+abbrev pub end_of : Kept → ℕ
+end_of (InFile head) = 24 + head.meta + head.size
+end_of (Adopted file) = 24 + file.meta + file.size
+end_of (InMemory content) = 0
 
 -- the name of its file
 abbrev pub file_of : Kept → Option (List ℕ)

@@ -2,6 +2,8 @@ pub mod Name
 pub mod Opened
 pub mod Source
 pub mod Kept
+pub mod Content
 pub mod Stored
 pub mod Codes
 pub mod Store
+pub mod Crash

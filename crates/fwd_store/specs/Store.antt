@@ -1,5 +1,5 @@
 -- What an acceptance asks of the disk, and the store after it.
-use Rattle.std.specs.Prelude.{◌≡◌, ◌⊎◌, ℕ, ◌+◌, ◌<◌, ◌≤◌, ◌==◌, ◌&&◌, ◌||◌, nat_lt, not, is_some, unwrap_or, Bool, true, false, IsTrue, if◌then◌else◌, List, [], ◌∷◌, ◌++◌, length, All, Option, Some, None, IsSome, Result, Ok, Err}
+use Rattle.std.specs.Prelude.{◌≡◌, ◌⊎◌, ℕ, ◌+◌, ◌^◌, ◌<◌, ◌≤◌, ◌==◌, ◌&&◌, ◌||◌, nat_lt, not, is_some, unwrap_or, Bool, true, false, if◌then◌else◌, List, [], ◌∷◌, ◌++◌, length, All, Option, Some, None, IsSome, Result, Ok, Err}
 use Rattle.std.specs.FinMap as map
 use Rattle.fwd_program.specs.Program.{Return, and_then}
 use Rattle.fwd_program.specs.Told.{Grew}
@@ -19,9 +19,9 @@ use Rattle.fwd_found.specs.declared.chunk.Found.{Found}
 use Rattle.fwd_found.specs.declared.chunk.Brief.{Brief}
 use Rattle.fwd_found.specs.declared.chunk.Seen.TheVariants.{Whole}
 use Rattle.fwd_store.specs.Name.{file_name, found_name}
-use Rattle.fwd_store.specs.Kept.{size_of, appends, grown, removals}
-use Rattle.fwd_store.specs.Opened.{Opened, open_for, without}
-use Rattle.fwd_store.specs.Stored.{Held, Stored}
+use Rattle.fwd_store.specs.Kept.{size_of, size_held, end_of, appends, grown, removals}
+use Rattle.fwd_store.specs.Opened.{open_for, without}
+use Rattle.fwd_store.specs.Stored.{Stored}
 
 -- no batch is longer
 abbrev pub longest_batch : ℕ
@@ -34,6 +34,11 @@ last_number = 9223372036854775808
 -- the chunk that takes the batches of an input and a tag, or none
 abbrev pub chunk_for : Stored → ℕ → List ℕ → Option ℕ
 chunk_for s input tag = open_for s.opened input tag
+
+-- the content of the open chunk, where one is, has less than 2,048,000 bytes
+abbrev pub has_room : Stored → Option ℕ → Bool
+has_room s (Some n) = nat_lt (size_held (map.get s.chunks n)) 2048000
+has_room s None = true
 
 -- the name of the next new chunk's file
 abbrev pub new_name : Stored → List ℕ → List ℕ
@@ -160,9 +165,16 @@ CanGrow (Some (Adopted file)) = ⊥
 CanGrow (Some (InMemory content)) = Unit {0}
 CanGrow None = ⊥
 
+-- The offsets of its file are counted in 64 bits, and a file that was made for it has its number in the name.
+abbrev pub IsHeldAs : Option (List ℕ) → ℕ → Option Kept → Type 0
+IsHeldAs root n (Some (InFile head)) = (end_of (InFile head) < 2 ^ 64) × (stream : List ℕ) × (head.name ≡ file_name (unwrap_or root []) stream n)
+IsHeldAs root n (Some kept) = end_of kept < 2 ^ 64
+IsHeldAs root n None = Unit {0}
+
 -- Each open chunk is held and takes batches, and the next number is above that of each chunk that is held.
 pub record IsSound (s : Stored) : Type 0 where
   pub each : All (λ o. CanGrow (map.get s.chunks o.chunk)) s.opened
+  pub held : (n : ℕ) → IsHeldAs s.root n (map.get s.chunks n)
   pub below : (n : ℕ) → IsSome (map.get s.chunks n) → n < s.next
   pub numbers : s.next ≤ last_number
 
@@ -184,9 +196,9 @@ abbrev pub HasFailed : Result Accepted StoreRefusal → Type 0
 HasFailed (Err (DiskFailed chunk)) = Unit {0}
 HasFailed _ = ⊥
 
--- the file was found to be a chunk with events
+-- the file was found to be a chunk with events, whose offsets are counted in 64 bits
 abbrev pub IsWhole : Found → Type 0
-IsWhole found = (brief : Brief) × (found.seen ≡ Whole brief)
+IsWhole found = (brief : Brief) × (found.seen ≡ Whole brief) × (24 + brief.meta + brief.size < 2 ^ 64)
 
 -- a found file as it is kept
 abbrev pub adopted : Stored → Found → Brief → Kept

@@ -1,8 +1,7 @@
 -- What a store holds.
-use Rattle.std.specs.Prelude.{ℕ, Bool, List, Option, refl}
+use Rattle.std.specs.Prelude.{ℕ, Bool, List, Option}
 use Rattle.std.specs.Ordering.{nat_cmp}
 use Rattle.std.specs.FinMap as map
-use Rattle.std.specs.Coded.{Coded, code_by, coded×, coded⊎, coded_ℕ, coded_bool, coded_list, coded_option}
 use Rattle.fwd_store.specs.declared.kept.Kept.{Kept}
 use Rattle.fwd_store.specs.Opened.{Opened}
 

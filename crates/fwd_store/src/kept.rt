@@ -1,6 +1,6 @@
 //! A chunk that is held.
 
-ghost use Rattle.std.specs.Prelude.{◌≡◌, ◌+◌, ◌≤◌, length, OnOk, OnErr, IsErrOf, is_some};
+ghost use Rattle.std.specs.Prelude.{◌≡◌, ◌+◌, ◌<◌, ◌≤◌, ◌^◌, length, OnOk, OnErr, IsErrOf, is_some};
 ghost use Rattle.fwd_program.specs.Told.{Makes};
 ghost use Rattle.fwd_program.specs.Cause.{HasCause};
 ghost use Rattle.fwd_outside.specs.Disk.{disk_outcome};
@@ -8,10 +8,14 @@ ghost use Rattle.fwd_outside.specs.declared.errors.DiskErr.TheVariants.{Failed};
 ghost use Rattle.fwd_chunk.specs.Layout.{longest};
 ghost use Rattle.fwd_chunk.specs.Append.{stages, commits, committed_head};
 ghost use Rattle.fwd_program.specs.Program.{and_then};
-ghost use Rattle.fwd_store.specs.Kept.{size_of, file_of, appends, grown, removals, HasRoom};
+ghost use Rattle.fwd_store.specs.declared.content.PartErr.TheVariants.{DiskFailed};
+ghost use Rattle.fwd_store.specs.Kept.{size_of, end_of, file_of, appends, grown, removals, HasRoom};
+ghost use Rattle.fwd_store.specs.Content.{Gives, reads_content, IsContentOf};
 
+use crate::content::{PartErr, read_back};
 use fwd_chunk::{ChunkHead, commit, stage};
 use fwd_outside::{Bytes, Disk, DiskErr};
+use std::alloc::Global;
 
 /// A file that was found: its name, and the lengths of its metadata and of its content in bytes.
 #[derive(Debug, Drop)]
@@ -63,6 +67,23 @@ impl Kept {
             Kept::InFile(head) => append_to_file(disk, head, batch, full),
             Kept::Adopted(_) => Ok(()),
             Kept::InMemory(content) => Ok(content.extend_from_slice(batch)?),
+        }
+    }
+
+    /// The content: read from its file, where it is in one, and judged by the length that is kept.
+    pub fn content<D: Disk>(&self, alloc: Global, disk: &mut D) -> Result<Bytes, PartErr>
+        requires { end_of self.now < 2 ^ 64 }
+        ensures calls { Gives (D.told disk.old) (D.told disk.new) (reads_content self.now) (IsContentOf self.now) result }
+        ensures cause { HasCause (D.faults disk.old) (D.faults disk.new) (IsErrOf result DiskFailed) }
+    {
+        match self {
+            Kept::InFile(head) => {
+                read_back(alloc, disk, head.name.as_slice(), 24 + head.meta, head.size)
+            }
+            Kept::Adopted(file) => {
+                read_back(alloc, disk, file.name.as_slice(), 24 + file.meta, file.size)
+            }
+            Kept::InMemory(content) => Ok(content.try_clone(alloc)?),
         }
     }
 

@@ -1,18 +1,31 @@
-//! What holds at each moment of the calls of an acceptance, whatever the disk answers.
+//! What holds of the files of a store's chunks, whatever the disk answers.
 
-ghost use Rattle.std.specs.Prelude.{List, ℕ, true, Option, Some, ◌+◌, ◌≤◌, ◌++◌, ◌≡◌, length};
+ghost use Rattle.std.specs.Prelude.{List, [], ℕ, true, Option, Some, Ok, unwrap_or, All, ◌+◌, ◌^◌, ◌<◌, ◌≤◌, ◌++◌, ◌≡◌, ◌≢◌, length};
+ghost use Rattle.std.specs.FinMap as map;
 ghost use Rattle.fwd_program.specs.Program.{Way, Return};
 ghost use Rattle.fwd_program.specs.Moments.{Moments, Ends};
 ghost use Rattle.fwd_outside.specs.Disk.{DiskEntry, DiskProgram};
 ghost use Rattle.fwd_outside.specs.declared.home.Home.TheVariants as home_of;
-ghost use Rattle.fwd_image.specs.File.{gone};
+ghost use Rattle.fwd_image.specs.File.{gone, content};
 ghost use Rattle.fwd_image.specs.Disk.{Files, Steps};
+ghost use Rattle.fwd_image.specs.Crash.{Images, IsOn};
 ghost use Rattle.fwd_chunk.specs.declared.append.ChunkHead.{ChunkHead};
 ghost use Rattle.fwd_chunk.specs.Layout.{longest, new_file, new_meta};
-ghost use Rattle.fwd_chunk.specs.Append.{SettledIn, ComesWhole, KeepsEither, new_head, committed_head};
+ghost use Rattle.fwd_chunk.specs.Append.{SettledIn, Leaves, LeavesEither, ComesWhole, KeepsEither, new_head, committed_head};
 ghost use Rattle.fwd_store.specs.declared.kept.Kept.TheVariants.{InFile};
 ghost use Rattle.fwd_store.specs.Kept.{appends};
-ghost use Rattle.fwd_store.specs.Store.{begins_as};
+ghost use Rattle.fwd_store.specs.Store.{begins_as, new_name, adopted, IsWhole, IsSound};
+ghost use Rattle.fwd_event.specs.declared.event.Event.{Event};
+ghost use Rattle.fwd_event.specs.Event.{AreEvents};
+ghost use Rattle.fwd_found.specs.declared.chunk.Chunk.{Chunk};
+ghost use Rattle.fwd_found.specs.declared.chunk.Brief.{Brief};
+ghost use Rattle.fwd_found.specs.declared.chunk.Found.{Found};
+ghost use Rattle.fwd_found.specs.declared.chunk.Seen.TheVariants.{Whole};
+ghost use Rattle.fwd_found.specs.Standing.{StandsFor};
+ghost use Rattle.fwd_found.specs.Seen.{brief_of, IsSeen};
+ghost use Rattle.fwd_store.specs.Name.{file_name, found_name};
+ghost use Rattle.fwd_store.specs.Stored.{Stored};
+ghost use Rattle.fwd_store.specs.Content.{StandsIn, AreKept};
 
 /// At each moment of an append that is synced, each image of the chunk's file stands for the old content, or for that and
 /// the batch, and no other file changes. After it succeeded, the file stands for both.
@@ -33,4 +46,36 @@ pub fn first_batch_comes_whole()
     ensures accepted { (name tag batch : List ℕ) (files last : Files) (entries : List DiskEntry)
         → length tag ≤ 1024 → 28 + length tag + length batch ≤ longest → files name ≡ gone → Way (begins_as name tag home_of.Disk batch) entries (Return (Some tt)) → Ends Steps files entries last
         → SettledIn (new_head name tag batch) (new_meta tag) batch last }
+{}
+
+/// Of a file that stands for its head without doubt, the content is where it is read from.
+pub fn settled_content_stands()
+    ensures stands { (head : ChunkHead) (meta content : List ℕ) (files : Files) → SettledIn head meta content files → StandsIn (InFile head) content files }
+    ensures kept { (head : ChunkHead) (meta content : List ℕ) (files : Files) (events : List Event) → SettledIn head meta content files → AreEvents events content → AreKept (InFile head) content }
+{}
+
+/// A file that was found to be a chunk with events can be adopted, and its content is where it is read from.
+pub fn found_content_stands()
+    ensures whole { (found : Found) (brief : Brief) (bytes : List ℕ) → found.seen ≡ Whole brief → IsSeen bytes found.seen → IsWhole found }
+    ensures stands { (s : Stored) (found : Found) (bytes : List ℕ) (chunk : Chunk) (files : Files)
+        → StandsFor bytes (Ok chunk) → content (files (found_name (unwrap_or s.root []) found.stream found.name)) ≡ Some bytes → StandsIn (adopted s found (brief_of chunk)) chunk.content files }
+    ensures kept { (s : Stored) (found : Found) (bytes : List ℕ) (chunk : Chunk) → StandsFor bytes (Ok chunk) → AreKept (adopted s found (brief_of chunk)) chunk.content }
+{}
+
+/// A name tells the number of its chunk. So no two chunks of a store for which files were made have one file, and none of
+/// them has the file of the next new chunk.
+pub fn names_tell_numbers()
+    ensures names { (root stream other : List ℕ) (n m : ℕ) → n < 10 ^ 20 → m < 10 ^ 20 → file_name root stream n ≡ file_name root other m → n ≡ m }
+    ensures held { (s : Stored) (n m : ℕ) (one two : ChunkHead) → IsSound s → map.get s.chunks n ≡ Some (InFile one) → map.get s.chunks m ≡ Some (InFile two) → one.name ≡ two.name → n ≡ m }
+    ensures next { (s : Stored) (stream : List ℕ) (n : ℕ) (head : ChunkHead) → IsSound s → map.get s.chunks n ≡ Some (InFile head) → head.name ≢ new_name s stream }
+{}
+
+/// As long as no call is about a chunk's file, it stands for its content, or each image of it for one of two contents. Of
+/// a file that stands for a content without doubt each image stands for it.
+pub fn content_stays()
+    ensures settled { (head : ChunkHead) (meta content : List ℕ) (entries : List DiskEntry) (files : Files)
+        → SettledIn head meta content files → All (λ e. IsOn e.call head.name → ⊥) entries → Moments Steps (SettledIn head meta content) files entries }
+    ensures either { (name meta old new : List ℕ) (entries : List DiskEntry) (files : Files)
+        → Images name (LeavesEither meta old new) files → All (λ e. IsOn e.call name → ⊥) entries → Moments Steps (Images name (LeavesEither meta old new)) files entries }
+    ensures images { (head : ChunkHead) (meta content : List ℕ) (files : Files) → SettledIn head meta content files → Images head.name (Leaves meta content) files }
 {}

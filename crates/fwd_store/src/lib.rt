@@ -6,19 +6,26 @@
 #![tactic(auto)]
 
 mod answers;
+mod content;
 mod held;
 mod kept;
 mod laws;
 mod name;
 mod opened;
 mod store;
+#[cfg(test)]
+mod tests;
 
 pub use answers::{Accepted, StoreRefusal};
+pub use content::PartErr;
 pub use fwd_outside::{ChunkId, Home, InputId, Memory};
 #[doc(hidden)]
 pub use held::Chunks;
 pub use kept::{FoundFile, Kept};
-pub use laws::{append_keeps_either, first_batch_comes_whole};
+pub use laws::{
+    append_keeps_either, content_stays, first_batch_comes_whole, found_content_stands,
+    names_tell_numbers, settled_content_stands,
+};
 #[doc(hidden)]
 pub use opened::{OpenChunks, Source};
 pub use store::Store;

@@ -1,6 +1,6 @@
 //! The open chunks.
 
-ghost use Rattle.std.specs.Prelude.{◌≡◌, ◌==◌, ◌&&◌, ◌<◌, ◌++◌, not, [], ◌∷◌, OnOk, None, is_some};
+ghost use Rattle.std.specs.Prelude.{◌≡◌, ◌==◌, ◌&&◌, ◌<◌, ◌++◌, not, [], ◌∷◌, OnOk, None};
 ghost use Rattle.std.specs.Str.{bytes_eq};
 ghost use Rattle.fwd_store.specs.Opened.{open_for, without, first_of};
 
@@ -58,16 +58,16 @@ impl OpenChunks {
         self.chunks.get(source).copied()
     }
 
-    /// Whether a chunk is open for this input and tag. It goes over all of them, and takes no memory.
-    pub fn has(&self, input: InputId, tag: &[u8]) -> bool
-        ensures { result ≡ is_some (open_for self.now.list input.0 tag.now) }
+    /// The chunk that is open for this input and tag. It goes over all of them, and takes no memory.
+    pub fn find(&self, input: InputId, tag: &[u8]) -> Option<u64>
+        ensures { result ≡ open_for self.now.list input.0 tag.now }
     {
-        for source in self.chunks.keys() {
+        for (source, number) in self.chunks.iter() {
             if source.is_for(input, tag) {
-                return true;
+                return Some(*number);
             }
         }
-        false
+        None
     }
 
     /// Makes room for one more.

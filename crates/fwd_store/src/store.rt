@@ -1,6 +1,6 @@
 //! The store.
 
-ghost use Rattle.std.specs.Prelude.{◌≡◌, ◌≢◌, ◌⊎◌, ◌↔◌, ℕ, ◌+◌, ◌<◌, ◌≤◌, ◌==◌, [], List, length, Some, None, Option, IfOk, IfErr, OnOk, OnErr, IsTrue, IsSome, IsErrOf, unwrap_or, Err, false};
+ghost use Rattle.std.specs.Prelude.{◌≡◌, ◌≢◌, ◌⊎◌, ◌↔◌, ℕ, ◌+◌, ◌<◌, ◌≤◌, ◌^◌, ◌==◌, [], List, length, Some, None, Option, IfOk, IfErr, OnOk, OnErr, IsTrue, IsSome, IsErrOf, is_some, unwrap_or, Err, false};
 ghost use Rattle.std.specs.FinMap as map;
 ghost use Rattle.fwd_program.specs.Program.{Return, and_then};
 ghost use Rattle.fwd_program.specs.Told.{Makes, Grew};
@@ -14,12 +14,17 @@ ghost use Rattle.fwd_store.specs.declared.kept.Kept.TheVariants.{InFile, InMemor
 ghost use Rattle.fwd_store.specs.declared.answers.StoreRefusal.TheVariants as refusal;
 ghost use Rattle.fwd_found.specs.declared.chunk.Brief.{Brief};
 ghost use Rattle.fwd_found.specs.declared.chunk.Seen.TheVariants.{Whole};
+ghost use Rattle.fwd_image.specs.Crash.{DiskSince, DiskAfter};
+ghost use Rattle.fwd_store.specs.declared.content.PartErr.TheVariants as part_err;
 ghost use Rattle.fwd_store.specs.Name.{file_name};
-ghost use Rattle.fwd_store.specs.Kept.{size_of};
+ghost use Rattle.fwd_store.specs.Crash.{file_held, file_for, KeepsOthers, IsReady, TakesBatch, HasTaken, Goes, IsGone};
+ghost use Rattle.fwd_store.specs.Content.{Gives, reads_content, IsContentOf, AreKept, StandsIn, IsGiven};
+ghost use Rattle.fwd_store.specs.Kept.{size_held};
 ghost use Rattle.fwd_store.specs.Opened.{first_of};
-ghost use Rattle.fwd_store.specs.Store.{longest_batch, last_number, kept_outcome, IsRefusalOf, begins_as, kept_as, sealed, named, after_failed_append, has_file, IsSound, chunk_for, new_name, accept_outcome, BeganChunk, GrewChunk, Took, GivesUp, Refused, HasFailed, CanGrow, appends_to, goes_to, accepts, has_no_number, drops, dropped, with_kept, IsWhole, adopted};
+ghost use Rattle.fwd_store.specs.Store.{longest_batch, last_number, has_room, kept_outcome, IsRefusalOf, begins_as, kept_as, sealed, named, after_failed_append, has_file, IsSound, chunk_for, new_name, accept_outcome, BeganChunk, GrewChunk, Took, GivesUp, Refused, HasFailed, CanGrow, appends_to, goes_to, accepts, has_no_number, drops, dropped, with_kept, IsWhole, adopted};
 
 use crate::answers::{Accepted, StoreRefusal};
+use crate::content::PartErr;
 use crate::held::Chunks;
 use crate::kept::{FoundFile, Kept};
 use crate::name::{file_name, found_name};
@@ -32,6 +37,9 @@ use std::marker::Model;
 
 /// No batch has more bytes.
 const LONGEST_BATCH: usize = 16_777_216;
+
+/// A chunk whose content has so many bytes takes no more batches.
+const LARGE_CONTENT: u64 = 2_048_000;
 
 /// No chunk has this number.
 const LAST_NUMBER: u64 = 9_223_372_036_854_775_808;
@@ -159,6 +167,13 @@ impl Store {
         let _ = &self.full;
     }
 
+    /// Whether the store holds a chunk.
+    pub fn holds(&self, chunk: ChunkId) -> bool
+        ensures { result ≡ is_some (map.get self.now.chunks chunk.0) }
+    {
+        self.chunks.get(chunk.0).is_some()
+    }
+
     /// Takes a chunk from the open ones, if it is one of them.
     pub fn shut(&mut self, chunk: ChunkId)
         ensures { self.new ≡ sealed self.old chunk.0 }
@@ -176,10 +191,29 @@ impl Store {
         }
     }
 
+    /// Whether there is a folder for the files of chunks.
+    pub fn has_root(&self) -> bool
+        ensures { result ≡ is_some self.now.root }
+    {
+        self.root.is_some()
+    }
+
+    /// Whether the chunk that is open for this input and tag, where one is, takes batches: its content has less than
+    /// 2,048,000 bytes. It takes no memory.
+    pub fn has_room(&self, input: InputId, tag: &[u8]) -> bool
+        ensures { result ≡ has_room self.now (chunk_for self.now input.0 tag.now) }
+    {
+        match self.opened.find(input, tag) {
+            Some(number) => self.size(number) < LARGE_CONTENT,
+            None => true,
+        }
+    }
+
     /// Takes a batch of whole events for an input and a tag: it goes behind the content of the chunk that is open for them,
     /// or begins a new one, with the next number, in a file below the root and `stream` or in memory. The tag is a text of
-    /// 1 to 1,024 bytes. A store without a root has no chunk in a file, and the content of an open chunk has less than
-    /// 2,048,000 bytes: whoever lets one grow to this shuts it. A number whose placing failed isn't used again.
+    /// 1 to 1,024 bytes. A store without a root has no chunk in a file (`has_root`), and an open chunk has less than
+    /// 2,048,000 bytes of content (`has_room`): whoever lets one grow to this shuts it. A number whose placing failed isn't
+    /// used again.
     pub fn accept<D: Disk>(
         &mut self,
         alloc: Global,
@@ -192,7 +226,7 @@ impl Store {
     ) -> Result<Accepted, StoreRefusal>
         requires tag { length tag.now ≤ 1024 }
         requires root { home ≡ home_of.Disk → IsSome self.old.root }
-        requires room { (n : ℕ) (kept : Kept) → chunk_for self.old input.0 tag.now ≡ Some n → map.get self.old.chunks n ≡ Some kept → size_of kept < 2048000 }
+        requires room { IsTrue (has_room self.old (chunk_for self.old input.0 tag.now)) }
         ensures calls { Makes (D.told disk.old) (D.told disk.new) (accepts self.old input.0 stream.now tag.now home batch.now) (accept_outcome result) }
 
         // The store after each answer.
@@ -202,15 +236,39 @@ impl Store {
         // A batch that is too large comes first, a number that isn't there second.
         ensures too_large { (result ≡ Err refusal.BatchTooLarge) ↔ (longest_batch < length batch.now) }
         ensures no_number { (result ≡ Err refusal.NoNumber) ↔ ((length batch.now ≤ longest_batch) × IsTrue (has_no_number self.old input.0 tag.now)) }
+
+        // Under full sync a crash at any moment of the call leaves the open chunk's file with its content of before, or with
+        // that and the batch, and a new file whole or not there. After Ok the file has the batch.
+        ensures any_moment { IsTrue self.old.full → (meta content : List ℕ) → DiskSince (D.told disk.old) (D.told disk.new)
+            (IsReady self.old (chunk_for self.old input.0 tag.now) stream.now home meta content) (TakesBatch self.old (chunk_for self.old input.0 tag.now) stream.now tag.now home batch.now meta content) }
+        ensures settled { (meta content : List ℕ) → IfOk result (λ accepted. IsTrue self.old.full → DiskAfter (D.told disk.old) (D.told disk.new)
+            (IsReady self.old (chunk_for self.old input.0 tag.now) stream.now home meta content) (λ _ last. HasTaken (chunk_for self.old input.0 tag.now) (map.get self.new.chunks accepted.chunk.0) tag.now batch.now meta content last)) }
+        ensures others { DiskSince (D.told disk.old) (D.told disk.new) (λ _. Unit {0}) (KeepsOthers (file_for self.old (chunk_for self.old input.0 tag.now) stream.now home)) }
         ensures cause { HasCause (D.faults disk.old) (D.faults disk.new) (HasFailed result) }
     {
-        if batch.len() > LONGEST_BATCH {
-            return Err(StoreRefusal::BatchTooLarge);
-        }
-        if self.has_no_number(input, tag) {
-            return Err(StoreRefusal::NoNumber);
-        }
-        self.take(alloc, disk, input, stream, tag, home, batch)
+        self.is_sound();
+        self.accept_batch(alloc, disk, input, stream, tag, home, batch)
+    }
+
+    /// The content of a chunk that is held, whole events. That of a chunk in a file is read from it, in pieces. What was
+    /// read is `Damaged` where it isn't whole events of the length that the store keeps count of, which a disk that keeps
+    /// what was synced never gives.
+    pub fn content<D: Disk>(
+        &self,
+        alloc: Global,
+        disk: &mut D,
+        chunk: ChunkId,
+    ) -> Result<Bytes, PartErr>
+        requires { IsSome (map.get self.now.chunks chunk.0) }
+        ensures calls { (kept : Kept) → map.get self.now.chunks chunk.0 ≡ Some kept → Gives (D.told disk.old) (D.told disk.new) (reads_content kept) (IsContentOf kept) result }
+
+        // Where the content stands, it is what is given.
+        ensures stands { (kept : Kept) (content : List ℕ) → map.get self.now.chunks chunk.0 ≡ Some kept → AreKept kept content
+            → DiskAfter (D.told disk.old) (D.told disk.new) (StandsIn kept content) (λ _ _. IsGiven content result) }
+        ensures any_moment { DiskSince (D.told disk.old) (D.told disk.new) (λ _. Unit {0}) (λ first now. now ≡ first) }
+        ensures cause { HasCause (D.faults disk.old) (D.faults disk.new) (IsErrOf result part_err.DiskFailed) }
+    {
+        self.read_content(alloc, disk, chunk.0)
     }
 
     /// Removes a chunk that is held: its file, where it has one, in one call. It isn't held afterwards, whatever the call
@@ -219,6 +277,10 @@ impl Store {
         requires { IsSome (map.get self.old.chunks chunk.0) }
         ensures calls { Makes (D.told disk.old) (D.told disk.new) (drops (map.get self.old.chunks chunk.0)) (disk_outcome result) }
         ensures dropped { self.new ≡ dropped self.old chunk.0 }
+
+        // A crash at any moment of the call leaves the file as it could have left it before, or no file; after Ok, none.
+        ensures any_moment { DiskSince (D.told disk.old) (D.told disk.new) (λ _. Unit {0}) (Goes (file_held (map.get self.old.chunks chunk.0))) }
+        ensures gone { OnOk result (DiskAfter (D.told disk.old) (D.told disk.new) (λ _. Unit {0}) (λ _ last. IsGone (file_held (map.get self.old.chunks chunk.0)) last)) }
         ensures cause { HasCause (D.faults disk.old) (D.faults disk.new) (IsErrOf result Failed) }
     {
         let answer = self.remove_file(disk, chunk.0);
@@ -254,6 +316,7 @@ impl Store {
     ) -> Result<(), Memory>
         requires number { number < self.old.next }
         requires new { map.get self.old.chunks number ≡ None }
+        requires offsets { 24 + brief.now.meta + brief.now.size < 2 ^ 64 }
         ensures ok { OnOk result (self.new ≡ with_kept self.old number (adopted self.old found.now brief.now)) }
         ensures err { OnErr result (self.new ≡ self.old) }
     {
@@ -280,11 +343,61 @@ impl Store {
         }
     }
 
+    // Reads the content of a chunk.
+    fn read_content<D: Disk>(
+        &self,
+        alloc: Global,
+        disk: &mut D,
+        number: u64,
+    ) -> Result<Bytes, PartErr>
+        ensures calls { (kept : Kept) → map.get self.now.chunks number ≡ Some kept → Gives (D.told disk.old) (D.told disk.new) (reads_content kept) (IsContentOf kept) result }
+        ensures cause { HasCause (D.faults disk.old) (D.faults disk.new) (IsErrOf result part_err.DiskFailed) }
+    {
+        match self.chunks.get(number) {
+            Some(kept) => kept.content(alloc, disk),
+            None => Err(PartErr::Memory),
+        }
+    }
+
     // Whether a new chunk is wanted, and no number is left for it.
     fn has_no_number(&self, input: InputId, tag: &[u8]) -> bool
         ensures { result ≡ has_no_number self.now input.0 tag.now }
     {
-        self.next == LAST_NUMBER && !self.opened.has(input, tag)
+        self.next == LAST_NUMBER && self.opened.find(input, tag).is_none()
+    }
+
+    // The same, without what a crash leaves.
+    fn accept_batch<D: Disk>(
+        &mut self,
+        alloc: Global,
+        disk: &mut D,
+        input: InputId,
+        stream: &[u8],
+        tag: &[u8],
+        home: Home,
+        batch: &[u8],
+    ) -> Result<Accepted, StoreRefusal>
+        requires tag { length tag.now ≤ 1024 }
+        requires root { home ≡ home_of.Disk → IsSome self.old.root }
+        requires room { IsTrue (has_room self.old (chunk_for self.old input.0 tag.now)) }
+        ensures calls { Makes (D.told disk.old) (D.told disk.new) (accepts self.old input.0 stream.now tag.now home batch.now) (accept_outcome result) }
+
+        // The store after each answer.
+        ensures ok { IfOk result (Took self.old self.new (chunk_for self.old input.0 tag.now) input.0 stream.now tag.now home batch.now) }
+        ensures err { IfErr result (Refused (D.told disk.old) (D.told disk.new) self.old self.new (chunk_for self.old input.0 tag.now)) }
+
+        // A batch that is too large comes first, a number that isn't there second.
+        ensures too_large { (result ≡ Err refusal.BatchTooLarge) ↔ (longest_batch < length batch.now) }
+        ensures no_number { (result ≡ Err refusal.NoNumber) ↔ ((length batch.now ≤ longest_batch) × IsTrue (has_no_number self.old input.0 tag.now)) }
+        ensures cause { HasCause (D.faults disk.old) (D.faults disk.new) (HasFailed result) }
+    {
+        if batch.len() > LONGEST_BATCH {
+            return Err(StoreRefusal::BatchTooLarge);
+        }
+        if self.has_no_number(input, tag) {
+            return Err(StoreRefusal::NoNumber);
+        }
+        self.take(alloc, disk, input, stream, tag, home, batch)
     }
 
     // Takes a batch that isn't too large, where a number is left.
@@ -301,7 +414,7 @@ impl Store {
         requires tag { length tag.now ≤ 1024 }
         requires batch { length batch.now ≤ longest_batch }
         requires number { has_no_number self.old input.0 tag.now ≡ false }
-        requires room { (n : ℕ) (kept : Kept) → chunk_for self.old input.0 tag.now ≡ Some n → map.get self.old.chunks n ≡ Some kept → size_of kept < 2048000 }
+        requires room { IsTrue (has_room self.old (chunk_for self.old input.0 tag.now)) }
         ensures calls { Makes (D.told disk.old) (D.told disk.new) (goes_to self.old (chunk_for self.old input.0 tag.now) stream.now tag.now home batch.now) (accept_outcome result) }
         ensures ok { IfOk result (Took self.old self.new (chunk_for self.old input.0 tag.now) input.0 stream.now tag.now home batch.now) }
         ensures err { IfErr result (GivesUp (D.told disk.old) (D.told disk.new) self.old self.new (chunk_for self.old input.0 tag.now)) }
@@ -318,9 +431,9 @@ impl Store {
         }
     }
 
-    // The length of the content of a chunk that is held.
+    // The length of the content of a chunk that is held; 0 where it isn't.
     fn size(&self, number: u64) -> u64
-        ensures { (kept : Kept) → map.get self.now.chunks number ≡ Some kept → result ≡ size_of kept }
+        ensures { result ≡ size_held (map.get self.now.chunks number) }
     {
         match self.chunks.get(number) {
             Some(kept) => kept.size(),
@@ -394,7 +507,7 @@ impl Store {
     ) -> Result<Accepted, StoreRefusal>
         requires grows { CanGrow (map.get self.old.chunks number) }
         requires batch { length batch.now ≤ longest_batch }
-        requires room { (kept : Kept) → map.get self.old.chunks number ≡ Some kept → size_of kept < 2048000 }
+        requires room { IsTrue (has_room self.old (Some number)) }
         ensures calls { Makes (D.told disk.old) (D.told disk.new) (appends_to (map.get self.old.chunks number) batch.now self.old.full) (accept_outcome result) }
         ensures ok { IfOk result (GrewChunk self.old self.new number batch.now) }
         ensures err { IfErr result (GivesUp (D.told disk.old) (D.told disk.new) self.old self.new (Some number)) }

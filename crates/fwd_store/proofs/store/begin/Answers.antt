@@ -1,9 +1,5 @@
-use Rattle.std.proofs.Common.{Some}
-use Rattle.fwd_program.specs.Program.{Return}
 use Rattle.fwd_store.specs.Store.{begins_as}
 use Rattle.fwd_store.specs.Name.{file_name}
-use Rattle.fwd_outside.specs.declared.home.Home.{Home}
-use Rattle.fwd_outside.specs.declared.home.Home.TheVariants.{Ram}
 use Rattle.fwd_store.proofs.Making.{nothing_made}
 use Rattle.fwd_store.proofs.store.begin.Goals as goal
 

@@ -6,7 +6,7 @@ use Rattle.fwd_outside.specs.Disk.{disk_outcome}
 use Rattle.fwd_store.specs.declared.kept.Kept.{Kept}
 use Rattle.fwd_store.specs.Kept.{appends, grown}
 use Rattle.fwd_store.specs.Stored.{HeldList}
-use Rattle.fwd_store.proofs.Holding.{get_held, put_in, as_before, put_again}
+use Rattle.fwd_store.proofs.Holding.{get_held, put_in, put_again}
 use Rattle.fwd_store.proofs.Results.{same_some, on_ok, on_err}
 use Rattle.fwd_store.proofs.held.Chunks.append.Goals as goal
 use Rattle.fwd_store.proofs.held.Chunks.append.Goals.{in-Some, in-None}

@@ -1,4 +1,4 @@
-use Rattle.std.proofs.Common.{ap, Ok, Err, IsOk}
+use Rattle.std.proofs.Common.{ap}
 use Rattle.fwd_store.specs.Stored.{HeldList}
 use Rattle.fwd_store.proofs.Holding.{put_in}
 use Rattle.fwd_store.proofs.Results.{value_of}

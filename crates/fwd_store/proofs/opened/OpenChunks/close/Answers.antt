@@ -1,4 +1,4 @@
-use Rattle.std.proofs.Common.{◌≡◌, ap, ◌∙◌, map, not, ◌==◌, rules}
+use Rattle.std.proofs.Common.{ap, ◌∙◌, map, not, ◌==◌, rules}
 use Rattle.indexmap.proofs.CallerLemmas.{filter-RetainsPairs}
 use Rattle.fwd_store.specs.Source.{opened_at}
 use Rattle.fwd_store.specs.Opened.{OpenList, without}

@@ -1,4 +1,4 @@
-use Rattle.std.proofs.Common.{◌≡◌, refl, ap, ◌∙◌}
+use Rattle.std.proofs.Common.{refl, ap, ◌∙◌}
 use Rattle.fwd_store.specs.Opened.{OpenList, open_for}
 use Rattle.fwd_store.proofs.Opening.{found}
 use Rattle.fwd_store.proofs.opened.OpenChunks.get.Goals as goal

@@ -1,7 +1,7 @@
-use Rattle.std.proofs.Common.{◌≡◌, ap, sym, ◌∙◌, refl, map, List, [], ◌∷◌, ◌++◌, nat_eq}
+use Rattle.std.proofs.Common.{ap, ◌∙◌, refl, map, [], ◌∷◌, ◌++◌}
 use Rattle.indexmap.proofs.CallerLemmas.{insert_entry-new}
 use Rattle.fwd_store.specs.Source.{opened_at}
-use Rattle.fwd_store.specs.Opened.{Opened, OpenList, open_for}
+use Rattle.fwd_store.specs.Opened.{OpenList, open_for}
 use Rattle.fwd_store.proofs.Opening.{found, one_more}
 use Rattle.fwd_store.proofs.Results.{value_of}
 use Rattle.fwd_store.proofs.opened.OpenChunks.push.Goals as goal

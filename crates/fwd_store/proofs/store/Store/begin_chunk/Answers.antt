@@ -1,12 +1,12 @@
-use Rattle.std.proofs.Common.{◌≡◌, Some, ap, ◌∙◌, ◌++◌, [], ◌∷◌, ◌<◌, List, sym, subst}
+use Rattle.std.proofs.Common.{Some, ap, ◌∙◌, ◌++◌, [], ◌∷◌, ◌<◌, ℕ, List, sym, subst}
 use Rattle.std.specs.FinMap as map
 use Rattle.fwd_store.specs.declared.kept.Kept.{Kept}
 use Rattle.fwd_store.specs.Opened.{Opened}
 use Rattle.fwd_store.specs.Stored.{Held, Stored}
-use Rattle.fwd_store.specs.Store.{begins_as, new_name, CanGrow, last_number}
+use Rattle.fwd_store.specs.Store.{begins_as, new_name, CanGrow, IsHeldAs, kept_as, last_number}
 use Rattle.fwd_store.specs.Name.{file_name}
 use Rattle.fwd_store.proofs.Making.{nothing_accepted}
-use Rattle.fwd_store.proofs.Sound.{sound_as_new, can_begin}
+use Rattle.fwd_store.proofs.Sound.{sound_as_new, can_begin, begins_held}
 use Rattle.fwd_store.proofs.store.Store.begin_chunk.Goals as goal
 
 pub returns-in_err-reserve-clause-calls : goal.returns-in_err-reserve-clause-calls
@@ -24,4 +24,6 @@ invariant_of-self-in-Ok g c =
     (c.push.ensures ∙ ap (λ (l : List Opened). l ++ record { input = c.args.source.input.0; tag = c.args.source.tag.items; chunk = c.self.inside.next } ∷ []) c.reserve-2.ensures.same)
     (subst (λ (s : Stored). s.next < last_number) (sym c.self.view_is) c.requires.number)
     (subst (λ (kept : Kept). CanGrow (Some kept)) (sym c.in-Ok.ensures.ok.0) (can_begin _ c.args.tag.now c.args.home c.args.batch.now c.requires.tag))
+    (subst (λ (kept : Kept). IsHeldAs c.self.inside.root c.self.inside.next (Some kept)) (sym (c.in-Ok.ensures.ok.0 ∙ ap (λ (root : List ℕ). kept_as (file_name root c.args.stream.now c.self.inside.next) c.args.tag.now c.args.home c.args.batch.now) c.bytes_of-root.ensures))
+    (begins_held c.self.inside.root c.args.stream.now c.self.inside.next c.args.tag.now c.args.home c.args.batch.now c.requires.tag c.requires.batch))
     c.self.invariant

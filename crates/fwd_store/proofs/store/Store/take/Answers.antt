@@ -1,6 +1,5 @@
-use Rattle.std.proofs.Common.{◌≡◌, ℕ, List, Some, ap, sym, ◌∙◌, subst}
+use Rattle.std.proofs.Common.{sym, subst}
 use Rattle.std.specs.FinMap as map
-use Rattle.fwd_store.specs.Opened.{open_for}
 use Rattle.fwd_store.specs.Stored.{Stored}
 use Rattle.fwd_store.specs.Store.{chunk_for, goes_to, CanGrow}
 use Rattle.fwd_store.proofs.Making.{nothing_accepted}
