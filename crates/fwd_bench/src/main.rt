@@ -1,129 +1,45 @@
-//! How fast events are written and read back. `bench/values` runs it; without words it says what it takes.
+//! How fast events are written and read back, lines become events, and files of chunks are appended to and read.
+//! `bench/values`, `bench/lines` and `bench/chunks` run it; without words it says what it takes.
 #![tactic(auto)]
 
-use fwd_event::{Bytes, Event, Events, Memory, Pairs, Value, can_write, read_events, write_event};
-use fwd_msgpack::decode;
-use std::alloc::Global;
-use std::time::Instant;
+mod chunks;
+mod lines;
+mod values;
+
 use std::{env, io};
 
-/// How often each is measured; the least time counts.
-const ROUNDS: u32 = 5;
-
-/// The event of a log line of some 120 bytes.
-fn line_event(alloc: Global, number: u32) -> Result<Event, Memory> {
-    let line = format!(in alloc;
-        "127.0.0.1 - - [14/Nov/2023:22:13:20 +0000] \"GET /items/{number} HTTP/1.1\" 200 2326 \"-\" \"Mozilla/5.0 (X11; Linux)\""
-    )?;
-    let mut body = Pairs::new(alloc);
-    body.push((
-        Value::Text(Bytes::from_slice(alloc, b"log")?),
-        Value::Text(Bytes::from_slice(alloc, line.as_bytes())?),
-    ))?;
-    Ok(Event {
-        sec: number,
-        nsec: 0,
-        meta: Pairs::new(alloc),
-        body,
-    })
+/// What is measured.
+#[derive(Clone, Copy)]
+enum Measured {
+    Values,
+    Lines,
+    Chunks,
 }
 
-fn line_events(alloc: Global, count: u32) -> Result<Events, Memory> {
-    let mut events = Events::new(alloc);
-    for number in 0..count {
-        events.push(line_event(alloc, number)?)?;
-    }
-    Ok(events)
-}
-
-fn write_events(events: &Events, bytes: &mut Bytes) -> Result<(), Memory> {
-    bytes.clear();
-    for event in events.as_slice() {
-        if can_write(event) {
-            write_event(event, bytes)?;
-        }
-    }
-    Ok(())
-}
-
-/// Decodes the values one after another, each let go before the next, and gives their number.
-fn decode_values(alloc: Global, bytes: &[u8], count: u32) -> u32 {
-    let mut at = 0;
-    for number in 0..count {
-        let Some(rest) = bytes.get(at..) else {
-            return number;
-        };
-        let Ok((_value, length)) = decode(alloc, rest) else {
-            return number;
-        };
-        at = at.saturating_add(length as usize);
-    }
-    count
-}
-
-/// The time that writing takes so many times, in microseconds.
-fn write_time(
-    rt: &HostRuntime,
-    events: &Events,
-    bytes: &mut Bytes,
+/// What is measured, over how many, and how many times over.
+#[derive(Clone, Copy)]
+struct Measure {
+    what: Measured,
+    count: u32,
     turns: u32,
-) -> io::Result<u128> {
-    let start = Instant::now(rt)?;
-    for _ in 0..turns {
-        if write_events(events, bytes).is_err() {
-            return Ok(u128::MAX);
-        }
-    }
-    Ok(start.elapsed(rt)?.as_micros())
 }
 
-/// The time that decoding one by one takes so many times, in microseconds.
-fn decode_time(rt: &HostRuntime, bytes: &[u8], count: u32, turns: u32) -> io::Result<u128> {
-    let start = Instant::now(rt)?;
-    for _ in 0..turns {
-        if decode_values(rt.alloc(), bytes, count) < count {
-            return Ok(u128::MAX);
-        }
+fn measured_of(word: &str) -> Option<Measured> {
+    match word {
+        "values" => Some(Measured::Values),
+        "lines" => Some(Measured::Lines),
+        "chunks" => Some(Measured::Chunks),
+        _ => None,
     }
-    Ok(start.elapsed(rt)?.as_micros())
 }
 
-/// The time that reading as a list takes so many times, in microseconds.
-fn list_time(rt: &HostRuntime, bytes: &[u8], turns: u32) -> io::Result<u128> {
-    let start = Instant::now(rt)?;
-    for _ in 0..turns {
-        if read_events(rt.alloc(), bytes).is_err() {
-            return Ok(u128::MAX);
-        }
-    }
-    Ok(start.elapsed(rt)?.as_micros())
-}
-
-/// Writes so many events, decodes them one by one, and reads them as a list, each so many times, and prints the number,
-/// the bytes and the least times in microseconds.
-fn measure(rt: &HostRuntime, count: u32, turns: u32) -> io::Result<()> {
-    let alloc = rt.alloc();
-    let Ok(events) = line_events(alloc, count) else {
-        return rt.println("out of memory");
-    };
-    let mut written = u128::MAX;
-    let mut decoded = u128::MAX;
-    let mut listed = u128::MAX;
-    let mut bytes = Bytes::new(alloc);
-    for _ in 0..ROUNDS {
-        written = written.min(write_time(rt, &events, &mut bytes, turns)?);
-        decoded = decoded.min(decode_time(rt, bytes.as_slice(), count, turns)?);
-        listed = listed.min(list_time(rt, bytes.as_slice(), turns)?);
-    }
-    println!(rt; "{count} {} {written} {decoded} {listed}", bytes.len())
-}
-
-/// How many events, and how often.
-fn counts_of(words: &[String]) -> Option<(u32, u32)> {
+fn measure_of(words: &[String]) -> Option<Measure> {
     match words {
-        [what, count, turns] if what.as_str() == "values" => {
-            Some((count.as_str().parse().ok()?, turns.as_str().parse().ok()?))
-        }
+        [what, count, turns] => Some(Measure {
+            what: measured_of(what.as_str())?,
+            count: count.as_str().parse().ok()?,
+            turns: turns.as_str().parse().ok()?,
+        }),
         _ => None,
     }
 }
@@ -133,8 +49,12 @@ fn main(rt: HostRuntime) -> io::Result<()> {
     for word in env::args(&rt)?.skip(1) {
         words.push(word)?;
     }
-    match counts_of(&words) {
-        Some((count, turns)) => measure(&rt, count, turns),
-        None => rt.println("fwd_bench values COUNT TURNS"),
+    let Some(measure) = measure_of(&words) else {
+        return rt.println("fwd_bench values|lines|chunks COUNT TURNS");
+    };
+    match measure.what {
+        Measured::Values => values::measure(&rt, measure.count, measure.turns),
+        Measured::Lines => lines::measure(&rt, measure.count, measure.turns),
+        Measured::Chunks => chunks::measure(&rt, measure.count, measure.turns),
     }
 }

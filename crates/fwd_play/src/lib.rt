@@ -10,6 +10,8 @@ mod masks;
 mod notes;
 mod queue;
 mod script;
+#[cfg(test)]
+mod tests;
 mod unread;
 
 pub use notes::LoopNote;
