@@ -62,6 +62,10 @@ started r = record r { flying = true }
 abbrev pub stayed : Route → Route
 stayed r = record r { flying = false }
 
+-- one that is due at another time
+abbrev pub due_at : ℕ → Route → Route
+due_at due r = record r { due = due }
+
 -- one that has failed once more and is due at another time
 abbrev pub retried : ℕ → Route → Route
 retried due r = record r { due = due; tries = plus r.tries 1; flying = false }

@@ -1,5 +1,5 @@
 -- The rows of a table: chunks with their routes, by rising chunk number.
-use Rattle.std.specs.Prelude.{◌≡◌, ℕ, ◌<◌, ◌==◌, nat_le, min, Bool, true, false, not, List, [], length, map, filter, find, Option, IsSomeAnd, IsTrue, AllPairs, if◌then◌else◌}
+use Rattle.std.specs.Prelude.{◌≡◌, ℕ, ◌<◌, ◌==◌, ◌&&◌, nat_le, min, Bool, true, false, not, List, [], length, map, filter, find, Option, is_some, IsSomeAnd, IsTrue, AllPairs, if◌then◌else◌}
 use Rattle.std.specs.List.{flat_map}
 use Rattle.std.specs.Option.{option_map_or}
 use Rattle.fwd_base.specs.declared.ids.ChunkId.{ChunkId}
@@ -10,7 +10,7 @@ use Rattle.fwd_retry.specs.declared.timer.Timer.{Timer}
 use Rattle.fwd_table.specs.declared.route.Route.{Route}
 use Rattle.fwd_table.specs.declared.row.Row.{Row}
 use Rattle.fwd_table.specs.declared.row.RowSeen.{RowSeen}
-use Rattle.fwd_table.specs.Routes.{routes_to, idle_at, is_to, on_output, without_output, started, stayed, retried, tries_to, mask_of, flying_of, idle_timers}
+use Rattle.fwd_table.specs.Routes.{routes_to, due_at, is_to, on_output, without_output, started, stayed, retried, tries_to, mask_of, flying_of, idle_timers}
 
 -- what is seen of a table: its rows, and for how many more there is room
 pub record TableSeen : Type 0 where
@@ -64,6 +64,33 @@ pub record IsIdle (chunk : ChunkId) (output : OutputId) (rows : List Row) : Type
   pub shut : IsSomeAnd (row_at chunk rows) (λ row. IsTrue row.shut)
   pub waits : IsSomeAnd (find (is_to output) (routes_at chunk rows)) (λ r. r.flying ≡ false)
 
+-- whether a chunk has a row
+abbrev pub has_row : ChunkId → List Row → Bool
+has_row chunk rows = is_some (row_at chunk rows)
+
+-- whether a row's route to an output is owed and under way, or owed and not
+abbrev pub flies_to : OutputId → Row → Bool
+flies_to output row = option_map_or (λ r. r.flying) (find (is_to output) row.routes) false
+
+abbrev pub waits_for : OutputId → Row → Bool
+waits_for output row = row.shut && option_map_or (λ r. not r.flying) (find (is_to output) row.routes) false
+
+-- whether a route is idle
+abbrev pub is_idle_in : ChunkId → OutputId → List Row → Bool
+is_idle_in chunk output rows = option_map_or (waits_for output) (row_at chunk rows) false
+
+-- how many chunks are under way to an output
+abbrev pub flights_to : OutputId → List Row → ℕ
+flights_to output rows = length (filter (flies_to output) rows)
+
+-- whether a row is owed to someone
+abbrev pub is_owed_row : Row → Bool
+is_owed_row row = not (length row.routes == 0)
+
+-- the rows that are owed to someone
+abbrev pub owed_rows : List Row → List Row
+owed_rows rows = filter is_owed_row rows
+
 -- the timers of a row's idle routes, none where it isn't shut
 abbrev pub waiting : Row → List Timer
 waiting row = if row.shut then idle_timers row.chunk row.routes else []
@@ -110,9 +137,9 @@ without_chunk chunk rows = filter (λ row. not (is_row_of chunk row)) rows
 abbrev pub grown : ℕ → Row → Row
 grown size row = record row { size = size }
 
--- a row that is shut: its routes are idle and due at a time
+-- a row that is shut: its routes are due at a time
 abbrev pub shut_at : ℕ → Row → Row
-shut_at now row = record row { shut = true; routes = map (λ r. idle_at now r.output) row.routes }
+shut_at now row = record row { shut = true; routes = map (due_at now) row.routes }
 
 -- a row of which one route is under way from now on
 abbrev pub started_to : OutputId → Row → Row

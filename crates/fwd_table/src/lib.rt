@@ -8,7 +8,7 @@ mod row;
 mod table;
 mod tally;
 
-pub use answer::{Answer, Outcome};
+pub use answer::{Answer, Outcome, may_retry};
 pub use row::RowSeen;
 pub use table::Table;
 pub use tally::{InputTallies, InputTally, OutputTallies, OutputTally, Tally};

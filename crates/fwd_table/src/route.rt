@@ -2,7 +2,7 @@
 
 ghost use Rattle.std.specs.Prelude.{◌≡◌, ◌==◌, ◌≤◌, [], fold, filter, find, length, map, option_copied, option_map, vec_capacity, if◌then◌else◌};
 ghost use Rattle.fwd_retry.specs.Timer.{earlier as earlier_of, is_next};
-ghost use Rattle.fwd_table.specs.Routes.{idle_at, is_to, on_output, without_output, timer_of, idle_timers, tries_to, routes_below, routes_to, mask_of, flying_of, IsMaskOf};
+ghost use Rattle.fwd_table.specs.Routes.{idle_at, due_at, is_to, on_output, without_output, timer_of, idle_timers, tries_to, routes_below, routes_to, mask_of, flying_of, IsMaskOf};
 ghost use Rattle.fwd_table.specs.Changes.{changed};
 
 use fwd_base::{ChunkId, OutputId};
@@ -109,10 +109,10 @@ fn find_route(routes: &[Route], output: OutputId) -> Option<&Route>
 }
 
 fn begin_routes(routes: &mut [Route], due: u64)
-    ensures { routes.new ≡ map (λ r. idle_at due r.output) routes.old }
+    ensures { routes.new ≡ map (due_at due) routes.old }
 {
     for route in routes.iter_mut() {
-        *route = Route::idle_at(route.output, due);
+        route.due = due;
     }
 }
 
@@ -183,7 +183,7 @@ impl Routes {
 
     /// Makes all routes due at a time.
     pub fn begin(&mut self, due: u64)
-        ensures { self.new ≡ map (λ r. idle_at due r.output) self.old }
+        ensures { self.new ≡ map (due_at due) self.old }
     {
         begin_routes(&mut self.routes, due);
     }

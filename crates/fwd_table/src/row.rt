@@ -3,7 +3,7 @@
 ghost use Rattle.std.specs.Prelude.{◌≡◌, fold, filter, option_copied, if◌then◌else◌};
 ghost use Rattle.std.specs.List.{flat_map};
 ghost use Rattle.fwd_retry.specs.Timer.{earlier as earlier_of, first, is_next};
-ghost use Rattle.fwd_table.specs.Rows.{is_row_of, on_chunk, row_at, seen_of, waiting};
+ghost use Rattle.fwd_table.specs.Rows.{is_row_of, on_chunk, row_at, seen_of, waiting, flies_to, waits_for, flights_to};
 ghost use Rattle.fwd_table.specs.Routes.{flying_of, IsMaskOf};
 ghost use Rattle.fwd_table.specs.Changes.{row_changed};
 
@@ -93,6 +93,20 @@ impl Row {
         }
     }
 
+    /// Whether the route to an output is owed and under way.
+    pub fn flies_to(&self, output: OutputId) -> bool
+        ensures { result ≡ flies_to output self.now }
+    {
+        self.routes.is_flying(output) == Some(true)
+    }
+
+    /// Whether the row is shut, and the route to an output is owed and not under way.
+    pub fn waits_for(&self, output: OutputId) -> bool
+        ensures { result ≡ waits_for output self.now }
+    {
+        self.shut && self.routes.is_flying(output) == Some(false)
+    }
+
     /// The first one of a timer and those of the row's idle routes that are due at `now` and come after the given one.
     fn next(&self, now: u64, after: Option<Timer>, first: Option<Timer>) -> Option<Timer>
         ensures { result ≡ fold (λ found timer. Some (earlier_of found timer)) first (filter (is_next now after) (waiting self.now)) }
@@ -119,6 +133,13 @@ pub fn find_row(rows: &[Row], chunk: ChunkId) -> Option<&Row>
     ensures { option_copied result ≡ row_at chunk rows.now }
 {
     rows.iter().find(|row| row.chunk == chunk)
+}
+
+/// How many rows have a route to an output that is under way.
+pub fn flights_in(rows: &[Row], output: OutputId) -> u64
+    ensures { result ≡ flights_to output rows.now }
+{
+    rows.iter().filter(|row| row.flies_to(output)).count() as u64
 }
 
 /// The first one of the timers of idle routes that are due at `now` and come after the given one.

@@ -5,11 +5,11 @@ ghost use Rattle.fwd_retry.specs.Timer.{first, is_next, IsFirst};
 ghost use Rattle.fwd_table.specs.Answers.{due_after, may_retry, is_tried_again, outcome_of, resolved};
 ghost use Rattle.fwd_table.specs.Routes.{flying_of, mask_of, IsMaskOf};
 ghost use Rattle.fwd_table.specs.Changes.{row_changed};
-ghost use Rattle.fwd_table.specs.Rows.{IsOpen, IsIdle, IsFlying, IsOwedToNobody, row_at, routes_at, tries_of, owes_nothing, idle_timers_of, seen_of, opened, on_chunk, without_chunk, grown, shut_at, started_to, stayed_to, answered_by, resolved_to};
+ghost use Rattle.fwd_table.specs.Rows.{IsOpen, IsIdle, IsFlying, IsOwedToNobody, has_row, is_idle_in, flights_to, owed_rows, row_at, routes_at, tries_of, owes_nothing, idle_timers_of, seen_of, opened, on_chunk, without_chunk, grown, shut_at, started_to, stayed_to, answered_by, resolved_to};
 
 use crate::answer::{due_after, may_retry, resolved, spent};
 use crate::route::{Change, MAX_OUTPUTS, Route, Routes};
-use crate::row::{Row, RowChange, change_rows, find_row, next_in};
+use crate::row::{Row, RowChange, change_rows, find_row, flights_in, next_in};
 use crate::{Answer, Outcome, RowSeen};
 use fwd_base::{Bytes, ChunkId, InputId, Memory, OutputId, Retries};
 use fwd_outside::Home;
@@ -91,6 +91,13 @@ impl Table {
         });
     }
 
+    /// Whether a chunk has a row.
+    pub fn has(&self, chunk: ChunkId) -> bool
+        ensures { result ≡ has_row chunk self.now.rows }
+    {
+        find_row(&self.rows, chunk).is_some()
+    }
+
     /// Whether a chunk has a row that isn't shut.
     pub fn is_open(&self, chunk: ChunkId) -> bool
         ensures { IsTrue result ↔ IsOpen chunk self.now.rows }
@@ -103,10 +110,11 @@ impl Table {
 
     /// Whether a route is owed, of a shut row, and not under way.
     pub fn is_idle(&self, chunk: ChunkId, output: OutputId) -> bool
-        ensures { IsTrue result ↔ IsIdle chunk output self.now.rows }
+        ensures value { result ≡ is_idle_in chunk output self.now.rows }
+        ensures means { IsTrue result ↔ IsIdle chunk output self.now.rows }
     {
         match find_row(&self.rows, chunk) {
-            Some(row) => row.shut && row.routes.is_flying(output) == Some(false),
+            Some(row) => row.waits_for(output),
             None => false,
         }
     }
@@ -131,18 +139,16 @@ impl Table {
         }
     }
 
-    /// Gives a row the size of its chunk's whole content, in bytes. It asks for a row that isn't shut.
+    /// Gives the row of a chunk, if there is one, the size of the chunk's whole content, in bytes.
     pub fn grew(&mut self, chunk: ChunkId, size: u64)
-        requires { IsOpen chunk self.old.rows }
         ensures rows { self.new.rows ≡ on_chunk chunk (grown size) self.old.rows }
         ensures spare { self.old.spare ≤ self.new.spare }
     {
         self.change(chunk, RowChange::Grows { size });
     }
 
-    /// Shuts a row: its routes are idle and due at `now`. It asks for a row that isn't shut.
+    /// Shuts the row of a chunk, if there is one: its routes are due at `now`.
     pub fn shut(&mut self, chunk: ChunkId, now: u64)
-        requires { IsOpen chunk self.old.rows }
         ensures rows { self.new.rows ≡ on_chunk chunk (shut_at now) self.old.rows }
         ensures spare { self.old.spare ≤ self.new.spare }
     {
@@ -158,9 +164,8 @@ impl Table {
         next_in(&self.rows, now, after)
     }
 
-    /// A route is being handed over from now on. It asks for an idle one.
+    /// A route is being handed over from now on, if it is owed.
     pub fn started(&mut self, chunk: ChunkId, output: OutputId)
-        requires { IsIdle chunk output self.old.rows }
         ensures rows { self.new.rows ≡ on_chunk chunk (started_to output) self.old.rows }
         ensures spare { self.old.spare ≤ self.new.spare }
     {
@@ -168,9 +173,8 @@ impl Table {
         self.change(chunk, RowChange::Changes { output, change });
     }
 
-    /// A route is idle again, with its due time and tries of before. It asks for a flying one.
+    /// A route isn't being handed over any more, if it is owed. Its due time and tries stay.
     pub fn stayed(&mut self, chunk: ChunkId, output: OutputId)
-        requires { IsFlying chunk output self.old.rows }
         ensures rows { self.new.rows ≡ on_chunk chunk (stayed_to output) self.old.rows }
         ensures spare { self.old.spare ≤ self.new.spare }
     {
@@ -178,24 +182,22 @@ impl Table {
         self.change(chunk, RowChange::Changes { output, change });
     }
 
-    /// How often a flush of a route has failed. The count stops at its last value, 2^64 - 1. It asks for a flying route.
+    /// How often a flush of a route has failed, 0 where it isn't owed. The count stops at its last value, 2^64 - 1.
     pub fn tries(&self, chunk: ChunkId, output: OutputId) -> u64
-        requires { IsFlying chunk output self.now.rows }
         ensures { result ≡ tries_of chunk output self.now.rows }
     {
         self.tries_so_far(chunk, output)
     }
 
-    /// Whether a route may be tried again where its flush fails now. It asks for a flying route.
+    /// Whether a route may be tried again where its flush fails now.
     pub fn may_retry(&self, chunk: ChunkId, output: OutputId, limit: Retries) -> bool
-        requires { IsFlying chunk output self.now.rows }
         ensures { result ≡ may_retry limit (tries_of chunk output self.now.rows) }
     {
         may_retry(limit, self.tries_so_far(chunk, output))
     }
 
-    /// The flush of a route has answered. Where it may be tried again, it is idle, and due `wait_s` seconds behind `now`;
-    /// else it is owed no more. It asks for a flying route.
+    /// The flush of a route has answered. Where it may be tried again, it is due `wait_s` seconds behind `now`; else it is
+    /// owed no more.
     pub fn answered(
         &mut self,
         chunk: ChunkId,
@@ -205,7 +207,6 @@ impl Table {
         wait_s: u64,
         now: u64,
     ) -> Outcome
-        requires { IsFlying chunk output self.old.rows }
         ensures rows { let again = is_tried_again answer limit (tries_of chunk output self.old.rows) in
             self.new.rows ≡ on_chunk chunk (answered_by again output (due_after now wait_s)) self.old.rows }
         ensures outcome { let again = is_tried_again answer limit (tries_of chunk output self.old.rows) in
@@ -218,9 +219,8 @@ impl Table {
         }
     }
 
-    /// A route is given up. It asks for an idle one.
+    /// A route is given up: it is owed no more.
     pub fn lose(&mut self, chunk: ChunkId, output: OutputId) -> Outcome
-        requires { IsIdle chunk output self.old.rows }
         ensures rows { self.new.rows ≡ on_chunk chunk (resolved_to output) self.old.rows }
         ensures outcome { result ≡ resolved (owes_nothing chunk self.new.rows) }
         ensures spare { self.old.spare ≤ self.new.spare }
@@ -246,6 +246,21 @@ impl Table {
         ensures spare { self.old.spare ≤ self.new.spare }
     {
         self.rows.retain(|row| row.chunk != chunk);
+    }
+
+    /// Takes away the rows that are owed to nobody.
+    pub fn keep_owed(&mut self)
+        ensures rows { self.new.rows ≡ owed_rows self.old.rows }
+        ensures spare { self.old.spare ≤ self.new.spare }
+    {
+        self.rows.retain(|row| !row.routes.is_empty());
+    }
+
+    /// How many chunks are under way to an output.
+    pub fn flights_to(&self, output: OutputId) -> u64
+        ensures { result ≡ flights_to output self.now.rows }
+    {
+        flights_in(&self.rows, output)
     }
 
     /// The number of rows.
