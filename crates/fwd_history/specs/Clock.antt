@@ -14,6 +14,12 @@ clock [] = 0
 clock (Ticked now ∷ h) = max (clock h) (min now last_reading)
 clock (_ ∷ h) = clock h
 
+-- how many readings there were
+abbrev pub ticked : History → ℕ
+ticked [] = 0
+ticked (Ticked now ∷ h) = plus (ticked h) 1
+ticked (_ ∷ h) = ticked h
+
 -- the clock at Stop, where it came
 abbrev pub stopped : History → Option ℕ
 stopped [] = None

@@ -4,7 +4,7 @@ use Rattle.std.specs.Option.{option_map_or}
 use Rattle.fwd_base.specs.declared.choices.Form.{Form}
 use Rattle.fwd_event.specs.declared.event.Event.{Event}
 use Rattle.fwd_out_text.specs.Payload.{payload_of}
-use Rattle.fwd_flush.specs.declared.judged.Judged.TheVariants.{More}
+use Rattle.fwd_flush.specs.declared.judged.Judged.TheVariants.{Right}
 use Rattle.fwd_flush.specs.Flight.{Delivery}
 use Rattle.fwd_settings.specs.declared.chosen.AllSettings.{AllSettings}
 use Rattle.fwd_settings.specs.declared.chosen.OutputSet.{OutputSet}
@@ -31,4 +31,4 @@ payload_at (Some output) tag events = payload_for output.kind tag events
 
 -- what a route's flight delivers; no reply is wanted
 abbrev pub delivery : AllSettings → History → Route → Delivery
-delivery s h r = record { payload = payload_at (output_at s r.output) (tag_for h r.chunk) (records h r.chunk); wanted = false; judged = λ _. More }
+delivery s h r = record { payload = payload_at (output_at s r.output) (tag_for h r.chunk) (records h r.chunk); wanted = false; judged = λ _. Right }

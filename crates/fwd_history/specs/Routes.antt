@@ -1,9 +1,9 @@
 -- Routes: what each chunk is owed to, and how each route stands.
-use Rattle.std.specs.Prelude.{ℕ, ◌==◌, ◌&&◌, not, Bool, true, false, if◌then◌else◌, List, [], ◌∷◌, length, filter, map, find, ◌||◌, Option, Some, None, is_some, option_map}
-use Rattle.std.specs.List.{flat_map, filter_map}
+use Rattle.std.specs.Prelude.{ℕ, ◌==◌, ◌&&◌, not, Bool, true, false, if◌then◌else◌, List, [], ◌∷◌, length, filter, map, ◌||◌, Option, Some, None, is_some}
 use Rattle.fwd_base.specs.declared.ids.LinkId.{LinkId}
 use Rattle.fwd_outside.specs.declared.home.Home.TheVariants.{Ram}
 use Rattle.fwd_table.specs.Answers.{due_after}
+use Rattle.fwd_table.specs.Rows.{is_idle_in, flights_to as flights_in}
 use Rattle.fwd_table.specs.declared.row.Row.{Row}
 use Rattle.fwd_table.specs.declared.route.Route.{Route as Owed}
 use Rattle.fwd_flush.specs.Flight.{Progress, link_in}
@@ -84,26 +84,29 @@ is_owed s h c = not (length (owed s h c) == 0)
 abbrev pub rows_of : AllSettings → History → List Row
 rows_of s h = map (row_of s h) (filter (is_owed s h) (chunks_of h))
 
--- the routes of a chunk that it is owed to
-abbrev pub routes_of : AllSettings → History → ChunkOf → List Route
-routes_of s h c = map (route c.number) (owed s h c)
-
--- all routes that are owed, by chunk and output
-abbrev pub owed_routes : AllSettings → History → List Route
-owed_routes s h = flat_map (routes_of s h) (chunks_of h)
-
--- how many flights an output has
+-- how many chunks are under way to an output
 abbrev pub flights_to : AllSettings → History → ℕ → ℕ
-flights_to s h output = length (filter (λ (r : Route). r.output == output && is_some (flight h r)) (owed_routes s h))
+flights_to s h output = flights_in (record { 0 = output }) (rows_of s h)
 
+-- whether a route is idle: it is owed, its chunk is closed, and no flight of it is under way
+abbrev pub is_idle : AllSettings → History → Route → Bool
+is_idle s h r = is_idle_in (record { 0 = r.chunk }) (record { 0 = r.output }) (rows_of s h)
+
+abbrev pub is_link : ℕ → Option LinkId → Bool
+is_link link None = false
+is_link link (Some other) = other.0 == link
+
+-- whether a flight has this link
 abbrev pub flies_on : ℕ → Option Progress → Bool
 flies_on link None = false
-flies_on link (Some progress) = is_link (link_in progress.stage)
-  where
-    is_link : Option LinkId → Bool
-    is_link None = false
-    is_link (Some other) = other.0 == link
+flies_on link (Some progress) = is_link link (link_in progress.stage)
 
--- the route whose flight has a link
-abbrev pub route_on : AllSettings → History → ℕ → Option Route
-route_on s h link = find (λ r. flies_on link (flight h r)) (owed_routes s h)
+abbrev pub other_than : Route → Option Route → Option Route
+other_than r None = None
+other_than r (Some other) = if same_route r other then None else Some other
+
+-- the route whose flight got a link last, and has it still
+abbrev pub route_on : History → ℕ → Option Route
+route_on [] link = None
+route_on (OnRoute r outcome ∷ h) link = if flies_on link (progress_of outcome) then Some r else other_than r (route_on h link)
+route_on (_ ∷ h) link = route_on h link

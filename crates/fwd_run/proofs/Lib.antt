@@ -1,0 +1,4 @@
+pub mod Noting
+pub mod Telling
+pub mod Living
+pub mod Row

@@ -30,7 +30,7 @@ use Rattle.fwd_history.specs.Clock.{clock, stopped, next_closing}
 use Rattle.fwd_history.specs.Streams.{input_of}
 use Rattle.fwd_history.specs.Batches.{tag_of, piece_batch, end_batch}
 use Rattle.fwd_history.specs.Chunks.{ChunkOf, opened, open_chunks, open_chunk, size, is_storable}
-use Rattle.fwd_history.specs.Routes.{route, tries, flight, flights_to, route_on, rows_of}
+use Rattle.fwd_history.specs.Routes.{route, tries, flight, flights_to, is_idle, route_on, rows_of}
 use Rattle.fwd_history.specs.Payloads.{delivery, tag_for}
 
 -- a fact is noted, and the history has it
@@ -100,12 +100,12 @@ stands s r progress h = stands_in s r progress progress.stage h
 unfoldable pub lands : AllSettings → Route → ℕ → Progress → History → Act History
 lands s r before progress h = noting (Handed r.output (progress.taken - before)) h (stands s r progress)
 
--- The walk: a route is begun where its output has a place
+-- The walk: a route that is idle still is begun where its output has a place
 unfoldable pub begins : AllSettings → Route → History → Act History
 begins s r h = bind (on_loop (starts (delivery s h r) r.output (tag_for h r.chunk) unopened)) (λ progress. lands s r 0 progress h)
 
 unfoldable pub turn : AllSettings → Route → History → Act History
-turn s r h = if nat_lt (flights_to s h r.output) (places_at (output_at s r.output)) then begins s r h else Return h
+turn s r h = if is_idle s h r && nat_lt (flights_to s h r.output) (places_at (output_at s r.output)) then begins s r h else Return h
 
 abbrev pub turns : AllSettings → List Route → History → Act History
 turns s [] h = Return h
@@ -124,9 +124,9 @@ abbrev pub in_order : ℕ → ℕ → Option Timer → List Timer → List Route
 in_order zero now after timers = []
 in_order (suc more) now after timers = behind_first (λ timer. in_order more now (Some timer) timers) (first (filter (is_next now after) timers))
 
--- the routes that are idle and due when a walk begins
+-- the routes that are idle and due when a walk begins; a chunk has 64 of them at most
 abbrev pub due_routes : AllSettings → History → List Route
-due_routes s h = let timers = idle_timers_of (rows_of s h) in in_order (length timers) (clock h) None timers
+due_routes s h = let rows = rows_of s h in in_order (64 * length rows) (clock h) None (idle_timers_of rows)
 
 unfoldable pub walk : AllSettings → History → Act History
 walk s h = turns s (due_routes s h) h
@@ -193,13 +193,13 @@ resumes s go (Some r) h = flies (flight h r)
     flies (Some progress) = bind (go (delivery s h r) progress) (λ now. lands s r progress.taken now h)
 
 unfoldable pub has_room : AllSettings → ℕ → History → Act History
-has_room s link h = resumes s (λ d p. on_loop (polls d p)) (route_on s h link) h
+has_room s link h = resumes s (λ d p. on_loop (polls d p)) (route_on h link) h
 
 unfoldable pub comes_back : AllSettings → ℕ → List ℕ → History → Act History
-comes_back s link bytes h = resumes s (λ d p. on_loop (backs d bytes p)) (route_on s h link) h
+comes_back s link bytes h = resumes s (λ d p. on_loop (backs d bytes p)) (route_on h link) h
 
 unfoldable pub has_broken : AllSettings → ℕ → History → Act History
-has_broken s link h = resumes s (λ d p. on_loop (breaks p)) (route_on s h link) h
+has_broken s link h = resumes s (λ d p. on_loop (breaks p)) (route_on h link) h
 
 unfoldable pub step : AllSettings → Happening → History → Act History
 step s (happening.Tick now) h = ticks s now h

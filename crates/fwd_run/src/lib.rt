@@ -4,3 +4,7 @@
 //! every step is written down here without the engine's table, timers and states, so that it can be read and held against
 //! the engine.
 #![tactic(auto)]
+
+mod laws;
+
+pub use laws::{histories_are_noted, over_at_the_end};
