@@ -1,0 +1,10 @@
+pub mod Numbers
+pub mod Turning
+pub mod Opening
+pub mod Changing
+pub mod Ending
+pub mod Saying
+pub mod Having
+pub mod Standing
+pub mod Idle
+pub mod Left

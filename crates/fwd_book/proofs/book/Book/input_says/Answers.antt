@@ -1,0 +1,24 @@
+use Rattle.std.proofs.Common.{◌∙◌}
+use Rattle.fwd_trace.specs.Fact.{Standard}
+use Rattle.fwd_history.specs.Streams.{said}
+use Rattle.fwd_book.proofs.Saying.{said_input}
+use Rattle.fwd_book.proofs.book.Book.input_says.Goals as goal
+
+pub returns-clause-notes : goal.returns-clause-notes
+returns-clause-notes c s h out before = record {
+  rows = before.rows;
+  count = before.count;
+  opens = before.opens;
+  contents = before.contents;
+  inputs = before.inputs;
+  peers = before.peers;
+  standard = λ input. c.in_ok-lines.ensures.kept (said h (Standard c.args.input.0)) (before.standard c.args.input.0) input ∙ said_input h c.args.input.0 input c.args.bytes.now _ (before.standard input);
+  flights = before.flights;
+  time = before.time;
+  ticks = before.ticks;
+  closing = before.closing;
+  stopped = before.stopped;
+  tally = before.tally;
+  fresh = before.fresh;
+  open_owed = before.open_owed;
+}
