@@ -1,0 +1,22 @@
+-- The end of the grace behind a stop.
+use Rattle.std.proofs.Common.{◌≡◌, ℕ, ◌+◌, ◌*◌, ◌^◌, ◌-◌, ◌≤◌, inl, inr, [], ◌∷◌, sym, ◌∙◌, ap, arith}
+use Rattle.std.specs.Prelude.{nat_le, min}
+use Rattle.std.proofs.lemmas.Bool.{cases_lt, lt-leb}
+use Rattle.fwd_trace.specs.Fact.{History, Ticked}
+use Rattle.fwd_history.specs.Clock.{clock, last_reading}
+
+pub clock_within : (h : History) → clock h ≤ last_reading
+clock_within [] = omega arith
+clock_within (Ticked now ∷ h) = let before : clock h ≤ last_reading = clock_within h in omega (arith, before)
+clock_within (_ ∷ h) = clock_within h
+
+-- a sum that stands still at its last value is passed by no reading
+pub late_is : (at grace now : ℕ) → now ≤ last_reading → nat_le (min (min (grace * 1000) (2 ^ 64 - 1) + at) (2 ^ 64 - 1)) now ≡ nat_le (at + 1000 * grace) now
+late_is at grace now within = elim (cases_lt (2 ^ 64 - 1) (at + 1000 * grace)) [
+  | inl past ↦
+      let stands : min (min (grace * 1000) (2 ^ 64 - 1) + at) (2 ^ 64 - 1) ≡ 2 ^ 64 - 1 = omega (arith, past) in
+      ap (λ (n : ℕ). nat_le n now) stands ∙ lt-leb (2 ^ 64 - 1) now (omega (arith, within)) ∙ sym (lt-leb (at + 1000 * grace) now (omega (arith, within, past)))
+  | inr fits ↦
+      let same : min (min (grace * 1000) (2 ^ 64 - 1) + at) (2 ^ 64 - 1) ≡ at + 1000 * grace = omega (arith, fits) in
+      ap (λ (n : ℕ). nat_le n now) same
+]
