@@ -9,7 +9,7 @@ use std::io;
 use std::time::Instant;
 
 /// How often each is measured; the least time counts.
-const ROUNDS: u32 = 3;
+const ROUNDS: u32 = 7;
 
 /// The event of a line of 100 letters at second 0.
 const EVENT: &[u8] = b"\x92\x92\xd7\0\0\0\0\0\0\0\0\0\x80\x81\xa3log\xd9\x64\
@@ -17,9 +17,6 @@ const EVENT: &[u8] = b"\x92\x92\xd7\0\0\0\0\0\0\0\0\0\x80\x81\xa3log\xd9\x64\
 
 /// A chunk with so many bytes of content takes no more appends.
 const FULL_CHUNK: u64 = 2_048_000;
-
-/// The greatest length of a chunk's file.
-const LONGEST_FILE: usize = 67_108_864;
 
 /// The header of a plain file with a tag.
 const PLAIN_HEADER: &[u8] = b"\xc1\0\0\0\0\0\0\0\0\0\0\0\0\0\0\0\0\0\0\0\0\0\0\x05bench";
@@ -66,10 +63,10 @@ fn append_time(rt: &HostRuntime, count: u32, disks: u32, full: bool) -> io::Resu
     Ok(start.elapsed(rt)?.as_micros())
 }
 
-/// A plain file with as many events as it may have.
-fn longest_file(alloc: Global) -> Result<Bytes, Memory> {
+/// A plain file with as many events as so many bytes have room for.
+fn plain_file(alloc: Global, longest: usize) -> Result<Bytes, Memory> {
     let mut file = Bytes::from_slice(alloc, PLAIN_HEADER)?;
-    for _ in 0..(LONGEST_FILE - PLAIN_HEADER.len()) / EVENT.len() {
+    for _ in 0..longest.saturating_sub(PLAIN_HEADER.len()) / EVENT.len() {
         file.extend_from_slice(EVENT)?;
     }
     Ok(file)
@@ -87,21 +84,29 @@ fn read_time(rt: &HostRuntime, file: &[u8]) -> io::Result<(u64, u128)> {
 }
 
 /// Prints the number of appends to a disk and the least times of appending to so many disks, under full sync and under
-/// normal sync, and of the longest file the bytes, the events and the least time of reading; times in microseconds.
+/// normal sync, in microseconds.
 pub fn measure(rt: &HostRuntime, count: u32, disks: u32) -> io::Result<()> {
-    let Ok(file) = longest_file(rt.alloc()) else {
-        return rt.println("out of memory");
-    };
     let mut full = u128::MAX;
     let mut normal = u128::MAX;
-    let mut read = u128::MAX;
-    let mut events = 0;
     for _ in 0..ROUNDS {
         full = full.min(append_time(rt, count, disks, true)?);
         normal = normal.min(append_time(rt, count, disks, false)?);
+    }
+    println!(rt; "{count} {full} {normal}")
+}
+
+/// Prints the bytes and the events of the longest file of at most so many bytes, and the least time of reading it so
+/// often, in microseconds.
+pub fn measure_reading(rt: &HostRuntime, longest: u32, turns: u32) -> io::Result<()> {
+    let Ok(file) = plain_file(rt.alloc(), longest as usize) else {
+        return rt.println("out of memory");
+    };
+    let mut least = u128::MAX;
+    let mut events = 0;
+    for _ in 0..turns {
         let (found, spent) = read_time(rt, file.as_slice())?;
         events = found;
-        read = read.min(spent);
+        least = least.min(spent);
     }
-    println!(rt; "{count} {full} {normal} {} {events} {read}", file.len())
+    println!(rt; "{} {events} {least}", file.len())
 }

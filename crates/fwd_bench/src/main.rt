@@ -14,6 +14,7 @@ enum Measured {
     Values,
     Lines,
     Chunks,
+    Reading,
 }
 
 /// What is measured, over how many, and how many times over.
@@ -29,6 +30,7 @@ fn measured_of(word: &str) -> Option<Measured> {
         "values" => Some(Measured::Values),
         "lines" => Some(Measured::Lines),
         "chunks" => Some(Measured::Chunks),
+        "reading" => Some(Measured::Reading),
         _ => None,
     }
 }
@@ -50,11 +52,12 @@ fn main(rt: HostRuntime) -> io::Result<()> {
         words.push(word)?;
     }
     let Some(measure) = measure_of(&words) else {
-        return rt.println("fwd_bench values|lines|chunks COUNT TURNS");
+        return rt.println("fwd_bench values|lines|chunks|reading COUNT TURNS");
     };
     match measure.what {
         Measured::Values => values::measure(&rt, measure.count, measure.turns),
         Measured::Lines => lines::measure(&rt, measure.count, measure.turns),
         Measured::Chunks => chunks::measure(&rt, measure.count, measure.turns),
+        Measured::Reading => chunks::measure_reading(&rt, measure.count, measure.turns),
     }
 }

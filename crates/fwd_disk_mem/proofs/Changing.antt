@@ -4,9 +4,8 @@ use Rattle.std.specs.Str.{bytes_eq}
 use Rattle.std.proofs.lemmas.Slice.Eq.{bytes_eq-Decides}
 use Rattle.fwd_base.specs.declared.memory.Memory.{Memory}
 use Rattle.fwd_image.specs.File.{overwritten}
-use Rattle.fwd_disk_mem.specs.declared.table.MemFile.{MemFile}
+use Rattle.fwd_disk_mem.specs.Table.{MemFile, found, SetAt}
 use Rattle.fwd_disk_mem.specs.declared.told.Told.TheVariants.{WriteAt}
-use Rattle.fwd_disk_mem.specs.Table.{found, SetAt}
 use Rattle.fwd_disk_mem.specs.Told.{Changes, written_over}
 
 one_name : (old new : List MemFile) (name : List ℕ) (at : ℕ) (bytes : List ℕ) (f : Option (List ℕ)) → found old name ≡ f

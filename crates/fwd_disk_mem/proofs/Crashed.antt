@@ -1,141 +1,117 @@
 -- The disk of the images, file by file.
-use Rattle.std.proofs.Common.{◌≡◌, ◌≢◌, ℕ, ◌+◌, ◌<◌, Bool, true, false, is_some, IsTrue, if◌then◌else◌, Option, Some, None, List, [], ◌∷◌, ◌++◌, length, get_or, take, refl, sym, ◌∙◌, ap, subst}
+use Rattle.std.proofs.Common.{◌≡◌, ℕ, Bool, true, false, cond, if◌then◌else◌, Option, Some, None, unwrap_or, List, [], ◌∷◌, ◌++◌, refl, sym, ◌∙◌, ap}
+use Rattle.std.specs.Prelude.{Vec}
+use Rattle.std.specs.Cmp.Lexicographic.{nat_list_eq_equiv}
+use Rattle.std.specs.List.{AllByRecursion, IsDistinct}
+use Rattle.std.specs.Map.{lookup, keys_of, KeepsOthers}
 use Rattle.std.specs.Str.{bytes_eq}
 use Rattle.std.proofs.lemmas.Slice.Eq.{bytes_eq-Decides}
-use Rattle.std.proofs.lemmas.List.{append-nil, map-append}
-use Rattle.std.proofs.lemmas.Grind.{take_at_read}
+use Rattle.std.proofs.lemmas.List.{append-nil, append_assoc}
 use Rattle.fwd_image.specs.File.{FileState, content, gone, whole}
-use Rattle.fwd_disk_mem.specs.declared.table.MemFile.{MemFile}
+use Rattle.fwd_disk_mem.specs.Table.{MemFile}
+use Rattle.fwd_disk_mem.specs.declared.image.ImageFile.{ImageFile}
 use Rattle.fwd_disk_mem.specs.declared.told.Told.{Told}
-use Rattle.fwd_disk_mem.specs.declared.told.Told.TheVariants.{Preset}
-use Rattle.fwd_disk_mem.specs.Seen.{Seen}
-use Rattle.fwd_disk_mem.specs.Table.{found, SetAt}
-use Rattle.fwd_disk_mem.specs.Told.{is_on, named_by, step, files_of}
-use Rattle.fwd_disk_mem.specs.Images.{Making, made, make, nothing, picked, presets, preset_of}
-use Rattle.fwd_disk_mem.proofs.Found.{not_equal}
-use Rattle.fwd_disk_mem.proofs.Played.{files-push, on_its_name}
+use Rattle.fwd_disk_mem.specs.declared.told.Told.TheVariants.{Place, WriteAt, Sync, Remove, Read, List as Listed, Preset, FailAt}
+use Rattle.fwd_disk_mem.specs.Told.{is_on, named_by, run, files_of}
+use Rattle.fwd_disk_mem.specs.Images.{acted_file, presets, preset_of, presets_of, no_file, file_at}
+use Rattle.fwd_disk_mem.proofs.Found.{same_key, named, finds}
 
--- no call is about the file of this name
-abbrev pub AllOff : List ℕ → List Told → Type 0
-AllOff name [] = Unit {0}
-AllOff name (call ∷ calls) = (is_on call name ≡ false) × AllOff name calls
-
-off-push : (name : List ℕ) (calls : List Told) (call : Told) → AllOff name calls → is_on call name ≡ false → AllOff name (calls ++ call ∷ [])
-off-push name [] call off is = (is, tt)
-off-push name (first ∷ calls) call off is = (off.0, off-push name calls call off.1 is)
-
-make-off : (pick : ℕ) (name : List ℕ) (calls : List Told) → AllOff name calls → (s : FileState) (m : Making) → make pick name s m calls ≡ m
-make-off pick name [] off s m = refl
-make-off pick name (call ∷ calls) off s m =
-    ap (λ (b : Bool). make pick name (step name s call) (if b then made pick s m call else m) calls) off.0 ∙ make-off pick name calls off.1 (step name s call) m
-
--- how far the images have come
-pub record Imaged (pick : ℕ) (all : List Told) (i : ℕ) (done : List MemFile) (calls : List Told) : Type 0 where
-  pub files : List MemFile
-  pub presets_are : calls ≡ presets files
-  pub known : (n : List ℕ) → IsTrue (is_some (found done n)) → content (files_of calls n) ≡ picked pick all n
-  pub unknown : (n : List ℕ) → found done n ≡ None → (content (files_of calls n) ≡ None) × AllOff n (take i all)
-
-pub imaged_first : (pick : ℕ) (all : List Told) → Imaged pick all 0 [] []
-imaged_first pick all = record { files = []; presets_are = refl; known = λ n is. absurd (cc is); unknown = λ n is. (refl, tt) }
-
-content_if : (b : Bool) (bytes : List ℕ) (s : FileState) → content (if b then whole bytes else s) ≡ (if b then Some bytes else content s)
-content_if true bytes s = refl
-content_if false bytes s = refl
-
-content_preset : (calls : List Told) (name bytes n : List ℕ) → content (files_of (calls ++ Preset name bytes ∷ []) n) ≡ (if bytes_eq name n then Some bytes else content (files_of calls n))
-content_preset calls name bytes n = ap content (files-push calls (Preset name bytes) n) ∙ content_if (bytes_eq name n) bytes (files_of calls n)
-
-content_image : (calls : List Told) (name : List ℕ) (image : Option (List ℕ)) (n : List ℕ) → content (files_of calls name) ≡ None → content (files_of (calls ++ preset_of name image) n) ≡ (if bytes_eq name n then image else content (files_of calls n))
-content_image calls name (Some bytes) n none = content_preset calls name bytes n
-content_image calls name None n none = ap (λ (l : List Told). content (files_of l n)) (append-nil calls) ∙ by (bytes_eq name n) refl
+-- a call that is about no file changes none
+acts_on : (pick : ℕ) (call : Told) (n : List ℕ) (file : ImageFile) → (if bytes_eq (named_by call) n then acted_file pick file call else file) ≡ (if is_on call n then acted_file pick file call else file)
+acts_on pick (Place _ _ _) n file = refl
+acts_on pick (WriteAt _ _ _ _) n file = refl
+acts_on pick (Sync _ _) n file = refl
+acts_on pick (Remove _ _) n file = refl
+acts_on pick (Read _ _ _ _) n file = refl
+acts_on pick (Listed _ _) n file = refl
+acts_on pick (Preset _ _) n file = refl
+acts_on pick (FailAt number) n file = by (bytes_eq [] n)
   where
-    by : (b : Bool) → bytes_eq name n ≡ b → content (files_of calls n) ≡ (if b then None else content (files_of calls n))
-    by true is = ap (λ (m : List ℕ). content (files_of calls m)) (sym ((bytes_eq-Decides name n).0 is)) ∙ none
-    by false is = refl
+    by : (b : Bool) → (if b then file else file) ≡ file
+    by true = refl
+    by false = refl
 
-more_presets : (files : List MemFile) (name : List ℕ) (image : Option (List ℕ)) → (more : List MemFile) × (presets files ++ preset_of name image ≡ presets more)
-more_presets files name (Some bytes) =
-    let file : MemFile = record { name = name; bytes = bytes } in
-    (files ++ file ∷ [], sym (map-append (λ (f : MemFile). Preset f.name f.bytes) files (file ∷ [])))
-more_presets files name None = (files, append-nil (presets files))
+-- an image, or what was there
+abbrev or_was : Option (List ℕ) → Option (List ℕ) → Option (List ℕ)
+or_was None was = was
+or_was (Some bytes) was = Some bytes
 
-off_other : (call : Told) (n : List ℕ) → named_by call ≢ n → is_on call n ≡ false
-off_other call n ne = by (is_on call n) refl
-  where
-    by : (b : Bool) → is_on call n ≡ b → b ≡ false
-    by true is = absurd (ne (on_its_name call n is))
-    by false is = refl
+abbrev over : Option ImageFile → Option (List ℕ) → Option (List ℕ)
+over None was = was
+over (Some file) was = or_was file.image was
 
-next_off : (all : List Told) (i : ℕ) (call : Told) (n : List ℕ) → i < length all → call ≡ get_or all i call → AllOff n (take i all) → named_by call ≢ n → AllOff n (take (i + 1) all)
-next_off all i call n lt is off ne =
-    let more = (take_at_read all i call lt).1 ∙ ap (λ (c : Told). take i all ++ c ∷ []) (sym is) in
-    subst (AllOff n) (sym more) (off-push n (take i all) call off (off_other call n ne))
+more_presets : (name : List ℕ) (image : Option (List ℕ)) (calls : List Told) → (files : List MemFile) × (calls ≡ presets files) → (files : List MemFile) × (preset_of name image ++ calls ≡ presets files)
+more_presets name None calls are = are
+more_presets name (Some bytes) calls are = let file : MemFile = record { name = name; bytes = bytes } in (file ∷ are.0, ap (λ (l : List Told). Preset name bytes ∷ l) are.1)
 
-module _ (pick : ℕ) (all : List Told) (i : ℕ) (call : Told) (lt : i < length all) (is : call ≡ get_or all i call) (done done2 : List MemFile) (calls : List Told) (so_far : Imaged pick all i done calls) where
-  pub imaged_again : IsTrue (is_some (found done (named_by call))) → Imaged pick all (i + 1) done calls
-  imaged_again there = record {
-    files = so_far.files;
-    presets_are = so_far.presets_are;
-    known = so_far.known;
-    unknown = λ n none. let was = so_far.unknown n none in
-        (was.0, next_off all i call n lt is was.1 (λ e. let no : false ≡ true = sym (ap is_some (ap (found done) e ∙ none)) ∙ there in absurd (cc no)));
-  }
-
-  pub imaged_next : found done (named_by call) ≡ None → SetAt done done2 (named_by call) (Some []) → Imaged pick all (i + 1) done2 (calls ++ preset_of (named_by call) (picked pick all (named_by call)))
-  imaged_next none set =
-      let name = named_by call in
-      let image = picked pick all name in
-      let more = more_presets so_far.files name image in
-      let at = λ (n : List ℕ). content_image calls name image n (so_far.unknown name none).0 in
-      record {
-        files = more.0;
-        presets_are = ap (λ (l : List Told). l ++ preset_of name image) so_far.presets_are ∙ more.1;
-        known = λ n there. at n ∙ known n (bytes_eq name n) refl (sym (ap is_some (set n)) ∙ there);
-        unknown = λ n gone. unknown n (bytes_eq name n) refl (sym (set n) ∙ gone) (at n);
-      }
+module _ {Z : Type 0} where
+  -- the file of one name is so, and the others are as they were
+  pub acted_at : (pick : ℕ) (call : Told) (old mid new : List (Vec ℕ Z × ImageFile)) (name : List ℕ) (file : ImageFile) → name ≡ named_by call → file ≡ acted_file pick (file_at old name) call
+      → ((n : List ℕ) → bytes_eq name n ≡ false → file_at mid n ≡ file_at old n) → lookup (named name) new ≡ Some file → KeepsOthers same_key (named name) mid new
+      → (n : List ℕ) → file_at new n ≡ (if is_on call n then acted_file pick (file_at old n) call else file_at old n)
+  acted_at pick call old mid new name file is_name is_file others is keeps n =
+      ap (λ (f : Option ImageFile). unwrap_or f no_file) (finds mid new name (Some file) is keeps n) ∙ by (bytes_eq name n) refl
+      ∙ ap (λ (m : List ℕ). if bytes_eq m n then acted_file pick (file_at old n) call else file_at old n) is_name ∙ acts_on pick call n (file_at old n)
     where
-      known : (n : List ℕ) (b : Bool) → bytes_eq (named_by call) n ≡ b → IsTrue (is_some (if b then Some [] else found done n)) → (if b then picked pick all (named_by call) else content (files_of calls n)) ≡ picked pick all n
-      known n true e there = ap (picked pick all) ((bytes_eq-Decides (named_by call) n).0 e)
-      known n false e there = so_far.known n there
+      by : (b : Bool) → bytes_eq name n ≡ b → unwrap_or (if b then Some file else lookup (named n) mid) no_file ≡ (if b then acted_file pick (file_at old n) call else file_at old n)
+      by true e = is_file ∙ ap (λ (m : List ℕ). acted_file pick (file_at old m) call) ((bytes_eq-Decides name n).0 e)
+      by false e = others n e
 
-      unknown : (n : List ℕ) (b : Bool) → bytes_eq (named_by call) n ≡ b → (if b then Some [] else found done n) ≡ None
-          → content (files_of (calls ++ preset_of (named_by call) (picked pick all (named_by call))) n) ≡ (if b then picked pick all (named_by call) else content (files_of calls n))
-          → (content (files_of (calls ++ preset_of (named_by call) (picked pick all (named_by call))) n) ≡ None) × AllOff n (take (i + 1) all)
-      unknown n true e gone c = absurd (cc gone)
-      unknown n false e gone c = let was = so_far.unknown n gone in (c ∙ was.0, next_off all i call n lt is was.1 (not_equal (named_by call) n e))
+  pub other_file : (old new : List (Vec ℕ Z × ImageFile)) (name : List ℕ) (file : Option ImageFile) → lookup (named name) new ≡ file → KeepsOthers same_key (named name) old new
+      → (n : List ℕ) → bytes_eq name n ≡ false → file_at new n ≡ file_at old n
+  other_file old new name file is keeps n other =
+      ap (λ (f : Option ImageFile). unwrap_or f no_file) (finds old new name file is keeps n ∙ ap (λ (b : Bool). if b then file else lookup (named n) old) other)
 
--- at the end each file is the image
-pub imaged_last : (pick : ℕ) (all : List Told) (i : ℕ) (done : List MemFile) (calls : List Told) → take i all ≡ all → Imaged pick all i done calls → (n : List ℕ) → content (files_of calls n) ≡ picked pick all n
-imaged_last pick all i done calls whole so_far n = by (found done n) refl
-  where
-    by : (f : Option (List ℕ)) → found done n ≡ f → content (files_of calls n) ≡ picked pick all n
-    by (Some bytes) is = so_far.known n (ap is_some is)
-    by None is =
-        let was = so_far.unknown n is in
-        was.0 ∙ sym (ap (λ (m : Making). m.image) (make-off pick n all (subst (AllOff n) whole was.1) gone nothing))
+  -- one file more
+  pub presets_of-push : (entries : List (Vec ℕ Z × ImageFile)) (entry : Vec ℕ Z × ImageFile) → presets_of (entries ++ entry ∷ []) ≡ presets_of entries ++ preset_of entry.0.items entry.1.image
+  presets_of-push [] entry = append-nil (preset_of entry.0.items entry.1.image)
+  presets_of-push (first ∷ entries) entry =
+      ap (λ (l : List Told). preset_of first.0.items first.1.image ++ l) (presets_of-push entries entry)
+      ∙ sym (append_assoc (preset_of first.0.items first.1.image) (presets_of entries) (preset_of entry.0.items entry.1.image))
 
--- one call more
-pub imaged_step : (pick : ℕ) (all : List Told) (i : ℕ) (call : Told) (name : List ℕ) (done done2 : List MemFile) (disk disk2 : Seen) → i < length all → call ≡ get_or all i call → name ≡ named_by call
-    → (IsTrue (is_some (found done name)) → (done2 ≡ done) × (disk2 ≡ disk)) → (found done name ≡ None → SetAt done done2 name (Some []) × (disk2 ≡ record disk { calls = disk.calls ++ preset_of name (picked pick all name) }))
-    → Imaged pick all i done disk.calls × (disk.faults ≡ 0) × (disk.mark ≡ 0) → Imaged pick all (i + 1) done2 disk2.calls × (disk2.faults ≡ 0) × (disk2.mark ≡ 0)
-imaged_step pick all i call name done done2 disk disk2 lt is named again first so_far =
-    by (found done (named_by call)) refl (subst (λ (n : List ℕ). IsTrue (is_some (found done n)) → (done2 ≡ done) × (disk2 ≡ disk)) named again)
-    (subst (λ (n : List ℕ). found done n ≡ None → SetAt done done2 n (Some []) × (disk2 ≡ record disk { calls = disk.calls ++ preset_of n (picked pick all n) })) named first)
-  where
-    by : (f : Option (List ℕ)) → found done (named_by call) ≡ f → (IsTrue (is_some (found done (named_by call))) → (done2 ≡ done) × (disk2 ≡ disk))
-        → (found done (named_by call) ≡ None → SetAt done done2 (named_by call) (Some []) × (disk2 ≡ record disk { calls = disk.calls ++ preset_of (named_by call) (picked pick all (named_by call)) }))
-        → Imaged pick all (i + 1) done2 disk2.calls × (disk2.faults ≡ 0) × (disk2.mark ≡ 0)
-    by (Some bytes) f again first =
-        let there = ap is_some f in
-        let same = again there in (
-          subst (λ (d : List MemFile). Imaged pick all (i + 1) d disk2.calls) (sym same.0) (subst (λ (d : Seen). Imaged pick all (i + 1) done d.calls) (sym same.1) (imaged_again pick all i call lt is done done2 disk.calls so_far.0 there)),
-          ap (λ (d : Seen). d.faults) same.1 ∙ so_far.1,
-          ap (λ (d : Seen). d.mark) same.1 ∙ so_far.2,
-        )
-    by None f again first =
-        let new = first f in (
-          subst (λ (d : Seen). Imaged pick all (i + 1) done2 d.calls) (sym new.1) (imaged_next pick all i call lt is done done2 disk.calls so_far.0 f new.0),
-          ap (λ (d : Seen). d.faults) new.1 ∙ so_far.1,
-          ap (λ (d : Seen). d.mark) new.1 ∙ so_far.2,
-        )
+  pub are_presets : (entries : List (Vec ℕ Z × ImageFile)) → (files : List MemFile) × (presets_of entries ≡ presets files)
+  are_presets [] = ([], refl)
+  are_presets (entry ∷ entries) = more_presets entry.0.items entry.1.image (presets_of entries) (are_presets entries)
+
+  no_other : (key : Vec ℕ Z) (entries : List (Vec ℕ Z × ImageFile)) → AllByRecursion (λ (k : Vec ℕ Z). same_key key k ≡ false) (keys_of entries) → lookup (named key.items) entries ≡ None
+  no_other key [] apart = refl
+  no_other key (entry ∷ entries) apart = ap (λ (b : Bool). cond b (Some entry.1) (lookup (named key.items) entries)) apart.0 ∙ no_other key entries apart.1
+
+  -- what is read behind the presets of files that each have their name
+  presets_read : (entries : List (Vec ℕ Z × ImageFile)) → IsDistinct same_key (keys_of entries) → (n : List ℕ) (s : FileState) → content (run n s (presets_of entries)) ≡ over (lookup (named n) entries) (content s)
+  unfolding IsDistinct
+  presets_read [] distinct n s = refl
+  presets_read (entry ∷ entries) distinct n s =
+      each entry.1.image (bytes_eq key.items n) refl (presets_read entries distinct.1 n) ∙ both (bytes_eq key.items n) (bytes_eq n key.items) (nat_list_eq_equiv.symm key.items n)
+    where
+      key : Vec ℕ Z
+      key = entry.0
+
+      none : bytes_eq key.items n ≡ true → lookup (named n) entries ≡ None
+      none e = ap (λ (m : List ℕ). lookup (named m) entries) (sym ((bytes_eq-Decides key.items n).0 e)) ∙ no_other key entries distinct.0
+
+      each : (image : Option (List ℕ)) (b : Bool) → bytes_eq key.items n ≡ b
+          → ((s : FileState) → content (run n s (presets_of entries)) ≡ over (lookup (named n) entries) (content s))
+          → content (run n s (preset_of key.items image ++ presets_of entries)) ≡ (if b then or_was image (content s) else over (lookup (named n) entries) (content s))
+      each None true e rest = rest s ∙ ap (λ (f : Option ImageFile). over f (content s)) (none e)
+      each None false e rest = rest s
+      each (Some bytes) true e rest =
+          ap (λ (b : Bool). content (run n (if b then whole bytes else s) (presets_of entries))) e ∙ rest (whole bytes) ∙ ap (λ (f : Option ImageFile). over f (Some bytes)) (none e)
+      each (Some bytes) false e rest = ap (λ (b : Bool). content (run n (if b then whole bytes else s) (presets_of entries))) e ∙ rest s
+
+      both : (b c : Bool) → b ≡ c → (if b then or_was entry.1.image (content s) else over (lookup (named n) entries) (content s)) ≡ over (cond c (Some entry.1) (lookup (named n) entries)) (content s)
+      both true true e = refl
+      both false false e = refl
+      both true false e = absurd (cc e)
+      both false true e = absurd (cc e)
+
+  pub images_read : (entries : List (Vec ℕ Z × ImageFile)) → IsDistinct same_key (keys_of entries) → (n : List ℕ) → content (files_of (presets_of entries) n) ≡ (file_at entries n).image
+  images_read entries distinct n = presets_read entries distinct n gone ∙ last (lookup (named n) entries)
+    where
+      its : (image : Option (List ℕ)) → or_was image None ≡ image
+      its None = refl
+      its (Some bytes) = refl
+
+      last : (file : Option ImageFile) → over file None ≡ (unwrap_or file no_file).image
+      last None = refl
+      last (Some file) = its file.image

@@ -1,10 +1,11 @@
--- Files found by their names, and where the first of a name stands.
-use Rattle.std.proofs.Common.{◌≡◌, ◌≢◌, ℕ, zero, suc, ◌+◌, ◌<◌, Bool, true, false, not, if◌then◌else◌, Some, None, List, [], ◌∷◌, ◌++◌, length, get_or, set, drop, filter, refl, sym, ◌∙◌, ap, subst, arith}
+-- Files found by their names.
+use Rattle.std.proofs.Common.{◌≡◌, ◌≢◌, ℕ, Bool, true, false, cond, if◌then◌else◌, Option, Some, List, [], ◌∷◌, map, refl, sym, ◌∙◌, ap}
+use Rattle.std.specs.Prelude.{Vec}
+use Rattle.std.specs.Cmp.Lexicographic.{nat_list_eq_equiv}
+use Rattle.std.specs.Map.{lookup, IsKeyTest, AreApart, KeepsOthers}
 use Rattle.std.specs.Str.{bytes_eq}
 use Rattle.std.proofs.lemmas.Slice.Eq.{bytes_eq-Decides}
-use Rattle.std.proofs.lemmas.List.{drop_more}
-use Rattle.fwd_disk_mem.specs.declared.table.MemFile.{MemFile}
-use Rattle.fwd_disk_mem.specs.Table.{found, IsFirst, SetAt}
+use Rattle.fwd_disk_mem.specs.Table.{file_of, found, SetAt}
 
 -- on a name, and on another
 pub on_name : {X : Type 0} (n m : List ℕ) (x y : X) → n ≡ m → (if bytes_eq n m then x else y) ≡ x
@@ -20,96 +21,46 @@ off_name {X} n m x y ne = off (bytes_eq n m) (bytes_eq-Decides n m).0
 pub not_equal : (n m : List ℕ) → bytes_eq n m ≡ false → n ≢ m
 not_equal n m is e = let no : true ≡ false = sym ((bytes_eq-Decides n m).1 e) ∙ is in absurd (cc no)
 
--- no file of that name stands in front of the place
-pub record NotBefore (files : List MemFile) (i : ℕ) (name : List ℕ) : Type 0 where
-  pub same : found (drop i files) name ≡ found files name
-  pub first : (j : ℕ) → IsFirst (drop i files) j name → IsFirst files (i + j) name
-
-pub none_before : (files : List MemFile) (name : List ℕ) → NotBefore files 0 name
-none_before files name = record { same = refl; first = λ j is. let e : j ≡ 0 + j = omega arith in subst (λ (k : ℕ). IsFirst files k name) e is }
-
-first_at : (files rest : List MemFile) (file : MemFile) (i : ℕ) (name : List ℕ) → drop i files ≡ file ∷ rest → file.name ≡ name → NotBefore files i name → IsFirst files i name
-first_at files rest file i name is here before =
-    let e : i + 0 ≡ i = omega arith in
-    subst (λ (k : ℕ). IsFirst files k name) e (before.first 0 (subst (λ (l : List MemFile). IsFirst l 0 name) (sym is) here))
-
-pub is_first : (files : List MemFile) (file : MemFile) (i : ℕ) (name : List ℕ) → i < length files → file ≡ get_or files i file → bytes_eq file.name name ≡ true → NotBefore files i name → IsFirst files i name
-is_first files file i name lt is same before =
-    first_at files (drop (i + 1) files) (get_or files i file) i name (drop_more files i file lt) (ap (λ (f : MemFile). f.name) (sym is) ∙ (bytes_eq-Decides file.name name).0 same) before
-
-next_before : (files rest : List MemFile) (file : MemFile) (i : ℕ) (name : List ℕ) → drop i files ≡ file ∷ rest → drop (i + 1) files ≡ rest → file.name ≢ name → NotBefore files i name → NotBefore files (i + 1) name
-next_before files rest file i name is more other before = record {
-  same = ap (λ (l : List MemFile). found l name) more ∙ sym (off_name file.name name (Some file.bytes) (found rest name) other) ∙ ap (λ (l : List MemFile). found l name) (sym is) ∙ before.same;
-  first = λ j first.
-      let e : i + suc j ≡ i + 1 + j = omega arith in
-      subst (λ (k : ℕ). IsFirst files k name) e (before.first (suc j) (subst (λ (l : List MemFile). IsFirst l (suc j) name) (sym is) (other, subst (λ (l : List MemFile). IsFirst l j name) more first)));
-}
-
-pub passes : (files : List MemFile) (file : MemFile) (i : ℕ) (name : List ℕ) → i < length files → file ≡ get_or files i file → bytes_eq file.name name ≡ false → NotBefore files i name → NotBefore files (i + 1) name
-passes files file i name lt is other before =
-    next_before files (drop (i + 1) files) (get_or files i file) i name (drop_more files i file lt) refl (λ e. not_equal file.name name other (ap (λ (f : MemFile). f.name) is ∙ e)) before
-
--- what stands at the first place is what is found
-pub found-first : (files : List MemFile) (i : ℕ) (name : List ℕ) (d : MemFile) → IsFirst files i name → (found files name ≡ Some (get_or files i d).bytes) × ((get_or files i d).name ≡ name)
-found-first [] i name d is = absurd is
-found-first (file ∷ files) zero name d is = (on_name file.name name (Some file.bytes) (found files name) is, is)
-found-first (file ∷ files) (suc i) name d is =
-    let rest = found-first files i name d is.1 in
-    (off_name file.name name (Some file.bytes) (found files name) is.0 ∙ rest.0, rest.1)
-
-pub first-below : (files : List MemFile) (i : ℕ) (name : List ℕ) → IsFirst files i name → i < length files
-first-below [] i name is = absurd is
-first-below (file ∷ files) zero name is = omega arith
-first-below (file ∷ files) (suc i) name is = omega (arith, first-below files i name is.1)
-
--- a file that is changed in its place
-pub set_at : (files : List MemFile) (i : ℕ) (name : List ℕ) (file : MemFile) → IsFirst files i name → file.name ≡ name → SetAt files (set files i file) name (Some file.bytes)
-set_at [] i name file is named n = absurd is
-set_at (old ∷ files) zero name file is named n = by (bytes_eq name n) refl
+-- a file is found by its name as its entry is
+pub found_entry : {Z : Type 0} (entries : List (Vec ℕ Z × List ℕ)) (name : List ℕ) → found (map file_of entries) name ≡ lookup (λ k. bytes_eq name k.items) entries
+found_entry [] name = refl
+found_entry {Z} (entry ∷ entries) name = by (bytes_eq entry.0.items name) (bytes_eq name entry.0.items) (nat_list_eq_equiv.symm entry.0.items name) (found_entry entries name)
   where
-    by : (b : Bool) → bytes_eq name n ≡ b → (if bytes_eq file.name n then Some file.bytes else found files n) ≡ (if b then Some file.bytes else if bytes_eq old.name n then Some old.bytes else found files n)
-    by true e = on_name file.name n (Some file.bytes) (found files n) (named ∙ (bytes_eq-Decides name n).0 e)
-    by false e =
-        off_name file.name n (Some file.bytes) (found files n) (λ is2. not_equal name n e (sym named ∙ is2))
-        ∙ sym (off_name old.name n (Some old.bytes) (found files n) (λ is2. not_equal name n e (sym is ∙ is2)))
-set_at (old ∷ files) (suc i) name file is named n = by (bytes_eq old.name n) refl (set_at files i name file is.1 named n)
-  where
-    by : (b : Bool) → bytes_eq old.name n ≡ b → found (set files i file) n ≡ (if bytes_eq name n then Some file.bytes else found files n)
-        → (if b then Some old.bytes else found (set files i file) n) ≡ (if bytes_eq name n then Some file.bytes else if b then Some old.bytes else found files n)
-    by true e rest = sym (off_name name n (Some file.bytes) (Some old.bytes) (λ is2. is.0 ((bytes_eq-Decides old.name n).0 e ∙ sym is2)))
-    by false e rest = rest
+    by : (a b : Bool) → a ≡ b → found (map file_of entries) name ≡ lookup (λ (k : Vec ℕ Z). bytes_eq name k.items) entries
+        → (if a then Some entry.1 else found (map file_of entries) name) ≡ cond b (Some entry.1) (lookup (λ (k : Vec ℕ Z). bytes_eq name k.items) entries)
+    by true true e rest = refl
+    by true false e rest = absurd (cc e)
+    by false true e rest = absurd (cc e)
+    by false false e rest = rest
 
--- a file that comes last
-pub set_last : (files : List MemFile) (file : MemFile) → found files file.name ≡ None → SetAt files (files ++ file ∷ []) file.name (Some file.bytes)
-set_last [] file none n = refl
-set_last (old ∷ files) file none n = by (bytes_eq old.name n) refl (bytes_eq old.name file.name) refl none (λ nothing. set_last files file nothing n)
-  where
-    by : (b : Bool) → bytes_eq old.name n ≡ b → (c : Bool) → bytes_eq old.name file.name ≡ c → (if c then Some old.bytes else found files file.name) ≡ None
-        → (found files file.name ≡ None → found (files ++ file ∷ []) n ≡ (if bytes_eq file.name n then Some file.bytes else found files n))
-        → (if b then Some old.bytes else found (files ++ file ∷ []) n) ≡ (if bytes_eq file.name n then Some file.bytes else if b then Some old.bytes else found files n)
-    by b e true same nothing rest = absurd (cc nothing)
-    by true e false other nothing rest = sym (off_name file.name n (Some file.bytes) (Some old.bytes) (λ is. not_equal old.name file.name other ((bytes_eq-Decides old.name n).0 e ∙ sym is)))
-    by false e false other nothing rest = rest nothing
+module _ {Z : Type 0} where
+  abbrev pub same_key : Vec ℕ Z → Vec ℕ Z → Bool
+  same_key x y = bytes_eq x.items y.items
 
-abbrev pub others : List MemFile → List ℕ → List MemFile
-others files name = filter (λ (file : MemFile). not (bytes_eq file.name name)) files
+  abbrev pub named : List ℕ → Vec ℕ Z → Bool
+  named name k = bytes_eq name k.items
 
-one_out : (old : MemFile) (kept files : List MemFile) (name n : List ℕ) (b : Bool) → bytes_eq old.name name ≡ b → (c : Bool) → bytes_eq old.name n ≡ c → found kept n ≡ (if bytes_eq name n then None else found files n)
-    → found (if not b then old ∷ kept else kept) n ≡ (if bytes_eq name n then None else if c then Some old.bytes else found files n)
-one_out old kept files name n true e true same rest =
-    let is : name ≡ n = sym ((bytes_eq-Decides old.name name).0 e) ∙ (bytes_eq-Decides old.name n).0 same in
-    rest ∙ on_name name n None (found files n) is ∙ sym (on_name name n None (Some old.bytes) is)
-one_out old kept files name n true e false other rest = rest
-one_out old kept files name n false e true same rest =
-    on_name old.name n (Some old.bytes) (found kept n) ((bytes_eq-Decides old.name n).0 same)
-    ∙ sym (off_name name n None (Some old.bytes) (λ is. not_equal old.name name e ((bytes_eq-Decides old.name n).0 same ∙ sym is)))
-one_out old kept files name n false e false other rest = off_name old.name n (Some old.bytes) (found kept n) (not_equal old.name n other) ∙ rest
+  named_is : (name : List ℕ) → IsKeyTest same_key (named name)
+  named_is name x y is = ap (λ (n : List ℕ). bytes_eq n y.items) ((bytes_eq-Decides name x.items).0 is)
 
--- the files of other names
-pub set_none : (files : List MemFile) (name : List ℕ) → SetAt files (others files name) name None
-set_none [] name n = by (bytes_eq name n)
-  where
-    by : (b : Bool) → found [] n ≡ (if b then None else found [] n)
-    by true = refl
-    by false = refl
-set_none (old ∷ files) name n = one_out old (others files name) files name n (bytes_eq old.name name) refl (bytes_eq old.name n) refl (set_none files name n)
+  apart : (name n : List ℕ) → bytes_eq name n ≡ false → AreApart (named name) (named n)
+  apart name n ne k is = off (named n k) refl
+    where
+      off : (b : Bool) → bytes_eq n k.items ≡ b → b ≡ false
+      off true e = absurd (not_equal name n ne ((bytes_eq-Decides name k.items).0 is ∙ sym ((bytes_eq-Decides n k.items).0 e)))
+      off false e = refl
+
+  -- an entry that is set, or taken out
+  pub finds : {X : Type 0} (old new : List (Vec ℕ Z × X)) (name : List ℕ) (file : Option X) → lookup (named name) new ≡ file → KeepsOthers same_key (named name) old new
+      → (n : List ℕ) → lookup (named n) new ≡ (if bytes_eq name n then file else lookup (named n) old)
+  unfolding KeepsOthers
+  finds {X} old new name file is keeps n = by (bytes_eq name n) refl
+    where
+      by : (b : Bool) → bytes_eq name n ≡ b → lookup (named n) new ≡ (if b then file else lookup (named n) old)
+      by true e = ap (λ (m : List ℕ). lookup (named m) new) (sym ((bytes_eq-Decides name n).0 e)) ∙ is
+      by false e = keeps (named n) (named_is n) (apart name n e)
+
+  pub set_entry : (old new : List (Vec ℕ Z × List ℕ)) (name : List ℕ) (file : Option (List ℕ)) → lookup (named name) new ≡ file → KeepsOthers same_key (named name) old new
+      → SetAt (map file_of old) (map file_of new) name file
+  set_entry old new name file is keeps n =
+      found_entry new n ∙ finds old new name file is keeps n ∙ ap (λ (f : Option (List ℕ)). if bytes_eq name n then file else f) (sym (found_entry old n))

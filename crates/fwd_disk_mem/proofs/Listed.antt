@@ -16,8 +16,7 @@ use Rattle.std.proofs.lemmas.List.Elements.{All-push, Contains-push, Contains-pu
 use Rattle.fwd_outside.specs.Disk.{IsFileName, IsListing}
 use Rattle.fwd_image.specs.File.{FileState, content}
 use Rattle.fwd_image.specs.Disk.{Files, IsUnder, AreIn}
-use Rattle.fwd_disk_mem.specs.declared.table.MemFile.{MemFile}
-use Rattle.fwd_disk_mem.specs.Table.{found}
+use Rattle.fwd_disk_mem.specs.Table.{MemFile, found}
 use Rattle.fwd_disk_mem.specs.Listing.{IsUpToSlash, Adds, AreNames}
 use Rattle.fwd_disk_mem.proofs.Found.{on_name}
 

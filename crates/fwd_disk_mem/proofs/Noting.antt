@@ -1,7 +1,7 @@
 -- A call that is noted, or isn't for want of memory.
 use Rattle.std.proofs.Common.{◌≡◌, ℕ, ◌+◌, ◌≤◌, ◌<◌, ◌^◌, Bool, true, false, if◌then◌else◌, Result, Ok, Err, OnOk, OnErr, List, [], ◌∷◌, ◌++◌, length, sym, ◌∙◌, ap, subst, arith, length-append}
 use Rattle.fwd_base.specs.declared.memory.Memory.{Memory}
-use Rattle.fwd_disk_mem.specs.declared.table.MemFile.{MemFile}
+use Rattle.fwd_disk_mem.specs.Table.{MemFile}
 use Rattle.fwd_disk_mem.specs.declared.told.Told.{Told}
 use Rattle.fwd_disk_mem.specs.declared.told.Told.TheVariants.{FailAt}
 use Rattle.fwd_disk_mem.specs.Told.{is_call, made_of, Gives, Changes, IsNoNumber}

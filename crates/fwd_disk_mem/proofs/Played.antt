@@ -4,10 +4,9 @@ use Rattle.std.proofs.lemmas.Slice.Eq.{bytes_eq-Decides}
 use Rattle.std.proofs.lemmas.List.{append-nil}
 use Rattle.std.proofs.lemmas.Grind.{common_steps}
 use Rattle.fwd_image.specs.File.{FileState, content, whole, gone, whole_or_gone, or_gone, overwritten, written}
-use Rattle.fwd_disk_mem.specs.declared.table.MemFile.{MemFile}
+use Rattle.fwd_disk_mem.specs.Table.{MemFile, found}
 use Rattle.fwd_disk_mem.specs.declared.told.Told.{Told}
 use Rattle.fwd_disk_mem.specs.declared.told.Told.TheVariants.{Place, WriteAt, Sync, Remove, Read, List as Listed, Preset, FailAt}
-use Rattle.fwd_disk_mem.specs.Table.{found}
 use Rattle.fwd_disk_mem.specs.Told.{named_by, is_call, made_of, fails_of, works, can_write, acted, is_on, step, run, files_of, Gives, IsPlayed, written_over, seen_after, Changes, IsNoNumber}
 use Rattle.fwd_disk_mem.specs.Kept.{IsKept}
 

@@ -1,9 +1,11 @@
 -- The images of a disk in memory, by a pick from 0 to 3. 0: what was written since the last sync isn't there, placings in
 -- doubt are absent, removals in doubt didn't happen. 1: all that is in doubt took place. 2: as 1, with 5a in each byte in
 -- doubt. 3: as 1, with each byte in doubt at an even offset as it was at the last sync, or 0 past that length.
-use Rattle.std.specs.Prelude.{◌≡◌, ℕ, suc, ◌+◌, ◌-◌, ◌%◌, ◌==◌, leb, Bool, true, not, ◌&&◌, if◌then◌else◌, Option, Some, None, List, [], ◌∷◌, length, slice_index, replicate, take, drop, map}
+use Rattle.std.specs.Prelude.{◌≡◌, ℕ, suc, ◌+◌, ◌-◌, ◌%◌, ◌==◌, leb, Bool, true, false, not, ◌&&◌, if◌then◌else◌, Option, Some, None, List, [], ◌∷◌, ◌++◌, Vec, unwrap_or, length, slice_index, replicate, take, drop, map}
+use Rattle.std.specs.Str.{bytes_eq}
+use Rattle.std.specs.Map.{lookup}
 use Rattle.fwd_image.specs.File.{FileState, gone, content, overwritten}
-use Rattle.fwd_disk_mem.specs.declared.table.MemFile.{MemFile}
+use Rattle.fwd_disk_mem.specs.Table.{MemFile}
 use Rattle.fwd_disk_mem.specs.declared.image.ImageFile.{ImageFile}
 use Rattle.fwd_disk_mem.specs.declared.told.Told.{Told}
 use Rattle.fwd_disk_mem.specs.declared.told.Told.TheVariants.{Place, WriteAt, Sync, Remove, Preset}
@@ -91,3 +93,15 @@ acted_file pick file call = file
 abbrev pub preset_of : List ℕ → Option (List ℕ) → List Told
 preset_of name None = []
 preset_of name (Some bytes) = Preset name bytes ∷ []
+
+-- the presets of the images of these files
+abbrev pub presets_of : {Z : Type 0} → List (Vec ℕ Z × ImageFile) → List Told
+presets_of [] = []
+presets_of (entry ∷ entries) = preset_of entry.0.items entry.1.image ++ presets_of entries
+
+abbrev pub no_file : ImageFile
+no_file = record { there = false; bytes = []; base = []; image = None }
+
+-- what is kept of the file of this name
+abbrev pub file_at : {Z : Type 0} → List (Vec ℕ Z × ImageFile) → List ℕ → ImageFile
+file_at entries name = unwrap_or (lookup (λ k. bytes_eq name k.items) entries) no_file

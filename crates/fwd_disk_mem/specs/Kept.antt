@@ -1,9 +1,8 @@
 -- What a disk in memory keeps beside its list: files as they read, and what it needs to answer the next call.
 use Rattle.std.specs.Prelude.{◌≡◌, ℕ, List, []}
 use Rattle.fwd_image.specs.File.{content}
-use Rattle.fwd_disk_mem.specs.declared.table.MemFile.{MemFile}
+use Rattle.fwd_disk_mem.specs.Table.{MemFile, found}
 use Rattle.fwd_disk_mem.specs.declared.told.Told.{Told}
-use Rattle.fwd_disk_mem.specs.Table.{found}
 use Rattle.fwd_disk_mem.specs.Told.{IsPlayed, files_of, made_of, fails_of}
 
 pub record IsKept (calls : List Told) (files : List MemFile) (fails : List ℕ) (made : ℕ) : Type 0 where

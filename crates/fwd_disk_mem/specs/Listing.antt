@@ -2,8 +2,7 @@
 use Rattle.std.specs.Prelude.{◌≡◌, ◌⊎◌, ℕ, is_some, IsTrue, List, [], ◌∷◌, ◌++◌, All, Contains}
 use Rattle.fwd_outside.specs.Disk.{IsFileName}
 use Rattle.fwd_image.specs.Disk.{IsUnder}
-use Rattle.fwd_disk_mem.specs.declared.table.MemFile.{MemFile}
-use Rattle.fwd_disk_mem.specs.Table.{found}
+use Rattle.fwd_disk_mem.specs.Table.{MemFile, found}
 
 -- the bytes in front of the first `/`, or all
 pub record IsUpToSlash (bytes name : List ℕ) : Type 0 where

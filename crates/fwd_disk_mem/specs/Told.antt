@@ -7,10 +7,9 @@ use Rattle.fwd_outside.specs.Disk.{DiskEntry, DiskGiven, DiskTold, IsListing}
 use Rattle.fwd_outside.specs.Disk as outside
 use Rattle.fwd_image.specs.File.{FileState, whole, gone, whole_or_gone, or_gone, overwritten, written}
 use Rattle.fwd_image.specs.Disk.{Files, AreIn}
-use Rattle.fwd_disk_mem.specs.declared.table.MemFile.{MemFile}
+use Rattle.fwd_disk_mem.specs.Table.{MemFile, found}
 use Rattle.fwd_disk_mem.specs.declared.told.Told.{Told}
 use Rattle.fwd_disk_mem.specs.declared.told.Told.TheVariants.{Place, WriteAt, Sync, Remove, Read, List as Listed, Preset, FailAt}
-use Rattle.fwd_disk_mem.specs.Table.{found}
 
 -- a call that took place answers with a value, and a failed one with none
 abbrev pub took : Bool → Option (Unit {0})

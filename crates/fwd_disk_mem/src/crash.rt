@@ -1,52 +1,89 @@
 //! The disk that a crash leaves, by a pick.
 
-ghost use Rattle.std.specs.Prelude.{◌≡◌, ◌++◌, ◌%◌, [], List, ℕ, is_some, IsTrue, Some, None, IfOk, OnOk};
+ghost use Rattle.std.specs.Prelude.{◌≡◌, ◌++◌, ◌%◌, [], List, ℕ, if◌then◌else◌, false, Some, None, IfOk, OnOk};
+ghost use Rattle.std.specs.Str.{bytes_eq};
 ghost use Rattle.fwd_image.specs.File.{content, IsImage};
-ghost use Rattle.fwd_disk_mem.specs.declared.table.MemFile.{MemFile};
-ghost use Rattle.fwd_disk_mem.specs.Table.{found, SetAt};
-ghost use Rattle.fwd_disk_mem.specs.Told.{files_of};
-ghost use Rattle.fwd_disk_mem.specs.Images.{picked, presets, preset_of};
+ghost use Rattle.fwd_disk_mem.specs.Table.{MemFile};
+ghost use Rattle.fwd_disk_mem.specs.Told.{files_of, is_on};
+ghost use Rattle.fwd_disk_mem.specs.Images.{acted_file, file_at, picked, presets, preset_of};
 
 use crate::MemDisk;
-use crate::image::image_of;
-use crate::table::Table;
-use crate::told::{Told, name_of};
+use crate::content::Content;
+use crate::image::{ImageFile, acted};
+use crate::told::{Kept, Told, name_of};
 use fwd_outside::Memory;
 use std::alloc::Global;
+use std::collections::HashMap;
 
-// Gives the new disk the image of a file, once.
-fn add_image(
+// Takes out the file of a name, which is one that isn't there where nothing was told of it.
+fn taken(alloc: Global, files: &mut HashMap<Vec<u8>, ImageFile>, name: &[u8]) -> ImageFile
+    ensures file { result ≡ file_at files.old.entries name.now }
+    ensures others { (n : List ℕ) → bytes_eq name.now n ≡ false → file_at files.new.entries n ≡ file_at files.old.entries n }
+{
+    match files.remove(name) {
+        Some(file) => file,
+        None => ImageFile::missing(alloc),
+    }
+}
+
+// Makes of the files what a call makes of its own.
+fn act(
     alloc: Global,
     pick: u64,
-    calls: &[Told],
-    done: &mut Table,
-    disk: &mut MemDisk,
-    name: &[u8],
+    files: &mut HashMap<Vec<u8>, ImageFile>,
+    call: &Told,
 ) -> Result<(), Memory>
-    ensures again { OnOk result (IsTrue (is_some (found done.old name.now)) → (done.new ≡ done.old) × (disk.new ≡ disk.old)) }
-    ensures first { OnOk result (found done.old name.now ≡ None → SetAt done.old done.new name.now (Some []) × (disk.new ≡ record disk.old { calls = disk.old.calls ++ preset_of name.now (picked pick calls.now name.now) })) }
+    ensures { OnOk result ((n : List ℕ) → file_at files.new.entries n ≡ (if is_on call.now n then acted_file pick (file_at files.old.entries n) call.now else file_at files.old.entries n)) }
 {
-    if done.get(name).is_some() {
-        return Ok(());
+    let name = name_of(call);
+    let file = taken(alloc, files, name);
+    let file = acted(alloc, pick, file, call)?;
+    let name = Vec::from_slice(alloc, name)?;
+    files.insert(name, file)?;
+    Ok(())
+}
+
+// The files with their images, after these calls.
+fn imaged(alloc: Global, pick: u64, calls: &[Kept]) -> Result<HashMap<Vec<u8>, ImageFile>, Memory>
+    ensures { IfOk result (λ files. (name : List ℕ) → (file_at files.entries name).image ≡ picked pick calls.now name) }
+{
+    let mut files = HashMap::new(alloc);
+    for call in calls {
+        act(alloc, pick, &mut files, call.told())?;
     }
-    done.put(alloc, name, &[])?;
-    match image_of(alloc, pick, calls, name)? {
+    Ok(files)
+}
+
+fn add_image(disk: &mut MemDisk, name: &[u8], image: &Option<Content>) -> Result<(), Memory>
+    ensures { OnOk result (disk.new ≡ record disk.old { calls = disk.old.calls ++ preset_of name.now image.now }) }
+{
+    match image {
         Some(image) => disk.preset(name, image.as_slice()),
         None => Ok(()),
     }
 }
 
+// The disk of the images.
+fn disk_of(alloc: Global, files: &HashMap<Vec<u8>, ImageFile>) -> Result<MemDisk, Memory>
+    ensures presets { IfOk result (λ disk. (files : List MemFile) × (disk.calls ≡ presets files)) }
+    ensures images { IfOk result (λ disk. (name : List ℕ) → content (files_of disk.calls name) ≡ (file_at files.now.entries name).image) }
+    ensures faults { IfOk result (λ disk. disk.faults ≡ 0) }
+    ensures mark { IfOk result (λ disk. disk.mark ≡ 0) }
+{
+    let mut disk = MemDisk::new(alloc);
+    for (name, file) in files.iter() {
+        add_image(&mut disk, name.as_slice(), &file.image)?;
+    }
+    Ok(disk)
+}
+
 /// The disk that a crash behind these calls leaves.
-pub fn crashed(alloc: Global, pick: u64, calls: &[Told]) -> Result<MemDisk, Memory>
+pub fn crashed(alloc: Global, pick: u64, calls: &[Kept]) -> Result<MemDisk, Memory>
     ensures presets { IfOk result (λ disk. (files : List MemFile) × (disk.calls ≡ presets files)) }
     ensures picked { IfOk result (λ disk. (name : List ℕ) → content (files_of disk.calls name) ≡ picked pick calls.now name) }
     ensures faults { IfOk result (λ disk. disk.faults ≡ 0) }
     ensures mark { IfOk result (λ disk. disk.mark ≡ 0) }
 {
-    let mut done = Table::new(alloc);
-    let mut disk = MemDisk::new(alloc);
-    for call in calls {
-        add_image(alloc, pick, calls, &mut done, &mut disk, name_of(call))?;
-    }
-    Ok(disk)
+    let files = imaged(alloc, pick, calls)?;
+    disk_of(alloc, &files)
 }

@@ -1,12 +1,12 @@
 //! What a crash leaves of one file, by a pick.
 
 ghost use Rattle.std.specs.Prelude.{◌≡◌, true, ◌<◌, ◌≤◌, ◌+◌, ◌^◌, ◌%◌, ◌==◌, ◌&&◌, not, if◌then◌else◌, slice_index, ℕ, List, length, IfOk, OnOk, Some, None};
-ghost use Rattle.fwd_image.specs.File.{overwritten, gone};
-ghost use Rattle.fwd_disk_mem.specs.Told.{is_on, written_over};
-ghost use Rattle.fwd_disk_mem.specs.Images.{mixed, variant, acted_file, fits_in, picked, reach, until};
+ghost use Rattle.fwd_image.specs.File.{overwritten};
+ghost use Rattle.fwd_disk_mem.specs.Told.{written_over};
+ghost use Rattle.fwd_disk_mem.specs.Images.{mixed, variant, acted_file, fits_in, no_file, reach, until};
 
 use crate::content::Content;
-use crate::told::{Told, calls_in, is_on};
+use crate::told::{Kept, Told, calls_in};
 use fwd_outside::Memory;
 use std::alloc::Global;
 
@@ -17,6 +17,20 @@ pub struct ImageFile {
     pub bytes: Content,
     pub base: Content,
     pub image: Option<Content>,
+}
+
+impl ImageFile {
+    /// A file of which nothing was told.
+    pub fn missing(alloc: Global) -> Self
+        ensures { result ≡ no_file }
+    {
+        ImageFile {
+            there: false,
+            bytes: Content::new(alloc),
+            base: Content::new(alloc),
+            image: None,
+        }
+    }
 }
 
 fn mixed_byte(base: &[u8], place: usize, byte: u8) -> u8
@@ -235,8 +249,8 @@ fn not_placed(alloc: Global, pick: u64, file: ImageFile, bytes: &[u8]) -> Result
     })
 }
 
-// What a call makes of its file.
-fn acted(alloc: Global, pick: u64, file: ImageFile, call: &Told) -> Result<ImageFile, Memory>
+/// What a call makes of its file.
+pub fn acted(alloc: Global, pick: u64, file: ImageFile, call: &Told) -> Result<ImageFile, Memory>
     ensures { IfOk result (λ new. new ≡ acted_file pick file call.now) }
 {
     match call {
@@ -255,37 +269,14 @@ fn acted(alloc: Global, pick: u64, file: ImageFile, call: &Told) -> Result<Image
     }
 }
 
-/// The image of a file, after these calls.
-pub fn image_of(
-    alloc: Global,
-    pick: u64,
-    calls: &[Told],
-    name: &[u8],
-) -> Result<Option<Content>, Memory>
-    ensures { IfOk result (λ image. image ≡ picked pick calls.now name.now) }
-{
-    let mut file = ImageFile {
-        there: false,
-        bytes: Content::new(alloc),
-        base: Content::new(alloc),
-        image: None,
-    };
-    for call in calls {
-        if is_on(call, name) {
-            file = acted(alloc, pick, file, call)?;
-        }
-    }
-    Ok(file.image)
-}
-
 /// How far so many calls reach, or all.
-fn reach_of(n: u64, calls: &[Told]) -> usize
+fn reach_of(n: u64, calls: &[Kept]) -> usize
     ensures reach { result ≡ reach n calls.now }
     ensures within { result ≤ length calls.now }
 {
     let mut left = n;
     for i in 0..calls.len() {
-        if calls_in(&calls[i]) == 1 {
+        if calls_in(calls[i].told()) == 1 {
             if left == 0 {
                 return i;
             }
@@ -296,7 +287,7 @@ fn reach_of(n: u64, calls: &[Told]) -> usize
 }
 
 /// What was told up to so many calls behind the mark.
-pub fn told_until(calls: &[Told], mark: usize, n: u64) -> &[Told]
+pub fn told_until(calls: &[Kept], mark: usize, n: u64) -> &[Kept]
     ensures { result.now ≡ until mark n calls.now }
 {
     if mark > calls.len() {

@@ -1,6 +1,6 @@
 //! The names in a folder.
 
-ghost use Rattle.std.specs.Prelude.{◌≡◌, ℕ, List, [], length, Some, IfOk, OnOk, MatchOption, Contains};
+ghost use Rattle.std.specs.Prelude.{◌≡◌, ℕ, List, [], map, length, Some, IfOk, OnOk, MatchOption, Contains};
 ghost use Rattle.std.specs.Cmp.{partial_equiv_from_equiv};
 ghost use Rattle.std.specs.Cmp.Lexicographic.{slice_cmp, nat_list_eq_equiv, nat_list_cmp_total, texts_ties, texts_po};
 ghost use Rattle.std.specs.Ordering.{nat_cmp};
@@ -8,12 +8,15 @@ ghost use Rattle.std.specs.Str.{bytes_eq};
 ghost use Rattle.std.proofs.Common.{refl};
 ghost use Rattle.fwd_outside.specs.Disk.{IsListing};
 ghost use Rattle.fwd_image.specs.Disk.{IsUnder};
+ghost use Rattle.fwd_disk_mem.specs.Table.{file_of};
 ghost use Rattle.fwd_disk_mem.specs.Listing.{IsUpToSlash, Adds, AreNames};
 
-use crate::table::MemFile;
+use crate::content::Content;
+use crate::table::Table;
 use fwd_outside::{Bytes, Memory, Names};
 use std::alloc::Global;
 use std::cmp::Ordering;
+use std::collections::HashMap;
 use std::marker::Model;
 use std::str;
 
@@ -118,12 +121,16 @@ fn add_name(
     Ok(())
 }
 
-fn all_names(alloc: Global, files: &[MemFile], folder: &[u8]) -> Result<Vec<Component>, Memory>
-    ensures { IfOk result (λ names. AreNames folder.now files.now names.items) }
+fn all_names(
+    alloc: Global,
+    files: &HashMap<Vec<u8>, Content>,
+    folder: &[u8],
+) -> Result<Vec<Component>, Memory>
+    ensures { IfOk result (λ names. AreNames folder.now (map file_of files.now.entries) names.items) }
 {
     let mut names = Vec::new(alloc);
-    for file in files {
-        add_name(alloc, &mut names, folder, file.name.as_slice())?;
+    for (name, _) in files.iter() {
+        add_name(alloc, &mut names, folder, name.as_slice())?;
     }
     Ok(names)
 }
@@ -139,11 +146,11 @@ fn copied_names(alloc: Global, components: &[Component]) -> Result<Names, Memory
 }
 
 /// The names in a folder that are texts, sorted, each once.
-pub fn names_in(alloc: Global, files: &[MemFile], folder: &[u8]) -> Result<Names, Memory>
+pub fn names_in(alloc: Global, files: &Table, folder: &[u8]) -> Result<Names, Memory>
     ensures listing { IfOk result IsListing }
     ensures names { IfOk result (λ names. AreNames folder.now files.now names) }
 {
-    let mut names = all_names(alloc, files, folder)?;
+    let mut names = all_names(alloc, files.files(), folder)?;
     names.sort()?;
     names.dedup();
     copied_names(alloc, &names)

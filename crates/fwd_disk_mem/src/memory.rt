@@ -9,7 +9,7 @@ ghost use Rattle.fwd_outside.specs.Disk.{IsListing};
 ghost use Rattle.fwd_image.specs.Disk.{IsHonest, AreIn};
 ghost use Rattle.fwd_disk_mem.specs.declared.told.Told.TheVariants as told;
 ghost use Rattle.fwd_disk_mem.specs.Told.{entries_of, given, told_of, works, files_of, can_write, Gives, IsPlayed, IsNoNumber};
-ghost use Rattle.fwd_disk_mem.specs.declared.table.MemFile.{MemFile};
+ghost use Rattle.fwd_disk_mem.specs.Table.{MemFile};
 ghost use Rattle.fwd_disk_mem.specs.Images.{picked, presets, until};
 
 use crate::crash::crashed;
@@ -17,7 +17,7 @@ use crate::image::told_until;
 use crate::listing::names_in;
 use crate::parts::{both, copy_of, copy_of_names, part_of};
 use crate::table::Table;
-use crate::told::{Told, calls_in, is_to_fail, push_and_change, push_number};
+use crate::told::{Kept, Told, calls_in, is_to_fail, push_and_change, push_number};
 use fwd_outside::{Bytes, Disk, DiskErr, Memory, Names};
 use std::alloc::Global;
 use std::marker::Model;
@@ -26,7 +26,7 @@ use std::marker::Model;
 #[derive(Drop)]
 pub struct MemDisk {
     alloc: Global,
-    calls: Vec<Told>,
+    calls: Vec<Kept>,
     files: Table,
     fails: Vec<u64>,
     made: u64,
@@ -81,7 +81,7 @@ impl MemDisk {
         ensures ok { OnOk result (self.new ≡ record self.old { calls = self.old.calls ++ told.FailAt call ∷ [] }) }
         ensures err { OnErr result (self.new ≡ self.old) }
     {
-        push_number(&mut self.calls, &mut self.fails, call)
+        push_number(self.alloc, &mut self.calls, &mut self.fails, call)
     }
 
     /// The calls that an image counts begin here.
@@ -182,7 +182,7 @@ impl MemDisk {
         if !works {
             return Ok(None);
         }
-        Ok(Some(names_in(alloc, self.files.files(), folder)?))
+        Ok(Some(names_in(alloc, &self.files, folder)?))
     }
 
     // Counts a failure.

@@ -1,45 +1,30 @@
 //! Files by their names, as a disk reads them.
 
-ghost use Rattle.std.specs.Prelude.{◌≡◌, ◌≤◌, [], ℕ, List, length, Some, None, Option, IfOk, OnOk, OnErr, MatchOption};
+ghost use Rattle.std.specs.Prelude.{◌≡◌, [], ℕ, List, map, Some, None, OnOk, OnErr, MatchOption};
 ghost use Rattle.fwd_image.specs.File.{overwritten};
-ghost use Rattle.fwd_disk_mem.specs.Table.{found, IsFirst, SetAt};
+ghost use Rattle.fwd_disk_mem.specs.Table.{file_of, found, SetAt};
 
 use crate::content::Content;
-use fwd_outside::{Bytes, Memory};
+use fwd_outside::Memory;
 use std::alloc::Global;
+use std::collections::HashMap;
 use std::marker::Model;
 
-/// A file with its name.
-#[derive(Drop)]
-pub struct MemFile {
-    pub name: Bytes,
-    pub bytes: Content,
-}
-
-/// Files, in the order in which they came.
+/// Files, each found by the hash of its name.
 #[derive(Drop)]
 pub struct Table {
-    files: Vec<MemFile>,
+    files: HashMap<Vec<u8>, Content>,
 }
 
 impl Model for Table {
-    ghost use Rattle.std.specs.Prelude.{List};
-    ghost use Rattle.fwd_disk_mem.specs.declared.table.MemFile.{MemFile};
+    ghost use Rattle.std.specs.Prelude.{List, map};
+    ghost use Rattle.fwd_disk_mem.specs.Table.{MemFile};
 
     ghost Value = { List MemFile };
 
-    ghost view = { λ t. t.files.items };
-}
+    ghost use Rattle.fwd_disk_mem.specs.Table.{file_of};
 
-fn place_of(files: &[MemFile], name: &[u8]) -> Option<usize>
-    ensures { MatchOption result (found files.now name.now ≡ None) (λ i. IsFirst files.now i name.now) }
-{
-    for (i, file) in files.iter().enumerate() {
-        if file.name.as_slice() == name {
-            return Some(i);
-        }
-    }
-    None
+    ghost view = { λ t. map file_of t.files.entries };
 }
 
 impl Table {
@@ -47,22 +32,23 @@ impl Table {
         ensures { result ≡ [] }
     {
         Table {
-            files: Vec::new(alloc),
+            files: HashMap::new(alloc),
         }
     }
 
-    pub fn files(&self) -> &[MemFile]
-        ensures { result.now ≡ self.now }
+    /// The files with their names.
+    pub fn files(&self) -> &HashMap<Vec<u8>, Content>
+        ensures { map file_of result.now.entries ≡ self.now }
     {
-        self.files.as_slice()
+        &self.files
     }
 
     /// The bytes of a file.
     pub fn get(&self, name: &[u8]) -> Option<&[u8]>
         ensures { MatchOption result (found self.now name.now ≡ None) (λ bytes. found self.now name.now ≡ Some bytes.now) }
     {
-        match place_of(&self.files, name) {
-            Some(i) => Some(self.files[i].bytes.as_slice()),
+        match self.files.get(name) {
+            Some(content) => Some(content.as_slice()),
             None => None,
         }
     }
@@ -72,16 +58,9 @@ impl Table {
         ensures ok { OnOk result (SetAt self.old self.new name.now (Some bytes.now)) }
         ensures err { OnErr result (self.new ≡ self.old) }
     {
-        let bytes = Content::from_slice(alloc, bytes)?;
-        match place_of(&self.files, name) {
-            Some(i) => {
-                self.files[i].bytes = bytes;
-            }
-            None => {
-                let name = Bytes::from_slice(alloc, name)?;
-                self.files.push(MemFile { name, bytes })?;
-            }
-        }
+        let content = Content::from_slice(alloc, bytes)?;
+        let name = Vec::from_slice(alloc, name)?;
+        self.files.insert(name, content)?;
         Ok(())
     }
 
@@ -91,16 +70,16 @@ impl Table {
         ensures absent { OnOk result (found self.old name.now ≡ None → self.new ≡ self.old) }
         ensures err { OnErr result (self.new ≡ self.old) }
     {
-        match place_of(&self.files, name) {
-            Some(i) => self.files[i].bytes.write(at, bytes),
-            None => Ok(()),
-        }
+        let Some(content) = self.files.get_mut(name) else {
+            return Ok(());
+        };
+        content.write(at, bytes)
     }
 
     /// Takes a file out.
     pub fn take_out(&mut self, name: &[u8])
         ensures { SetAt self.old self.new name.now None }
     {
-        self.files.retain(|file| file.name.as_slice() != name);
+        self.files.remove(name);
     }
 }

@@ -1,13 +1,14 @@
 //! What a disk in memory was asked and told, and what it answered.
 
-ghost use Rattle.std.specs.Prelude.{◌≡◌, ◌++◌, ◌+◌, ◌==◌, ◌<◌, ◌^◌, [], ◌∷◌, length, if◌then◌else◌, OnOk, OnErr};
+ghost use Rattle.std.specs.Prelude.{◌≡◌, ◌++◌, ◌+◌, ◌==◌, ◌<◌, ◌^◌, [], ◌∷◌, length, if◌then◌else◌, IfOk, OnOk, OnErr};
 ghost use Rattle.std.specs.List.{list_any};
 ghost use Rattle.fwd_disk_mem.specs.declared.told.Told.TheVariants as told;
-ghost use Rattle.fwd_disk_mem.specs.Told.{Changes, is_call, is_on, named_by};
+ghost use Rattle.fwd_disk_mem.specs.Told.{Changes, is_call, named_by};
 
 use crate::table::Table;
 use fwd_outside::{Bytes, Memory, Names};
 use std::alloc::Global;
+use std::marker::Model;
 
 /// A call with its arguments and its answer, or what was told besides: bytes of a file that are set, and the number of a
 /// call that is to fail.
@@ -21,6 +22,36 @@ pub enum Told {
     List(Bytes, Option<Names>),
     Preset(Bytes, Bytes),
     FailAt(u64),
+}
+
+/// What was told, in a place of its own: a list of them grows by moving pointers alone.
+#[derive(Drop)]
+pub struct Kept {
+    told: Box<Told>,
+}
+
+impl Model for Kept {
+    ghost use Rattle.fwd_disk_mem.specs.declared.told.Told.{Told};
+
+    ghost Value = { Told };
+
+    ghost view = { λ k. k.told.value };
+}
+
+impl Kept {
+    pub fn new(alloc: Global, told: Told) -> Result<Self, Memory>
+        ensures { IfOk result (λ kept. kept ≡ told) }
+    {
+        Ok(Kept {
+            told: Box::new(alloc, told)?,
+        })
+    }
+
+    pub fn told(&self) -> &Told
+        ensures { result.now ≡ self.now }
+    {
+        &self.told
+    }
 }
 
 /// Makes the change that a call makes of what reads find. After `Err` the files are as before.
@@ -60,7 +91,7 @@ pub fn calls_in(call: &Told) -> u64
 /// Keeps a call, and makes the change that it makes. After `Err` the calls and the files are as before.
 pub fn push_and_change(
     alloc: Global,
-    calls: &mut Vec<Told>,
+    calls: &mut Vec<Kept>,
     files: &mut Table,
     call: Told,
 ) -> Result<(), Memory>
@@ -70,9 +101,9 @@ pub fn push_and_change(
     ensures calls_err { OnErr result (calls.new.items ≡ calls.old.items) }
     ensures files_err { OnErr result (files.new ≡ files.old) }
 {
-    calls.push(call)?;
+    calls.push(Kept::new(alloc, call)?)?;
     let last = calls.len() - 1;
-    match change(alloc, files, &calls[last]) {
+    match change(alloc, files, calls[last].told()) {
         Ok(()) => Ok(()),
         Err(error) => {
             calls.pop();
@@ -82,13 +113,18 @@ pub fn push_and_change(
 }
 
 /// Keeps the number of a call that is to fail. After `Err` both are as before.
-pub fn push_number(calls: &mut Vec<Told>, fails: &mut Vec<u64>, number: u64) -> Result<(), Memory>
+pub fn push_number(
+    alloc: Global,
+    calls: &mut Vec<Kept>,
+    fails: &mut Vec<u64>,
+    number: u64,
+) -> Result<(), Memory>
     ensures calls_ok { OnOk result (calls.new.items ≡ calls.old.items ++ told.FailAt number ∷ []) }
     ensures fails_ok { OnOk result (fails.new.items ≡ fails.old.items ++ number ∷ []) }
     ensures calls_err { OnErr result (calls.new.items ≡ calls.old.items) }
     ensures fails_err { OnErr result (fails.new.items ≡ fails.old.items) }
 {
-    calls.push(Told::FailAt(number))?;
+    calls.push(Kept::new(alloc, Told::FailAt(number))?)?;
     match fails.push(number) {
         Ok(()) => Ok(()),
         Err(_) => {
@@ -123,15 +159,5 @@ pub fn name_of(call: &Told) -> &[u8]
         Told::List(name, _) => name.as_slice(),
         Told::Preset(name, _) => name.as_slice(),
         Told::FailAt(_) => &[],
-    }
-}
-
-/// Whether a call is about the file of this name.
-pub fn is_on(call: &Told, name: &[u8]) -> bool
-    ensures { result ≡ is_on call.now name.now }
-{
-    match call {
-        Told::FailAt(_) => false,
-        _ => name_of(call) == name,
     }
 }

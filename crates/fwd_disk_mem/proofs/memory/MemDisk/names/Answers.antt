@@ -1,10 +1,8 @@
 use Rattle.std.proofs.Common.{◌≡◌, List, ℕ, refl, subst}
 use Rattle.fwd_image.specs.File.{content}
-use Rattle.fwd_disk_mem.specs.declared.table.MemFile.{MemFile}
-use Rattle.fwd_disk_mem.specs.Seen.{Seen}
 use Rattle.fwd_disk_mem.specs.Table.{found}
+use Rattle.fwd_disk_mem.specs.Seen.{Seen}
 use Rattle.fwd_disk_mem.specs.Told.{files_of}
-use Rattle.fwd_disk_mem.specs.Listing.{AreNames}
 use Rattle.fwd_disk_mem.proofs.Listed.{names_are_in}
 use Rattle.fwd_disk_mem.proofs.memory.MemDisk.names.Goals as goal
 
@@ -12,6 +10,6 @@ pub returns : goal.returns
 returns c =
     let names = c.in_ok-names_in.field-0 in
     let folder = c.args.folder.now in
-    let are = subst (λ (l : List MemFile). AreNames folder l names) c.files.ensures c.in_ok-names_in.ensures.names in
+    let are = c.in_ok-names_in.ensures.names in
     let reads = subst (λ (v : Seen). (name : List ℕ) → found c.self.inside.files name ≡ content (files_of v.calls name)) c.self.view_is c.self.invariant.reads in
     rw c.if-not-works.false (names, refl, c.in_ok-names_in.ensures.listing, names_are_in folder c.self.inside.files (files_of c.args.self.now.calls) names reads are)

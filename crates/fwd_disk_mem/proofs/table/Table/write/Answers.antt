@@ -1,38 +1,53 @@
-use Rattle.std.proofs.Common.{◌≡◌, Option, Some, None, Result, Ok, Err, List, ℕ, OnOk, set, sym, ◌∙◌, ap, subst, arith}
+use Rattle.std.proofs.Common.{◌≡◌, Option, Some, None, Result, Ok, Err, List, ℕ, OnOk, OnErr, IsSome, map, sym, ◌∙◌, ap, subst, refl}
+use Rattle.std.specs.Map.{set_value}
+use Rattle.std.proofs.lemmas.Map.Steps.{set_value_same}
 use Rattle.fwd_base.specs.declared.memory.Memory.{Memory}
 use Rattle.fwd_image.specs.File.{overwritten}
-use Rattle.fwd_disk_mem.specs.declared.table.MemFile.{MemFile}
-use Rattle.fwd_disk_mem.specs.Table.{found, IsFirst, SetAt}
-use Rattle.fwd_disk_mem.proofs.Found.{found-first, first-below, set_at}
+use Rattle.fwd_disk_mem.specs.Table.{MemFile, file_of, found, SetAt}
+use Rattle.fwd_disk_mem.proofs.Found.{found_entry, set_entry, named}
 use Rattle.fwd_disk_mem.proofs.table.Table.write.Goals as goal
-
-pub index_mut-requires : goal.index_mut-requires
-index_mut-requires c = omega (arith, first-below c.deref.result.now c.in-Some.i c.args.name.now c.in-Some.ensures, c.deref.ensures.len)
 
 some_same : (a b : List ℕ) → Some a ≡ Some b → a ≡ b
 some_same a b e = cc
 
-wrote : (r : Result (Unit {0}) Memory) (files : List MemFile) (file : MemFile) (i at : ℕ) (name bytes new : List ℕ) → IsFirst files i name → file.name ≡ name → found files name ≡ Some file.bytes
-    → OnOk r (new ≡ overwritten file.bytes at bytes) → OnOk r ((old : List ℕ) → found files name ≡ Some old → SetAt files (set files i (record { name = file.name; bytes = new })) name (Some (overwritten old at bytes)))
-wrote (Err e) files file i at name bytes new first named is done = tt
-wrote (Ok x) files file i at name bytes new first named is done = λ old is_old.
-    let same = done ∙ ap (λ (l : List ℕ). overwritten l at bytes) (some_same file.bytes old (sym is ∙ is_old)) in
-    subst (λ (l : List ℕ). SetAt files (set files i (record { name = file.name; bytes = new })) name (Some l)) same (set_at files i name (record { name = file.name; bytes = new }) first named)
+wrote : (r : Result (Unit {0}) Memory) (old new : List MemFile) (name : List ℕ) (at : ℕ) (bytes was now : List ℕ) → found old name ≡ Some was → SetAt old new name (Some now)
+    → OnOk r (now ≡ overwritten was at bytes) → OnOk r ((o : List ℕ) → found old name ≡ Some o → SetAt old new name (Some (overwritten o at bytes)))
+wrote (Err e) old new name at bytes was now is set done = tt
+wrote (Ok x) old new name at bytes was now is set done = λ o is_o.
+    let same = done ∙ ap (λ (l : List ℕ). overwritten l at bytes) (some_same was o (sym is ∙ is_o)) in
+    subst (λ (l : List ℕ). SetAt old new name (Some l)) same set
 
 absent : (r : Result (Unit {0}) Memory) (P : Type 0) (f : Option (List ℕ)) (bytes : List ℕ) → f ≡ Some bytes → OnOk r (f ≡ None → P)
 absent (Err e) P f bytes is = tt
 absent (Ok x) P f bytes is = λ none. let no : Some bytes ≡ None = sym is ∙ none in absurd (cc no)
 
-pub returns-in-Some-clause-ok : goal.returns-in-Some-clause-ok
-returns-in-Some-clause-ok c =
-    let first = subst (λ (l : List MemFile). IsFirst l c.in-Some.i c.args.name.now) c.deref.ensures.value c.in-Some.ensures in
-    let at = found-first c.self.inside.files.items c.in-Some.i c.args.name.now c.index_mut.result.now first in
-    let named = ap (λ (f : MemFile). f.name) c.index_mut.ensures.value ∙ at.1 in
-    let is = at.0 ∙ ap (λ (f : MemFile). Some f.bytes) (sym c.index_mut.ensures.value) in
-    rw (← c.self.view_is) (wrote c.write.result c.self.inside.files.items c.index_mut.result.now c.in-Some.i c.args.at c.args.name.now c.args.bytes.now c.write.new.self first named is c.write.ensures.ok)
+same_at_err : (r : Result (Unit {0}) Memory) (P Q : Type 0) → (P → Q) → OnErr r P → OnErr r Q
+same_at_err (Err e) P Q f p = f p
+same_at_err (Ok x) P Q f p = tt
 
-pub returns-in-Some-clause-absent : goal.returns-in-Some-clause-absent
-returns-in-Some-clause-absent c =
-    let first = subst (λ (l : List MemFile). IsFirst l c.in-Some.i c.args.name.now) c.deref.ensures.value c.in-Some.ensures in
-    let at = found-first c.self.inside.files.items c.in-Some.i c.args.name.now c.index_mut.result.now first in
-    absent c.write.result _ _ _ (ap (λ (l : List MemFile). found l c.args.name.now) (sym c.self.view_is) ∙ at.0)
+pub returns-in_default-clause-ok : goal.returns-in_default-clause-ok
+returns-in_default-clause-ok c = λ old is.
+    let no : None ≡ Some old = c.in_default.ensures.value ∙ sym (found_entry c.self.inside.files.entries c.args.name.now) ∙ ap (λ (l : List MemFile). found l c.args.name.now) c.self.view_is ∙ is in
+    absurd (cc no)
+
+pub returns-clause-ok : goal.returns-clause-ok
+returns-clause-ok c =
+    let entries = c.self.inside.files.entries in
+    let name = c.args.name.now in
+    let now = c.write.new.self in
+    let there : found (map file_of entries) name ≡ Some c.in-Some.content.now = found_entry entries name ∙ sym c.in-Some.ensures.value in
+    let updates = (c.get_mut.follows.holds now).3 (subst IsSome c.in-Some.ensures.value refl) in
+    rw (← c.self.view_is) (wrote c.write.result (map file_of entries) (map file_of (c.get_mut.follows.lender now).entries) name c.args.at c.args.bytes.now c.in-Some.content.now now there
+    (set_entry entries (c.get_mut.follows.lender now).entries name (Some now) updates.1 updates.3) c.write.ensures.ok)
+
+pub returns-clause-absent : goal.returns-clause-absent
+returns-clause-absent c =
+    absent c.write.result _ _ c.in-Some.content.now (ap (λ (l : List MemFile). found l c.args.name.now) (sym c.self.view_is) ∙ found_entry c.self.inside.files.entries c.args.name.now ∙ sym c.in-Some.ensures.value)
+
+pub returns-clause-err : goal.returns-clause-err
+returns-clause-err c =
+    let entries = c.self.inside.files.entries in
+    let now = c.write.new.self in
+    same_at_err c.write.result (now ≡ c.in-Some.content.now) _
+    (λ same. ap (λ (l : List _). map file_of l) ((c.get_mut.follows.holds now).0 ∙ ap (set_value (named c.args.name.now) entries) same ∙ set_value_same (named c.args.name.now) entries c.in-Some.content.now (sym c.in-Some.ensures.value)) ∙ c.self.view_is)
+    c.write.ensures.err
