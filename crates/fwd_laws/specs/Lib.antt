@@ -1,0 +1,4 @@
+pub mod Resolved
+pub mod Given
+pub mod Walked
+pub mod Becomes
