@@ -1,0 +1,17 @@
+use Rattle.fwd_trace.specs.Fact.{Retries, Failed, Spent}
+use Rattle.fwd_trace.specs.Trace.{loop_part}
+use Rattle.fwd_handing.proofs.Closing.{kept_at_end, has_failed}
+use Rattle.fwd_handing.proofs.laws.retried_as_verdict.Goals as goal
+
+pub returns-clause-retried : goal.returns-clause-retried
+returns-clause-retried c s ends turns trace lived r wait_s way are noted =
+    let kept = kept_at_end s ends turns trace lived way are in
+    has_failed s kept.0 (loop_part trace) lived.history kept.1 r (kept.1.came r (Retries wait_s) noted)
+
+pub returns-clause-spent : goal.returns-clause-spent
+returns-clause-spent c s ends turns trace lived r way are noted =
+    let kept = kept_at_end s ends turns trace lived way are in
+    has_failed s kept.0 (loop_part trace) lived.history kept.1 r (kept.1.came r Spent noted)
+
+pub returns-clause-no_error : goal.returns-clause-no_error
+returns-clause-no_error c s ends turns trace lived r way are noted = (kept_at_end s ends turns trace lived way are).1.came r Failed noted
