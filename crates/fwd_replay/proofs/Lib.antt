@@ -1,0 +1,6 @@
+pub mod Turns
+pub mod Masking
+pub mod Naming
+pub mod Replaying
+pub mod Tracing
+pub mod Linking

@@ -1,0 +1,31 @@
+-- What it is to run an engine over a loop.
+use Rattle.std.specs.Prelude.{Result, MatchResult}
+use Rattle.fwd_settings.specs.declared.chosen.AllSettings.{AllSettings}
+use Rattle.fwd_trace.specs.Fact.{History}
+use Rattle.fwd_trace.specs.Trace.{Act}
+use Rattle.fwd_trace.specs.World.{World, Did, Began}
+use Rattle.fwd_run.specs.Run.{End, Over, LoopFailed, TurnsSpent, Lived, lived}
+use Rattle.fwd_engine.specs.Steps.{IsAt}
+use Rattle.fwd_engine.specs.declared.engine.Engine.{Engine}
+use Rattle.fwd_replay.specs.declared.running.RunEnd.{RunEnd}
+use Rattle.fwd_replay.specs.declared.running.RunEnd.TheVariants as run_end
+
+abbrev pub end_of : RunEnd → End
+end_of run_end.Over = Over
+end_of run_end.LoopFailed = LoopFailed
+end_of run_end.TurnsSpent = TurnsSpent
+
+-- an engine stands where its run ended, unless the loop failed
+abbrev pub StandsAt : Engine → AllSettings → History → RunEnd → Type 0
+StandsAt engine s h run_end.LoopFailed = Unit {0}
+StandsAt engine s h end = IsAt engine s h
+
+-- the calls between were those of a run to its end, which was this one, and the engine stands there
+pub record Ran (a b : World) (s : AllSettings) (run : Act Lived) (after : Engine) (end : RunEnd) : Type 0 where
+  pub history : History
+  pub did : Did a b run (lived history (end_of end))
+  pub at : StandsAt after s history end
+
+-- at Ok the run to its end, and a part of it where memory was wanting
+abbrev pub Runs : {E : Type 0} → World → World → AllSettings → Act Lived → Engine → Result RunEnd E → Type 0
+Runs a b s run after result = MatchResult result (λ end. Ran a b s run after end) (λ _. Began a b run)

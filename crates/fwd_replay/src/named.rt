@@ -1,0 +1,71 @@
+//! What the text of a life takes from the settings.
+
+ghost use Rattle.std.specs.Prelude.{◌≡◌, ◌≤◌, length, IfOk};
+ghost use Rattle.fwd_replay.specs.Naming.{IsNamed};
+ghost use Rattle.fwd_replay.specs.Text.{input_names, output_names, is_stdout, stdout_mask};
+
+use fwd_base::{Memory, Names};
+use fwd_settings::{AllSettings, InputSet, OutputKind, OutputSet};
+use std::alloc::Global;
+
+/// The names of inputs and outputs, and which outputs are standard outputs: bit `i` is set for output `i`.
+#[derive(Drop)]
+pub struct Named {
+    pub inputs: Names,
+    pub outputs: Names,
+    pub printed: u64,
+}
+
+fn input_names(alloc: Global, inputs: &[InputSet]) -> Result<Names, Memory>
+    ensures { IfOk result (λ names. names ≡ input_names inputs.now) }
+{
+    let mut names = Names::new(alloc);
+    for set in inputs {
+        names.push(set.name.try_clone(alloc)?)?;
+    }
+    Ok(names)
+}
+
+fn output_names(alloc: Global, outputs: &[OutputSet]) -> Result<Names, Memory>
+    ensures { IfOk result (λ names. names ≡ output_names outputs.now) }
+{
+    let mut names = Names::new(alloc);
+    for set in outputs {
+        names.push(set.name.try_clone(alloc)?)?;
+    }
+    Ok(names)
+}
+
+fn is_stdout(kind: &OutputKind) -> bool
+    ensures { result ≡ is_stdout kind.now }
+{
+    match kind {
+        OutputKind::Stdout { .. } => true,
+        OutputKind::File { .. } | OutputKind::Tcp { .. } | OutputKind::Forward { .. } => false,
+    }
+}
+
+/// Bit `i` is set where output `i` is a standard output.
+fn stdout_mask(outputs: &[OutputSet]) -> u64
+    requires { length outputs.now ≤ 64 }
+    ensures { result ≡ stdout_mask outputs.now }
+{
+    let Some((set, more)) = outputs.split_first() else {
+        return 0;
+    };
+    u64::from(is_stdout(&set.kind)) + 2 * stdout_mask(more)
+}
+
+impl Named {
+    /// What the text takes from the settings of a configuration, which has at most 64 outputs.
+    pub fn of(alloc: Global, settings: &AllSettings) -> Result<Named, Memory>
+        requires { length settings.now.outputs ≤ 64 }
+        ensures { IfOk result (λ named. IsNamed named settings.now) }
+    {
+        Ok(Named {
+            inputs: input_names(alloc, settings.inputs.as_slice())?,
+            outputs: output_names(alloc, settings.outputs.as_slice())?,
+            printed: stdout_mask(settings.outputs.as_slice()),
+        })
+    }
+}
