@@ -10,6 +10,7 @@ use fwd_top::{Status, log_forwarder, status_line};
 use std::env;
 use std::io::{self, Write};
 use std::process::ExitCode;
+use std::thread::Threads;
 use std_sink::StdSink;
 
 /// The words behind the program's name. None where they aren't text, or memory is wanting.
@@ -34,14 +35,22 @@ fn environment(rt: &HostRuntime) -> Vec<(String, String)> {
     all
 }
 
-fn run(rt: &HostRuntime) -> Status {
+fn run(rt: &HostRuntime, threads: &(impl Threads + Sync)) -> Status {
     let Some(words) = words(rt) else {
         return Status::Usage;
     };
     let env = environment(rt);
     let mut files = FolderFiles::new(*rt);
     let mut out = StdSink::new(*rt);
-    log_forwarder(rt.alloc(), &words, &env, &mut files, &mut out, u64::MAX)
+    log_forwarder(
+        threads,
+        rt.alloc(),
+        &words,
+        &env,
+        &mut files,
+        &mut out,
+        u64::MAX,
+    )
 }
 
 /// The status line goes to standard error, with a line feed behind it. Of `Done` there is none.
@@ -56,7 +65,7 @@ fn tell(rt: &HostRuntime, status: &Status) -> io::Result<()> {
 }
 
 fn main(rt: HostRuntime) -> ExitCode {
-    let status = run(&rt);
+    let status = run(&rt, &rt);
     let _ = tell(&rt, &status);
     ExitCode::from(status.number())
 }

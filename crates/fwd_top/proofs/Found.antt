@@ -1,66 +1,116 @@
--- Over files that give what stands there, the verdict is that of the bytes that stand there.
-use Rattle.std.proofs.Common.{◌≡◌, ℕ, List, [], ◌∷◌, ◌++◌, Option, Some, None, Result, Ok, Err, refl, sym, subst, ap, ◌∙◌}
+-- Over files that give what stands there, the case is that of the bytes that stand there.
+use Rattle.std.specs.Prelude.{◌≢◌}
+use Rattle.std.proofs.Common.{◌≡◌, ℕ, List, ◌++◌, Option, Some, None, Result, Ok, Err, String, map, string_bytes, refl, sym, subst, ap, ◌∙◌}
 use Rattle.std.specs.Prelude.{true, false, Bool}
-use Rattle.fwd_program.specs.Program.{Program, Return, Ask, bind, Way}
+use Rattle.fwd_program.specs.Program.{Return, Ask, bind, Way}
 use Rattle.fwd_program.specs.Told.{Did}
 use Rattle.fwd_outside.specs.Files.{FilesTold, FilesGiven, FilesEntry, IsHonest, found, files_behind, reads_whole}
+use Rattle.fwd_outside.specs.Sink.{SinkTold}
 use Rattle.fwd_outside.proofs.Honest.{whole_is_found}
 use Rattle.fwd_config.specs.Variables.{Values}
 use Rattle.fwd_config.specs.Reading.{Reading, loads, reads_files, given}
 use Rattle.fwd_config.specs.declared.section.Section.{Section}
 use Rattle.fwd_config.specs.declared.fault.ConfigFault.{ConfigFault}
+use Rattle.fwd_config.specs.declared.fault.ConfigKind.{ConfigKind}
+use Rattle.fwd_config.specs.declared.fault.ConfigKind.TheVariants.{FileFault}
 use Rattle.fwd_config.proofs.Standing.{Ends, ends_loads, way_parts, honest_parts, ended, grown_by}
-use Rattle.fwd_top.specs.Words.{Paths}
-use Rattle.fwd_top.specs.Configured.{is_run_configuration}
-use Rattle.fwd_top.specs.Answered.{Verdict, Says, Refuses, refused_config, with_sections, of_paths}
+use Rattle.fwd_settings.specs.Reading.{Checked}
+use Rattle.fwd_settings.specs.declared.chosen.AllSettings.{AllSettings}
+use Rattle.fwd_top.specs.Words.{Paths, replay_of}
+use Rattle.fwd_top.specs.Built.{is_built}
+use Rattle.fwd_top.specs.Asked.{Case, Refuses, Asked, asked, refused_by, refused_config, with_settings, with_sections, of_paths}
+use Rattle.fwd_top.specs.Answered.{Verdict, Says, Ends as EndsSo, Answers, Comes, IsVerdict, IsVerdictOf, IsOfTheFiles, Wrote}
 use Rattle.fwd_top.specs.declared.status.Status.{Status}
+use Rattle.fwd_top.specs.declared.status.Status.TheVariants as status
 
--- it ends without a text where a file can't be read
-abbrev EndsThere : Reading Verdict → Type 0
+-- it ends by this where a file can't be read
+abbrev EndsThere : Reading Asked → Type 0
 EndsThere (Return x) = Unit {0}
-EndsThere (Ask path go) = ((status : Status) × (go None ≡ Return (Refuses status))) × ((bytes : List ℕ) → EndsThere (go (Some bytes)))
+EndsThere (Ask path go) = ((loaded : Option (List Section)) × (go None ≡ Return (asked loaded (Refuses status.FileFault)))) × ((bytes : List ℕ) → EndsThere (go (Some bytes)))
 
-behind : (p : Reading (Result (List Section) ConfigFault)) (schedule : List ℕ) → Ends p → ((sections : List Section) → EndsThere (with_sections schedule (Ok sections))) → EndsThere (bind p (with_sections schedule))
-behind (Return (Ok sections)) schedule ends next = next sections
-behind (Return (Err fault)) schedule ends next = tt
-behind (Ask path go) schedule ends next =
-    ((refused_config ends.0.0, ap (λ (q : Reading (Result (List Section) ConfigFault)). bind q (with_sections schedule)) ends.0.2), λ bytes. behind (go (Some bytes)) schedule (ends.1 bytes) next)
+-- why there is no life where a file of the configuration can't be read
+fault_is : (fault : ConfigFault) → fault.kind ≡ FileFault → refused_config fault ≡ status.FileFault
+fault_is fault is = ap (λ (k : ConfigKind). refused_by k fault.place) is
 
-by_sections : (schedule : List ℕ) (sections : List Section) → EndsThere (with_sections schedule (Ok sections))
-by_sections schedule sections = by (is_run_configuration sections) refl
+module _ (checked : Checked AllSettings) (schedule : List ℕ) where
+  behind : (p : Reading (Result (List Section) ConfigFault)) → Ends p → ((sections : List Section) → EndsThere (with_sections checked schedule (Ok sections))) → EndsThere (bind p (with_sections checked schedule))
+  behind (Return (Ok sections)) ends next = next sections
+  behind (Return (Err fault)) ends next = tt
+  behind (Ask path go) ends next = (
+    (None, ap (λ (q : Reading (Result (List Section) ConfigFault)). bind q (with_sections checked schedule)) ends.0.2 ∙ ap (λ (r : Status). Return (asked None (Refuses r))) (fault_is ends.0.0 ends.0.1)),
+    λ bytes. behind (go (Some bytes)) (ends.1 bytes) next,
+  )
+
+by_settings : (loaded : Option (List Section)) (schedule : List ℕ) (checked : Checked AllSettings) → EndsThere (with_settings loaded schedule checked)
+by_settings loaded schedule (Err fault) = tt
+by_settings loaded schedule (Ok s) = by (is_built s) refl
   where
-    by : (b : Bool) → is_run_configuration sections ≡ b → EndsThere (with_sections schedule (Ok sections))
-    by true is = rw is ((_, refl), λ bytes. tt)
+    by : (b : Bool) → is_built s ≡ b → EndsThere (with_settings loaded schedule (Ok s))
+    by true is = rw is ((loaded, refl), λ bytes. tt)
     by false is = rw is tt
 
-ends_there : (paths : Option Paths) (env : Values) → EndsThere (of_paths paths env)
-ends_there None env = tt
-ends_there (Some paths) env = behind (loads env paths.config) paths.schedule (ends_loads env paths.config) (by_sections paths.schedule)
+ends_there : (checked : Checked AllSettings) (paths : Option Paths) (env : Values) → EndsThere (of_paths checked paths env)
+ends_there checked None env = tt
+ends_there checked (Some paths) env = behind checked paths.schedule (loads env paths.config) (ends_loads env paths.config) (λ sections. by_settings (Some sections) paths.schedule checked)
+
+abbrev IsRead : Asked → Type 0
+IsRead x = x.case ≢ Refuses status.FileFault
 
 module _ (files : FilesGiven) where
-  abbrev SaysSo : Reading Verdict → Type 0
-  SaysSo p = (es : List FilesEntry) (text : List ℕ) → IsHonest files es → Way (reads_files p) es (Return (Says text)) → given (found files) p ≡ Says text
+  abbrev SaysSo : Reading Asked → Type 0
+  SaysSo p = (es : List FilesEntry) (x : Asked) → IsRead x → IsHonest files es → Way (reads_files p) es (Return x) → given (found files) p ≡ x
 
-  read_then : (path : List ℕ) (go : Option (List ℕ) → Reading Verdict) → EndsThere (Ask path go) → ((bytes : List ℕ) → SaysSo (go (Some bytes)))
-      → (first second : List FilesEntry) (content : Option (List ℕ)) (text : List ℕ) → IsHonest files first → IsHonest (files_behind files first) second
-      → Way (reads_whole path) first (Return content) → Way (reads_files (go content)) second (Return (Says text)) → given (found files) (Ask path go) ≡ Says text
-  read_then path go ends says first second None text honest honest2 way way2 =
-      let is : Says text ≡ Refuses ends.0.0 = ended second (subst (λ (q : Reading Verdict). Way (reads_files q) second (Return (Says text))) ends.0.1 way2) in absurd (cc is)
-  read_then path go ends says first second (Some bytes) text honest honest2 way way2 =
-      let read = whole_is_found files path bytes first honest way in
-      let same = subst (λ (f : FilesGiven). IsHonest f second) read.1 honest2 in
-      ap (λ (content : Option (List ℕ)). given (found files) (go content)) read.0 ∙ says bytes second text same way2
+  read_then : (path : List ℕ) (go : Option (List ℕ) → Reading Asked) → EndsThere (Ask path go) → ((bytes : List ℕ) → SaysSo (go (Some bytes)))
+      → (first second : List FilesEntry) (content : Option (List ℕ)) (x : Asked) → IsRead x → IsHonest files first → IsHonest (files_behind files first) second
+      → Way (reads_whole path) first (Return content) → Way (reads_files (go content)) second (Return x) → given (found files) (Ask path go) ≡ x
+  read_then path go ends says first second None x read honest honest2 way way2 =
+      let is : x ≡ asked ends.0.0 (Refuses status.FileFault) = ended second (subst (λ (q : Reading Asked). Way (reads_files q) second (Return x)) ends.0.1 way2) in
+      absurd (read (ap (λ (y : Asked). y.case) is))
+  read_then path go ends says first second (Some bytes) x read honest honest2 way way2 =
+      let same = whole_is_found files path bytes first honest way in
+      let stands = subst (λ (f : FilesGiven). IsHonest f second) same.1 honest2 in
+      ap (λ (content : Option (List ℕ)). given (found files) (go content)) same.0 ∙ says bytes second x read stands way2
 
-  says : (p : Reading Verdict) → EndsThere p → SaysSo p
-  says (Return x) ends es text honest way = sym (ended es way)
-  says (Ask path go) ends es text honest way =
-      let parts = way_parts (reads_whole path) (λ content. reads_files (go content)) es (Says text) way in
+  says : (p : Reading Asked) → EndsThere p → SaysSo p
+  says (Return y) ends es x read honest way = sym (ended es way)
+  says (Ask path go) ends es x read honest way =
+      let parts = way_parts (reads_whole path) (λ content. reads_files (go content)) es x way in
       let both = honest_parts files parts.0 parts.1 (subst (λ (l : List FilesEntry). IsHonest files l) parts.3 honest) in
-      read_then path go ends (λ bytes. says (go (Some bytes)) (ends.1 bytes)) parts.0 parts.1 parts.2 text both.0 both.1 parts.4 parts.5
+      read_then path go ends (λ bytes. says (go (Some bytes)) (ends.1 bytes)) parts.0 parts.1 parts.2 x read both.0 both.1 parts.4 parts.5
 
-pub says_what_stands : (old new : FilesTold) (paths : Option Paths) (env : Values) (text : List ℕ) → Did old new (reads_files (of_paths paths env)) (Says text)
+says_what_stands : (old new : FilesTold) (checked : Checked AllSettings) (paths : Option Paths) (env : Values) (x : Asked) → IsRead x → Did old new (reads_files (of_paths checked paths env)) x
     → (standing : FilesGiven) (before made : List FilesEntry) → old ≡ Some (standing, before) → new ≡ Some (standing, before ++ made) → IsHonest (files_behind standing before) made
-    → given (found (files_behind standing before)) (of_paths paths env) ≡ Says text
-says_what_stands old new paths env text did standing before made was is honest =
+    → given (found (files_behind standing before)) (of_paths checked paths env) ≡ x
+says_what_stands old new checked paths env x read did standing before made was is honest =
     let made_is = grown_by old new standing before made did.entries was is did.grew in
-    says (files_behind standing before) (of_paths paths env) (ends_there paths env) did.entries text (subst (λ (l : List FilesEntry). IsHonest (files_behind standing before) l) made_is honest) did.way
+    says (files_behind standing before) (of_paths checked paths env) (ends_there checked paths env) did.entries x read (subst (λ (l : List FilesEntry). IsHonest (files_behind standing before) l) made_is honest) did.way
+
+module _ {Y : Type 0} (words : List (String Y)) (env : Values) (turns : ℕ) (files now : FilesTold) (sink out : SinkTold) where
+  unread : (case : Case) (verdict : Verdict) → IsVerdict turns case verdict → verdict ≢ EndsSo status.FileFault → case ≢ Refuses status.FileFault
+  unread case verdict is other same = other (subst (λ (c : Case). IsVerdict turns c verdict) same is)
+
+  verdict_of : (verdict : Verdict) → verdict ≢ EndsSo status.FileFault → Comes words env turns files now verdict
+      → (standing : FilesGiven) (before made : List FilesEntry) → files ≡ Some (standing, before) → now ≡ Some (standing, before ++ made) → IsHonest (files_behind standing before) made
+      → IsVerdictOf words env turns (files_behind standing before) verdict
+  verdict_of verdict other comes standing before made was now_is honest = record {
+    checked = comes.asks.checked;
+    loaded = comes.asks.loaded;
+    are = comes.asks.are;
+    case = comes.case;
+    given =
+        says_what_stands files now comes.asks.checked (replay_of (map string_bytes words)) env (asked comes.asks.loaded comes.case) (unread comes.case verdict comes.is other) comes.asks.makes standing before made was now_is honest;
+    is = comes.is;
+  }
+
+  by_status : (Holds : Verdict → Type 0) → ((verdict : Verdict) → verdict ≢ EndsSo status.FileFault → Comes words env turns files now verdict → Holds verdict)
+      → (result : Status) → Answers words env turns files now sink out result → result ≢ status.FileFault → Wrote Holds sink out result
+  by_status Holds of status.Done answers read = (answers.0, of (Says answers.0 status.Done) (λ is. cc is) answers.1, answers.2)
+  by_status Holds of status.TurnsSpent answers read = (answers.0, of (Says answers.0 status.TurnsSpent) (λ is. cc is) answers.1, answers.2)
+  by_status Holds of status.OutFault answers read = (answers.0, answers.1, of (Says answers.0 answers.1) (λ is. cc is) answers.2, answers.3)
+  by_status Holds of status.Memory answers read = tt
+  by_status Holds of status.FileFault answers read = absurd (read refl)
+  by_status Holds of other answers read = (of (EndsSo other) (λ is. cc is) answers.0, answers.1)
+
+  pub of_the_files : (result : Status) → Answers words env turns files now sink out result → IsOfTheFiles words env turns files now sink out result
+  of_the_files result answers standing before made was now_is honest read =
+      by_status (IsVerdictOf words env turns (files_behind standing before)) (λ verdict other comes. verdict_of verdict other comes standing before made was now_is honest) result answers read

@@ -1,73 +1,148 @@
 -- From the calls of the parts to those of the whole.
-use Rattle.std.proofs.Common.{◌≡◌, ℕ, true, false, List, [], ◌∷◌, Option, Some, None, Result, Ok, Err, refl, sym, subst, ap, ◌∙◌}
+use Rattle.std.proofs.Common.{◌≡◌, ℕ, true, false, List, [], Option, Some, None, Result, Ok, Err, String, map, string_bytes, inl, inr, refl, sym, subst, ◌∙◌}
+use Rattle.std.specs.Prelude.{option_map}
 use Rattle.fwd_program.specs.Program.{Program, Return, Ask, bind}
-use Rattle.fwd_program.specs.Told.{Leads, Did, Began, Makes}
-use Rattle.fwd_program.proofs.Leading.{inside, began_inside, makes_bind}
+use Rattle.fwd_program.specs.Told.{Did, Makes}
+use Rattle.fwd_program.proofs.Leading.{stays, inside, began_inside, makes_bind}
 use Rattle.fwd_outside.specs.Files.{FilesTold, FilesProgram, reads_whole}
 use Rattle.fwd_config.specs.Variables.{Values}
 use Rattle.fwd_config.specs.Reading.{loads, reads_files}
-use Rattle.fwd_config.specs.Loaded.{unless_kind, outcome as loaded}
+use Rattle.fwd_config.specs.Loaded.{unless_kind, outcome as loaded_by}
 use Rattle.fwd_config.specs.declared.section.Place.{Place}
 use Rattle.fwd_config.specs.declared.section.Section.{Section}
 use Rattle.fwd_config.specs.declared.fault.ConfigFault.{ConfigFault}
 use Rattle.fwd_config.specs.declared.fault.ConfigKind.{ConfigKind}
 use Rattle.fwd_config.specs.declared.fault.ConfigKind.TheVariants as config_kind
 use Rattle.fwd_config.proofs.Stepping.{reads_bind}
-use Rattle.fwd_top.specs.Configured.{is_run_configuration}
-use Rattle.fwd_top.specs.Answered.{Verdict, Says, Refuses, of_file, with_sections}
-use Rattle.fwd_top.specs.Judged.{outcome, unless_memory, IsJudged, config_status}
+use Rattle.fwd_choices.specs.declared.kind.SettingKind.{SettingKind}
+use Rattle.fwd_choices.specs.declared.kind.SettingKind.TheVariants as setting_kind
+use Rattle.fwd_settings.specs.Reading.{Checked, Comes}
+use Rattle.fwd_settings.specs.Settings.{AreOf, settings_of}
+use Rattle.fwd_settings.specs.declared.fault.SettingFault.{SettingFault}
+use Rattle.fwd_settings.specs.declared.chosen.AllSettings.{AllSettings}
+use Rattle.fwd_top.specs.Built.{is_built}
+use Rattle.fwd_top.specs.Asked.{Case, Refuses, Asked, asked, of_file, of_paths, with_settings, with_sections}
+use Rattle.fwd_top.specs.Answered.{Asks}
+use Rattle.fwd_top.specs.Words.{replay_of}
+use Rattle.fwd_top.specs.Judged.{case_of, unless_memory, IsJudged, AreSettings, AsksBehind, config_status, setting_status}
+use Rattle.fwd_top.specs.declared.asking.Job.{Job}
 use Rattle.fwd_top.specs.declared.status.Status.{Status}
 use Rattle.fwd_top.specs.declared.status.Status.TheVariants as status
 
--- a program that came to a verdict, which is the one that was answered unless memory was wanting
-pub judged : (a b : FilesTold) (p : FilesProgram Verdict) (verdict : Verdict) (result : Result (List ℕ) Status) → Did a b p verdict → IsJudged verdict result → Makes a b p (outcome result)
-judged a b p verdict (Ok text) did is = subst (λ (v : Verdict). Did a b p v) is did
-judged a b p verdict (Err status.Memory) did is = (Return verdict, did)
-judged a b p verdict (Err _) did is = subst (λ (v : Verdict). Did a b p v) is did
+-- a program that came to a case, which is the one that was answered unless memory was wanting
+judged : (a b : FilesTold) (p : FilesProgram Case) (case : Case) (result : Result Job Status) → Did a b p case → IsJudged case result → Makes a b p (case_of result)
+judged a b p case (Ok job) did is = subst (λ (c : Case). Did a b p c) is did
+judged a b p case (Err status.Memory) did is = (Return case, did)
+judged a b p case (Err _) did is = subst (λ (c : Case). Did a b p c) is did
 
 -- the schedule's file was read
-pub file_read : (a b : FilesTold) (path bytes : List ℕ) (result : Result (List ℕ) Status) → Did a b (reads_whole path) (Some bytes) → IsJudged (of_file (Some bytes)) result
-    → Makes a b (bind (reads_whole path) (λ content. Return (of_file content))) (outcome result)
-file_read a b path bytes result did is = judged a b (bind (reads_whole path) (λ content. Return (of_file content))) (of_file (Some bytes)) result (inside (λ content. Return (of_file content)) did) is
+pub file_read : (a b : FilesTold) (s : AllSettings) (path bytes : List ℕ) (result : Result Job Status) → Did a b (reads_whole path) (Some bytes) → IsJudged (of_file s (Some bytes)) result
+    → Makes a b (bind (reads_whole path) (λ content. Return (of_file s content))) (case_of result)
+file_read a b s path bytes result did is = judged a b (bind (reads_whole path) (λ content. Return (of_file s content))) (of_file s (Some bytes)) result (inside (λ content. Return (of_file s content)) did) is
 
 -- it can't be read, or memory was wanting
-pub file_failed : (a b : FilesTold) (path : List ℕ) → Makes a b (reads_whole path) (Some None) → Makes a b (bind (reads_whole path) (λ content. Return (of_file content))) (Some (Refuses status.FileFault))
-file_failed a b path did = inside (λ content. Return (of_file content)) did
+pub file_failed : (a b : FilesTold) (s : AllSettings) (path : List ℕ) → Makes a b (reads_whole path) (Some None) → Makes a b (bind (reads_whole path) (λ content. Return (of_file s content))) (Some (Refuses status.FileFault))
+file_failed a b s path did = inside (λ content. Return (of_file s content)) did
 
-pub file_wanting : (a b : FilesTold) (path : List ℕ) → Makes a b (reads_whole path) None → Makes a b (bind (reads_whole path) (λ content. Return (of_file content))) None
-file_wanting a b path began = began_inside (λ content. Return (of_file content)) began
+pub file_wanting : (a b : FilesTold) (s : AllSettings) (path : List ℕ) → Makes a b (reads_whole path) None → Makes a b (bind (reads_whole path) (λ content. Return (of_file s content))) None
+file_wanting a b s path began = began_inside (λ content. Return (of_file s content)) began
 
--- ---- from the configuration on
+-- ---- behind settings
 
-module _ (a b : FilesTold) (config schedule : List ℕ) (env : Values) where
-  abbrev whole : FilesProgram Verdict
-  whole = reads_files (bind (loads env config) (with_sections schedule))
+-- what a program gives is told with the sections
+tagged : (a b : FilesTold) (s : AllSettings) (loaded : Option (List Section)) (p : FilesProgram (Option (List ℕ))) (case : Option Case) → Makes a b (bind p (λ content. Return (of_file s content))) case
+    → Makes a b (bind (bind p (λ content. Return (of_file s content))) (λ c. Return (asked loaded c))) (option_map (asked loaded) case)
+tagged a b s loaded p (Some c) did = inside (λ x. Return (asked loaded x)) did
+tagged a b s loaded p None began = began_inside (λ x. Return (asked loaded x)) began
 
-  parts : whole ≡ bind (reads_files (loads env config)) (λ sections. reads_files (with_sections schedule sections))
-  parts = reads_bind (loads env config) (with_sections schedule)
+bind_twice : {X Y Z : Type 0} {C : Type 0} {A : C → Type 0} (p : Program C A X) (f : X → Y) (g : Y → Z) → bind (bind p (λ x. Return (f x))) (λ y. Return (g y)) ≡ bind p (λ x. Return (g (f x)))
+bind_twice (Return x) f g = refl
+bind_twice (Ask call go) f g = λ i. Ask call (λ answer. bind_twice (go answer) f g i)
 
-  -- the configuration is another one
-  pub not_built : (sections : List Section) → Did a b (reads_files (loads env config)) (Ok sections) → is_run_configuration sections ≡ false → Did a b whole (Refuses status.NotBuilt)
-  not_built sections did other =
-      rw parts
-      (subst (λ (q : FilesProgram Verdict). Leads a b (bind (reads_files (loads env config)) (λ s. reads_files (with_sections schedule s))) q) (rw other refl)
-      (inside (λ s. reads_files (with_sections schedule s)) did))
+module _ (a b : FilesTold) (sections : List Section) (path : List ℕ) where
+  abbrev loaded : Option (List Section)
+  loaded = Some sections
 
-  -- behind it comes the schedule
-  pub goes_on_to_the_schedule : (c : FilesTold) (sections : List Section) (result : Option Verdict) → Did a b (reads_files (loads env config)) (Ok sections) → is_run_configuration sections ≡ true
-      → Makes b c (bind (reads_whole schedule) (λ content. Return (of_file content))) result → Makes a c whole result
-  goes_on_to_the_schedule c sections result did is makes =
-      let rest : reads_files (with_sections schedule (Ok sections)) ≡ bind (reads_whole schedule) (λ content. Return (of_file content)) = rw is refl in
-      rw parts
-      (makes_bind a b c (reads_files (loads env config)) (Ok sections) (λ s. reads_files (with_sections schedule s)) result did (rw rest makes))
+  -- they are run
+  pub schedule_read : (s : AllSettings) (case : Option Case) → is_built s ≡ true → AreSettings sections (Ok s) case → Makes a b (bind (reads_whole path) (λ content. Return (of_file s content))) case
+      → AsksBehind sections path a b case
+  schedule_read s case built are makes = record {
+    checked = Ok s;
+    are = are;
+    makes =
+        let is : reads_files (with_settings loaded path (Ok s)) ≡ bind (reads_whole path) (λ content. Return (asked loaded (of_file s content))) = rw built refl in
+        subst (λ (p : FilesProgram Asked). Makes a b p (option_map (asked loaded) case)) (bind_twice (reads_whole path) (of_file s) (asked loaded) ∙ sym is) (tagged a b s loaded (reads_whole path) case makes);
+  }
 
-  refused_so : (kind : ConfigKind) (place : Place) → Makes a b (reads_files (loads env config)) (unless_kind {T = Result (List Section) ConfigFault} kind (Err (record { kind = kind; place = place })))
-      → Makes a b whole (unless_memory (config_status kind place))
-  refused_so config_kind.Memory place began = rw parts (began_inside (λ s. reads_files (with_sections schedule s)) began)
-  refused_so config_kind.FileFault place did = rw parts (inside (λ s. reads_files (with_sections schedule s)) did)
-  refused_so _ place did = rw parts (inside (λ s. reads_files (with_sections schedule s)) did)
+  -- they aren't
+  pub not_run : (s : AllSettings) → is_built s ≡ false → Comes (settings_of sections) (Ok s) → AsksBehind sections path a a (Some (Refuses status.NotBuilt))
+  not_run s other comes = record {
+    checked = Ok s;
+    are = comes;
+    makes =
+        let is : reads_files (with_settings loaded path (Ok s)) ≡ Return (asked loaded (Refuses status.NotBuilt)) = rw other refl in
+        subst (λ (p : FilesProgram Asked). Did a a p (asked loaded (Refuses status.NotBuilt))) (sym is) (stays a (Return (asked loaded (Refuses status.NotBuilt))));
+  }
 
-  -- it is refused, or can't be read, or memory was wanting
-  pub refused_config : (fault : ConfigFault) (answer : Status) → answer ≡ config_status fault.kind fault.place → Makes a b (reads_files (loads env config)) (loaded {T = List Section} (Err fault))
-      → Makes a b whole (unless_memory answer)
-  refused_config fault answer is makes = rw is (refused_so fault.kind fault.place makes)
+  -- there are none
+  refused_so : (kind : SettingKind) (place : Place) → AreOf sections (Err (record { kind = kind; place = place })) → AsksBehind sections path a a (unless_memory (setting_status kind place))
+  refused_so setting_kind.Memory place are = record { checked = Err (record { kind = setting_kind.Memory; place = place }); are = tt; makes = (_, stays a _) }
+  refused_so kind place (inl memory) = absurd (cc memory)
+  refused_so kind place (inr comes) = record { checked = Err (record { kind = kind; place = place }); are = comes; makes = stays a _ }
+
+  pub refused_settings_so : (fault : SettingFault) (answer : Status) → answer ≡ setting_status fault.kind fault.place → AreOf sections (Err fault) → AsksBehind sections path a a (unless_memory answer)
+  refused_settings_so fault answer is are = rw is (refused_so fault.kind fault.place are)
+
+-- settings that were come to are those of the sections
+pub come : (sections : List Section) (s : AllSettings) → AreOf sections (Ok s) → Comes (settings_of sections) (Ok s)
+come sections s (inl none) = absurd none
+come sections s (inr comes) = comes
+
+pub are_so : (sections : List Section) (s : AllSettings) (case : Option Case) → Comes (settings_of sections) (Ok s) → AreSettings sections (Ok s) case
+are_so sections s (Some case) comes = comes
+are_so sections s None comes = tt
+
+-- ---- from the words on
+
+nothing_checked : Checked AllSettings
+nothing_checked = Err (record { kind = setting_kind.Missing; place = record { file = []; line = 0 } })
+
+module _ {Y : Type 0} (words : List (String Y)) (env : Values) (a b : FilesTold) where
+  -- the words are others
+  pub other_words : replay_of (map string_bytes words) ≡ None → Asks words env a a (Some (Refuses status.Usage))
+  other_words none = record {
+    checked = nothing_checked;
+    loaded = None;
+    are = tt;
+    makes = rw none (stays a (Return (asked None (Refuses status.Usage))));
+  }
+
+  module _ (config schedule : List ℕ) (is : replay_of (map string_bytes words) ≡ Some (record { config = config; schedule = schedule })) where
+    parts : (checked : Checked AllSettings) → reads_files (of_paths checked (replay_of (map string_bytes words)) env) ≡ bind (reads_files (loads env config)) (λ sections. reads_files (with_sections checked schedule sections))
+    parts checked = rw is (reads_bind (loads env config) (with_sections checked schedule))
+
+    -- the sections were loaded
+    pub goes_behind : (c : FilesTold) (sections : List Section) (case : Option Case) → Did a b (reads_files (loads env config)) (Ok sections) → AsksBehind sections schedule b c case → Asks words env a c case
+    goes_behind c sections (Some case) did behind = record {
+      checked = behind.checked;
+      loaded = Some sections;
+      are = behind.are;
+      makes = rw (parts behind.checked) (makes_bind a b c (reads_files (loads env config)) (Ok sections) (λ s. reads_files (with_sections behind.checked schedule s)) (Some (asked (Some sections) case)) did behind.makes);
+    }
+    goes_behind c sections None did behind = record {
+      checked = behind.checked;
+      loaded = None;
+      are = tt;
+      makes = rw (parts behind.checked) (makes_bind a b c (reads_files (loads env config)) (Ok sections) (λ s. reads_files (with_sections behind.checked schedule s)) None did behind.makes);
+    }
+
+    config_refused : (kind : ConfigKind) (place : Place) → Makes a b (reads_files (loads env config)) (unless_kind {T = Result (List Section) ConfigFault} kind (Err (record { kind = kind; place = place })))
+        → Asks words env a b (unless_memory (config_status kind place))
+    config_refused config_kind.Memory place began = record { checked = nothing_checked; loaded = None; are = tt; makes = rw (parts nothing_checked) (began_inside (λ s. reads_files (with_sections nothing_checked schedule s)) began) }
+    config_refused config_kind.FileFault place did = record { checked = nothing_checked; loaded = None; are = tt; makes = rw (parts nothing_checked) (inside (λ s. reads_files (with_sections nothing_checked schedule s)) did) }
+    config_refused _ place did = record { checked = nothing_checked; loaded = None; are = tt; makes = rw (parts nothing_checked) (inside (λ s. reads_files (with_sections nothing_checked schedule s)) did) }
+
+    -- the configuration is refused, or can't be read, or memory was wanting
+    pub refused_config : (fault : ConfigFault) (answer : Status) → answer ≡ config_status fault.kind fault.place → Makes a b (reads_files (loads env config)) (loaded_by {T = List Section} (Err fault))
+        → Asks words env a b (unless_memory answer)
+    refused_config fault answer same makes = rw same (config_refused fault.kind fault.place makes)

@@ -1,11 +1,6 @@
-pub mod History
-pub mod Happened
-pub mod Text
-pub mod Shown
-pub mod Reported
 pub mod Words
-pub mod Built
-pub mod Configured
 pub mod Status
+pub mod Built
+pub mod Asked
 pub mod Answered
 pub mod Judged

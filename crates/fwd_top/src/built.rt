@@ -1,146 +1,102 @@
-//! Which schedules the program runs so far.
+//! What the program runs so far.
 
-ghost use Rattle.std.specs.Prelude.{◌≡◌, [], None, Some, MatchOption};
+ghost use Rattle.std.specs.Prelude.{◌≡◌, None, Some, MatchOption};
 ghost use Rattle.std.specs.List.{list_all};
-ghost use Rattle.fwd_top.specs.Happened.{lines_behind};
-ghost use Rattle.fwd_top.specs.Built.{is_plain_byte, is_short, ends_in_line_feed, is_plain_piece, is_run_happening, is_run_line, is_run_answer, is_smooth, is_run_life, run_lines};
+ghost use Rattle.fwd_top.specs.Built.{built_life, is_built, is_built_input, is_built_output, is_in_memory, keeps_files};
 
-use fwd_outside::Happening;
-use fwd_script::{Given, Life, Lives, Plan, Planned};
+use fwd_script::{Life, Lives, Planned};
+use fwd_settings::{AllSettings, InputKind, InputSet, OutputKind, OutputSet};
 
-/// A line has at most so many bytes.
-const LINE: usize = 32_768;
-
-/// A line feed, or a printable character of ASCII other than a quotation mark and a backslash.
-fn is_plain_byte(byte: u8) -> bool
-    ensures { result ≡ is_plain_byte byte }
+/// An input that is run: tcp or standard input, without a limit of memory.
+fn is_built_input(set: &InputSet) -> bool
+    ensures { result ≡ is_built_input set.now }
 {
-    byte == b'\n' || (b' '..=b'~').contains(&byte) && byte != b'"' && byte != b'\\'
-}
-
-/// Each line that a line feed ends is short enough.
-fn are_short(bytes: &[u8]) -> bool
-    ensures { result ≡ list_all is_short (lines_behind [] bytes.now) }
-{
-    let mut start = 0;
-    for (place, byte) in bytes.iter().enumerate() {
-        if *byte == b'\n' {
-            if place - start > LINE {
-                return false;
-            }
-            start = place + 1;
-        }
+    let limited = set.mem_limit.is_some();
+    match set.kind {
+        InputKind::Tcp { .. } | InputKind::Stdin => !limited,
+        InputKind::Tail { .. } | InputKind::Forward { .. } => false,
     }
-    true
 }
 
-fn are_plain(bytes: &[u8]) -> bool
-    ensures { result ≡ list_all is_plain_byte bytes.now }
+/// An output that is run: any but forward.
+fn is_built_output(set: &OutputSet) -> bool
+    ensures { result ≡ is_built_output set.now }
 {
-    for byte in bytes {
-        if !is_plain_byte(*byte) {
+    match set.kind {
+        OutputKind::Stdout { .. } | OutputKind::File { .. } | OutputKind::Tcp { .. } => true,
+        OutputKind::Forward { .. } => false,
+    }
+}
+
+fn are_built_inputs(inputs: &[InputSet]) -> bool
+    ensures { result ≡ list_all is_built_input inputs.now }
+{
+    for set in inputs {
+        if !is_built_input(set) {
             return false;
         }
     }
     true
 }
 
-fn ends_in_line_feed(bytes: &[u8]) -> bool
-    ensures { result ≡ ends_in_line_feed bytes.now }
+fn are_built_outputs(outputs: &[OutputSet]) -> bool
+    ensures { result ≡ list_all is_built_output outputs.now }
 {
-    !bytes.is_empty() && bytes[bytes.len() - 1] == b'\n'
-}
-
-/// Whole lines of plain bytes.
-fn is_plain_piece(bytes: &[u8]) -> bool
-    ensures { result ≡ is_plain_piece bytes.now }
-{
-    are_plain(bytes) && ends_in_line_feed(bytes) && are_short(bytes)
-}
-
-fn is_run_happening(happening: &Happening) -> bool
-    ensures { result ≡ is_run_happening happening.now }
-{
-    match happening {
-        Happening::Piece { bytes, .. } => is_plain_piece(bytes.as_slice()),
-        Happening::InputEnd { .. } => false,
-        Happening::Tick { .. }
-        | Happening::Joined { .. }
-        | Happening::Gone { .. }
-        | Happening::Room { .. }
-        | Happening::Back { .. }
-        | Happening::Broken { .. }
-        | Happening::Stop
-        | Happening::End
-        | Happening::Failed => true,
+    for set in outputs {
+        if !is_built_output(set) {
+            return false;
+        }
     }
+    true
 }
 
-fn is_run_line(line: &Planned) -> bool
-    ensures { result ≡ is_run_line line.now }
+/// The settings are run: inputs and outputs are, and nothing is stored in files.
+pub fn is_built(settings: &AllSettings) -> bool
+    ensures { result ≡ is_built settings.now }
+{
+    let inputs = are_built_inputs(settings.inputs.as_slice());
+    let outputs = are_built_outputs(settings.outputs.as_slice());
+    inputs && outputs && settings.service.path.is_none()
+}
+
+/// A line that changes no file.
+fn keeps_files(line: &Planned) -> bool
+    ensures { result ≡ keeps_files line.now }
 {
     match line {
-        Planned::Happens(happening) => is_run_happening(happening),
-        Planned::Ticks { .. } => true,
+        Planned::Happens(_) | Planned::Ticks { .. } => true,
         Planned::Changes(_) => false,
     }
 }
 
-fn is_run_answer(answer: &Given) -> bool
-    ensures { result ≡ is_run_answer answer.now }
+fn keep_files(lines: &[Planned]) -> bool
+    ensures { result ≡ list_all keeps_files lines.now }
 {
-    match answer {
-        Given::Dial { .. } | Given::Push { .. } => false,
-        Given::Reply { .. } | Given::Word(_) => true,
+    for line in lines {
+        if !keeps_files(line) {
+            return false;
+        }
     }
+    true
 }
 
-/// No call fails, no file stands on a disk, and no crash comes.
-fn is_smooth(life: &Life) -> bool
-    ensures { result ≡ is_smooth life.now }
+/// No file changes, no call on files or a disk fails, no file stands on a disk, and no crash comes.
+fn is_in_memory(life: &Life) -> bool
+    ensures { result ≡ is_in_memory life.now }
 {
-    life.disk_fails.is_empty()
+    keep_files(life.lines.as_slice())
+        && life.disk_fails.is_empty()
         && life.file_fails.is_empty()
         && life.store.is_empty()
         && life.cut.is_none()
 }
 
-fn are_run_lines(lines: &[Planned]) -> bool
-    ensures { result ≡ list_all is_run_line lines.now }
-{
-    for line in lines {
-        if !is_run_line(line) {
-            return false;
-        }
-    }
-    true
-}
-
-fn are_run_answers(answers: &[Given]) -> bool
-    ensures { result ≡ list_all is_run_answer answers.now }
-{
-    for answer in answers {
-        if !is_run_answer(answer) {
-            return false;
-        }
-    }
-    true
-}
-
-fn is_run_life(life: &Life) -> bool
-    ensures { result ≡ is_run_life life.now }
-{
-    are_run_lines(life.lines.as_slice())
-        && are_run_answers(life.answers.as_slice())
-        && is_smooth(life)
-}
-
-/// The lines of a schedule that is run, which has one life. None of another.
-pub fn run_lines(lives: &Lives) -> Option<&Plan>
-    ensures { MatchOption result (run_lines lives.now ≡ None) (λ lines. run_lines lives.now ≡ Some lines.now) }
+/// The life of a schedule that is run, which has one. None of another.
+pub fn built_life(lives: &Lives) -> Option<&Life>
+    ensures { MatchOption result (built_life lives.now ≡ None) (λ life. built_life lives.now ≡ Some life.now) }
 {
     match lives.as_slice() {
-        [life] if is_run_life(life) => Some(&life.lines),
+        [life] if is_in_memory(life) => Some(life),
         _ => None,
     }
 }

@@ -1,19 +1,16 @@
-//! What the program does, whole: the words of the command line name a configuration and a schedule, these are read, and
-//! the text of the run is written. The text is the one that the history of the happenings gives.
+//! The top call: `log_forwarder` does all that the program does, over files and a sink that are handed in.
 #![tactic(auto)]
 
+mod asking;
 mod built;
-mod chunk;
-mod configured;
-mod ended;
-mod life;
-mod report;
-mod run;
 mod status;
 #[cfg(test)]
 mod tests;
 mod top;
 mod words;
 
+pub use fwd_choices::SettingKind;
+pub use fwd_config::{ConfigKind, Place};
+pub use fwd_script::ScheduleKind;
 pub use status::{ConfigRefusal, Status, status_line};
 pub use top::log_forwarder;

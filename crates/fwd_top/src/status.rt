@@ -1,18 +1,20 @@
 //! How a run of the program ended.
 
-ghost use Rattle.std.specs.Prelude.{◌≡◌, ◌++◌, IfOk, OnOk};
-ghost use Rattle.fwd_top.specs.Status.{config_kind_name, schedule_kind_name, place_text, config_line, schedule_line, line_of, number_of};
+ghost use Rattle.std.specs.Prelude.{◌≡◌, ◌++◌, decimal, IfOk, OnOk};
+ghost use Rattle.fwd_top.specs.Status.{config_kind_name, setting_kind_name, refusal_name, schedule_kind_name, place_text, config_line, schedule_line, line_of, number_of};
 
-use crate::chunk::push_number;
+use fwd_choices::SettingKind;
 use fwd_config::{ConfigKind, Place};
 use fwd_outside::{Bytes, Memory};
 use fwd_script::ScheduleKind;
+use itoa::Buffer;
 use std::alloc::Global;
 
-/// Why a configuration is refused: its text, when it is loaded.
+/// Why a configuration is refused: its text, when it is loaded, or what it sets.
 #[derive(Clone, Copy, Debug, PartialEq, Eq)]
 pub enum ConfigRefusal {
     Load(ConfigKind),
+    Setting(SettingKind),
 }
 
 /// How a run of the program ended.
@@ -30,6 +32,8 @@ pub enum Status {
     ScheduleRefused { kind: ScheduleKind, line: u64 },
     /// The text can't be written.
     OutFault,
+    /// All turns are taken and the run isn't over. The text so far was written to its end.
+    TurnsSpent,
     /// Memory was wanting.
     Memory,
     /// The outside couldn't go on.
@@ -50,6 +54,7 @@ impl Status {
             Status::FileFault => 3,
             Status::ScheduleRefused { .. } => 5,
             Status::OutFault => 6,
+            Status::TurnsSpent => 7,
             Status::Memory => 8,
             Status::LoopFault => 9,
             Status::NotBuilt => 10,
@@ -85,6 +90,40 @@ fn schedule_kind_name(kind: ScheduleKind) -> &'static [u8]
     }
 }
 
+fn setting_kind_name(kind: SettingKind) -> &'static [u8]
+    ensures { result.now ≡ setting_kind_name kind }
+{
+    match kind {
+        SettingKind::UnknownPlugin => b"UnknownPlugin",
+        SettingKind::UnknownKey => b"UnknownKey",
+        SettingKind::BadNumber => b"BadNumber",
+        SettingKind::BadSize => b"BadSize",
+        SettingKind::BadChoice => b"BadChoice",
+        SettingKind::Missing => b"Missing",
+        SettingKind::TooMany => b"TooMany",
+        SettingKind::PatternRefused => b"PatternRefused",
+        SettingKind::Memory => b"Memory",
+        SettingKind::UnknownSection => b"UnknownSection",
+    }
+}
+
+fn refusal_name(refusal: ConfigRefusal) -> &'static [u8]
+    ensures { result.now ≡ refusal_name refusal }
+{
+    match refusal {
+        ConfigRefusal::Load(kind) => config_kind_name(kind),
+        ConfigRefusal::Setting(kind) => setting_kind_name(kind),
+    }
+}
+
+fn push_number(text: &mut Bytes, number: u64) -> Result<(), Memory>
+    ensures { OnOk result (text.new ≡ text.old ++ decimal number) }
+{
+    let mut buffer = Buffer::new();
+    text.extend_from_slice(buffer.format(number).as_bytes())?;
+    Ok(())
+}
+
 fn push_place(text: &mut Bytes, place: &Place) -> Result<(), Memory>
     ensures { OnOk result (text.new ≡ text.old ++ place_text place.now) }
 {
@@ -94,11 +133,15 @@ fn push_place(text: &mut Bytes, place: &Place) -> Result<(), Memory>
     Ok(())
 }
 
-fn push_config_refused(text: &mut Bytes, kind: ConfigKind, place: &Place) -> Result<(), Memory>
-    ensures { OnOk result (text.new ≡ text.old ++ config_line kind place.now) }
+fn push_config_refused(
+    text: &mut Bytes,
+    refusal: ConfigRefusal,
+    place: &Place,
+) -> Result<(), Memory>
+    ensures { OnOk result (text.new ≡ text.old ++ config_line refusal place.now) }
 {
     text.extend_from_slice(b"config refused: ")?;
-    text.extend_from_slice(config_kind_name(kind))?;
+    text.extend_from_slice(refusal_name(refusal))?;
     text.extend_from_slice(b" at ")?;
     push_place(text, place)?;
     Ok(())
@@ -126,12 +169,12 @@ pub fn status_line(alloc: Global, status: &Status) -> Result<Bytes, Memory>
         Status::Done => {}
         Status::Usage => text.extend_from_slice(USAGE)?,
         Status::ConfigRefused { kind, place } => {
-            let ConfigRefusal::Load(kind) = *kind;
-            push_config_refused(&mut text, kind, place)?;
+            push_config_refused(&mut text, *kind, place)?;
         }
         Status::FileFault => text.extend_from_slice(b"file fault")?,
         Status::ScheduleRefused { kind, line } => push_schedule_refused(&mut text, *kind, *line)?,
         Status::OutFault => text.extend_from_slice(b"output fault")?,
+        Status::TurnsSpent => text.extend_from_slice(b"turns spent")?,
         Status::Memory => text.extend_from_slice(b"out of memory")?,
         Status::LoopFault => text.extend_from_slice(b"loop fault")?,
         Status::NotBuilt => text.extend_from_slice(b"not built yet")?,

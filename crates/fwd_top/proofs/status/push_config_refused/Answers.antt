@@ -1,7 +1,7 @@
 use Rattle.std.proofs.Common.{append_assoc, refl}
-use Rattle.fwd_top.specs.Status.{config_line, config_kind_name, place_text}
+use Rattle.fwd_top.specs.Status.{config_line}
 use Rattle.fwd_top.proofs.status.push_config_refused.Goals as goal
 
 pub returns : goal.returns
 unfolding config_line
-returns c = rw (c.in_ok-push_place.ensures, c.in_ok-extend_from_slice-3.ensures.ok, c.in_ok-extend_from_slice-2.ensures.ok, c.in_ok-extend_from_slice.ensures.ok, c.config_kind_name.ensures) (simp append_assoc refl)
+returns c = rw (c.in_ok-push_place.ensures, c.in_ok-extend_from_slice-3.ensures.ok, c.in_ok-extend_from_slice-2.ensures.ok, c.in_ok-extend_from_slice.ensures.ok, c.refusal_name.ensures) (simp append_assoc refl)
