@@ -15,8 +15,6 @@ mod loading;
 mod paths;
 mod reading;
 mod serial;
-#[cfg(test)]
-mod tests;
 
 pub use errors::LoadErr;
 pub use fwd_found::{Brief, ChunkKind, Found, Seen};
