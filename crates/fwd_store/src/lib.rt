@@ -13,8 +13,6 @@ mod laws;
 mod name;
 mod opened;
 mod store;
-#[cfg(test)]
-mod tests;
 
 pub use answers::{Accepted, StoreRefusal};
 pub use content::PartErr;
