@@ -5,10 +5,10 @@ ghost use Rattle.std.specs.FinMap as map;
 ghost use Rattle.fwd_base.specs.Limits.{longest_file, longest_tag};
 ghost use Rattle.fwd_program.specs.Program.{Way, Return};
 ghost use Rattle.fwd_program.specs.Moments.{Moments, Ends};
-ghost use Rattle.fwd_outside.specs.Disk.{DiskEntry, DiskProgram};
+ghost use Rattle.fwd_outside.specs.Disk.{DiskEntry, DiskGiven, DiskProgram};
 ghost use Rattle.fwd_outside.specs.declared.home.Home.TheVariants as home_of;
 ghost use Rattle.fwd_image.specs.File.{gone, content};
-ghost use Rattle.fwd_image.specs.Disk.{Files, Steps};
+ghost use Rattle.fwd_image.specs.Disk.{Files, MayHold, Steps};
 ghost use Rattle.fwd_image.specs.Crash.{Images, IsOn};
 ghost use Rattle.fwd_chunk.specs.declared.append.ChunkHead.{ChunkHead};
 ghost use Rattle.fwd_chunk.specs.Layout.{new_file, new_meta};
@@ -53,6 +53,14 @@ pub fn first_batch_comes_whole()
 pub fn settled_content_stands()
     ensures stands { (head : ChunkHead) (meta content : List ℕ) (files : Files) → SettledIn head meta content files → StandsIn (InFile head) content files }
     ensures kept { (head : ChunkHead) (meta content : List ℕ) (files : Files) (events : List Event) → SettledIn head meta content files → AreEvents events content → AreKept (InFile head) content }
+{}
+
+/// Of a file that stands for a content, or for that and the batch of an append that failed, the content is where it is
+/// read from.
+pub fn sealed_content_stands()
+    ensures { (head : ChunkHead) (meta content batch : List ℕ) (given : DiskGiven) (before : List DiskEntry) (files : Files)
+        → MayHold given before files → Images head.name (LeavesEither meta content (content ++ batch)) files → length meta ≡ head.meta → length content ≡ head.size
+        → StandsIn (InFile head) content files }
 {}
 
 /// A file that was found to be a chunk with events can be adopted, and its content is where it is read from.
