@@ -7,7 +7,8 @@ use Rattle.std.proofs.lemmas.Bool.{lt-ltb, le-ltb, ltb-true, ltb-false}
 use Rattle.std.proofs.lemmas.List.{take_all, take_more, at_drop_all}
 use Rattle.std.proofs.lemmas.List.Sums.{prefix_len-le-length, fold_push}
 use Rattle.std.proofs.lemmas.List.Folds.{length-prefix_len}
-use Rattle.fwd_base.specs.Size.{decimal, factor_of, within_64_bits, size_of}
+use Rattle.fwd_base.specs.Number.{decimal, within_64_bits}
+use Rattle.fwd_base.specs.Size.{factor_of, size_of}
 use Rattle.fwd_found.specs.declared.chunk.Found.{Found}
 use Rattle.fwd_backlog.specs.Serial.{flb, serial_number, greatest_serial}
 
