@@ -64,15 +64,15 @@ impl ReplyReader for WantsMuch {
 
 /// What comes to a flight.
 #[derive(Clone, Copy)]
-enum Step {
+enum Step<'a> {
     Start,
     Room,
-    Back(&'static [u8]),
+    Back(&'a [u8]),
     Broken,
 }
 
 /// What comes to a flight, and then its answer, how many bytes are taken, its link, and how many links are closed.
-type Seen = (Step, Poll, u64, Option<LinkId>, u64);
+type Seen<'a> = (Step<'a>, Poll, u64, Option<LinkId>, u64);
 
 const WAITING: Poll = Poll::Waiting;
 
@@ -88,7 +88,7 @@ fn take_step<P: ReplyReader>(
     alloc: Global,
     flush: &mut Flush<P>,
     links: &mut Links,
-    step: Step,
+    step: Step<'_>,
 ) -> Result<Poll, Memory> {
     match step {
         Step::Start => flush.start(alloc, links, b"app"),
@@ -103,7 +103,7 @@ fn walks<P: ReplyReader>(
     alloc: Global,
     flush: &mut Flush<P>,
     links: &mut Links,
-    steps: &[Seen],
+    steps: &[Seen<'_>],
 ) -> Result<bool, Memory> {
     for (step, poll, taken, link, closed) in steps {
         let came = take_step(alloc, flush, links, *step)?;
@@ -121,7 +121,7 @@ fn flies<P: ReplyReader + Drop>(
     links: &mut Links,
     payload: &[u8],
     reader: P,
-    steps: &[Seen],
+    steps: &[Seen<'_>],
 ) -> Result<bool, Memory> {
     let payload = Bytes::from_slice(alloc, payload)?;
     let mut flush = Flush::new(alloc, OutputId(1), payload, reader);
@@ -135,11 +135,11 @@ struct Flight {
     wants_ok: bool,
     payload: &'static [u8],
     answers: &'static [Pushed],
-    steps: &'static [Seen],
+    steps: &'static [Seen<'static>],
     faults: u64,
 }
 
-const FLIGHTS: [Flight; 11] = [
+const FLIGHTS: &[Flight] = &[
     // a link that takes all
     Flight {
         refuses: false,
@@ -287,13 +287,11 @@ fn is_flown(alloc: Global, flight: &Flight) -> Result<bool, Memory> {
 }
 
 /// The first of the flights that is another.
-fn wrong_flight(alloc: Global) -> Result<Option<u64>, Memory> {
-    let mut at = 0;
-    for flight in &FLIGHTS {
+fn wrong_flight(alloc: Global) -> Result<Option<usize>, Memory> {
+    for (at, flight) in FLIGHTS.iter().enumerate() {
         if !is_flown(alloc, flight)? {
             return Ok(Some(at));
         }
-        at += 1;
     }
     Ok(None)
 }
@@ -303,25 +301,39 @@ fn flights_stand_so_at_each_step(rt: HostRuntime) {
     assert_eq!(rt; wrong_flight(rt.alloc()), Ok(None));
 }
 
-const MEGABYTE: [u8; 1_048_576] = [b'x'; 1_048_576];
-
 /// A link that takes two pieces, has no room then, and takes all behind that.
 const SLOW: &[Pushed] = &[Pushed::Took(65_536), Pushed::Took(65_536), Pushed::Again];
 
 /// Whether a payload of 1 MB is taken in pieces, and a reply of 1 MB is kept.
-fn much_is_flown(alloc: Global, links: &mut Links) -> Result<bool, Memory> {
+fn is_taken(alloc: Global, links: &mut Links, megabyte: &[u8]) -> Result<bool, Memory> {
     let steps = [
         (Step::Start, WAITING, 131_072, FIRST, 0),
         (Step::Room, WAITING, 1_048_576, FIRST, 0),
-        (Step::Back(&MEGABYTE), GOOD, 1_048_576, None, 1),
+        (Step::Back(megabyte), GOOD, 1_048_576, None, 1),
     ];
-    flies(alloc, links, &MEGABYTE, WantsMuch, &steps)
+    flies(alloc, links, megabyte, WantsMuch, &steps)
+}
+
+fn is_handed_over(alloc: Global, megabyte: &[u8]) -> Result<bool, Memory> {
+    let mut links = Links::new(alloc, false, SLOW);
+    let taken = is_taken(alloc, &mut links, megabyte)?;
+    Ok(taken && links.handed.as_slice() == megabyte)
+}
+
+fn put_megabyte(bytes: &mut Bytes) -> Result<(), Memory> {
+    for _ in 0..32_768 {
+        bytes.extend_from_slice(b"0123456789abcdef0123456789abcdef")?;
+    }
+    Ok(())
+}
+
+fn a_megabyte_is_taken(alloc: Global) -> Result<bool, Memory> {
+    let mut megabyte = Bytes::new(alloc);
+    put_megabyte(&mut megabyte)?;
+    is_handed_over(alloc, megabyte.as_slice())
 }
 
 #[test]
 fn a_megabyte_is_flown(rt: HostRuntime) {
-    let alloc = rt.alloc();
-    let mut links = Links::new(alloc, false, SLOW);
-    assert!(rt; matches!(much_is_flown(alloc, &mut links), Ok(true)));
-    assert!(rt; links.handed.as_slice() == MEGABYTE.as_slice());
+    assert!(rt; matches!(a_megabyte_is_taken(rt.alloc()), Ok(true)));
 }

@@ -6,6 +6,10 @@ mod flush;
 #[cfg(test)]
 mod links;
 #[cfg(test)]
+mod out_text;
+#[cfg(test)]
+mod report;
+#[cfg(test)]
 mod retry;
 #[cfg(test)]
 mod rows;

@@ -1,6 +1,6 @@
 //! Links that answer from a list.
 
-ghost use Rattle.std.specs.Prelude.{None, false};
+ghost use Rattle.std.specs.Prelude.{◌≡◌, None, false};
 
 use fwd_base::{Bytes, ConnId, LinkId, Memory, OutputId};
 use fwd_outside::{Begun, Dialed, Ends, Happening, Loop, Pushed, Replied};
@@ -32,7 +32,10 @@ impl Links {
     }
 
     /// The answer to the next push, where there is one on the list.
-    fn next_answer(&mut self) -> Option<Pushed> {
+    fn next_answer(&mut self) -> Option<Pushed>
+        ensures faults { self.new.faults ≡ self.old.faults }
+        ensures dialled { self.new.dialled ≡ self.old.dialled }
+    {
         let answer = self.answers.get(self.answered).copied();
         self.answered = self.answered.saturating_add(1);
         answer

@@ -5,7 +5,7 @@ use fwd_retry::{Timer, Timers, wait_of};
 use std::alloc::Global;
 
 /// How many tries failed, the base and the cap, the word that is drawn, and how long the wait is.
-const WAITS: [(u64, u64, u64, u64, u64); 14] = [
+const WAITS: &[(u64, u64, u64, u64, u64)] = &[
     (1, 3, 30, 0, 3),
     (1, 3, 30, 3, 6),
     (1, 3, 30, 4, 3),
@@ -23,13 +23,11 @@ const WAITS: [(u64, u64, u64, u64, u64); 14] = [
 ];
 
 /// The first of the waits that is another.
-fn wrong_wait() -> Option<u64> {
-    let mut at = 0;
-    for (n, base, cap, word, wait) in WAITS {
-        if base == 0 || wait_of(n, base, cap, word) != wait {
+fn wrong_wait() -> Option<usize> {
+    for (at, (n, base, cap, word, wait)) in WAITS.iter().enumerate() {
+        if *base == 0 || wait_of(*n, *base, *cap, *word) != *wait {
             return Some(at);
         }
-        at += 1;
     }
     None
 }

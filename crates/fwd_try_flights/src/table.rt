@@ -54,13 +54,12 @@ fn shows(table: &Table, row: RowSeen) -> bool {
 }
 
 fn grows_and_shuts(table: &mut Table) -> bool {
-    let open = shows(table, OPEN) && table.is_open(CHUNK) && !table.is_idle(CHUNK, TCP);
+    let open = shows(table, OPEN) && !table.is_idle(CHUNK, TCP);
     let waits = table.next_due(u64::MAX, None).is_none();
     table.grew(CHUNK, 24);
-    let grown = table.is_open(CHUNK);
+    let grown = shows(table, RowSeen { size: 24, ..OPEN });
     table.shut(CHUNK, 1000);
-    let shut = shows(table, SHUT) && !table.is_open(CHUNK);
-    open && waits && grown && shut
+    open && waits && grown && shows(table, SHUT)
 }
 
 fn is_owed(table: &Table) -> bool {
@@ -105,7 +104,7 @@ fn comes_in_order(table: &mut Table) -> bool {
     let idle = table.is_idle(CHUNK, STDOUT);
     table.started(CHUNK, STDOUT);
     let started = are_due(table, &[(1000, None, timer(1000, TCP))]);
-    let flying = table.len() == 1 && table.row(0).flying == 1 && table.is_flying(CHUNK, STDOUT);
+    let flying = table.len() == 1 && table.row(0).flying == 1;
     table.stayed(CHUNK, STDOUT);
     let stayed = are_due(table, &[(1000, None, timer(1000, STDOUT))]);
     in_order && idle && started && flying && stayed
@@ -127,9 +126,6 @@ fn answers(table: &mut Table, answer: Answer, limit: Retries, now: u64) -> Optio
         return None;
     }
     table.started(CHUNK, TCP);
-    if !table.is_flying(CHUNK, TCP) {
-        return None;
-    }
     Some(table.answered(CHUNK, TCP, answer, limit, 5, now))
 }
 
@@ -221,14 +217,13 @@ fn tries_are_spent_above_the_limit(rt: HostRuntime) {
 }
 
 /// Whether a thousand rows, owed to all outputs, are there.
-fn thousand_stand(alloc: Global, table: &mut Table) -> Result<bool, Memory> {
-    put_many(alloc, table, 1000, u64::MAX)?;
+fn thousand_stand(alloc: Global) -> Result<bool, Memory> {
+    let mut table = Table::new(alloc);
+    put_many(alloc, &mut table, 1000, u64::MAX)?;
     Ok(table.len() == 1000 && table.owed(ChunkId(999)) == u64::MAX)
 }
 
 #[test]
 fn a_thousand_rows_stand(rt: HostRuntime) {
-    let alloc = rt.alloc();
-    let mut table = Table::new(alloc);
-    assert!(rt; matches!(thousand_stand(alloc, &mut table), Ok(true)));
+    assert!(rt; matches!(thousand_stand(rt.alloc()), Ok(true)));
 }
