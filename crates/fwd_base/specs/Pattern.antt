@@ -8,7 +8,6 @@ use Rattle.regex.specs.Failures.{IsPattern}
 use Rattle.regex.specs.Names.{names_of}
 use Rattle.regex.specs.Writes.{group_of}
 use Rattle.fwd_base.specs.declared.pattern.Pattern.{Pattern}
-use Rattle.fwd_base.specs.declared.pattern.Group.{Group}
 use Rattle.fwd_base.specs.declared.search.Capture.{Capture}
 use Rattle.fwd_base.specs.declared.search.Search.{Search}
 use Rattle.fwd_base.specs.declared.rewrite.Place.{Place}
@@ -86,21 +85,6 @@ pub record IsReadFrom (text : List ℕ) (p : Pattern) : Type 0 where
 -- the text isn't UTF-8, or the grammar reads no pattern from what is written for it within the limit on nesting
 abbrev pub IsNoPattern : List ℕ → Type 0
 IsNoPattern text = (¬ IsUtf8 text) ⊎ (¬ IsPattern options (rewritten text))
-
--- a group of a match with its bytes, where it has a name and took part
-abbrev pub named_group : List ℕ → Option (List ℕ) → Option (ℕ × ℕ) → List Group
-named_group text None span = []
-named_group text (Some name) None = []
-named_group text (Some name) (Some span) = record { name = name; bytes = slice_range text span.0 span.1 } ∷ []
-
--- the named groups that took part in a match, from group n on, in order
-abbrev pub groups_from : List ℕ → Match → ℕ → List (Option (List ℕ)) → List Group
-groups_from text m n [] = []
-groups_from text m n (name ∷ names) = named_group text name (group_of m n) ++ groups_from text m (n + 1) names
-
--- the named groups that took part; group 0 is the whole match and has no name
-abbrev pub groups_of : List (Option (List ℕ)) → List ℕ → Match → List Group
-groups_of names text m = groups_from text m 1 (drop 1 names)
 
 -- a named group of a match: its name, and the bytes that it spans
 pub record Captured : Type 0 where

@@ -15,8 +15,6 @@ mod pattern;
 mod rewrite;
 mod search;
 mod size;
-#[cfg(test)]
-mod tests;
 
 pub use blanks::{is_blank, is_utf8, place_of, place_of_blank, skip_blanks};
 pub use bytes::{Bytes, Names, crosses};
@@ -25,6 +23,6 @@ pub use ids::{ChunkId, ConnId, InputId, LinkId, OutputId};
 pub use items::Items;
 pub use memory::Memory;
 pub use numbers::{is_digits, number};
-pub use pattern::{Group, Groups, Pattern, PatternErr};
+pub use pattern::{Pattern, PatternErr};
 pub use search::{Capture, Search};
 pub use size::{NotASize, parse_size};

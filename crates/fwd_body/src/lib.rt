@@ -5,6 +5,3 @@
 mod keys;
 
 pub use keys::{has, is_text, place_of, value_of};
-
-#[cfg(test)]
-mod tests;

@@ -1,7 +1,8 @@
 -- Which values are events, and which bytes are lists of events (Forward Protocol v1, "Event Modes"; Fluent Bit's log
 -- event format).
-use Rattle.std.specs.Prelude.{◌≡◌, ℕ, zero, ◌≤◌, nat_lt, ◌==◌, if◌then◌else◌, pos, List, [], ◌∷◌, ◌++◌, length, take, drop, Option, Some, None}
+use Rattle.std.specs.Prelude.{◌≡◌, ℕ, zero, ◌-◌, ◌≤◌, nat_lt, ◌==◌, if◌then◌else◌, pos, List, [], ◌∷◌, ◌++◌, length, take, drop, Option, Some, None}
 use Rattle.std.specs.Int.{w32, to_be_bytes, from_be_bytes}
+use Rattle.fwd_base.specs.Limits.{deepest}
 use Rattle.fwd_value.specs.Val.{Val, whole, ext, list, mapping, no_vals, val, Entries, no_entries, entry, entries_of}
 use Rattle.fwd_value.specs.Limits.{nesting, LengthsFit}
 use Rattle.fwd_msgpack.specs.Spelling.{Spells}
@@ -41,10 +42,10 @@ abbrev pub event_of : Val → Option Event
 event_of (list (val head (val (mapping body) no_vals))) = headed head body
 event_of _ = None
 
--- the bytes are spellings of events, one after another, nested at most 64
+-- the bytes are spellings of events, one after another, none nested too deep
 abbrev pub AreEvents : List Event → List ℕ → Type 0
 AreEvents [] b = b ≡ []
-AreEvents (e ∷ es) b = (v : Val) × (front back : List ℕ) × (b ≡ front ++ back) × Spells v front × (nesting v ≤ 64) × (event_of v ≡ Some e) × AreEvents es back
+AreEvents (e ∷ es) b = (v : Val) × (front back : List ℕ) × (b ≡ front ++ back) × Spells v front × (nesting v ≤ deepest) × (event_of v ≡ Some e) × AreEvents es back
 
 -- the longest prefix of the bytes that is a list of events is these events, and has n bytes
 pub record IsWholePrefix (events : List Event) (n : ℕ) (b : List ℕ) : Type 0 where
@@ -58,9 +59,9 @@ event_val e =
     let time = ext (pos zero) (to_be_bytes w32 e.sec ++ to_be_bytes w32 e.nsec) in
     list (val (list (val time (val (mapping (entries_of e.meta)) no_vals))) (val (mapping (entries_of e.body)) no_vals))
 
--- the event has a spelling of its own: its body is nested at most 63, its metadata at most 62, each length is below 2^32
+-- the event has a spelling of its own: its body is one deep in it and its metadata two, and each length is below 2^32
 pub record EventFits (e : Event) : Type 0 where
-  pub meta_nested : nesting (mapping (entries_of e.meta)) ≤ 62
-  pub body_nested : nesting (mapping (entries_of e.body)) ≤ 63
+  pub meta_nested : nesting (mapping (entries_of e.meta)) ≤ deepest - 2
+  pub body_nested : nesting (mapping (entries_of e.body)) ≤ deepest - 1
   pub meta_lengths : LengthsFit (mapping (entries_of e.meta))
   pub body_lengths : LengthsFit (mapping (entries_of e.body))

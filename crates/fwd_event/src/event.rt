@@ -1,4 +1,4 @@
-use fwd_base::Items;
+use fwd_base::{Items, crosses};
 use fwd_msgpack::Pairs;
 
 /// A log line: when it came, in seconds and nanoseconds, what is said of it, and its fields.
@@ -12,8 +12,6 @@ pub struct Event {
 
 /// Events, in order.
 pub type Events = Items<Event>;
-
-fn crosses<T: Send + Sync>(_: &T) {}
 
 /// Threads may share events and hand them over.
 pub fn events_cross(event: &Event, events: &Events) {

@@ -8,11 +8,8 @@ mod reading;
 mod writing;
 
 pub use errors::EventErr;
-pub use event::{Event, Events};
+pub use event::{Event, Events, events_cross};
 pub use fwd_base::{Bytes, Memory};
 pub use fwd_msgpack::{Below, Pairs, Value, Values};
 pub use reading::{read_events, whole_prefix};
 pub use writing::{can_write, write_event};
-
-#[cfg(test)]
-mod tests;

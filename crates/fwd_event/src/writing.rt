@@ -8,15 +8,22 @@ ghost use Rattle.fwd_msgpack.specs.Writing.{KeepsFront};
 ghost use Rattle.fwd_event.specs.Event.{event_val, EventFits, AreEvents};
 
 use crate::Event;
+use fwd_base::limits::DEEPEST;
 use fwd_base::{Bytes, Memory};
 use fwd_msgpack::{can_encode_map, encode_map};
+
+/// How deep lists and maps may be nested in metadata, which stands in a map in two lists.
+const META_DEPTH: u64 = DEEPEST as u64 - 3;
+
+/// How deep they may be nested in a body, which is a map in a list.
+const BODY_DEPTH: u64 = DEEPEST as u64 - 2;
 
 /// Whether an event can be written: its body is nested at most 63, its metadata at most 62, and each length in them is
 /// below 2^32.
 pub fn can_write(event: &Event) -> bool
     ensures { IsTrue result ↔ EventFits event.now }
 {
-    can_encode_map(&event.meta, 61) && can_encode_map(&event.body, 62)
+    can_encode_map(&event.meta, META_DEPTH) && can_encode_map(&event.body, BODY_DEPTH)
 }
 
 /// Appends what stands before the metadata of an event.

@@ -10,6 +10,3 @@ mod steps;
 pub use chain::filter;
 pub use laws::filtered_are_computed;
 pub use steps::{FilterKind, FilterStep, FilterSteps, steps_cross};
-
-#[cfg(test)]
-mod tests;

@@ -1,6 +1,6 @@
 //! The filters of a configuration.
 
-use fwd_base::{Bytes, Items};
+use fwd_base::{Bytes, Items, crosses};
 use fwd_grep::GrepRules;
 use fwd_reshape::{LiftRule, ModifyRules, NestRule};
 
@@ -22,8 +22,6 @@ pub struct FilterStep {
 
 /// Filters, in the order of the configuration.
 pub type FilterSteps = Items<FilterStep>;
-
-fn crosses<T: Send + Sync>(_: &T) {}
 
 /// Threads may share filters and hand them over.
 pub fn steps_cross(steps: &FilterSteps) {

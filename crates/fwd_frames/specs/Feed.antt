@@ -1,6 +1,6 @@
 -- What the steps of a reader say of the bytes that they look at.
 use Rattle.std.specs.Prelude.{ℕ, ◌+◌, ◌-◌, ◌<◌, ◌≡◌, ◌++◌, Bool, true, false, List, ◌∷◌, length, take, drop, nat_lt, Option, MatchOption, if◌then◌else◌}
-use Rattle.fwd_frames.specs.declared.line.TheConstants.{MAX_LINE}
+use Rattle.fwd_base.specs.Limits.{longest_line}
 use Rattle.fwd_frames.specs.Lines.{has_feed, Kept}
 
 -- place is that of the first line feed of some bytes
@@ -24,4 +24,4 @@ with_more_at most kept more =
     else kept_with (kept.bytes ++ more) kept.cut
 
 abbrev pub with_more : Kept → List ℕ → Kept
-with_more kept more = with_more_at MAX_LINE kept more
+with_more kept more = with_more_at longest_line kept more

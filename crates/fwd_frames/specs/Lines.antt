@@ -2,7 +2,7 @@
 use Rattle.std.specs.Prelude.{ℕ, ◌==◌, ◌≡◌, ◌++◌, Bool, true, false, List, [], ◌∷◌, length, take, nat_lt, if◌then◌else◌}
 use Rattle.std.specs.List.{flat_map, list_any, AllByRecursion}
 use Rattle.std.specs.Str.Lines.{strip_carriage_return}
-use Rattle.fwd_frames.specs.declared.line.TheConstants.{MAX_LINE}
+use Rattle.fwd_base.specs.Limits.{longest_line}
 use Rattle.fwd_frames.specs.declared.line.Line.{Line}
 
 -- whether a line feed is among the bytes
@@ -27,7 +27,7 @@ rest (byte ∷ bytes) = if has_feed (byte ∷ bytes) then rest bytes else byte �
 -- the line of a part: a long one is cut, of another the carriage return at its end is dropped
 abbrev pub line_of : List ℕ → Line
 line_of part =
-    if nat_lt MAX_LINE (length part) then record { bytes = take MAX_LINE part; cut = true }
+    if nat_lt longest_line (length part) then record { bytes = take longest_line part; cut = true }
     else record { bytes = strip_carriage_return part; cut = false }
 
 -- a line, unless it is empty
@@ -48,7 +48,7 @@ pub record Kept : Type 0 where
   pub cut : Bool
 
 abbrev pub kept_of : List ℕ → Kept
-kept_of part = record { bytes = take MAX_LINE part; cut = nat_lt MAX_LINE (length part) }
+kept_of part = record { bytes = take longest_line part; cut = nat_lt longest_line (length part) }
 
 -- what a reader keeps of a stream
 abbrev pub kept : List ℕ → Kept

@@ -2,10 +2,12 @@
 
 ghost use Rattle.std.specs.Prelude.{◌≡◌, ◌≤◌, ◌++◌, length, IfOk, OnOk, OnErr};
 ghost use Rattle.std.specs.Str.Lines.{strip_carriage_return};
+ghost use Rattle.fwd_base.specs.Limits.{longest_line};
 ghost use Rattle.fwd_frames.specs.Lines.{lines as lines_of, rest, unless_empty};
 ghost use Rattle.fwd_frames.specs.Feed.{IsFirstFeed, kept_with, with_more};
 
-use crate::{Frames, Line, Lines, MAX_LINE};
+use crate::{Frames, Line, Lines};
+use fwd_base::limits::LONGEST_LINE;
 use fwd_base::{Bytes, Memory};
 use memchr::memchr;
 use std::alloc::Global;
@@ -30,12 +32,12 @@ pub fn without_return(mut bytes: Bytes) -> Bytes
 
 /// Puts bytes at the end, as many as a line may have, and says whether there were more of them.
 pub fn put_within(bytes: &mut Bytes, cut: bool, more: &[u8]) -> Result<bool, Memory>
-    requires { length bytes.old ≤ MAX_LINE }
+    requires { length bytes.old ≤ longest_line }
     ensures ok { IfOk result (λ over. kept_with bytes.new over ≡ with_more (kept_with bytes.old cut) more.now) }
-    ensures within { OnOk result (length bytes.new ≤ MAX_LINE) }
+    ensures within { OnOk result (length bytes.new ≤ longest_line) }
     ensures err { OnErr result (bytes.new ≡ bytes.old) }
 {
-    let room = MAX_LINE - bytes.len();
+    let room = LONGEST_LINE - bytes.len();
     if room < more.len() {
         bytes.extend_from_slice(&more[..room])?;
         return Ok(true);

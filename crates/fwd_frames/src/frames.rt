@@ -10,7 +10,7 @@ use std::alloc::Global;
 use std::marker::Model;
 
 /// A reader of a stream of bytes. Of the stream so far it keeps what stands behind the last line feed, at most
-/// `MAX_LINE` bytes of it.
+/// `LONGEST_LINE` bytes of it.
 #[derive(Debug, Drop)]
 pub struct Frames {
     rest: Bytes,
@@ -21,13 +21,13 @@ pub struct Frames {
 impl Model for Frames {
     ghost use Rattle.std.specs.Prelude.{◌≤◌, length};
     ghost use Rattle.fwd_frames.specs.Lines.{Kept};
-    ghost use Rattle.fwd_frames.specs.declared.line.TheConstants.{MAX_LINE};
+    ghost use Rattle.fwd_base.specs.Limits.{longest_line};
 
     ghost Value = { Kept };
 
     ghost view = { λ f. record { bytes = f.rest; cut = f.cut } };
 
-    ghost invariant = { λ f. length f.rest ≤ MAX_LINE };
+    ghost invariant = { λ f. length f.rest ≤ longest_line };
 }
 
 impl Frames {

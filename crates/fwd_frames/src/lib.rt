@@ -8,9 +8,7 @@ mod feed;
 mod frames;
 mod laws;
 mod line;
-#[cfg(test)]
-mod tests;
 
 pub use frames::Frames;
 pub use laws::{lines_of_pieces, parts_of_a_stream};
-pub use line::{Line, Lines, MAX_LINE};
+pub use line::{Line, Lines};

@@ -2,16 +2,13 @@
 
 use fwd_base::{Bytes, Items, Memory};
 
-/// The greatest number of bytes of a line. A longer line is cut there.
-pub const MAX_LINE: usize = 32_768;
-
 /// A line, without the line feed behind it.
 #[derive(Debug, Drop, PartialEq, Eq)]
 pub struct Line {
     /// The bytes of the line. Of a line that isn't cut the carriage return at its end is dropped.
     pub bytes: Bytes,
 
-    /// Whether the line had more than `MAX_LINE` bytes. The bytes are then the first ones.
+    /// Whether the line had more than `LONGEST_LINE` bytes. The bytes are then the first ones.
     pub cut: bool,
 }
 

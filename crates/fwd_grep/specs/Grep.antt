@@ -3,9 +3,8 @@ use Rattle.std.specs.Prelude.{ℕ, List, Bool, true, false, not, Option, Some, N
 use Rattle.std.specs.Fmt.{signed_decimal}
 use Rattle.std.specs.List.{list_all}
 use Rattle.std.specs.Option.{option_map_or}
-use Rattle.regex.specs.Patterns.{find}
+use Rattle.regex.specs.Patterns.{Re, find}
 use Rattle.fwd_base.specs.Pattern.{expression_of}
-use Rattle.fwd_base.specs.declared.pattern.Pattern.{Pattern}
 use Rattle.fwd_value.specs.Val.{Val, truth, whole, text, bin}
 use Rattle.fwd_body.specs.Keys.{Body, key}
 use Rattle.fwd_grep.specs.declared.keeping.GrepRule.{GrepRule}
@@ -20,17 +19,21 @@ compared (truth true) = Some (codes "true")
 compared (truth false) = Some (codes "false")
 compared _ = None
 
--- whether the pattern is found in the bytes
-abbrev pub is_hit : Pattern → List ℕ → Bool
-is_hit pattern s = is_some (find (expression_of pattern) s 0)
+-- what a rule's pattern looks for
+abbrev pub looks_for : GrepRule → Re
+looks_for rule = expression_of rule.pattern
+
+-- whether it is found in the bytes
+abbrev pub is_hit : Re → List ℕ → Bool
+is_hit wanted s = is_some (find wanted s 0)
 
 -- whether the value matches
-abbrev pub matches : Pattern → Val → Bool
-matches pattern v = option_map_or (is_hit pattern) (compared v) false
+abbrev pub matches : Re → Val → Bool
+matches wanted v = option_map_or (is_hit wanted) (compared v) false
 
 -- whether the value of the first pair of the key matches; an absent key doesn't
 abbrev pub key_matches : GrepRule → Body → Bool
-key_matches rule body = option_map_or (λ p. matches rule.pattern p.1) (key body rule.key) false
+key_matches rule body = option_map_or (λ p. matches (looks_for rule) p.1) (key body rule.key) false
 
 -- Regex drops an event whose value doesn't match, Exclude one whose value matches
 abbrev pub passes : Body → GrepRule → Bool

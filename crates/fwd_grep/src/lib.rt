@@ -2,8 +2,7 @@
 #![tactic(auto)]
 
 mod keeping;
+mod searches;
 
-pub use keeping::{GrepRule, GrepRules, keeps, rules_cross};
-
-#[cfg(test)]
-mod tests;
+pub use keeping::{GrepRule, GrepRules, rules_cross};
+pub use searches::{GrepSearches, keeps};

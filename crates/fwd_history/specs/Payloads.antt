@@ -24,6 +24,7 @@ payload_for (output_kind.Stdout form) tag events = payload_of form tag events
 payload_for (output_kind.File folder file form) tag events = payload_of form tag events
 payload_for (output_kind.Tcp host port form) tag events = payload_of form tag events
 payload_for (output_kind.Forward host port ack whole_time) tag events = []
+payload_for (output_kind.Http host port uri form) tag events = payload_of form tag events
 
 abbrev pub payload_at : Option OutputSet → List ℕ → List Event → List ℕ
 payload_at None tag events = []

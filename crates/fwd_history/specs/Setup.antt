@@ -54,6 +54,7 @@ places_of (output_kind.Stdout form) = 1
 places_of (output_kind.File folder file form) = 1
 places_of (output_kind.Tcp host port form) = 4
 places_of (output_kind.Forward host port ack whole_time) = 4
+places_of (output_kind.Http host port uri form) = 4
 
 abbrev pub places_at : Option OutputSet → ℕ
 places_at None = 0

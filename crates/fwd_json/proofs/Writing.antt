@@ -1,32 +1,11 @@
 -- Writing texts one after the other, as a loop does.
-use Rattle.std.proofs.Common.{◌≡◌, Bool, true, false, ℕ, zero, suc, ◌+◌, ◌/◌, ◌%◌, ◌<◌, List, [], ◌∷◌, ◌++◌, map, length, take, get_or, refl, sym, ap, ◌∙◌, append_assoc, add-one, arith}
-use Rattle.std.specs.Str.{is_utf8}
-use Rattle.std.specs.Prelude.{IsUtf8}
+use Rattle.std.proofs.Common.{◌≡◌, ℕ, zero, suc, ◌+◌, ◌<◌, List, [], ◌∷◌, ◌++◌, map, length, take, get_or, refl, sym, ap, ◌∙◌, append_assoc, add-one, arith}
 use Rattle.std.proofs.lemmas.List.{append-nil}
-use Rattle.std.proofs.lemmas.Str.{is_utf8-from_IsUtf8, IsUtf8-from_is_utf8}
 use Rattle.fwd_value.specs.Val.{vals_of, entries_of}
 use Rattle.fwd_value.specs.View.{val_of, pair_of}
 use Rattle.fwd_value.specs.Weight.{weight, weights, entry_weights}
 use Rattle.fwd_value.specs.declared.value.Value.{Value}
-use Rattle.fwd_json.specs.Text.{hex, hex_digit, escaped, escapes, json, more_values, more_pairs, pair_text}
-
-pub utf8_true : (bytes : List ℕ) → IsUtf8 bytes → true ≡ is_utf8 bytes
-utf8_true bytes h = sym (is_utf8-from_IsUtf8 bytes h)
-
-pub utf8_false : (bytes : List ℕ) → (IsUtf8 bytes → ⊥) → false ≡ is_utf8 bytes
-utf8_false bytes h = decided (is_utf8 bytes) refl
-  where
-    decided : (t : Bool) → is_utf8 bytes ≡ t → false ≡ is_utf8 bytes
-    decided true e = absurd (h (IsUtf8-from_is_utf8 bytes e))
-    decided false e = sym e
-
-hex_suc : (bytes : List ℕ) (i : ℕ) → i < length bytes → hex (take (suc i) bytes) ≡ hex (take i bytes) ++ hex_digit (get_or bytes i 0 / 16) ∷ hex_digit (get_or bytes i 0 % 16) ∷ []
-hex_suc [] i lt = absurd (omega arith)
-hex_suc (c ∷ bytes) zero lt = refl
-hex_suc (c ∷ bytes) (suc i) lt = ap (λ (t : List ℕ). hex_digit (c / 16) ∷ hex_digit (c % 16) ∷ t) (hex_suc bytes i (omega arith))
-
-pub hex_more : (bytes : List ℕ) (i : ℕ) → i < length bytes → hex (take (i + 1) bytes) ≡ hex (take i bytes) ++ hex_digit (get_or bytes i 0 / 16) ∷ hex_digit (get_or bytes i 0 % 16) ∷ []
-hex_more bytes i lt = rw add-one (hex_suc bytes i lt)
+use Rattle.fwd_json.specs.Text.{escaped, escapes, json, more_values, more_pairs, pair_text}
 
 escapes_suc : (bytes : List ℕ) (i : ℕ) → i < length bytes → escapes (take (suc i) bytes) ≡ escapes (take i bytes) ++ escaped (get_or bytes i 0)
 escapes_suc [] i lt = absurd (omega arith)

@@ -1,8 +1,9 @@
 -- The pairs of a line of JSON.
-use Rattle.std.specs.Prelude.{ℕ, pos, Bool, true, false, ◌&&◌, not, nat_lt, List, [], ◌∷◌, Option, Some, None, Result, Ok, Err, if◌then◌else◌}
+use Rattle.std.specs.Prelude.{ℕ, ◌-◌, pos, Bool, true, false, ◌&&◌, not, nat_lt, List, [], ◌∷◌, Option, Some, None, Result, Ok, Err, if◌then◌else◌}
 use Rattle.std.specs.Str.{is_utf8}
 use Rattle.serde_json.specs.Data.{Num, unsigned, negative, float, Data, null, boolean, number, string, array, object, Items, no_items, item, Members, no_members, member, depth}
 use Rattle.serde_json.specs.Read.{read}
+use Rattle.fwd_base.specs.Limits.{deepest}
 use Rattle.fwd_value.specs.Val.{Val, nil, truth, whole, text, list, mapping, Vals, no_vals, val, Entries, no_entries, entry}
 use Rattle.fwd_json.specs.declared.reading.JsonErr.{JsonErr}
 use Rattle.fwd_json.specs.declared.reading.JsonErr.TheVariants.{NotJson, NotAnObject, NotWhole, TooDeep}
@@ -60,15 +61,15 @@ abbrev pub pairs_of : Members → List (Val × Val)
 pairs_of no_members = []
 pairs_of (member k d ms) = (text k, value_of d) ∷ pairs_of ms
 
--- an object that is the body of an event is nested so deep at most
-abbrev pub deepest : ℕ
-deepest = 63
+-- an object that is the body of an event is nested so deep at most: the event is one deeper
+abbrev pub deepest_body : ℕ
+deepest_body = deepest - 1
 
 -- the pairs of an object, or why it has none
 abbrev pub pairs_or : Members → Result (List (Val × Val)) JsonErr
 pairs_or ms =
     if not (members_whole ms) then Err NotWhole
-    else (if nat_lt deepest (depth (object ms)) then Err TooDeep
+    else (if nat_lt deepest_body (depth (object ms)) then Err TooDeep
     else Ok (pairs_of ms))
 
 abbrev pub object_pairs : Data → Result (List (Val × Val)) JsonErr

@@ -1,18 +1,10 @@
 -- The JSON text of a value, without blanks (RFC 8259, with strings of this project's own for what JSON lacks).
-use Rattle.std.specs.Prelude.{ℕ, ◌+◌, ◌/◌, ◌%◌, ◌==◌, nat_lt, if◌then◌else◌, true, false, List, [], ◌∷◌, ◌++◌, codes}
+use Rattle.std.specs.Prelude.{ℕ, ◌==◌, nat_lt, if◌then◌else◌, true, false, List, [], ◌∷◌, ◌++◌, codes}
 use Rattle.std.specs.Fmt.{signed_decimal}
 use Rattle.std.specs.Int.{w32, w64, to_be_bytes}
 use Rattle.std.specs.Str.{is_utf8}
+use Rattle.hex.specs.Hex.{encode_lower}
 use Rattle.fwd_value.specs.Val.{Val, nil, truth, whole, text, bin, float32, float64, ext, list, mapping, Vals, no_vals, val, Entries, no_entries, entry}
-
--- 0 to 9, a to f
-abbrev pub hex_digit : ℕ → ℕ
-hex_digit n = if nat_lt n 10 then 48 + n else 87 + n
-
--- two lower-case hex digits for each byte
-abbrev pub hex : List ℕ → List ℕ
-hex [] = []
-hex (c ∷ bytes) = hex_digit (c / 16) ∷ hex_digit (c % 16) ∷ hex bytes
 
 -- a byte within quotes: the quote and the backslash, the five control characters with a letter, and the others by `\u00` and two hex digits
 unfoldable pub escaped : ℕ → List ℕ
@@ -24,7 +16,7 @@ escaped c =
     if c == 10 then 92 ∷ 110 ∷ [] else
     if c == 12 then 92 ∷ 102 ∷ [] else
     if c == 13 then 92 ∷ 114 ∷ [] else
-    if nat_lt c 32 then codes "\\u00" ++ hex (c ∷ []) else
+    if nat_lt c 32 then codes "\\u00" ++ encode_lower (c ∷ []) else
     c ∷ []
 
 abbrev pub escapes : List ℕ → List ℕ
@@ -35,9 +27,9 @@ escapes (c ∷ bytes) = escaped c ++ escapes bytes
 abbrev pub quoted : List ℕ → List ℕ
 quoted bytes = 34 ∷ (escapes bytes ++ 34 ∷ [])
 
--- a tag and hex digits, within quotes
+-- a tag and two lower-case hex digits for each byte, within quotes
 abbrev pub tagged : List ℕ → List ℕ → List ℕ
-tagged tag bytes = 34 ∷ (tag ++ (hex bytes ++ 34 ∷ []))
+tagged tag bytes = 34 ∷ (tag ++ (encode_lower bytes ++ 34 ∷ []))
 
 -- text that isn't UTF-8 is shown as bin
 abbrev pub string : List ℕ → List ℕ

@@ -3,8 +3,6 @@
 #![tactic(auto)]
 
 mod reading;
-#[cfg(test)]
-mod tests;
 mod text;
 
 pub use fwd_base::{Bytes, Memory};

@@ -8,6 +8,7 @@ ghost use Rattle.fwd_value.specs.Val.{vals_of, entries_of};
 ghost use Rattle.fwd_value.specs.View.{val_of};
 ghost use Rattle.fwd_json.specs.Reading.{is_whole, all_whole, items_whole, members_whole, number_value, value_of, values_of, pairs_of, object_pairs as pairs_of_object, pairs_in};
 
+use fwd_base::limits::DEEPEST;
 use fwd_base::{Bytes, Memory};
 use fwd_value::{Below, Pairs, Value, Values};
 use serde_json::{Error as JsonError, Map, Number, Value as Json};
@@ -41,8 +42,8 @@ impl From<Memory> for JsonErr {
     }
 }
 
-/// How deep the members of an object may be nested.
-const MEMBERS_DEPTH: u32 = 62;
+/// How deep the members of an object may be nested, which is the body of an event.
+const MEMBERS_DEPTH: u32 = DEEPEST - 2;
 
 /// The pairs of a line that is a JSON object, in the byte order of their keys; of equal keys the last counts. Where
 /// several refusals hold, the first of `NotJson`, `NotAnObject`, `NotWhole` and `TooDeep` comes. An object nested deeper

@@ -3,32 +3,34 @@
 
 ghost use Rattle.std.specs.Prelude.{◌≡◌, ◌↔◌, ◌<◌, ◌^◌, ℕ, List, [], ◌∷◌, ◌++◌, codes, map, IsTrue, OnOk, OnErr};
 ghost use Rattle.std.specs.Fmt.{decimal, signed_decimal};
-ghost use Rattle.std.specs.Str.{is_utf8};
+ghost use Rattle.hex.specs.Hex.{encode_lower};
 ghost use Rattle.fwd_value.specs.Val.{vals_of, entries_of, text};
 ghost use Rattle.fwd_value.specs.View.{val_of, pair_of};
-ghost use Rattle.fwd_json.specs.Text.{hex_digit, hex, escaped, escapes, quoted, tagged, string, key_text, pair_text, json, values_text, more_values, pairs_text, more_pairs};
+ghost use Rattle.fwd_json.specs.Text.{escaped, escapes, quoted, tagged, string, key_text, pair_text, json, values_text, more_values, pairs_text, more_pairs};
 
-use fwd_base::{Bytes, Memory};
+use fwd_base::{Bytes, Memory, is_utf8};
 use fwd_value::Value;
 use itoa::Buffer;
 use std::alloc::Global;
 
-fn hex_digit(n: u8) -> u8
-    requires { n < 16 }
-    ensures { result ≡ hex_digit n }
+/// Appends two hex digits for each byte.
+fn put_hex(alloc: Global, out: &mut Bytes, bytes: &[u8]) -> Result<(), Memory>
+    ensures { OnOk result (out.new ≡ out.old ++ encode_lower bytes.now) }
 {
-    if n < 10 { b'0' + n } else { b'a' - 10 + n }
+    let digits = hex::encode(alloc, bytes)?;
+    out.extend_from_slice(digits.as_bytes())
 }
 
-/// Appends two hex digits for each byte.
-fn put_hex(out: &mut Bytes, bytes: &[u8]) -> Result<(), Memory>
-    ensures { OnOk result (out.new ≡ out.old ++ hex bytes.now) }
+/// Appends a control character by its two hex digits.
+fn put_control(out: &mut Bytes, byte: u8) -> Result<(), Memory>
+    ensures { OnOk result (out.new ≡ out.old ++ (codes "\\u00" ++ encode_lower (byte ∷ []))) }
 {
-    for byte in bytes {
-        out.push(hex_digit(*byte / 16))?;
-        out.push(hex_digit(*byte % 16))?;
-    }
-    Ok(())
+    let mut digits = [0u8; 2];
+    let Ok(()) = hex::encode_to_slice([byte].as_slice(), digits.as_mut_slice()) else {
+        unreachable!();
+    };
+    out.extend_from_slice(b"\\u00")?;
+    out.extend_from_slice(digits.as_slice())
 }
 
 /// Appends a byte as it stands within quotes.
@@ -44,10 +46,7 @@ fn put_escaped(out: &mut Bytes, byte: u8) -> Result<(), Memory>
         0x0a => out.extend_from_slice(b"\\n"),
         0x0c => out.extend_from_slice(b"\\f"),
         0x0d => out.extend_from_slice(b"\\r"),
-        0x00..=0x1f => {
-            out.extend_from_slice(b"\\u00")?;
-            put_hex(out, [byte].as_slice())
-        }
+        0x00..=0x1f => put_control(out, byte),
         _ => out.push(byte),
     }
 }
@@ -71,32 +70,22 @@ fn put_escapes(out: &mut Bytes, bytes: &[u8]) -> Result<(), Memory>
 }
 
 /// Appends a tag and hex digits within quotes.
-fn put_tagged(out: &mut Bytes, tag: &[u8], bytes: &[u8]) -> Result<(), Memory>
+fn put_tagged(alloc: Global, out: &mut Bytes, tag: &[u8], bytes: &[u8]) -> Result<(), Memory>
     ensures { OnOk result (out.new ≡ out.old ++ tagged tag.now bytes.now) }
 {
     out.push(b'"')?;
     out.extend_from_slice(tag)?;
-    put_hex(out, bytes)?;
+    put_hex(alloc, out, bytes)?;
     out.push(b'"')
 }
 
-#[tactic(auto, using(crate::proofs::Writing::utf8_true, crate::proofs::Writing::utf8_false))]
-fn is_text(bytes: &[u8]) -> bool
-    ensures { result ≡ is_utf8 bytes.now }
-{
-    match str::from_utf8(bytes) {
-        Ok(_) => true,
-        Err(_) => false,
-    }
-}
-
-fn put_string(out: &mut Bytes, bytes: &[u8]) -> Result<(), Memory>
+fn put_string(alloc: Global, out: &mut Bytes, bytes: &[u8]) -> Result<(), Memory>
     ensures { OnOk result (out.new ≡ out.old ++ string bytes.now) }
 {
-    if is_text(bytes) {
+    if is_utf8(bytes) {
         put_quoted(out, bytes)
     } else {
-        put_tagged(out, b"bin:", bytes)
+        put_tagged(alloc, out, b"bin:", bytes)
     }
 }
 
@@ -104,11 +93,11 @@ fn put_string(out: &mut Bytes, bytes: &[u8]) -> Result<(), Memory>
 fn put_key(alloc: Global, out: &mut Bytes, bytes: &[u8]) -> Result<(), Memory>
     ensures { OnOk result (out.new ≡ out.old ++ key_text (text bytes.now) (json (text bytes.now))) }
 {
-    if is_text(bytes) {
+    if is_utf8(bytes) {
         put_quoted(out, bytes)
     } else {
         let mut shown = Bytes::new(alloc);
-        put_tagged(&mut shown, b"bin:", bytes)?;
+        put_tagged(alloc, &mut shown, b"bin:", bytes)?;
         put_quoted(out, shown.as_slice())
     }
 }
@@ -128,13 +117,13 @@ fn put_signed(out: &mut Bytes, n: i64) -> Result<(), Memory>
     out.extend_from_slice(buffer.format(n).as_bytes())
 }
 
-fn put_ext(out: &mut Bytes, kind: i8, bytes: &[u8]) -> Result<(), Memory>
+fn put_ext(alloc: Global, out: &mut Bytes, kind: i8, bytes: &[u8]) -> Result<(), Memory>
     ensures { OnOk result (out.new ≡ out.old ++ tagged (codes "ext:" ++ (signed_decimal kind ++ codes ":")) bytes.now) }
 {
     out.extend_from_slice(b"\"ext:")?;
     put_signed(out, kind as i64)?;
     out.push(b':')?;
-    put_hex(out, bytes)?;
+    put_hex(alloc, out, bytes)?;
     out.push(b'"')
 }
 
@@ -148,11 +137,11 @@ fn write_value(alloc: Global, value: &Value, out: &mut Bytes) -> Result<(), Memo
         Value::Truth(false) => out.extend_from_slice(b"false"),
         Value::Uint(n) => put_number(out, *n),
         Value::Neg(n) => put_signed(out, n.get()),
-        Value::Text(bytes) => put_string(out, bytes.as_slice()),
-        Value::Bin(bytes) => put_tagged(out, b"bin:", bytes.as_slice()),
-        Value::Float32(bits) => put_tagged(out, b"f32:", bits.to_be_bytes().as_slice()),
-        Value::Float64(bits) => put_tagged(out, b"f64:", bits.to_be_bytes().as_slice()),
-        Value::Ext(kind, bytes) => put_ext(out, *kind, bytes.as_slice()),
+        Value::Text(bytes) => put_string(alloc, out, bytes.as_slice()),
+        Value::Bin(bytes) => put_tagged(alloc, out, b"bin:", bytes.as_slice()),
+        Value::Float32(bits) => put_tagged(alloc, out, b"f32:", bits.to_be_bytes().as_slice()),
+        Value::Float64(bits) => put_tagged(alloc, out, b"f64:", bits.to_be_bytes().as_slice()),
+        Value::Ext(kind, bytes) => put_ext(alloc, out, *kind, bytes.as_slice()),
         Value::List(values) => {
             out.push(b'[')?;
             write_values(alloc, values.as_slice(), out)?;

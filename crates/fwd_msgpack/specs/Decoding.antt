@@ -1,5 +1,6 @@
--- What `decode` answers. Values are nested at most 64.
+-- What `decode` answers. Values are nested at most so deep as the limit says.
 use Rattle.std.specs.Prelude.{◌≡◌, ℕ, ◌+◌, ◌≤◌, ◌<◌, List, ◌∷◌, ◌++◌, length, take, slice_index_or, Result, Ok, Err}
+use Rattle.fwd_base.specs.Limits.{deepest}
 use Rattle.fwd_value.specs.Val.{Val}
 use Rattle.fwd_value.specs.View.{val_of}
 use Rattle.fwd_value.specs.declared.Value.{Value}
@@ -18,15 +19,15 @@ Decoded = Result (Value × ℕ) DecodeErr
 
 -- the first n bytes spell v
 abbrev pub SpellsFront : Val → ℕ → List ℕ → Type 0
-SpellsFront v n b = (n ≤ length b) × Spells v (take n b) × (nesting v ≤ 64)
+SpellsFront v n b = (n ≤ length b) × Spells v (take n b) × (nesting v ≤ deepest)
 
 -- the bytes are a prefix of a spelling
 abbrev pub IsPrefix : List ℕ → Type 0
-IsPrefix b = (v : Val) × (more : List ℕ) × AllBytes more × Spells v (b ++ more) × (nesting v ≤ 64)
+IsPrefix b = (v : Val) × (more : List ℕ) × AllBytes more × Spells v (b ++ more) × (nesting v ≤ deepest)
 
 -- the bytes are a proper prefix of a spelling
 abbrev pub IsProperPrefix : List ℕ → Type 0
-IsProperPrefix b = (v : Val) × (c : ℕ) × (more : List ℕ) × AllBytes (c ∷ more) × Spells v (b ++ c ∷ more) × (nesting v ≤ 64)
+IsProperPrefix b = (v : Val) × (c : ℕ) × (more : List ℕ) × AllBytes (c ∷ more) × Spells v (b ++ c ∷ more) × (nesting v ≤ deepest)
 
 -- no prefix of the bytes is a spelling
 abbrev pub BeginsNoValue : List ℕ → Type 0
@@ -80,8 +81,8 @@ IsTooDeepAt (Err _) n = ⊥
 
 -- the answer is what reading from left to right gives
 abbrev pub Decodes : List ℕ → Decoded → Type 0
-Decodes b (Ok x) = (rest : List ℕ) × (value_at 64 b ≡ Ok (val_of x.0, rest)) × (x.1 + length rest ≡ length b)
-Decodes b (Err Short) = value_at 64 b ≡ Err fault.Short
-Decodes b (Err (Unused at)) = (left : ℕ) × (value_at 64 b ≡ Err (fault.Unused left)) × (at + left ≡ length b)
-Decodes b (Err (TooDeep at)) = (left : ℕ) × (value_at 64 b ≡ Err (fault.TooDeep left)) × (at + left ≡ length b)
+Decodes b (Ok x) = (rest : List ℕ) × (value_at deepest b ≡ Ok (val_of x.0, rest)) × (x.1 + length rest ≡ length b)
+Decodes b (Err Short) = value_at deepest b ≡ Err fault.Short
+Decodes b (Err (Unused at)) = (left : ℕ) × (value_at deepest b ≡ Err (fault.Unused left)) × (at + left ≡ length b)
+Decodes b (Err (TooDeep at)) = (left : ℕ) × (value_at deepest b ≡ Err (fault.TooDeep left)) × (at + left ≡ length b)
 Decodes b (Err Memory) = Unit {0}

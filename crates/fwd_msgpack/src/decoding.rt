@@ -7,11 +7,9 @@ ghost use Rattle.fwd_msgpack.specs.Decoding.{Decodes, SpellsFront, IsProperPrefi
 use crate::DecodeErr;
 use crate::fault::{Fault, ReadError};
 use crate::reading::value_of;
+use fwd_base::limits::DEEPEST;
 use fwd_value::Value;
 use std::alloc::Global;
-
-/// How deep lists and maps may be nested.
-const DEEPEST: u32 = 64;
 
 fn decoded(alloc: Global, bytes: &[u8]) -> Result<(Value, u64), DecodeErr>
     ensures { Decodes bytes.now result }

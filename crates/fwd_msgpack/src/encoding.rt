@@ -1,4 +1,5 @@
 ghost use Rattle.std.specs.Prelude.{◌≡◌, ◌↔◌, ◌<◌, ◌≤◌, ◌-◌, ◌^◌, ℕ, ℤ, List, [], ◌∷◌, ◌++◌, length, map, IsTrue, OnOk, OnErr};
+ghost use Rattle.fwd_base.specs.Limits.{deepest};
 ghost use Rattle.fwd_value.specs.Val.{vals_of, entries_of, text, bin, ext, whole, mapping};
 ghost use Rattle.fwd_value.specs.View.{val_of, pair_of};
 ghost use Rattle.fwd_value.specs.Limits.{nesting, LengthsFit, AllLengthsFit, EntryLengthsFit, IsInRange, AreInRange, EntriesAreInRange};
@@ -266,7 +267,7 @@ fn write_pairs(pairs: &[(Value, Value)], out: &mut Bytes) -> Result<(), Memory>
 /// Appends the one canonical spelling: the shortest, a number of 0 or more in an unsigned form. After `Err` the bytes
 /// are as before.
 pub fn encode(value: &Value, out: &mut Bytes) -> Result<(), Memory>
-    requires nested { nesting (val_of value.now) ≤ 64 }
+    requires nested { nesting (val_of value.now) ≤ deepest }
     requires lengths { LengthsFit (val_of value.now) }
     ensures ok { OnOk result (out.new ≡ out.old ++ canonical (val_of value.now)) }
     ensures in_range { OnOk result (IsInRange (val_of value.now)) }
@@ -293,7 +294,7 @@ fn write_map(pairs: &Pairs, out: &mut Bytes) -> Result<(), Memory>
 
 /// Appends the canonical spelling of a map, given by its pairs. After `Err` the bytes are as before.
 pub fn encode_map(pairs: &Pairs, out: &mut Bytes) -> Result<(), Memory>
-    requires nested { nesting (mapping (entries_of pairs.now)) ≤ 64 }
+    requires nested { nesting (mapping (entries_of pairs.now)) ≤ deepest }
     requires lengths { LengthsFit (mapping (entries_of pairs.now)) }
     ensures ok { OnOk result (out.new ≡ out.old ++ canonical (mapping (entries_of pairs.now))) }
     ensures in_range { OnOk result (IsInRange (mapping (entries_of pairs.now))) }

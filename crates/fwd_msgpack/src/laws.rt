@@ -1,6 +1,7 @@
 //! Laws of spellings. Each is the contract of a function that does nothing.
 
 ghost use Rattle.std.specs.Prelude.{◌≡◌, ℕ, List, [], ◌++◌, ◌≤◌, length};
+ghost use Rattle.fwd_base.specs.Limits.{deepest};
 ghost use Rattle.fwd_value.specs.Val.{Val};
 ghost use Rattle.fwd_value.specs.Limits.{nesting, IsInRange, LengthsFit};
 ghost use Rattle.fwd_msgpack.specs.Spelling.{Spells, AllBytes};
@@ -19,7 +20,7 @@ pub fn canonical_is_a_spelling()
 
 /// Behind the canonical spelling anything may follow: the value is read back, and its length.
 pub fn canonical_is_read_back()
-    ensures { (v : Val) (rest : List ℕ) → IsInRange v → LengthsFit v → nesting v ≤ 64 → SpellsFront v (length (canonical v)) (canonical v ++ rest) }
+    ensures { (v : Val) (rest : List ℕ) → IsInRange v → LengthsFit v → nesting v ≤ deepest → SpellsFront v (length (canonical v)) (canonical v ++ rest) }
 {}
 
 /// No spelling of a value is shorter than the canonical one.

@@ -1,17 +1,19 @@
 //! Which values can be written.
 
 ghost use Rattle.std.specs.Prelude.{◌≡◌, ◌↔◌, ◌≤◌, ◌<◌, ◌^◌, map, IsTrue};
+ghost use Rattle.fwd_base.specs.Limits.{deepest};
 ghost use Rattle.fwd_value.specs.Val.{vals_of, entries_of, mapping};
 ghost use Rattle.fwd_value.specs.View.{val_of, pair_of};
 ghost use Rattle.fwd_value.specs.Limits.{nesting, entry_nestings, LengthsFit, AllLengthsFit, EntryLengthsFit};
 
+use fwd_base::limits::DEEPEST;
 use fwd_value::{Pairs, Value};
 
 /// Whether a value can be written: it is nested at most 64, and each length in it is below 2^32.
 pub fn can_encode(value: &Value) -> bool
-    ensures { IsTrue result ↔ (nesting (val_of value.now) ≤ 64) × LengthsFit (val_of value.now) }
+    ensures { IsTrue result ↔ (nesting (val_of value.now) ≤ deepest) × LengthsFit (val_of value.now) }
 {
-    value.nests_within(64) && lengths_fit(value)
+    value.nests_within(u64::from(DEEPEST)) && lengths_fit(value)
 }
 
 /// Whether a map of these pairs can be written, given as deep as lists and maps may be nested in it.

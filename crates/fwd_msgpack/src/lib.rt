@@ -20,6 +20,3 @@ pub use laws::{
     canonical_is_a_spelling, canonical_is_read_back, canonical_is_shortest, one_reading,
 };
 pub use lengths::{can_encode, can_encode_map};
-
-#[cfg(test)]
-mod tests;

@@ -1,6 +1,6 @@
 //! Reading from left to right. What is read is given with the bytes behind it.
 
-ghost use Rattle.std.specs.Prelude.{◌≡◌, ℕ, List, length, map, pos, Ok, IfOk};
+ghost use Rattle.std.specs.Prelude.{◌≡◌, ◌≤◌, ℕ, List, [], length, map, pos, vec_capacity, Ok, IfOk};
 ghost use Rattle.fwd_value.specs.View.{val_of, pair_of};
 ghost use Rattle.std.specs.Int.{cast_signed};
 ghost use Rattle.fwd_msgpack.specs.Spelling.{width, IsWithin};
@@ -12,7 +12,7 @@ use crate::fault::{Fault, ReadError};
 use crate::form::{Count, Form, Wide, form_of};
 use fwd_base::Bytes;
 use fwd_value::{Below, Pairs, Value, Values};
-use std::alloc::Global;
+use std::alloc::{AllocError, Global};
 
 #[tactic(auto, unfolding(crate::specs::Reading::number_at, crate::specs::Spelling::number, crate::specs::Spelling::size))]
 fn number_of(bytes: &[u8], w: Wide) -> Result<(u64, &[u8]), ReadError>
@@ -198,7 +198,7 @@ fn map_of(alloc: Global, bytes: &[u8], k: Count, depth: u32) -> Result<(Value, &
 fn values_of(alloc: Global, bytes: &[u8], n: u64, depth: u32) -> Result<(Values, &[u8]), ReadError>
     ensures { Gives (λ x. (x.0, x.1.now)) result (many_at (value_at depth) n bytes.now) }
 {
-    let mut values = Vec::with_capacity(alloc, room(n))?;
+    let mut values = with_room(alloc, n, bytes)?;
     let mut rest = bytes;
     for _ in 0..n {
         let (v, after) = value_of(alloc, rest, depth)?;
@@ -212,7 +212,7 @@ fn values_of(alloc: Global, bytes: &[u8], n: u64, depth: u32) -> Result<(Values,
 fn pairs_of(alloc: Global, bytes: &[u8], n: u64, depth: u32) -> Result<(Pairs, &[u8]), ReadError>
     ensures { Gives (λ x. (x.0, x.1.now)) result (entries_at (value_at depth) n bytes.now) }
 {
-    let mut pairs = Vec::with_capacity(alloc, room(n))?;
+    let mut pairs = with_room(alloc, n, bytes)?;
     let mut rest = bytes;
     for _ in 0..n {
         let (k, after) = value_of(alloc, rest, depth)?;
@@ -223,7 +223,15 @@ fn pairs_of(alloc: Global, bytes: &[u8], n: u64, depth: u32) -> Result<(Pairs, &
     Ok((Pairs::from_vec(pairs), rest))
 }
 
-// What is set aside before anything is read: little, since the bytes may lie about their number.
-fn room(n: u64) -> usize {
-    if n < 16 { n as usize } else { 16 }
+/// How much room is set aside at most before anything is read.
+const MOST_ROOM: usize = 16;
+
+/// A list with room for as many values as are said to come, as far as the bytes that are left can have so many.
+fn with_room<T>(alloc: Global, n: u64, bytes: &[u8]) -> Result<Vec<T>, AllocError>
+    ensures empty { IfOk result (λ items. items.items ≡ []) }
+    ensures filled { IfOk result (λ items. vec_capacity items ≤ length bytes.now) }
+    ensures little { IfOk result (λ items. vec_capacity items ≤ MOST_ROOM) }
+{
+    let said = n.min(MOST_ROOM as u64) as usize;
+    Vec::with_capacity(alloc, said.min(bytes.len()))
 }

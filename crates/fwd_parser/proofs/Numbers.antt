@@ -7,7 +7,6 @@ use Rattle.std.proofs.lemmas.Nat.{pow-add}
 use Rattle.std.proofs.lemmas.List.{at_drop_more, length-take, length-drop, take_all}
 use Rattle.std.proofs.lemmas.List.Sums.{prefix_len-le-length}
 use Rattle.std.proofs.Math.Nat.{pow-suc, pow-succ', pow-le-pow_right, mul-le-mul_left, mul-le-mul_right, mul_assoc}
-use Rattle.fwd_parser.specs.Time.{is_blank}
 use Rattle.fwd_parser.specs.Number.{number_in, number_of, value_in, digits_at}
 
 -- a number and further digits
@@ -170,10 +169,6 @@ digits_number most text h some =
     let power = power_most (digits_at most text) 18 (let m = digits_most most text in omega arith) in
     let fits : ltb (value_in 10 ds) (2 ^ 64) ≡ true = grind (arith, nat_tests) in
     number_in-is 10 ds there ∙ rw (digits_are most text, fits) refl
-
--- no more blanks are passed over than there are
-pub blanks_within : (text : List ℕ) → prefix_len is_blank text ≤ length text
-blanks_within text = prefix_len-le-length is_blank text
 
 found_value : (least most : ℕ) (text ds : List ℕ) (count found : ℕ) → count ≡ digits_at most text → least ≤ count → 1 ≤ least → most ≤ 18 → number_in 10 ds ≡ Some found → ds ≡ take count text → found ≡ value_in 10 (take (digits_at most text) text)
 found_value least most text ds count found e enough one fits is same =

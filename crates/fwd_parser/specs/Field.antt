@@ -1,7 +1,7 @@
 -- The typed fields that a pattern's named groups become.
 use Rattle.std.specs.Prelude.{ℕ, ℤ, pos, neg_ℤ, ◌+◌, ◌^◌, ◌==◌, ◌&&◌, not, nat_le, Bool, true, false, List, [], ◌∷◌, length, map, filter, fold, Option, Some, None, option_map, option_and_then, unwrap_or, codes, if◌then◌else◌}
 use Rattle.std.specs.Str.{byte, bytes_eq}
-use Rattle.fwd_base.specs.declared.pattern.Group.{Group}
+use Rattle.fwd_base.specs.Pattern.{Captured}
 use Rattle.fwd_value.specs.Val.{Val, truth, whole, text}
 use Rattle.fwd_body.specs.Keys.{Body}
 use Rattle.fwd_parser.specs.Number.{number_in}
@@ -47,13 +47,13 @@ unfoldable pub kind_of : List FieldType → List ℕ → TypeKind
 kind_of types key = fold (λ former t. if bytes_eq t.key key then t.kind else former) kind.Text types
 
 -- the field of a named group
-abbrev pub field_of : List FieldType → Group → Val × Val
+abbrev pub field_of : List FieldType → Captured → Val × Val
 field_of types g = (text g.name, typed (kind_of types g.name) g.bytes)
 
 -- whether a group becomes a field: not where it is empty and empty ones are skipped
-abbrev pub is_given : Bool → Group → Bool
+abbrev pub is_given : Bool → Captured → Bool
 is_given skip_empty g = not (skip_empty && length g.bytes == 0)
 
 -- the fields of the groups that took part, in their order
-abbrev pub fields_of : List FieldType → Bool → List Group → Body
+abbrev pub fields_of : List FieldType → Bool → List Captured → Body
 fields_of types skip_empty groups = map (field_of types) (filter (is_given skip_empty) groups)

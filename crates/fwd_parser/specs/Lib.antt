@@ -2,3 +2,4 @@ pub mod Number
 pub mod Time
 pub mod Field
 pub mod Parsed
+pub mod Ready

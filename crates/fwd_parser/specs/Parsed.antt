@@ -3,7 +3,8 @@ use Rattle.std.specs.Prelude.{ℕ, ℤ, pos, negsuc, ◌*◌, ◌/◌, ◌%◌, 
 use Rattle.std.specs.Option.{option_map_or}
 use Rattle.std.specs.Result.{result_ok}
 use Rattle.regex.specs.Patterns.{find}
-use Rattle.fwd_base.specs.Pattern.{expression_of, group_names, groups_of}
+use Rattle.fwd_base.specs.Limits.{last_reading}
+use Rattle.fwd_base.specs.Pattern.{expression_of, group_names, captures_of}
 use Rattle.fwd_value.specs.Val.{Val, text}
 use Rattle.fwd_body.specs.Keys.{Body, key, has_key}
 use Rattle.fwd_event.specs.declared.event.Event.{Event}
@@ -24,7 +25,7 @@ unfoldable pub body_of : Shape → List ℕ → Body
 body_of Plain line = plain line
 body_of Json line = unwrap_or (result_ok (pairs_in line)) (plain line)
 body_of (Groups pattern types skip_empty) line =
-    option_map_or (λ m. fields_of types skip_empty (groups_of (group_names pattern) line m))
+    option_map_or (λ m. fields_of types skip_empty (captures_of (group_names pattern) line m))
     (find (expression_of pattern) line 0) (plain line)
 
 -- seconds since 1970 in UTC, and nanoseconds
@@ -34,7 +35,7 @@ Moment = ℕ × ℕ
 -- the moment of a clock that shows milliseconds, the last of which is in the second 4294967295
 unfoldable pub clock_moment : ℕ → Moment
 clock_moment clock =
-    let ms = min clock 4_294_967_295_999 in
+    let ms = min clock last_reading in
     (ms / 1000, ms % 1000 * 1_000_000)
 
 -- a time from 1970 up to the second 4294967295 is a moment

@@ -1,24 +1,16 @@
 -- The moment that a text gives under a format of directives, which are those of strptime (POSIX) and `%L`, a fraction.
-use Rattle.std.specs.Prelude.{ℕ, suc, ℤ, pos, neg_ℤ, ◌+◌, ◌-◌, ◌*◌, ◌^◌, ◌+ℤ◌, ◌-ℤ◌, ◌*ℤ◌, ◌==◌, ◌&&◌, ◌||◌, nat_lt, nat_le, Bool, List, [], ◌∷◌, length, take, drop, map, position, Option, Some, None, option_map, option_and_then, unwrap_or, codes, if◌then◌else◌}
-use Rattle.std.specs.List.{prefix_len}
+use Rattle.std.specs.Prelude.{ℕ, suc, ℤ, pos, neg_ℤ, ◌+◌, ◌-◌, ◌*◌, ◌^◌, ◌+ℤ◌, ◌-ℤ◌, ◌*ℤ◌, ◌==◌, ◌&&◌, nat_lt, nat_le, Bool, List, [], ◌∷◌, length, take, drop, map, position, Option, Some, None, option_map, option_and_then, unwrap_or, codes, if◌then◌else◌}
 use Rattle.std.specs.Option.{option_or}
 use Rattle.std.specs.Char.{to_ascii_lowercase}
 use Rattle.std.specs.Str.{byte, bytes_eq}
 use Rattle.jiff_core.specs.Calendar.{days_from_civil, days_in_month}
+use Rattle.fwd_base.specs.Blanks.{is_blank, skip_blanks}
 use Rattle.fwd_parser.specs.Number.{number_of, digits_at}
 use Rattle.fwd_parser.specs.declared.directives.Fields.{Fields}
 
 -- the fields that were read, and the text that is left
 abbrev pub Read : Type 0
 Read = Option (Fields × List ℕ)
-
--- blanks are spaces and tabs
-abbrev pub is_blank : ℕ → Bool
-is_blank b = b == byte " " || b == 9
-
--- what is left of a text behind the blanks that stand first
-unfoldable pub behind_blanks : List ℕ → List ℕ
-behind_blanks text = drop (prefix_len is_blank text) text
 
 -- what is left behind this byte, where it stands first
 abbrev pub behind_same : ℕ → List ℕ → Option (List ℕ)
@@ -29,7 +21,7 @@ behind_same b (c ∷ text) = if c == b then Some text else None
 unfoldable pub behind_byte : ℕ → List ℕ → Option (List ℕ)
 behind_byte b text =
     if b == byte "%" then None
-    else (if is_blank b then Some (behind_blanks text) else behind_same b text)
+    else (if is_blank b then Some (skip_blanks text) else behind_same b text)
 
 -- the first three letters of the English names of the months
 abbrev pub month_names : List (List ℕ)
@@ -99,7 +91,7 @@ single letter text f =
     else (if letter == byte "m" then put (λ n. record f { month = Some n }) (number_of 1 2 text)
     else (if letter == byte "b" then put (λ n. record f { month = Some n }) (month_of text)
     else (if letter == byte "d" then put (λ n. record f { day = Some n }) (number_of 1 2 text)
-    else (if letter == byte "e" then put (λ n. record f { day = Some n }) (number_of 1 2 (behind_blanks text))
+    else (if letter == byte "e" then put (λ n. record f { day = Some n }) (number_of 1 2 (skip_blanks text))
     else of_clock letter text f))))
 
 -- walks a format and a text from left to right: % and a letter are a directive, each other byte stands for itself

@@ -2,12 +2,12 @@
 
 ghost use Rattle.std.specs.Prelude.{◌≡◌, ◌+◌, ◌*◌, ◌-◌, ◌<◌, ◌≤◌, ◌^◌, codes, length, map, option_map, IfSome};
 ghost use Rattle.std.specs.Char.{to_ascii_lowercase};
-ghost use Rattle.std.specs.List.{prefix_len};
 ghost use Rattle.std.specs.Str.{bytes_eq};
 ghost use Rattle.fwd_parser.specs.Number.{number_of, digits_at};
-ghost use Rattle.fwd_parser.specs.Time.{is_blank as blank, behind_blanks as left_behind_blanks, behind_same as left_behind_same, behind_byte as left_behind_byte, behind_colon as left_behind_colon, month_named, month_of, fraction_of, two_digits_of, distance_of, offset_of, of_clock, single as single_of, walk, directive as directive_of};
+ghost use Rattle.fwd_parser.specs.Time.{behind_same as left_behind_same, behind_byte as left_behind_byte, behind_colon as left_behind_colon, month_named, month_of, fraction_of, two_digits_of, distance_of, offset_of, of_clock, single as single_of, walk, directive as directive_of};
 
 use crate::digits::{digits, digits_at};
+use fwd_base::{is_blank, skip_blanks};
 
 /// What a format read from a text. Of a field that was read twice the last counts.
 #[derive(Clone, Copy, Debug, PartialEq, Eq)]
@@ -35,30 +35,6 @@ const MONTHS: [[u8; 3]; 12] = [
     *b"nov", *b"dec",
 ];
 
-fn is_blank(byte: u8) -> bool
-    ensures { result ≡ blank byte }
-{
-    byte == b' ' || byte == b'\t'
-}
-
-/// How many blanks stand first.
-#[tactic(auto, using(crate::proofs::Numbers::blanks_within))]
-fn blanks_at(text: &[u8]) -> usize
-    ensures value { result ≡ prefix_len blank text.now }
-    ensures within { result ≤ length text.now }
-{
-    text.iter().take_while(|byte| is_blank(**byte)).count()
-}
-
-/// What is left behind the blanks that stand first.
-#[tactic(auto, unfolding(crate::specs::Time::behind_blanks))]
-fn behind_blanks(text: &[u8]) -> &[u8]
-    ensures { result.now ≡ left_behind_blanks text.now }
-{
-    let blanks = blanks_at(text);
-    &text[blanks..]
-}
-
 /// What is left behind this byte, where it stands first.
 fn behind_same(byte: u8, text: &[u8]) -> Option<&[u8]>
     ensures { option_map (λ t. t.now) result ≡ left_behind_same byte text.now }
@@ -78,7 +54,7 @@ pub fn behind_byte(byte: u8, text: &[u8]) -> Option<&[u8]>
         return None;
     }
     if is_blank(byte) {
-        return Some(behind_blanks(text));
+        return Some(skip_blanks(text));
     }
     behind_same(byte, text)
 }
@@ -261,7 +237,7 @@ fn single<'t>(letter: u8, text: &'t [u8], fields: Fields) -> Option<(Fields, &'t
             Some((read, left))
         }
         b'e' => {
-            let (day, left) = few_digits(1, 2, behind_blanks(text))?;
+            let (day, left) = few_digits(1, 2, skip_blanks(text))?;
             read.day = Some(day);
             Some((read, left))
         }

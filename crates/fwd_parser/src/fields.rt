@@ -1,14 +1,15 @@
 //! Typed fields of a body.
 
-ghost use Rattle.std.specs.Prelude.{◌≡◌, ◌++◌, [], ◌∷◌, option_map, if◌then◌else◌, IfOk, OnOk};
+ghost use Rattle.std.specs.Prelude.{◌≡◌, ◌++◌, [], ◌∷◌, map, option_map, if◌then◌else◌, IfOk, OnOk};
 ghost use Rattle.std.specs.Str.{bytes_eq};
+ghost use Rattle.fwd_base.specs.Pattern.{captured};
 ghost use Rattle.fwd_value.specs.Val.{whole};
 ghost use Rattle.fwd_value.specs.View.{val_of};
 ghost use Rattle.fwd_parser.specs.Field.{below_zero, integer_of, hex_of, truth_of, read_as, typed, kind_of, fields_of};
 
 use crate::digits::number;
 use crate::parser::{FieldType, FieldTypes, TypeKind};
-use fwd_base::{Bytes, Group, Groups, Memory};
+use fwd_base::{Bytes, Capture, Memory};
 use fwd_event::{Below, Pairs, Value};
 use std::alloc::Global;
 
@@ -75,18 +76,18 @@ fn read_as(kind: TypeKind, text: &[u8]) -> Option<Value>
 
 /// The value of a field; bytes that don't have the form of the type are text.
 #[tactic(auto, unfolding(crate::specs::Field::typed))]
-fn typed(kind: TypeKind, bytes: Bytes) -> Value
-    ensures { val_of result ≡ typed kind bytes }
+fn typed(alloc: Global, kind: TypeKind, bytes: &[u8]) -> Result<Value, Memory>
+    ensures { IfOk result (λ value. val_of value ≡ typed kind bytes.now) }
 {
-    match read_as(kind, bytes.as_slice()) {
-        Some(value) => value,
-        None => Value::Text(bytes),
+    match read_as(kind, bytes) {
+        Some(value) => Ok(value),
+        None => Ok(Value::Text(Bytes::from_slice(alloc, bytes)?)),
     }
 }
 
 /// The type of a key. Of a key that is given twice the last counts; a key that isn't given has text.
 #[tactic(auto, unfolding(crate::specs::Field::kind_of))]
-fn kind_of(types: &FieldTypes, key: &Bytes) -> TypeKind
+fn kind_of(types: &FieldTypes, key: &[u8]) -> TypeKind
     ensures { result ≡ kind_of types.now key.now }
 {
     let mut kind = TypeKind::Text;
@@ -97,10 +98,10 @@ fn kind_of(types: &FieldTypes, key: &Bytes) -> TypeKind
 }
 
 /// The type of a key behind a further type.
-fn kind_after(given: &FieldType, key: &Bytes, former: TypeKind) -> TypeKind
+fn kind_after(given: &FieldType, key: &[u8], former: TypeKind) -> TypeKind
     ensures { result ≡ (if bytes_eq given.now.key key.now then given.now.kind else former) }
 {
-    if given.key == *key {
+    if given.key.as_slice() == key {
         given.kind
     } else {
         former
@@ -113,30 +114,31 @@ pub fn fields_of(
     alloc: Global,
     types: &FieldTypes,
     skip_empty: bool,
-    groups: Groups,
+    groups: &[Capture<'_, '_>],
 ) -> Result<Pairs, Memory>
-    ensures { IfOk result (λ body. body ≡ fields_of types.now skip_empty groups) }
+    ensures { IfOk result (λ body. body ≡ fields_of types.now skip_empty (map captured groups.now)) }
 {
     let mut body = Pairs::new(alloc);
-    for group in groups.into_vec() {
-        push_field(&mut body, types, skip_empty, group)?;
+    for group in groups {
+        push_field(alloc, &mut body, types, skip_empty, group)?;
     }
     Ok(body)
 }
 
 /// Puts the field of a group at the end, unless the group is empty and empty ones are skipped.
 fn push_field(
+    alloc: Global,
     body: &mut Pairs,
     types: &FieldTypes,
     skip_empty: bool,
-    group: Group,
+    group: &Capture<'_, '_>,
 ) -> Result<(), Memory>
-    ensures { OnOk result (body.new ≡ body.old ++ fields_of types.now skip_empty (group ∷ [])) }
+    ensures { OnOk result (body.new ≡ body.old ++ fields_of types.now skip_empty (captured group.now ∷ [])) }
 {
     if skip_empty && group.bytes.is_empty() {
         return Ok(());
     }
-    let Group { name, bytes } = group;
-    let value = typed(kind_of(types, &name), bytes);
-    body.push((Value::Text(name), value))
+    let value = typed(alloc, kind_of(types, group.name), group.bytes)?;
+    let key = Value::Text(Bytes::from_slice(alloc, group.name)?);
+    body.push((key, value))
 }

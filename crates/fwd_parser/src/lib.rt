@@ -8,12 +8,12 @@ mod directives;
 mod fields;
 mod moments;
 mod parser;
+mod reader;
 mod shapes;
-#[cfg(test)]
-mod tests;
 mod time;
 
 pub use fwd_base::{Bytes, Memory, Pattern};
 pub use fwd_event::{Event, Pairs, Value};
 pub use parser::{FieldType, FieldTypes, Parser, Shape, TimeRule, TypeKind};
+pub use reader::LineReader;
 pub use time::time_of;

@@ -7,12 +7,10 @@ ghost use Rattle.fwd_parser.specs.Parsed.{clock_moment, moment_in, moment_of_val
 use crate::parser::TimeRule;
 use crate::time::time_of;
 use fwd_base::Bytes;
+use fwd_base::limits::LAST_READING;
 use fwd_body::{place_of, value_of};
 use fwd_event::{Event, Pairs, Value};
 use std::alloc::Global;
-
-/// The last millisecond of a clock that is told apart, in the second 4294967295.
-const LAST_READING: u64 = 4_294_967_295_999;
 
 /// The moment of a clock that shows milliseconds.
 #[tactic(auto, unfolding(crate::specs::Parsed::clock_moment))]

@@ -1,7 +1,6 @@
 //! The parsers of a configuration.
 
-use crate::moments::timed;
-use crate::shapes::body_of;
+use crate::LineReader;
 use fwd_base::{Bytes, Items, Memory, Pattern};
 use fwd_event::Event;
 use std::alloc::Global;
@@ -67,13 +66,19 @@ impl Parser {
     ghost use Rattle.std.specs.Prelude.{◌≡◌, IfOk};
     ghost use Rattle.fwd_parser.specs.Parsed.{parsed};
 
-    /// The event of a line. `now` is the greatest reading of the clock so far, in milliseconds since 1970 in UTC; above
+    /// Makes ready to read lines, one after another.
+    pub fn reader(&self, alloc: Global) -> Result<LineReader<'_>, Memory>
+        ensures { IfOk result (λ reader. reader ≡ self.now) }
+    {
+        LineReader::new(alloc, self)
+    }
+
+    /// The event of one line. `now` is the greatest reading of the clock so far, in milliseconds since 1970 in UTC; above
     /// 4,294,967,295,999 it counts as this. A line that isn't of the parser's shape stays whole under `log`.
-    #[tactic(auto, unfolding(crate::specs::Parsed::parsed))]
     pub fn parse(&self, alloc: Global, line: &[u8], now: u64) -> Result<Event, Memory>
         ensures { IfOk result (λ event. event ≡ parsed self.now line.now now) }
     {
-        let body = body_of(alloc, &self.shape, line)?;
-        Ok(timed(alloc, &self.time, now, body))
+        let mut reader = self.reader(alloc)?;
+        reader.read(alloc, line, now)
     }
 }

@@ -1,12 +1,15 @@
 //! The body of a line.
 
 ghost use Rattle.std.specs.Prelude.{◌≡◌, IfOk};
+ghost use Rattle.fwd_base.specs.Pattern.{SearchesFor, SearchesAs};
+ghost use Rattle.fwd_base.specs.declared.pattern.Pattern.{Pattern};
 ghost use Rattle.fwd_parser.specs.Parsed.{plain, body_of};
+ghost use Rattle.fwd_parser.specs.Ready.{IsReady};
 ghost use Rattle.fwd_parser.specs.declared.parser.Shape.TheVariants as shape;
 
 use crate::fields::fields_of;
 use crate::parser::{FieldTypes, Shape};
-use fwd_base::{Bytes, Memory, Pattern};
+use fwd_base::{Bytes, Memory, Search};
 use fwd_event::{Pairs, Value};
 use fwd_json::{JsonErr, pairs_of_json};
 use std::alloc::Global;
@@ -33,35 +36,58 @@ fn json(alloc: Global, line: &[u8]) -> Result<Pairs, Memory>
     }
 }
 
+/// The body of a line that a search is made for.
 #[tactic(auto, unfolding(crate::specs::Parsed::body_of))]
 fn groups(
     alloc: Global,
-    pattern: &Pattern,
+    search: &mut Search<'_>,
     types: &FieldTypes,
     skip_empty: bool,
     line: &[u8],
 ) -> Result<Pairs, Memory>
-    ensures { IfOk result (λ body. body ≡ body_of (shape.Groups pattern.now types.now skip_empty) line.now) }
+    ensures body { (pattern : Pattern) → SearchesFor pattern search.old →
+        IfOk result (λ body. body ≡ body_of (shape.Groups pattern types.now skip_empty) line.now) }
+    ensures same { SearchesAs search.old search.new }
 {
-    match pattern.groups(alloc, line)? {
-        Some(groups) => fields_of(alloc, types, skip_empty, groups),
+    match search.captures(alloc, line)? {
+        Some(groups) => fields_of(alloc, types, skip_empty, groups.as_slice()),
         None => plain(alloc, line),
+    }
+}
+
+/// The search for the pattern of a shape that has one.
+pub fn search_of(alloc: Global, shape: &Shape) -> Result<Option<Search<'_>>, Memory>
+    ensures { IfOk result (IsReady shape.now) }
+{
+    match shape {
+        Shape::Plain | Shape::Json => Ok(None),
+        Shape::Groups { pattern, .. } => Ok(Some(pattern.search(alloc)?)),
     }
 }
 
 /// The body of a line. One that isn't an object of JSON within the limits, or that the pattern doesn't match, stays under
 /// `log`.
 #[tactic(auto, unfolding(crate::specs::Parsed::body_of))]
-pub fn body_of(alloc: Global, shape: &Shape, line: &[u8]) -> Result<Pairs, Memory>
-    ensures { IfOk result (λ body. body ≡ body_of shape.now line.now) }
+pub fn body_of(
+    alloc: Global,
+    shape: &Shape,
+    search: &mut Option<Search<'_>>,
+    line: &[u8],
+) -> Result<Pairs, Memory>
+    requires { IsReady shape.now search.old }
+    ensures body { IfOk result (λ body. body ≡ body_of shape.now line.now) }
+    ensures ready { IsReady shape.now search.new }
 {
     match shape {
         Shape::Plain => plain(alloc, line),
         Shape::Json => json(alloc, line),
         Shape::Groups {
-            pattern,
             types,
             skip_empty,
-        } => groups(alloc, pattern, types, *skip_empty, line),
+            ..
+        } => match search {
+            Some(search) => groups(alloc, search, types, *skip_empty, line),
+            None => unreachable!(),
+        },
     }
 }

@@ -42,7 +42,10 @@ fn is_stdout(kind: &OutputKind) -> bool
 {
     match kind {
         OutputKind::Stdout { .. } => true,
-        OutputKind::File { .. } | OutputKind::Tcp { .. } | OutputKind::Forward { .. } => false,
+        OutputKind::File { .. }
+        | OutputKind::Tcp { .. }
+        | OutputKind::Forward { .. }
+        | OutputKind::Http { .. } => false,
     }
 }
 

@@ -3,6 +3,7 @@ use Rattle.std.specs.Prelude.{ℕ, ◌-◌, List, [], ◌∷◌, ◌++◌, Bool,
 use Rattle.std.specs.List.{list_any, starts_with, ends_with}
 use Rattle.std.specs.Option.{option_map_or}
 use Rattle.std.specs.Str.{bytes_eq}
+use Rattle.fwd_base.specs.Limits.{deepest}
 use Rattle.fwd_value.specs.Val.{Val, text, mapping, Entries, no_entries, entry, entries_of}
 use Rattle.fwd_value.specs.Limits.{nesting}
 use Rattle.fwd_body.specs.Keys.{Body, has_key, key}
@@ -31,9 +32,9 @@ moved_key remove add k = k
 abbrev pub moved : List ℕ → List ℕ → Body → Body
 moved remove add body = map (λ p. (moved_key remove add p.0, p.1)) body
 
--- whether a body of these pairs is nested at most 63, so that an event with it is nested at most 64
+-- whether a body of these pairs isn't nested too deep for an event with it, which is one deeper
 abbrev pub fits : Body → Bool
-fits body = nat_le (nesting (mapping (entries_of body))) 63
+fits body = nat_le (nesting (mapping (entries_of body))) (deepest - 1)
 
 -- the pairs that the wildcards take leave the body, and form a map that goes last
 abbrev pub gathered : NestRule → Body → Body
@@ -41,7 +42,7 @@ gathered rule body =
     let taken = filter (λ p. is_taken rule.wildcards p.0) body in
     filter (λ p. not (is_taken rule.wildcards p.0)) body ++ (text rule.under, mapping (entries_of (moved rule.remove_prefix rule.add_prefix taken))) ∷ []
 
--- nest: where nothing is taken, or the body would be nested deeper than 63, it stays as it is
+-- nest: where nothing is taken, or the body would be nested too deep, it stays as it is
 abbrev pub nested : NestRule → Body → Body
 nested rule body = if list_any (λ p. is_taken rule.wildcards p.0) body && fits (gathered rule body) then gathered rule body else body
 
@@ -59,7 +60,7 @@ without_first test (p ∷ body) = if test p then body else p ∷ without_first t
 abbrev pub lifted_out : LiftRule → Entries → Body → Body
 lifted_out rule es body = without_first (has_key rule.under) body ++ moved rule.remove_prefix rule.add_prefix (pairs_of es)
 
--- a body that would be nested deeper than 63 stays as it is
+-- a body that would be nested too deep stays as it is
 abbrev pub lifted_from : LiftRule → Body → Val → Body
 lifted_from rule body (mapping es) = if fits (lifted_out rule es body) then lifted_out rule es body else body
 lifted_from rule body _ = body

@@ -12,6 +12,3 @@ pub use moves::{lift, nest};
 pub use rules::{
     Change, Changes, Condition, Conditions, LiftRule, ModifyRules, NestRule, rules_cross,
 };
-
-#[cfg(test)]
-mod tests;

@@ -1,7 +1,8 @@
 //! Pairs are gathered under a key, and lifted out again.
 
-ghost use Rattle.std.specs.Prelude.{◌≡◌, ◌++◌, [], ◌∷◌, ◌&&◌, IfOk, OnOk, nat_le, if◌then◌else◌};
+ghost use Rattle.std.specs.Prelude.{◌≡◌, ◌-◌, ◌++◌, [], ◌∷◌, ◌&&◌, IfOk, OnOk, nat_le, if◌then◌else◌};
 ghost use Rattle.std.specs.List.{list_any};
+ghost use Rattle.fwd_base.specs.Limits.{deepest};
 ghost use Rattle.fwd_value.specs.Limits.{nesting, entry_nestings};
 ghost use Rattle.fwd_value.specs.Val.{entries_of};
 ghost use Rattle.fwd_value.specs.View.{val_of, pair_of};
@@ -9,13 +10,14 @@ ghost use Rattle.fwd_reshape.specs.Moves.{takes, is_taken, moved, moved_key, wit
 
 use crate::keys::text;
 use crate::{LiftRule, NestRule};
+use fwd_base::limits::DEEPEST;
 use fwd_base::{Bytes, Memory, Names};
 use fwd_body::place_of;
 use fwd_value::{Pairs, Value};
 use std::alloc::Global;
 
-/// How deep the keys and values of a body may be nested: an event with the body is then nested 64.
-const DEEPEST: u64 = 62;
+/// How deep the keys and values of a body may be nested: an event with the body is then nested two deeper.
+const PAIR_DEPTH: u64 = DEEPEST as u64 - 2;
 
 /// The pairs that the wildcards take leave the body and form a map that goes last. Where nothing is taken, or the body
 /// would be nested deeper than 63, the body stays as it is. After `Memory` the body is given up.
@@ -177,12 +179,12 @@ fn fits_gathered(rule: &NestRule, body: &Pairs) -> bool
 
 /// How deep a pair may be nested for the body to fit: one that is taken comes one deeper.
 fn deepest(wildcards: &Names, key: &Value) -> u64
-    ensures { result ≡ (if is_taken wildcards.now (val_of key.now) then 61 else 62) }
+    ensures { result ≡ (if is_taken wildcards.now (val_of key.now) then deepest - 3 else deepest - 2) }
 {
     if is_taken(wildcards, key) {
-        DEEPEST - 1
+        PAIR_DEPTH - 1
     } else {
-        DEEPEST
+        PAIR_DEPTH
     }
 }
 
@@ -194,7 +196,7 @@ fn nests_within(pair: &(Value, Value), depth: u64) -> bool
 
 /// Whether neither is nested too deep for the pairs of both to stand in one body.
 fn nest_within(body: &Pairs, pairs: &Pairs) -> bool
-    ensures { result ≡ (nat_le (entry_nestings (entries_of body.now)) 62 && nat_le (entry_nestings (entries_of pairs.now)) 62) }
+    ensures { result ≡ (nat_le (entry_nestings (entries_of body.now)) (deepest - 2) && nat_le (entry_nestings (entries_of pairs.now)) (deepest - 2)) }
 {
-    body.nest_within(DEEPEST) && pairs.nest_within(DEEPEST)
+    body.nest_within(PAIR_DEPTH) && pairs.nest_within(PAIR_DEPTH)
 }

@@ -1,6 +1,6 @@
 //! The rules by which a body is reshaped.
 
-use fwd_base::{Bytes, Items, Names};
+use fwd_base::{Bytes, Items, Names, crosses};
 
 /// What a body must have for the rules of `modify` to act.
 #[derive(Debug, Drop)]
@@ -69,8 +69,6 @@ pub struct LiftRule {
     pub remove_prefix: Bytes,
     pub add_prefix: Bytes,
 }
-
-fn crosses<T: Send + Sync>(_: &T) {}
 
 /// Threads may share rules and hand them over.
 pub fn rules_cross(modify: &ModifyRules, nest: &NestRule, lift: &LiftRule) {

@@ -3,6 +3,7 @@
 #![tactic(auto)]
 
 ghost use Rattle.std.specs.Prelude.{◌↔◌, ◌≤◌, IsTrue, length};
+ghost use Rattle.fwd_base.specs.Limits.{most_outputs};
 ghost use Rattle.fwd_route.specs.Glob.{Glob, HasNoStar, RoutesTo};
 ghost use Rattle.fwd_route.specs.Steps.{IsEnd, Steps};
 
@@ -103,9 +104,9 @@ pub fn matches(pattern: &[u8], tag: &[u8]) -> bool
     }
 }
 
-/// Which globs match a tag: bit `i` of the answer is set exactly where glob `i` does. There may be 64 globs at most.
+/// Which globs match a tag: bit `i` of the answer is set exactly where glob `i` does. There may be as many globs as outputs.
 pub fn routes(globs: &Names, tag: &[u8]) -> u64
-    requires { length globs.now ≤ 64 }
+    requires { length globs.now ≤ most_outputs }
     ensures { RoutesTo globs.now tag.now result }
 {
     let mut mask: u64 = 0;
@@ -116,6 +117,3 @@ pub fn routes(globs: &Names, tag: &[u8]) -> u64
     }
     mask
 }
-
-#[cfg(test)]
-mod tests;

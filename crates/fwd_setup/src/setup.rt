@@ -187,7 +187,7 @@ fn places_of(kind: &OutputKind) -> u64
 {
     match kind {
         OutputKind::Stdout { .. } | OutputKind::File { .. } => 1,
-        OutputKind::Tcp { .. } | OutputKind::Forward { .. } => 4,
+        OutputKind::Tcp { .. } | OutputKind::Forward { .. } | OutputKind::Http { .. } => 4,
     }
 }
 

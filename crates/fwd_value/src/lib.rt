@@ -6,7 +6,4 @@ mod below;
 mod value;
 
 pub use below::Below;
-pub use value::{Pairs, Value, Values};
-
-#[cfg(test)]
-mod tests;
+pub use value::{Pairs, Value, Values, values_cross};

@@ -10,7 +10,7 @@ ghost use Rattle.fwd_value.specs.View.{val_of, pair_of};
 ghost use Rattle.fwd_value.specs.Edits.{PutsKey, PutsValue};
 
 use crate::Below;
-use fwd_base::{Bytes, Memory};
+use fwd_base::{Bytes, Memory, crosses};
 use std::alloc::Global;
 use std::marker::Model;
 use std::slice;
@@ -426,8 +426,6 @@ impl<'a> IntoIterator for &'a Pairs {
         self.items.as_slice().iter()
     }
 }
-
-fn crosses<T: Send + Sync>(_: &T) {}
 
 /// Threads may share values and hand them over.
 pub fn values_cross(value: &Value, values: &Values, pairs: &Pairs) {

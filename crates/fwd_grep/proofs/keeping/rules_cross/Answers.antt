@@ -3,10 +3,8 @@ use Rattle.std.proofs.Crossing as std
 use Rattle.fwd_grep.proofs.Crossing.{crosses}
 use Rattle.fwd_grep.proofs.keeping.rules_cross.Goals as goal
 
--- src/keeping.rt:78:5
 pub crosses-requires-send-T : goal.crosses-requires-send-T
 crosses-requires-send-T c κs = search (sendable, std.crosses, crosses) depth 40
 
--- src/keeping.rt:78:5
 pub crosses-requires-sync-T : goal.crosses-requires-sync-T
 crosses-requires-sync-T c κs = search (sendable, std.crosses, crosses) depth 40

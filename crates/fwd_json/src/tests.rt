@@ -1,4 +1,0 @@
-//! Vectors from outside.
-
-mod reading;
-mod text;

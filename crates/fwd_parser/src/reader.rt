@@ -1,0 +1,53 @@
+//! Lines one after another.
+
+use crate::Parser;
+use crate::moments::timed;
+use crate::shapes::{body_of, search_of};
+use fwd_base::{Memory, Search};
+use fwd_event::Event;
+use std::alloc::Global;
+use std::marker::Model;
+
+/// What reads one line after another as a parser says. It is made once for many lines. Contracts see the parser.
+#[derive(Drop)]
+pub struct LineReader<'p> {
+    parser: &'p Parser,
+    search: Option<Search<'p>>,
+}
+
+impl<'p> Model for LineReader<'p> {
+    ghost use Rattle.fwd_parser.specs.declared.parser.Parser.{Parser};
+    ghost use Rattle.fwd_parser.specs.contracts.parser.Parser as seen;
+    ghost use Rattle.fwd_parser.specs.Ready.{IsReady};
+
+    ghost Value = { Parser };
+
+    ghost coded = { seen.the_row.coded };
+
+    ghost view = { λ r. r.parser.now };
+
+    ghost invariant = { λ r. IsReady r.parser.now.shape r.search };
+}
+
+impl<'p> LineReader<'p> {
+    ghost use Rattle.std.specs.Prelude.{◌≡◌, IfOk};
+    ghost use Rattle.fwd_parser.specs.Parsed.{parsed};
+
+    pub(crate) fn new(alloc: Global, parser: &'p Parser) -> Result<Self, Memory>
+        ensures { IfOk result (λ reader. reader ≡ parser.now) }
+    {
+        let search = search_of(alloc, &parser.shape)?;
+        Ok(LineReader { parser, search })
+    }
+
+    /// The event of a line. `now` is the greatest reading of the clock so far, in milliseconds since 1970 in UTC; above
+    /// 4,294,967,295,999 it counts as this. A line that isn't of the parser's shape stays whole under `log`.
+    #[tactic(auto, unfolding(crate::specs::Parsed::parsed))]
+    pub fn read(&mut self, alloc: Global, line: &[u8], now: u64) -> Result<Event, Memory>
+        ensures event { IfOk result (λ event. event ≡ parsed self.old line.now now) }
+        ensures same { self.new ≡ self.old }
+    {
+        let body = body_of(alloc, &self.parser.shape, &mut self.search, line)?;
+        Ok(timed(alloc, &self.parser.time, now, body))
+    }
+}
