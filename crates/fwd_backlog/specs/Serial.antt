@@ -3,7 +3,7 @@ use Rattle.std.specs.Prelude.{ℕ, ◌+◌, ◌^◌, ◌==◌, ◌&&◌, nat_lt,
 use Rattle.std.specs.List.{ends_with}
 use Rattle.std.specs.Char.{is_ascii_digit}
 use Rattle.std.specs.Str.{bytes_eq}
-use Rattle.fwd_base.specs.Size.{decimal}
+use Rattle.fwd_base.specs.Number.{decimal}
 use Rattle.fwd_found.specs.declared.chunk.Found.{Found}
 
 -- `.flb`

@@ -1,7 +1,7 @@
 -- Numbers in decimal digits grow with each digit.
 use Rattle.std.proofs.Common.{◌≡◌, ℕ, ◌+◌, ◌-◌, ◌*◌, ◌<◌, ◌≤◌, List, [], ◌∷◌, length, drop, get_or, fold, arith}
 use Rattle.std.proofs.lemmas.List.{at_drop_more}
-use Rattle.fwd_base.specs.Size.{decimal}
+use Rattle.fwd_base.specs.Number.{decimal}
 
 -- a number and further digits
 abbrev pub with_digits : ℕ → List ℕ → ℕ

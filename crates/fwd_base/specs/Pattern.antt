@@ -1,13 +1,16 @@
 -- Patterns: how their text is read, and what they find.
-use Rattle.std.specs.Prelude.{◌≡◌, ◌⊎◌, ℕ, ◌+◌, ◌==◌, ◌&&◌, ◌||◌, Bool, false, List, [], ◌∷◌, ◌++◌, drop, slice_range, IsUtf8, Option, Some, None, if◌then◌else◌}
+use Rattle.std.specs.Prelude.{◌≡◌, ◌⊎◌, ℕ, ◌+◌, ◌-◌, ◌==◌, ◌&&◌, ◌||◌, nat_le, Bool, false, List, [], ◌∷◌, ◌++◌, length, get_or, drop, slice_range, IsUtf8, Option, Some, None, if◌then◌else◌}
 use Rattle.std.specs.Char.{is_ascii_alphabetic}
 use Rattle.std.specs.Str.{byte}
 use Rattle.regex.specs.Patterns.{Re, Match, default_config, Config}
-use Rattle.regex.specs.Bytes.{regex_pattern, regex_names, regex_source, regex_config, IsReadFromSource}
+use Rattle.regex.specs.Bytes.{regex_pattern, regex_names, matcher_pattern, regex_source, regex_config, IsReadFromSource}
 use Rattle.regex.specs.Failures.{IsPattern}
+use Rattle.regex.specs.Names.{names_of}
 use Rattle.regex.specs.Writes.{group_of}
 use Rattle.fwd_base.specs.declared.pattern.Pattern.{Pattern}
 use Rattle.fwd_base.specs.declared.pattern.Group.{Group}
+use Rattle.fwd_base.specs.declared.search.Capture.{Capture}
+use Rattle.fwd_base.specs.declared.search.Search.{Search}
 use Rattle.fwd_base.specs.declared.rewrite.Place.{Place}
 use Rattle.fwd_base.specs.declared.rewrite.Place.TheVariants.{Outside, First, Inside}
 
@@ -35,18 +38,32 @@ opens_named Outside b c more = b == byte "(" && (c == byte "?" && begins_name mo
 opens_named First b c more = false
 opens_named Inside b c more = false
 
--- a text from a place on, with (?P< where a named group begins with (?<; what a backslash escapes stays
+-- what is written for a backslash and the byte that it escapes: outside a class < and > stand for themselves, where the
+-- grammar would read the edge of a word
+abbrev pub escaped : Place → ℕ → List ℕ
+escaped Outside c = if c == byte "<" || c == byte ">" then c ∷ [] else byte "\\" ∷ c ∷ []
+escaped First c = byte "\\" ∷ c ∷ []
+escaped Inside c = byte "\\" ∷ c ∷ []
+
+-- a text from a place on, with (?P< where a named group begins with (?<
 abbrev pub rewritten_from : Place → List ℕ → List ℕ
 rewritten_from place [] = []
 rewritten_from place (b ∷ []) = b ∷ []
 rewritten_from place (b ∷ c ∷ more) =
-    if b == byte "\\" then b ∷ c ∷ rewritten_from (behind_escape place) more
+    if b == byte "\\" then escaped place c ++ rewritten_from (behind_escape place) more
     else (if opens_named place b c more then b ∷ c ∷ byte "P" ∷ rewritten_from place more
     else b ∷ rewritten_from (behind place b) (c ∷ more))
 
+-- a pattern that stands between two slashes is what stands between them
+abbrev pub unslashed : List ℕ → List ℕ
+unslashed text =
+    if nat_le 2 (length text) && (get_or text 0 0 == byte "/" && get_or text (length text - 1) 0 == byte "/")
+    then slice_range text 1 (length text - 1)
+    else text
+
 -- the text that the grammar of the regular expressions reads
 abbrev pub rewritten : List ℕ → List ℕ
-rewritten text = rewritten_from Outside text
+rewritten text = rewritten_from Outside (unslashed text)
 
 -- the options of that grammar: those for patterns over bytes
 abbrev pub options : Config
@@ -84,3 +101,44 @@ groups_from text m n (name ∷ names) = named_group text name (group_of m n) ++ 
 -- the named groups that took part; group 0 is the whole match and has no name
 abbrev pub groups_of : List (Option (List ℕ)) → List ℕ → Match → List Group
 groups_of names text m = groups_from text m 1 (drop 1 names)
+
+-- a named group of a match: its name, and the bytes that it spans
+pub record Captured : Type 0 where
+  pub name : List ℕ
+  pub bytes : List ℕ
+
+-- a group of a match, where it has a name and took part
+abbrev pub named_capture : List ℕ → Option (List ℕ) → Option (ℕ × ℕ) → List Captured
+named_capture text None span = []
+named_capture text (Some name) None = []
+named_capture text (Some name) (Some span) = record { name = name; bytes = slice_range text span.0 span.1 } ∷ []
+
+-- the named groups that took part in a match, from group n on, in order
+abbrev pub captures_from : List ℕ → Match → ℕ → List (Option (List ℕ)) → List Captured
+captures_from text m n [] = []
+captures_from text m n (name ∷ names) = named_capture text name (group_of m n) ++ captures_from text m (n + 1) names
+
+-- the named groups that took part; group 0 is the whole match and has no name
+abbrev pub captures_of : List (Option (List ℕ)) → List ℕ → Match → List Captured
+captures_of names text m = captures_from text m 1 (drop 1 names)
+
+-- a named group that is lent
+abbrev pub captured : Capture → Captured
+captured c = record { name = c.name.now; bytes = c.bytes.now }
+
+-- what a search looks for, and the names of its groups
+abbrev pub search_expression : Search → Re
+search_expression s = matcher_pattern s.matcher
+
+abbrev pub search_names : Search → List (Option (List ℕ))
+search_names s = names_of s.names.now
+
+-- the search is one for this pattern
+pub record SearchesFor (p : Pattern) (s : Search) : Type 0 where
+  pub expression : search_expression s ≡ expression_of p
+  pub names : search_names s ≡ group_names p
+
+-- a search goes on as it was
+pub record SearchesAs (before after : Search) : Type 0 where
+  pub expression : search_expression after ≡ search_expression before
+  pub names : search_names after ≡ search_names before

@@ -1,11 +1,8 @@
 -- Sizes in text: digits, and a suffix that stands for thousands, millions or billions.
-use Rattle.std.specs.Prelude.{ℕ, ◌+◌, ◌-◌, ◌*◌, ◌^◌, ◌==◌, nat_lt, List, [], ◌∷◌, length, drop, take_while, fold, Option, Some, None, option_and_then, if◌then◌else◌}
+use Rattle.std.specs.Prelude.{ℕ, ◌*◌, ◌==◌, List, [], ◌∷◌, length, drop, take_while, Option, Some, None, option_and_then, if◌then◌else◌}
 use Rattle.std.specs.Char.{is_ascii_digit, eq_ignore_ascii_case}
 use Rattle.std.specs.Str.{byte}
-
--- the number that decimal digits write
-abbrev pub decimal : List ℕ → ℕ
-decimal digits = fold (λ number digit. number * 10 + (digit - 48)) 0 digits
+use Rattle.fwd_base.specs.Number.{decimal, within_64_bits}
 
 -- what a letter multiplies by, in either case
 abbrev pub unit_of : ℕ → Option ℕ
@@ -21,10 +18,6 @@ factor_of [] = Some 1
 factor_of (letter ∷ []) = unit_of letter
 factor_of (letter ∷ last ∷ []) = if eq_ignore_ascii_case last (byte "B") then unit_of letter else None
 factor_of (letter ∷ last ∷ next ∷ more) = None
-
--- a number that passes 64 bits is none
-abbrev pub within_64_bits : ℕ → Option ℕ
-within_64_bits number = if nat_lt number (2 ^ 64) then Some number else None
 
 -- the size that a text writes, if it is one
 abbrev pub size_of : List ℕ → Option ℕ

@@ -157,7 +157,8 @@ impl Eq for Bytes {
 /// Names, in order.
 pub type Names = Items<Bytes>;
 
-pub(crate) fn crosses<T: Send + Sync>(_: &T) {}
+/// Checks only where threads may share values of this type and hand them over.
+pub fn crosses<T: Send + Sync>(_: &T) {}
 
 /// Threads may share bytes and hand them over.
 pub fn bytes_cross(bytes: &Bytes) {

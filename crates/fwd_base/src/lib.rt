@@ -3,21 +3,28 @@
 //! crates far from it name.
 #![tactic(auto)]
 
+mod blanks;
 mod bytes;
 mod choices;
 mod ids;
 mod items;
+pub mod limits;
 mod memory;
+mod numbers;
 mod pattern;
 mod rewrite;
+mod search;
 mod size;
 #[cfg(test)]
 mod tests;
 
-pub use bytes::{Bytes, Names};
+pub use blanks::{is_blank, is_utf8, place_of, place_of_blank, skip_blanks};
+pub use bytes::{Bytes, Names, crosses};
 pub use choices::{Form, Retries};
 pub use ids::{ChunkId, ConnId, InputId, LinkId, OutputId};
 pub use items::Items;
 pub use memory::Memory;
+pub use numbers::{is_digits, number};
 pub use pattern::{Group, Groups, Pattern, PatternErr};
+pub use search::{Capture, Search};
 pub use size::{NotASize, parse_size};

@@ -7,7 +7,7 @@ ghost use Rattle.regex.specs.Bytes.{IsCapturesOf, match_haystack, match_span};
 ghost use Rattle.fwd_base.specs.Pattern.{groups_of, named_group};
 
 use crate::bytes::crosses;
-use crate::{Bytes, Items, Memory, rewrite};
+use crate::{Bytes, Items, Memory, Search, rewrite};
 use regex::bytes::{Captures, Match, Regex};
 use std::alloc::Global;
 use thiserror::Error;
@@ -50,13 +50,13 @@ pub type Groups = Items<Group>;
 /// A pattern, built once, with which any number of texts are searched.
 #[derive(Debug, Drop)]
 pub struct Pattern {
-    regex: Regex,
+    pub(crate) regex: Regex,
 }
 
 impl Pattern {
     ghost use Rattle.std.specs.Prelude.{◌≡◌, is_some, option_map, IfOk, IsErrOf};
     ghost use Rattle.regex.specs.Patterns.{find};
-    ghost use Rattle.fwd_base.specs.Pattern.{rewritten, expression_of, group_names, groups_of, IsReadFrom, IsNoPattern};
+    ghost use Rattle.fwd_base.specs.Pattern.{rewritten, expression_of, group_names, groups_of, IsReadFrom, IsNoPattern, SearchesFor};
     ghost use Rattle.fwd_base.specs.declared.pattern.PatternErr.TheVariants.{Refused};
 
     /// Builds a pattern. In its text a named group may begin with `(?<`, as with `(?P<`.
@@ -73,6 +73,13 @@ impl Pattern {
             Err(regex::Error::Syntax(_)) => Err(PatternErr::Refused),
             Err(_) => Err(PatternErr::Memory),
         }
+    }
+
+    /// Makes ready to search texts, one after another. It is made once for many of them.
+    pub fn search(&self, alloc: Global) -> Result<Search<'_>, Memory>
+        ensures { IfOk result (SearchesFor self.now) }
+    {
+        Search::new(alloc, self)
     }
 
     /// Whether the pattern is found in the bytes.

@@ -1,7 +1,7 @@
 //! The text of a pattern, as the grammar of the regular expressions reads it.
 
-ghost use Rattle.std.specs.Prelude.{◌≡◌, ◌≤◌, ◌++◌, length, drop, IfOk};
-ghost use Rattle.fwd_base.specs.Pattern.{behind, behind_escape, begins_name, opens_named, rewritten_from, rewritten};
+ghost use Rattle.std.specs.Prelude.{◌≡◌, ◌≤◌, ◌++◌, length, drop, IfOk, OnOk};
+ghost use Rattle.fwd_base.specs.Pattern.{behind, behind_escape, begins_name, opens_named, escaped, unslashed, rewritten_from, rewritten};
 
 use crate::{Bytes, Memory};
 use std::alloc::Global;
@@ -63,10 +63,22 @@ fn opens_named(place: Place, first: u8, second: u8, more: &[u8]) -> bool
     }
 }
 
-/// The text with `(?P<` where a named group begins with `(?<`, outside classes.
+/// A pattern that stands between two slashes is what stands between them.
+fn unslashed(text: &[u8]) -> &[u8]
+    ensures { result.now ≡ unslashed text.now }
+{
+    match text {
+        [b'/', between @ .., b'/'] => between,
+        _ => text,
+    }
+}
+
+/// The text as the grammar reads it: without slashes round it, and outside classes with `(?P<` where a named group begins
+/// with `(?<`, and with `<` and `>` where they are escaped.
 pub fn rewritten(alloc: Global, text: &[u8]) -> Result<Bytes, Memory>
     ensures { IfOk result (λ bytes. bytes ≡ rewritten text.now) }
 {
+    let text = unslashed(text);
     let mut bytes = Bytes::new(alloc);
     let mut place = Place::Outside;
     let mut at = 0;
@@ -88,7 +100,7 @@ fn push_next(bytes: &mut Bytes, place: Place, text: &[u8]) -> Result<(usize, Pla
 {
     let (first, second) = (text[0], text[1]);
     if first == b'\\' {
-        bytes.extend_from_slice(&[first, second])?;
+        push_escaped(bytes, place, second)?;
         return Ok((2, place.behind_escape()));
     }
     if opens_named(place, first, second, &text[2..]) {
@@ -97,4 +109,15 @@ fn push_next(bytes: &mut Bytes, place: Place, text: &[u8]) -> Result<(usize, Pla
     }
     bytes.push(first)?;
     Ok((1, place.behind(first)))
+}
+
+/// Writes what a backslash and the byte that it escapes stand for.
+fn push_escaped(bytes: &mut Bytes, place: Place, second: u8) -> Result<(), Memory>
+    ensures { OnOk result (bytes.new ≡ bytes.old ++ escaped place second) }
+{
+    let is_edge = matches!(place, Place::Outside) && (second == b'<' || second == b'>');
+    if is_edge {
+        return bytes.push(second);
+    }
+    bytes.extend_from_slice(&[b'\\', second])
 }

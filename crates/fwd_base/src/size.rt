@@ -1,10 +1,11 @@
 //! Sizes in text.
 
-ghost use Rattle.std.specs.Prelude.{◌≡◌, ◌+◌, ◌-◌, ◌*◌, ◌<◌, ◌^◌, length, take_while, SomeIff};
+ghost use Rattle.std.specs.Prelude.{◌≡◌, length, take_while};
 ghost use Rattle.std.specs.Char.{is_ascii_digit};
 ghost use Rattle.std.specs.Result.{result_ok};
-ghost use Rattle.fwd_base.specs.Size.{decimal, unit_of, factor_of, size_of};
+ghost use Rattle.fwd_base.specs.Size.{unit_of, factor_of, size_of};
 
+use crate::numbers::value;
 use thiserror::Error;
 
 /// A text that is no size.
@@ -24,7 +25,7 @@ pub fn parse_size(text: &[u8]) -> Result<u64, NotASize>
     let Some(factor) = factor(&text[digits..]) else {
         return Err(NotASize);
     };
-    match number(&text[..digits]) {
+    match value(&text[..digits]) {
         Some(number) => number.checked_mul(factor).ok_or(NotASize),
         None => Err(NotASize),
     }
@@ -35,29 +36,6 @@ fn digits_len(text: &[u8]) -> usize
     ensures { result ≡ length (take_while is_ascii_digit text.now) }
 {
     text.iter().take_while(|byte| byte.is_ascii_digit()).count()
-}
-
-/// The number that digits write, if it has at most 64 bits.
-fn number(digits: &[u8]) -> Option<u64>
-    ensures { SomeIff result (decimal digits.now < 2 ^ 64) (decimal digits.now) }
-{
-    let mut number = 0u64;
-    for digit in digits {
-        let Some(next) = with_digit(number, *digit) else {
-            return None;
-        };
-        number = next;
-    }
-    Some(number)
-}
-
-/// A number with a further digit, if it has at most 64 bits.
-fn with_digit(number: u64, digit: u8) -> Option<u64>
-    ensures { SomeIff result (number * 10 + (digit - 48) < 2 ^ 64) (number * 10 + (digit - 48)) }
-{
-    number
-        .checked_mul(10)?
-        .checked_add(u64::from(digit.saturating_sub(b'0')))
 }
 
 /// What a suffix multiplies by.

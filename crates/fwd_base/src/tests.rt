@@ -43,6 +43,11 @@ fn patterns_are_found_or_refused(rt: HostRuntime) -> Result<(), Fail> {
         ("[](?<a>]", b"P", false),
         ("\\(?<a>", b"<a>", true),
         ("", b"", true),
+        ("/^log$/", b"log", true),
+        ("/^log", b"/log", false),
+        ("/", b"/", true),
+        ("\\<b\\>", b"a<b>", true),
+        ("[\\<]", b"<", true),
         ("(?-u)\\xff", b"a\xff", true),
     ] {
         let built = Pattern::new(alloc, pattern.as_bytes())?;

@@ -3,7 +3,7 @@ use Rattle.std.specs.Prelude.{ℕ, ◌+◌, ◌-◌, ◌*◌, Bool, ◌==◌, �
 use Rattle.std.specs.Char.{is_ascii_digit}
 use Rattle.std.specs.List.{list_all, before_first, after_first}
 use Rattle.std.specs.Str.{bytes_eq, byte}
-use Rattle.fwd_base.specs.Size.{decimal, within_64_bits}
+use Rattle.fwd_base.specs.Number.{decimal, within_64_bits}
 use Rattle.fwd_base.specs.declared.choices.Retries.{Retries}
 use Rattle.fwd_base.specs.declared.choices.Retries.TheVariants.{Times, Unlimited}
 

@@ -3,7 +3,7 @@
 ghost use Rattle.std.specs.Prelude.{◌≡◌, ◌+◌, ◌-◌, ◌*◌, ◌<◌, ◌≤◌, ◌==◌, ◌^◌, length, Some, option_and_then, SomeIff};
 ghost use Rattle.std.specs.Char.{is_ascii_digit};
 ghost use Rattle.std.specs.List.{position_or_len, list_all};
-ghost use Rattle.fwd_base.specs.Size.{decimal};
+ghost use Rattle.fwd_base.specs.Number.{decimal};
 ghost use Rattle.fwd_choices.specs.Number.{is_digits, number_of, positive_of, port_of, decimals, thousandths, flush_of, retries_of, within};
 
 use fwd_base::Retries;

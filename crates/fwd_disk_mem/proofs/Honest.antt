@@ -111,5 +111,5 @@ played_ends before (call ∷ calls) sound played =
     let rest = played_ends (before ++ call ∷ []) calls after played.1 in
     (step.0, files_of (before ++ call ∷ []), step.1, subst (λ (l : List Told). Ends Steps (files_of (before ++ call ∷ [])) (entries_of calls) (files_of l)) (append_assoc before (call ∷ []) calls) rest)
 
-pub may_hold : (calls : List Told) (mark : ℕ) → IsPlayed [] calls → MayHold (given mark) (entries_of calls) (files_of calls)
-may_hold calls mark played = played_ends [] calls (λ name. sound_gone) played
+pub may_hold : (calls : List Told) → IsPlayed [] calls → MayHold given (entries_of calls) (files_of calls)
+may_hold calls played = played_ends [] calls (λ name. sound_gone) played

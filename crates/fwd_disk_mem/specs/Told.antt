@@ -29,11 +29,11 @@ abbrev pub entries_of : List Told → List DiskEntry
 entries_of calls = map entry_of calls
 
 -- it is given no file at first: a file that is set stands in the list
-abbrev pub given : ℕ → DiskGiven
-given mark = record { files = []; mark = mark }
+abbrev pub given : DiskGiven
+given = record { files = [] }
 
-abbrev pub told_of : List Told → ℕ → DiskTold
-told_of calls mark = Some (given mark, entries_of calls)
+abbrev pub told_of : List Told → DiskTold
+told_of calls = Some (given, entries_of calls)
 
 -- the name that a call is about
 abbrev pub named_by : Told → List ℕ

@@ -106,7 +106,7 @@ impl MemDisk {
 
     /// Whatever was asked, there is a disk that gives the answers that this one gave.
     pub fn is_honest(&self)
-        ensures { IsHonest (given self.now.mark) (entries_of self.now.calls) }
+        ensures { IsHonest given (entries_of self.now.calls) }
     {
         let _ = &self.alloc;
     }
@@ -215,7 +215,7 @@ impl MemDisk {
 impl Disk for MemDisk {
     ghost faults = { λ m. m.faults };
 
-    ghost told = { λ m. told_of m.calls m.mark };
+    ghost told = { λ m. told_of m.calls };
 
     fn place(&mut self, name: &[u8], bytes: &[u8]) -> Result<(), DiskErr> {
         let ok = self.works();

@@ -11,7 +11,7 @@ use Rattle.fwd_table.specs.declared.answer.Answer.{Answer}
 use Rattle.fwd_table.specs.declared.answer.Answer.TheVariants.{Good}
 use Rattle.fwd_flush.specs.declared.poll.Poll.{Poll}
 use Rattle.fwd_flush.specs.declared.judged.Judged.{Judged}
-use Rattle.fwd_flush.specs.declared.judged.Judged.TheVariants.{More, Right, Wrong}
+use Rattle.fwd_flush.specs.declared.judged.Judged.TheVariants.{More, Right, Wrong, Fatal}
 use Rattle.fwd_flush.specs.declared.stage.Stage.TheVariants.{Ended}
 use Rattle.fwd_flush.specs.Flight.{Progress, Flight, Delivery, ends, goes_by, confirms}
 use Rattle.fwd_flush.specs.Calls.{behind, reached, Comes, Goes, GoesOrStays}
@@ -84,6 +84,7 @@ module _ (d : Delivery) (link : LinkId) (p : Progress) where
   by_uncounted More q es left way = rw (over _ es left way) refl
   by_uncounted Right q es left way = ends_uncounted _ q es left way
   by_uncounted Wrong q es left way = ends_uncounted _ q es left way
+  by_uncounted Fatal q es left way = ends_uncounted _ q es left way
 
   confirms_uncounted : (wanted : Bool) (q : Progress) (es : List LoopEntry) (left : LoopProgram Progress)
       → d.wanted ≡ wanted → Way (confirms d link p) es left → reached q es ≡ q

@@ -3,7 +3,9 @@ use Rattle.std.proofs.Common.{◌≡◌, ℕ, List, [], ◌∷◌, ◌++◌, len
 use Rattle.std.proofs.lemmas.List.{append-nil}
 use Rattle.fwd_program.specs.Program.{Return, Way}
 use Rattle.fwd_outside.specs.Loop.{LoopEntry}
+use Rattle.fwd_table.specs.declared.answer.Answer.TheVariants.{Bad}
 use Rattle.fwd_flush.specs.declared.stage.Stage.{Stage}
+use Rattle.fwd_flush.specs.declared.stage.Stage.TheVariants.{Ended}
 use Rattle.fwd_flush.specs.Flight.{Progress, Delivery, unopened, starts}
 use Rattle.fwd_flush.specs.Verdict.{Event, Turns, handed, turned, events_of, happened, calls_of, IsAt, Stands, HasLink, IsFlight, Flies}
 use Rattle.fwd_flush.proofs.Verdicts.{starts_law, goes_law}
@@ -37,5 +39,8 @@ flown d output tag es turns first last began went =
       whole = λ is.
           let all : last.taken ≡ length d.payload = subst (λ (s : Stage). IsAt d (events_of es ++ happened turns) last s) is stands.at in
           no_rest (handed (events_of es ++ happened turns)) stands.rest d.payload stands.beginning (sym stands.counted ∙ all);
+      fatal = λ is.
+          let at = subst (λ (s : Stage). IsAt d (events_of es ++ happened turns) last s) is stands.at in
+          (no_rest (handed (events_of es ++ happened turns)) stands.rest d.payload stands.beginning (sym stands.counted ∙ at.0), at.1, at.2);
       link = both.1;
     }

@@ -5,9 +5,9 @@ use Rattle.fwd_program.specs.Program.{Return, Ask, Way, entry}
 use Rattle.fwd_base.specs.declared.ids.LinkId.{LinkId}
 use Rattle.fwd_outside.specs.Loop.{LoopEntry, LoopProgram, Dial, Push, PushAnswer, Took, Again, Broke}
 use Rattle.fwd_table.specs.declared.answer.Answer.{Answer}
-use Rattle.fwd_table.specs.declared.answer.Answer.TheVariants.{Good, Retry}
+use Rattle.fwd_table.specs.declared.answer.Answer.TheVariants.{Good, Retry, Bad}
 use Rattle.fwd_flush.specs.declared.judged.Judged.{Judged}
-use Rattle.fwd_flush.specs.declared.judged.Judged.TheVariants.{More, Right, Wrong}
+use Rattle.fwd_flush.specs.declared.judged.Judged.TheVariants.{More, Right, Wrong, Fatal}
 use Rattle.fwd_flush.specs.declared.stage.Stage.{Stage}
 use Rattle.fwd_flush.specs.declared.stage.Stage.TheVariants.{Opening, Writing, AwaitingAck, Ended}
 use Rattle.fwd_flush.specs.Flight.{Progress, Delivery, unopened, link_in, ends, goes_by, confirms, pushed_on, pushes, writes, dialed_on, starts, polls, heard, backs, breaks}
@@ -63,6 +63,7 @@ module _ (link : LinkId) where
   by_leaves p More es q way = awaiting_leaves (record p { stage = AwaitingAck link }) es q refl way
   by_leaves p Right es q way = ends_leaves Good p es q way
   by_leaves p Wrong es q way = ends_leaves Retry p es q way
+  by_leaves p Fatal es q way = ends_leaves Bad p es q way
 
   module _ (d : Delivery) where
     confirms_leaves : (p : Progress) (es : List LoopEntry) (q : Progress) → Way (confirms d link p) es (Return q) → Leaves link es q.stage

@@ -11,7 +11,7 @@ use Rattle.fwd_outside.specs.Loop.{LoopEntry, LoopProgram, Push, PushAnswer, Too
 use Rattle.fwd_table.specs.declared.answer.Answer.{Answer}
 use Rattle.fwd_table.specs.declared.answer.Answer.TheVariants.{Good, Retry, Bad}
 use Rattle.fwd_flush.specs.declared.judged.Judged.{Judged}
-use Rattle.fwd_flush.specs.declared.judged.Judged.TheVariants.{More, Right, Wrong}
+use Rattle.fwd_flush.specs.declared.judged.Judged.TheVariants.{More, Right, Wrong, Fatal}
 use Rattle.fwd_flush.specs.declared.stage.Stage.{Stage}
 use Rattle.fwd_flush.specs.declared.stage.Stage.TheVariants.{Opening, Writing, AwaitingAck, Ended}
 use Rattle.fwd_flush.specs.Flight.{Progress, Delivery, unopened, link_in, ends, goes_by, confirms, pushed_on, pushes, writes, dialed_on, starts, polls, heard, backs, breaks}
@@ -157,6 +157,9 @@ module _ (d : Delivery) (events : List Event) (p : Progress) (runs : Runs d even
   by_judgement link Wrong es q all wanted is way =
       let so : decided d events ≡ Some Retry = rw (whole_decides all, wanted, ← runs.intact.kept wanted, is) refl in
       ends_so link Retry es q so tt way
+  by_judgement link Fatal es q all wanted is way =
+      let so : decided d events ≡ Some Bad = rw (whole_decides all, wanted, ← runs.intact.kept wanted, is) refl in
+      ends_so link Bad es q so (all, wanted, is) way
 
   -- once the whole payload is taken
   pub confirmed : (link : LinkId) (es : List LoopEntry) (q : Progress) → p.taken ≡ length d.payload → Way (confirms d link p) es (Return q) → Stands d (events ++ events_of es) q

@@ -5,11 +5,11 @@ use Rattle.fwd_base.specs.declared.ids.LinkId.{LinkId}
 use Rattle.fwd_base.specs.declared.ids.OutputId.{OutputId}
 use Rattle.fwd_outside.specs.Loop.{LoopProgram, Dial, Push, Close, PushAnswer, Took, Again, Broke}
 use Rattle.fwd_table.specs.declared.answer.Answer.{Answer}
-use Rattle.fwd_table.specs.declared.answer.Answer.TheVariants.{Good, Retry}
+use Rattle.fwd_table.specs.declared.answer.Answer.TheVariants.{Good, Retry, Bad}
 use Rattle.fwd_flush.specs.declared.poll.Poll.{Poll}
 use Rattle.fwd_flush.specs.declared.poll.Poll.TheVariants as poll
 use Rattle.fwd_flush.specs.declared.judged.Judged.{Judged}
-use Rattle.fwd_flush.specs.declared.judged.Judged.TheVariants.{More, Right, Wrong}
+use Rattle.fwd_flush.specs.declared.judged.Judged.TheVariants.{More, Right, Wrong, Fatal}
 use Rattle.fwd_flush.specs.declared.stage.Stage.{Stage}
 use Rattle.fwd_flush.specs.declared.stage.Stage.TheVariants.{Opening, Writing, AwaitingAck, Ended}
 
@@ -61,6 +61,7 @@ abbrev pub goes_by : LinkId → Progress → Judged → LoopProgram Progress
 goes_by link p More = Return (record p { stage = AwaitingAck link })
 goes_by link p Right = ends link Good p
 goes_by link p Wrong = ends link Retry p
+goes_by link p Fatal = ends link Bad p
 
 -- what follows once the whole payload is taken
 unfoldable pub confirms : Delivery → LinkId → Progress → LoopProgram Progress

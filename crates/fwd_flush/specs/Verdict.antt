@@ -6,7 +6,7 @@ use Rattle.fwd_outside.specs.Loop.{LoopCall, LoopAnswer, LoopEntry, LoopProgram,
 use Rattle.fwd_table.specs.declared.answer.Answer.{Answer}
 use Rattle.fwd_table.specs.declared.answer.Answer.TheVariants.{Good, Retry, Bad}
 use Rattle.fwd_flush.specs.declared.judged.Judged.{Judged}
-use Rattle.fwd_flush.specs.declared.judged.Judged.TheVariants.{More, Right, Wrong}
+use Rattle.fwd_flush.specs.declared.judged.Judged.TheVariants.{More, Right, Wrong, Fatal}
 use Rattle.fwd_flush.specs.declared.stage.Stage.{Stage}
 use Rattle.fwd_flush.specs.declared.stage.Stage.TheVariants.{Opening, Writing, AwaitingAck, Ended}
 use Rattle.fwd_flush.specs.Flight.{Progress, Delivery, polls, backs, breaks}
@@ -66,6 +66,7 @@ abbrev pub by_reply : Judged → Option Answer
 by_reply More = None
 by_reply Right = Some Good
 by_reply Wrong = Some Retry
+by_reply Fatal = Some Bad
 
 -- What these events decide, if no earlier one did: RETRY where one of them fails; else, once the whole payload is taken,
 -- OK, or by the reply where one is wanted; else nothing.
@@ -141,7 +142,7 @@ IsAt d events p (Writing link) = IsUnbroken d events p × (p.taken < length d.pa
 IsAt d events p (AwaitingAck link) = IsUnbroken d events p × (p.taken ≡ length d.payload) × (d.wanted ≡ true)
 IsAt d events p (Ended Good) = p.taken ≡ length d.payload
 IsAt d events p (Ended Retry) = Unit {0}
-IsAt d events p (Ended Bad) = ⊥
+IsAt d events p (Ended Bad) = (p.taken ≡ length d.payload) × (d.wanted ≡ true) × (d.judged p.reply ≡ Fatal)
 
 -- A flight stands as the events say: its answer is their verdict, what it counts as taken is what its pushes took, and
 -- this is the beginning of its payload.
@@ -185,11 +186,13 @@ abbrev pub calls_of : Turns → List LoopEntry
 calls_of [] = []
 calls_of ((turn, es) ∷ turns) = es ++ calls_of turns
 
--- What is so of a flight from its start on: besides, one that answered OK has handed over the whole payload.
+-- What is so of a flight from its start on: besides, one that answered OK or ERROR has handed over the whole payload, and
+-- ERROR comes only where a reply is wanted and what was replied is fatal.
 pub record IsFlight (d : Delivery) (events : List Event) (calls : List LoopEntry) (p : Progress) : Type 0 where
   pub answered : verdict d events ≡ answer_in p.stage
   pub counted : p.taken ≡ length (handed events)
   pub rest : List ℕ
   pub beginning : handed events ++ rest ≡ d.payload
   pub whole : p.stage ≡ Ended Good → handed events ≡ d.payload
+  pub fatal : p.stage ≡ Ended Bad → (handed events ≡ d.payload) × (d.wanted ≡ true) × (d.judged p.reply ≡ Fatal)
   pub link : HasLink calls p.stage

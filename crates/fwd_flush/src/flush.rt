@@ -193,6 +193,7 @@ impl<P: ReplyReader> Flush<P> {
             }
             Judged::Right => self.end(outside, link, Answer::Good),
             Judged::Wrong => self.end(outside, link, Answer::Retry),
+            Judged::Fatal => self.end(outside, link, Answer::Bad),
         }
     }
 

@@ -7,4 +7,6 @@ pub enum Judged {
     Right,
     /// It can't become right.
     Wrong,
+    /// It refuses the payload for good.
+    Fatal,
 }

@@ -21,6 +21,3 @@ pub use laws::{ended_has_closed, goes_on_as_verdict, starts_as_verdict, verdict_
 pub use poll::Poll;
 pub use reader::{NoReply, ReplyReader};
 pub use stage::Stage;
-
-#[cfg(test)]
-mod tests;

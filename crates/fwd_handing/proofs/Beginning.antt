@@ -5,7 +5,7 @@ use Rattle.std.proofs.lemmas.List.{append-nil}
 use Rattle.std.proofs.lemmas.Bool.{and_parts, eq-eqb, ne_eqb}
 use Rattle.fwd_program.specs.Program.{entry, Return, Way}
 use Rattle.fwd_outside.specs.Loop.{LoopEntry, Dial}
-use Rattle.fwd_table.specs.declared.answer.Answer.TheVariants.{Good, Retry}
+use Rattle.fwd_table.specs.declared.answer.Answer.TheVariants.{Good, Retry, Bad}
 use Rattle.fwd_flush.specs.declared.stage.Stage.{Stage}
 use Rattle.fwd_flush.specs.declared.stage.Stage.TheVariants.{Ended}
 use Rattle.fwd_flush.specs.Flight.{Progress, Delivery, unopened, link_in, starts}
@@ -94,7 +94,7 @@ module _ (s : AllSettings) (n : Now) (whole : Whole s n) (r : Route) (idle : Idl
         came (Flies p) is = tt
         came (Retries wait_s) is = inl (idle.opened, was)
         came Delivered is = let good : Ended Retry ≡ Ended Good = sym so.ended ∙ is in absurd (cc good)
-        came Failed is = absurd is
+        came Failed is = let bad : Ended Retry ≡ Ended Bad = sym so.ended ∙ is in absurd (cc bad)
         came Spent is = inl (idle.opened, was)
 
     settle_linked : (es : List LoopEntry) → IsLinked r.output tag es q → AreNew n.greatest es → Stands its (events_of es) q → more ≡ length (handed (events_of es)) → Settles s r q (noted (Handed r.output more) (behind_all es n))

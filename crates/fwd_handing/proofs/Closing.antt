@@ -6,7 +6,7 @@ use Rattle.fwd_base.specs.declared.ids.LinkId.{LinkId}
 use Rattle.fwd_outside.specs.Loop.{LoopEntry}
 use Rattle.fwd_outside.specs.declared.ends.Ends.{Ends}
 use Rattle.fwd_table.specs.declared.answer.Answer.{Answer}
-use Rattle.fwd_table.specs.declared.answer.Answer.TheVariants.{Good, Retry}
+use Rattle.fwd_table.specs.declared.answer.Answer.TheVariants.{Good, Retry, Bad}
 use Rattle.fwd_flush.specs.declared.stage.Stage.{Stage}
 use Rattle.fwd_flush.specs.declared.stage.Stage.TheVariants.{Opening, Writing, AwaitingAck, Ended}
 use Rattle.fwd_flush.specs.Flight.{Progress, link_in}
@@ -18,7 +18,7 @@ use Rattle.fwd_history.specs.Routes.{flight}
 use Rattle.fwd_history.specs.Payloads.{delivery}
 use Rattle.fwd_run.specs.Run.{Lived, life}
 use Rattle.fwd_handing.specs.Own.{Aim, WasGiven, AreNew, own, closings}
-use Rattle.fwd_handing.specs.Handing.{payload, IsFollowed, closed_for, HasVerdict, HandsBeginning, HandsWhole, IsUnderWay, HasFailed}
+use Rattle.fwd_handing.specs.Handing.{payload, IsFollowed, closed_for, HasVerdict, HandsBeginning, HandsWhole, IsRejected, IsUnderWay, HasFailed}
 use Rattle.fwd_history.specs.Tallies.{taken}
 use Rattle.fwd_handing.specs.Taken.{links_of, taken_over}
 use Rattle.fwd_handing.proofs.Counted.{stands_still}
@@ -94,6 +94,18 @@ module _ (s : AllSettings) (greatest : ℕ) (es : List LoopEntry) (h : History) 
       let stands = by.flown.stands in
       let all : by.progress.taken ≡ length (payload s h r) = subst (λ (stage : Stage). IsAt (delivery s h r) (own by.link es) by.progress stage) by.ended stands.at in
       record { link = by.link; good = verdict_at r Good by; whole = no_rest (handed (own by.link es)) stands.rest (payload s h r) stands.beginning (sym stands.counted ∙ all) }
+
+  pub is_rejected : (r : Route) → EndedBy s es h r Bad → IsRejected s h es r
+  is_rejected r by =
+      let stands = by.flown.stands in
+      let at = subst (λ (stage : Stage). IsAt (delivery s h r) (own by.link es) by.progress stage) by.ended stands.at in
+      record { link = by.link; bad = verdict_at r Bad by; whole = no_rest (handed (own by.link es)) stands.rest (payload s h r) stands.beginning (sym stands.counted ∙ at.0) }
+
+  -- no reply is wanted, and none is fatal
+  pub none_rejected : (r : Route) → EndedBy s es h r Bad → ⊥
+  none_rejected r by =
+      let at = subst (λ (stage : Stage). IsAt (delivery s h r) (own by.link es) by.progress stage) by.ended by.flown.stands.at in
+      absurd (cc at.1)
 
   answers_none : (stage : Stage) (link : LinkId) → link_in stage ≡ Some link → answer_in stage ≡ None
   answers_none Opening link is = refl

@@ -58,7 +58,7 @@ abbrev pub CameBy : AllSettings → List LoopEntry → History → Route → Out
 CameBy s es h r (Flies p) = Unit {0}
 CameBy s es h r (Retries wait_s) = WasTurnedAway es h r ⊎ EndedBy s es h r Retry
 CameBy s es h r Delivered = EndedBy s es h r Good
-CameBy s es h r Failed = ⊥
+CameBy s es h r Failed = EndedBy s es h r Bad
 CameBy s es h r Spent = WasTurnedAway es h r ⊎ EndedBy s es h r Retry
 
 pub record Kept (s : AllSettings) (n : Now) : Type 0 where
@@ -99,7 +99,7 @@ module _ (s : AllSettings) (es es2 : List LoopEntry) (h h2 : History) (r : Route
   came_through (Flies p) by = tt
   came_through (Retries wait_s) by = failed_through by
   came_through Delivered by = ended_through Good by
-  came_through Failed by = absurd by
+  came_through Failed by = ended_through Bad by
   came_through Spent by = failed_through by
 
 -- ---- a fact that is about no route

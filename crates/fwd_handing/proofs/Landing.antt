@@ -5,7 +5,7 @@ use Rattle.std.proofs.lemmas.Bool.{cases_Bool, cases_eq, and_parts, eq-eqb, ne_e
 use Rattle.fwd_base.specs.declared.ids.LinkId.{LinkId}
 use Rattle.fwd_outside.specs.Loop.{LoopEntry}
 use Rattle.fwd_table.specs.declared.answer.Answer.{Answer}
-use Rattle.fwd_table.specs.declared.answer.Answer.TheVariants.{Good, Retry}
+use Rattle.fwd_table.specs.declared.answer.Answer.TheVariants.{Good, Retry, Bad}
 use Rattle.fwd_flush.specs.declared.stage.Stage.{Stage}
 use Rattle.fwd_flush.specs.declared.stage.Stage.TheVariants.{Opening, Writing, AwaitingAck, Ended}
 use Rattle.fwd_flush.specs.Flight.{Progress, link_in}
@@ -31,7 +31,7 @@ abbrev pub IsAnswered : Stage → Outcome → Type 0
 IsAnswered stage (Flies p) = Unit {0}
 IsAnswered stage (Retries wait_s) = stage ≡ Ended Retry
 IsAnswered stage Delivered = stage ≡ Ended Good
-IsAnswered stage Failed = ⊥
+IsAnswered stage Failed = stage ≡ Ended Bad
 IsAnswered stage Spent = stage ≡ Ended Retry
 
 pub record Comes (q : Progress) (outcome : Outcome) : Type 0 where
@@ -79,12 +79,13 @@ told_by h r q o comes Opening is = tt
 told_by h r q o comes (Writing link) is = tt
 told_by h r q o comes (AwaitingAck link) is = tt
 told_by h r q (Flies p) comes (Ended answer) is = let none : Some p ≡ None = comes.flying ∙ ap (λ (stage : Stage). flying_in q (link_in stage)) is in absurd (cc none)
-told_by h r q Failed comes (Ended answer) is = absurd comes.answered
 told_by h r q Delivered comes (Ended Good) is = inl refl
+told_by h r q Failed comes (Ended Bad) is = inl refl
 told_by h r q (Retries wait_s) comes (Ended Retry) is = inl (wait_s, inl refl)
 told_by h r q Spent comes (Ended Retry) is = inr (inl refl)
 told_by h r q (Retries wait_s) comes (Ended answer) is = let both : Ended answer ≡ Ended Retry = sym is ∙ comes.answered in absurd (cc both)
 told_by h r q Delivered comes (Ended answer) is = let both : Ended answer ≡ Ended Good = sym is ∙ comes.answered in absurd (cc both)
+told_by h r q Failed comes (Ended answer) is = let both : Ended answer ≡ Ended Bad = sym is ∙ comes.answered in absurd (cc both)
 told_by h r q Spent comes (Ended answer) is = let both : Ended answer ≡ Ended Retry = sym is ∙ comes.answered in absurd (cc both)
 
 -- the outcome is on no other link
@@ -200,7 +201,7 @@ module _ (s : AllSettings) (n : Now) (kept : Kept s n) (ys : List LoopEntry) (gr
   came_mine (Flies p) is = tt
   came_mine (Retries wait_s) is = inr (by_answer Retry is)
   came_mine Delivered is = by_answer Good is
-  came_mine Failed is = absurd is
+  came_mine Failed is = by_answer Bad is
   came_mine Spent is = inr (by_answer Retry is)
 
   carried : (r2 : Route) (other : ℕ) (p2 : Progress) (answer : Answer) → p2.stage ≡ Ended answer → Flown s n.calls n.history other r2 p2 → Flown s es2 h2 other r2 p2

@@ -10,7 +10,7 @@ use Rattle.fwd_flush.specs.declared.stage.Stage.TheVariants.{Opening, Writing, A
 use Rattle.fwd_flush.specs.Flight.{Progress, Delivery}
 use Rattle.fwd_flush.specs.Verdict.{Event, IsAt}
 use Rattle.fwd_settings.specs.declared.chosen.AllSettings.{AllSettings}
-use Rattle.fwd_trace.specs.Fact.{Route, Handed, OnRoute, Outcome, Flies, Retries, Delivered, Spent}
+use Rattle.fwd_trace.specs.Fact.{Route, Handed, OnRoute, Outcome, Flies, Retries, Delivered, Failed, Spent}
 use Rattle.fwd_trace.specs.Trace.{OnLoop}
 use Rattle.fwd_history.specs.Setup.{plus}
 use Rattle.fwd_history.specs.Routes.{tries}
@@ -55,7 +55,7 @@ IsReached (Writing link) = Unit {0}
 IsReached (AwaitingAck link) = Unit {0}
 IsReached (Ended Good) = Unit {0}
 IsReached (Ended Retry) = Unit {0}
-IsReached (Ended Bad) = ⊥
+IsReached (Ended Bad) = Unit {0}
 
 pub reached_at : (d : Delivery) (events : List Event) (q : Progress) (stage : Stage) → IsAt d events q stage → IsReached stage
 reached_at d events q Opening at = at
@@ -63,7 +63,7 @@ reached_at d events q (Writing link) at = tt
 reached_at d events q (AwaitingAck link) at = tt
 reached_at d events q (Ended Good) at = tt
 reached_at d events q (Ended Retry) at = tt
-reached_at d events q (Ended Bad) at = at
+reached_at d events q (Ended Bad) at = tt
 
 module _ (s : AllSettings) (r : Route) (q : Progress) where
   -- whatever is called aside, an outcome that fits may be noted
@@ -89,7 +89,7 @@ module _ (s : AllSettings) (r : Route) (q : Progress) where
   safe_stands_in m (AwaitingAck link) is may settle = λ _ _. (refl, at_once m settle (Flies q) (record { flying = rw is refl; answered = tt }))
   safe_stands_in m (Ended Good) is may settle = λ _ _. (refl, at_once m settle Delivered (record { flying = rw is refl; answered = is }))
   safe_stands_in m (Ended Retry) is may settle = safe_retries m is settle
-  safe_stands_in m (Ended Bad) is may settle = absurd may
+  safe_stands_in m (Ended Bad) is may settle = λ _ _. (refl, at_once m settle Failed (record { flying = rw is refl; answered = is }))
 
   safe_stands : (m : Now) → IsReached q.stage → Settles m → Safe s m (stands s r q m.history)
   unfolding stands

@@ -8,7 +8,7 @@ use Rattle.fwd_outside.specs.Loop.{LoopCall, LoopAnswer, LoopEntry, LoopProgram,
 use Rattle.fwd_table.specs.declared.answer.Answer.{Answer}
 use Rattle.fwd_table.specs.declared.answer.Answer.TheVariants.{Retry}
 use Rattle.fwd_flush.specs.declared.judged.Judged.{Judged}
-use Rattle.fwd_flush.specs.declared.judged.Judged.TheVariants.{More, Right, Wrong}
+use Rattle.fwd_flush.specs.declared.judged.Judged.TheVariants.{More, Right, Wrong, Fatal}
 use Rattle.fwd_flush.specs.declared.stage.Stage.{Stage}
 use Rattle.fwd_flush.specs.declared.stage.Stage.TheVariants.{Opening, Writing, AwaitingAck, Ended}
 use Rattle.fwd_flush.specs.Flight.{Progress, Delivery, link_in, ends, goes_by, confirms, pushed_on, pushes, writes, polls, heard, backs}
@@ -70,6 +70,7 @@ speaks_by : (link : LinkId) (p : Progress) (j : Judged) → Speaks link.0 0 (goe
 speaks_by link p More = (refl, refl)
 speaks_by link p Right = (refl, λ _. (tt, refl))
 speaks_by link p Wrong = (refl, λ _. (tt, refl))
+speaks_by link p Fatal = (refl, λ _. (tt, refl))
 
 speaks_confirms : (d : Delivery) (link : LinkId) (p : Progress) → Speaks link.0 0 (confirms d link p)
 speaks_confirms d link p = by d.wanted refl

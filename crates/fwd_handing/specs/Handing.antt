@@ -68,6 +68,12 @@ pub record HandsWhole (s : AllSettings) (h : History) (es : List LoopEntry) (r :
   pub good : HasVerdict s h es r (Some Good) link
   pub whole : handed (own link es) ≡ payload s h r
 
+-- On one of them the verdict is ERROR, and the whole payload was handed over.
+pub record IsRejected (s : AllSettings) (h : History) (es : List LoopEntry) (r : Route) : Type 0 where
+  pub link : ℕ
+  pub bad : HasVerdict s h es r (Some Bad) link
+  pub whole : handed (own link es) ≡ payload s h r
+
 -- The flight has this link, nothing is decided on it, and what counts as taken is what its pushes took.
 pub record IsUnderWay (s : AllSettings) (h : History) (es : List LoopEntry) (r : Route) (p : Progress) : Type 0 where
   pub link : ℕ

@@ -13,11 +13,11 @@ ghost use Rattle.fwd_history.specs.Tallies.{taken};
 ghost use Rattle.fwd_run.specs.Run.{Lived, life};
 ghost use Rattle.fwd_handing.specs.Own.{Aim, AreNew, WasGiven};
 ghost use Rattle.fwd_handing.specs.Taken.{links_of, taken_over};
-ghost use Rattle.fwd_handing.specs.Handing.{IsNoted, HandsBeginning, HandsWhole, IsUnderWay, HasFailed};
+ghost use Rattle.fwd_handing.specs.Handing.{IsNoted, HandsBeginning, HandsWhole, IsRejected, IsUnderWay, HasFailed};
 
 /// What the pushes on a link took, one after another, is a beginning of what a closed chunk of the run has for the output
 /// whose dial gave the link; the dial said the tag of this chunk. Where nothing is decided by what happened on the link, the
-/// route is under way over it; where OK or RETRY is, this is noted of the route, and the link was closed, once.
+/// route is under way over it; where an answer is, this is noted of the route, and the link was closed, once.
 pub fn each_link_hands_a_beginning()
     ensures { (s : AllSettings) (ends : Ends) (turns : ℕ) (trace : List TraceEntry) (lived : Lived) (to : Aim) (link : ℕ)
         → Way (life s ends turns) trace (Return lived) → AreNew 0 (loop_part trace) → WasGiven to link (loop_part trace)
@@ -41,7 +41,8 @@ pub fn under_way_as_verdict()
 {}
 
 /// A route is tried again, or its retries are spent, only where a dial to its output was refused or what happened on a link
-/// of its output comes to RETRY. No route is given up for an ERROR.
+/// of its output comes to RETRY. A route is given up only where the pushes on one link of its output took the whole of what
+/// its chunk has for it, and what happened on this link comes to ERROR. Of no output is a reply wanted yet, so none is.
 pub fn retried_as_verdict()
     ensures retried { (s : AllSettings) (ends : Ends) (turns : ℕ) (trace : List TraceEntry) (lived : Lived) (r : Route) (wait_s : ℕ)
         → Way (life s ends turns) trace (Return lived) → AreNew 0 (loop_part trace) → IsNoted (OnRoute r (Retries wait_s)) lived.history
@@ -49,6 +50,9 @@ pub fn retried_as_verdict()
     ensures spent { (s : AllSettings) (ends : Ends) (turns : ℕ) (trace : List TraceEntry) (lived : Lived) (r : Route)
         → Way (life s ends turns) trace (Return lived) → AreNew 0 (loop_part trace) → IsNoted (OnRoute r Spent) lived.history
         → HasFailed s lived.history (loop_part trace) r }
+    ensures failed { (s : AllSettings) (ends : Ends) (turns : ℕ) (trace : List TraceEntry) (lived : Lived) (r : Route)
+        → Way (life s ends turns) trace (Return lived) → AreNew 0 (loop_part trace) → IsNoted (OnRoute r Failed) lived.history
+        → IsRejected s lived.history (loop_part trace) r }
     ensures no_error { (s : AllSettings) (ends : Ends) (turns : ℕ) (trace : List TraceEntry) (lived : Lived) (r : Route)
         → Way (life s ends turns) trace (Return lived) → AreNew 0 (loop_part trace) → IsNoted (OnRoute r Failed) lived.history → ⊥ }
 {}

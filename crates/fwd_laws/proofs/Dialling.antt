@@ -11,7 +11,7 @@ use Rattle.fwd_retry.specs.Wait.{wait}
 use Rattle.fwd_table.specs.declared.answer.Answer.{Answer}
 use Rattle.fwd_table.specs.declared.answer.Answer.TheVariants.{Good, Retry, Bad}
 use Rattle.fwd_flush.specs.declared.judged.Judged.{Judged}
-use Rattle.fwd_flush.specs.declared.judged.Judged.TheVariants.{More, Right, Wrong}
+use Rattle.fwd_flush.specs.declared.judged.Judged.TheVariants.{More, Right, Wrong, Fatal}
 use Rattle.fwd_flush.specs.declared.stage.Stage.{Stage}
 use Rattle.fwd_flush.specs.declared.stage.Stage.TheVariants.{Writing, AwaitingAck, Ended as HasEnded}
 use Rattle.fwd_flush.specs.Flight.{Progress, Delivery, unopened, link_in, ends, goes_by, confirms, pushed_on, pushes, writes, dialed_on, heard, polls_in, polls, backs_in, backs, breaks_in, breaks}
@@ -70,6 +70,7 @@ silent_goes_by : (link : LinkId) (p : Progress) (j : Judged) → IsSilent (on_lo
 silent_goes_by link p More = tt
 silent_goes_by link p Right = silent_ends link Good p
 silent_goes_by link p Wrong = silent_ends link Retry p
+silent_goes_by link p Fatal = silent_ends link Bad p
 
 loop_if : (b : Bool) (p q : LoopProgram Progress) → IsSilent (on_loop p) → IsSilent (on_loop q) → IsSilent (on_loop (cond b p q))
 loop_if true p q first second = first

@@ -34,11 +34,9 @@ DiskAnswer (FailAt number) = Unit {0}
 abbrev pub DiskEntry : Type 0
 DiskEntry = Entry DiskCall DiskAnswer
 
--- The files that stood there at first, by name, and of a disk in memory where in its list the calls begin that an image
--- counts.
+-- the files that stood there at first, by name
 pub record DiskGiven : Type 0 where
   pub files : List (List ℕ × List ℕ)
-  pub mark : ℕ
 
 abbrev pub DiskTold : Type 0
 DiskTold = Told DiskGiven DiskCall DiskAnswer

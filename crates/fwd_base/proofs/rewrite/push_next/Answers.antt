@@ -5,12 +5,12 @@ use Rattle.fwd_base.proofs.rewrite.push_next.Goals as goal
 
 pub returns-then-first-eq92-clause-written : goal.returns-then-first-eq92-clause-written
 returns-then-first-eq92-clause-written c =
-    rw c.behind_escape.ensures (step-escape c.args.place c.args.text.now _ _ c.requires c.if-first-eq92.true c.in_ok-extend_from_slice.ensures.ok)
+    rw c.behind_escape.ensures (step-escape c.args.place c.args.text.now _ _ c.requires c.if-first-eq92.true c.in_ok-push_escaped.ensures)
 
 pub returns-then-opens_named-clause-written : goal.returns-then-opens_named-clause-written
 returns-then-opens_named-clause-written c =
     let opens = rw (take_rest c.args.text.now 2) at (sym c.opens_named.ensures ∙ c.if-opens_named.true) in
-    step-named c.args.place c.args.text.now _ _ c.requires c.if-first-eq92.false opens c.in_ok-extend_from_slice-2.ensures.ok
+    step-named c.args.place c.args.text.now _ _ c.requires c.if-first-eq92.false opens c.in_ok-extend_from_slice.ensures.ok
 
 pub returns-clause-written : goal.returns-clause-written
 returns-clause-written c =

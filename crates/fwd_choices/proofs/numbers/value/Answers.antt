@@ -1,6 +1,6 @@
 use Rattle.std.proofs.Common.{◌≡◌, ◌^◌, ◌∙◌, sym, arith}
 use Rattle.std.proofs.lemmas.List.{at_drop_all}
-use Rattle.fwd_base.specs.Size.{decimal}
+use Rattle.fwd_base.specs.Number.{decimal}
 use Rattle.fwd_base.proofs.Decimal.{with_digits, decimal-past}
 use Rattle.fwd_choices.proofs.numbers.value.Goals as goal
 

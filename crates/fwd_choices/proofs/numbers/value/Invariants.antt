@@ -1,5 +1,5 @@
 use Rattle.std.proofs.Common.{◌≡◌, ◌^◌, ◌<◌, drop}
-use Rattle.fwd_base.specs.Size.{decimal}
+use Rattle.fwd_base.specs.Number.{decimal}
 use Rattle.fwd_base.proofs.Decimal.{with_digits}
 use Rattle.fwd_choices.proofs.numbers.value.Given as goal
 

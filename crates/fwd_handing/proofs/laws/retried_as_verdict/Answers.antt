@@ -1,6 +1,6 @@
 use Rattle.fwd_trace.specs.Fact.{Retries, Failed, Spent}
 use Rattle.fwd_trace.specs.Trace.{loop_part}
-use Rattle.fwd_handing.proofs.Closing.{kept_at_end, has_failed}
+use Rattle.fwd_handing.proofs.Closing.{kept_at_end, has_failed, is_rejected, none_rejected}
 use Rattle.fwd_handing.proofs.laws.retried_as_verdict.Goals as goal
 
 pub returns-clause-retried : goal.returns-clause-retried
@@ -13,5 +13,12 @@ returns-clause-spent c s ends turns trace lived r way are noted =
     let kept = kept_at_end s ends turns trace lived way are in
     has_failed s kept.0 (loop_part trace) lived.history kept.1 r (kept.1.came r Spent noted)
 
+pub returns-clause-failed : goal.returns-clause-failed
+returns-clause-failed c s ends turns trace lived r way are noted =
+    let kept = kept_at_end s ends turns trace lived way are in
+    is_rejected s kept.0 (loop_part trace) lived.history kept.1 r (kept.1.came r Failed noted)
+
 pub returns-clause-no_error : goal.returns-clause-no_error
-returns-clause-no_error c s ends turns trace lived r way are noted = (kept_at_end s ends turns trace lived way are).1.came r Failed noted
+returns-clause-no_error c s ends turns trace lived r way are noted =
+    let kept = kept_at_end s ends turns trace lived way are in
+    none_rejected s kept.0 (loop_part trace) lived.history kept.1 r (kept.1.came r Failed noted)

@@ -8,5 +8,4 @@ use Rattle.fwd_disk_mem.proofs.memory.MemDisk.is_honest.Goals as goal
 pub returns : goal.returns
 returns c =
     let calls = c.self.inside.calls.items in
-    let mark = c.args.self.now.mark in
-    (files_of calls, subst (λ (v : Seen). MayHold (given mark) (entries_of v.calls) (files_of calls)) c.self.view_is (may_hold calls mark c.self.invariant.played))
+    (files_of calls, subst (λ (v : Seen). MayHold given (entries_of v.calls) (files_of calls)) c.self.view_is (may_hold calls c.self.invariant.played))

@@ -33,3 +33,10 @@ returns-in-Wrong-clause-calls g c =
     (wanted_by _ _ c.self.view_is g.P.ReplyReader.wanted _ _ c.wanted.ensures c.if-not-wanted.false)
     (judged_by _ _ c.self.view_is g.P.ReplyReader.judged _ _ _ c.in_ok-judge.ensures c.as_slice.ensures c.in-Wrong.is) in
     rw is c.end-in-Wrong.ensures.calls
+
+pub returns-in-Fatal-clause-calls : goal.returns-in-Fatal-clause-calls
+returns-in-Fatal-clause-calls g c =
+    let is = replies (delivery g.P.ReplyReader.wanted g.P.ReplyReader.judged c.args.self.now) c.args.link c.args.self.now.progress _
+    (wanted_by _ _ c.self.view_is g.P.ReplyReader.wanted _ _ c.wanted.ensures c.if-not-wanted.false)
+    (judged_by _ _ c.self.view_is g.P.ReplyReader.judged _ _ _ c.in_ok-judge.ensures c.as_slice.ensures c.in-Fatal.is) in
+    rw is c.end-in-Fatal.ensures.calls
