@@ -3,4 +3,20 @@
 #![tactic(auto)]
 
 #[cfg(test)]
+mod book;
+#[cfg(test)]
+mod configured;
+#[cfg(test)]
+mod counts;
+#[cfg(test)]
+mod engine;
+#[cfg(test)]
+mod links;
+#[cfg(test)]
+mod records;
+#[cfg(test)]
+mod setup;
+#[cfg(test)]
 mod streams;
+#[cfg(test)]
+mod texts;

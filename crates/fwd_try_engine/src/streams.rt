@@ -1,7 +1,9 @@
 //! Streams side by side, and connections that come and go.
 
+use crate::texts::repeated;
+use fwd_base::limits::LONGEST_LINE;
 use fwd_base::{Bytes, Memory};
-use fwd_frames::{Lines, MAX_LINE as LONGEST_LINE};
+use fwd_frames::Lines;
 use fwd_streams::{Connections, Readers};
 use std::alloc::Global;
 
@@ -43,12 +45,7 @@ fn put_end(
     put(text, &lines)
 }
 
-fn take(
-    text: &mut Bytes,
-    readers: &mut Readers,
-    alloc: Global,
-    step: Step,
-) -> Result<(), Memory> {
+fn take(text: &mut Bytes, readers: &mut Readers, alloc: Global, step: Step) -> Result<(), Memory> {
     match step {
         Step::Piece(number, piece) => put_piece(text, readers, alloc, number, piece),
         Step::End(number) => put_end(text, readers, alloc, number),
@@ -130,12 +127,7 @@ fn length_of(lines: &Lines) -> usize {
 }
 
 /// Each of so many streams has the same piece: the length of all lines that end in it.
-fn fed(
-    readers: &mut Readers,
-    alloc: Global,
-    streams: u64,
-    piece: &[u8],
-) -> Result<usize, Memory> {
+fn fed(readers: &mut Readers, alloc: Global, streams: u64, piece: &[u8]) -> Result<usize, Memory> {
     let mut bytes: usize = 0;
     for number in 0..streams {
         let lines = readers.feed(alloc, number, piece)?;
@@ -176,23 +168,15 @@ fn many_streams_keep_what_is_behind_their_lines(rt: HostRuntime) {
     }
 }
 
-/// A piece of so many lines.
-fn lines_in_a_piece(alloc: Global, lines: usize) -> Result<Bytes, Memory> {
-    let mut piece = Bytes::new(alloc);
-    for _line in 0..lines {
-        piece.extend_from_slice(b"one of many\n")?;
-    }
-    Ok(piece)
-}
-
 fn number_of_lines(alloc: Global, piece: &[u8]) -> Result<usize, Memory> {
     let mut readers = Readers::new(alloc);
     Ok(readers.feed(alloc, 1, piece)?.len())
 }
 
-fn gives_so_many(alloc: Global, lines: usize) -> Result<bool, Memory> {
-    let piece = lines_in_a_piece(alloc, lines)?;
-    Ok(matches!(number_of_lines(alloc, piece.as_slice()), Ok(given) if given == lines))
+fn gives_so_many(alloc: Global, lines: u64) -> Result<bool, Memory> {
+    let piece = repeated(alloc, b"one of many\n", lines)?;
+    let given = number_of_lines(alloc, piece.as_slice())?;
+    Ok(given as u64 == lines)
 }
 
 #[test]
