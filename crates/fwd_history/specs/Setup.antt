@@ -17,17 +17,6 @@ use Rattle.fwd_settings.specs.declared.chosen.OutputKind.TheVariants as output_k
 abbrev pub plus : ℕ → ℕ → ℕ
 plus count more = min (count + more) (2 ^ 64 - 1)
 
--- a chunk of so many bytes closes, and a batch of more isn't accepted
-abbrev pub full_chunk : ℕ
-full_chunk = 2048000
-
-abbrev pub largest_batch : ℕ
-largest_batch = 16777216
-
--- numbers of chunks are below this
-abbrev pub number_end : ℕ
-number_end = 2 ^ 63
-
 abbrev pub input_at : AllSettings → ℕ → Option InputSet
 input_at s input = slice_get s.inputs input
 
