@@ -198,9 +198,10 @@ fn places_of(kind: &OutputKind) -> u64
 pub fn events_at(alloc: Global, input: &InputSet, now: u64, lines: &Lines) -> Result<Events, Memory>
     ensures { IfOk result (λ events. events ≡ events_of input.now now lines.now) }
 {
+    let mut reader = input.parser.reader(alloc)?;
     let mut events = Events::new(alloc);
     for line in lines.as_slice() {
-        events.push(input.parser.parse(alloc, line.bytes.as_slice(), now)?)?;
+        events.push(reader.read(alloc, line.bytes.as_slice(), now)?)?;
     }
     Ok(events)
 }
