@@ -417,7 +417,7 @@ fn long_lines(alloc: Global, lines: u64) -> Result<Bytes, Memory> {
 }
 
 /// How many of the longest lines come, and how many chunks have them: one closes behind 63 of them.
-const LONG_LINES: [(u64, u64); 3] = [(1, 1), (12, 1), (130, 3)];
+const LONG_LINES: [(u64, u64); 3] = [(1, 1), (12, 1), (64, 2)];
 
 fn long_lines_are_handed(
     rt: &(impl Threads + Sync),
