@@ -157,7 +157,11 @@ fn loaded_folder(rt: &HostRuntime) -> Result<Result<u64, LoadErr>, Fail> {
 fn a_call_that_fails_ends_loading(rt: HostRuntime) -> Result<(), Fail> {
     // The root and one folder are listed, and one file is synced and read.
     for call in 1..5 {
-        assert_eq!(rt; loaded_with(&rt, call)?, Err(LoadErr::DiskFailed), "call {call}");
+        assert_eq!(rt;
+            loaded_with(&rt, call)?,
+            Err(LoadErr::DiskFailed),
+            "call {call}"
+        );
     }
     assert_eq!(rt; loaded_with(&rt, 5)?, Ok(2));
     assert_eq!(rt; loaded_folder(&rt)?, Err(LoadErr::DiskFailed));
@@ -170,12 +174,7 @@ fn write_unsynced(disk: &mut MemDisk) -> Result<(), Fail> {
     Ok(())
 }
 
-fn push_image(
-    rt: &HostRuntime,
-    disk: &MemDisk,
-    pick: u64,
-    text: &mut String,
-) -> Result<(), Fail> {
+fn push_image(rt: &HostRuntime, disk: &MemDisk, pick: u64, text: &mut String) -> Result<(), Fail> {
     let mut image = disk.image(rt.alloc(), 9, pick)?;
     push_loaded(rt, &mut image, text)
 }

@@ -12,12 +12,7 @@ const ACKNOWLEDGED: &[u8] = b"\xc1\0\0\0\0\0\x01\0\0\0\0\0\0\0\0\0\0\x11\0\0\0\0
 
 /// The length of the metadata, the tag, the length of the content, events, torn bytes and mark, and whether this is the
 /// content.
-fn push_chunk(
-    alloc: Global,
-    chunk: &Chunk,
-    content: &[u8],
-    text: &mut String,
-) -> Result<(), Fail> {
+fn push_chunk(alloc: Global, chunk: &Chunk, content: &[u8], text: &mut String) -> Result<(), Fail> {
     let tag = str::from_utf8(chunk.tag.as_slice())?;
     let (size, same) = (chunk.content.len(), chunk.content.as_slice() == content);
     let (meta, events, torn, mark) = (chunk.meta, chunk.events, chunk.torn, chunk.mark);
@@ -169,8 +164,13 @@ fn a_file_may_be_so_long(rt: HostRuntime) -> Result<(), Fail> {
 
 fn push_brief(alloc: Global, kind: &str, brief: &Brief, text: &mut String) -> Result<(), Fail> {
     let tag = str::from_utf8(brief.tag.as_slice())?;
-    let (meta, size, events, torn, mark) =
-        (brief.meta, brief.size, brief.events, brief.torn, brief.mark);
+    let (meta, size, events, torn, mark) = (
+        brief.meta,
+        brief.size,
+        brief.events,
+        brief.torn,
+        brief.mark,
+    );
     let line = format!(in alloc; "{kind} {meta} {tag} {size} {events} {torn} {mark}\n")?;
     Ok(text.push_str(line.as_str())?)
 }

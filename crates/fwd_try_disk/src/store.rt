@@ -272,7 +272,14 @@ fn a_crash_leaves_a_file_that_is_removed_whole_or_not_at_all(rt: HostRuntime) ->
 
 fn push_three(alloc: Global, disk: &mut MemDisk, text: &mut String) -> Result<(), Fail> {
     let mut store = new_store(alloc, true, 1)?;
-    push_put(alloc, &mut store, disk, Home::Disk, &[ONE, TWO, THREE], text)
+    push_put(
+        alloc,
+        &mut store,
+        disk,
+        Home::Disk,
+        &[ONE, TWO, THREE],
+        text,
+    )
 }
 
 /// Three lines come to a disk whose call of that number fails; what was answered, and the files that a crash leaves then.
@@ -570,7 +577,11 @@ fn is_taken(
     size: u64,
 ) -> Result<bool, Fail> {
     let tag = format!(in alloc; "app.{number}")?;
-    let home = if number % 3 == 0 { Home::Ram } else { Home::Disk };
+    let home = if number % 3 == 0 {
+        Home::Ram
+    } else {
+        Home::Disk
+    };
     let answer = put(alloc, store, disk, home, tag.as_str().as_bytes(), ONE);
     let (chunk, fresh) = (ChunkId(number), size == 22);
     Ok(answer == Ok(Accepted { chunk, size, fresh }))
