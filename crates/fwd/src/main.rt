@@ -3,43 +3,25 @@
 #![tactic(auto)]
 
 mod folder_files;
+mod started;
 mod std_sink;
 
 use folder_files::FolderFiles;
 use fwd_top::{Status, log_forwarder, status_line};
-use std::env;
+use started::{environment, words};
 use std::io::{self, Write};
 use std::process::ExitCode;
 use std::thread::Threads;
 use std_sink::StdSink;
 
-/// The words behind the program's name. None where they aren't text, or memory is wanting.
-fn words(rt: &HostRuntime) -> Option<Vec<String>> {
-    let mut words = Vec::new(rt.alloc());
-    for word in env::args(rt).ok()?.skip(1) {
-        words.push(word).ok()?;
-    }
-    Some(words)
-}
-
-/// The environment. It counts as empty where a variable isn't text.
-fn environment(rt: &HostRuntime) -> Vec<(String, String)> {
-    let mut all = Vec::new(rt.alloc());
-    if let Ok(vars) = env::vars(rt) {
-        for var in vars {
-            if all.push(var).is_err() {
-                break;
-            }
-        }
-    }
-    all
-}
-
 fn run(rt: &HostRuntime, threads: &(impl Threads + Sync)) -> Status {
-    let Some(words) = words(rt) else {
-        return Status::Usage;
+    let words = match words(rt) {
+        Ok(words) => words,
+        Err(status) => return status,
     };
-    let env = environment(rt);
+    let Ok(env) = environment(rt) else {
+        return Status::Memory;
+    };
     let mut files = FolderFiles::new(*rt);
     let mut out = StdSink::new(*rt);
     log_forwarder(

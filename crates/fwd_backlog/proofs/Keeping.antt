@@ -54,7 +54,7 @@ kept_synced : (first : FileState) (answer : Option (Unit {0})) (now during after
 kept_synced first (Some done) now during after kept synced = (subst (Kept first) (sym synced.1) kept, subst (Kept first) (sym synced.2) (kept_whole first now kept synced.0))
 kept_synced first None now during after kept same = (subst (Kept first) (sym same.0) kept, subst (Kept first) (sym same.1) kept)
 
-one_or_other : (name n : List ℕ) → (n ≡ name) ⊎ (n ≢ name)
+pub one_or_other : (name n : List ℕ) → (n ≡ name) ⊎ (n ≢ name)
 one_or_other name n = by (bytes_eq n name) refl
   where
     by : (b : Bool) → bytes_eq n name ≡ b → (n ≡ name) ⊎ (n ≢ name)

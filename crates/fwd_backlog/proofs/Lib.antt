@@ -5,4 +5,6 @@ pub mod Files
 pub mod Serials
 pub mod Keeping
 pub mod Standing
+mod Fresh
+mod Free
 pub mod Promised

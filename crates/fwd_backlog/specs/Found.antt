@@ -1,8 +1,8 @@
 -- What is found on a disk as it reads.
-use Rattle.std.specs.Prelude.{◌≡◌, ℕ, IsTrue, List, Option, Some, map, Contains, All}
+use Rattle.std.specs.Prelude.{◌≡◌, ◌⊎◌, ℕ, IsTrue, List, Option, Some, map, Contains, All}
 use Rattle.std.specs.List.Sorted.{IsStrictlySortedBy}
 use Rattle.fwd_outside.specs.Disk.{IsFileName}
-use Rattle.fwd_image.specs.File.{IsImage, content}
+use Rattle.fwd_image.specs.File.{IsImage, content, whole, gone}
 use Rattle.fwd_image.specs.Disk.{Files}
 use Rattle.fwd_found.specs.declared.chunk.Found.{Found}
 use Rattle.fwd_found.specs.Seen.{IsSeen}
@@ -26,3 +26,7 @@ pub record AreFoundIn (root : List ℕ) (files : Files) (found : List Found) : T
 pub record LeavesNoMore (old new : Files) : Type 0 where
   pub reads : (name : List ℕ) → content (new name) ≡ content (old name)
   pub images : (name : List ℕ) (image : Option (List ℕ)) → IsImage (new name) image → IsImage (old name) image
+
+-- each name has a file without doubt, or none
+abbrev pub IsFresh : Files → Type 0
+IsFresh files = (name : List ℕ) → (files name ≡ gone) ⊎ ((bytes : List ℕ) × (files name ≡ whole bytes))

@@ -1,9 +1,9 @@
 -- The numbers in the names of files.
-use Rattle.std.specs.Prelude.{ℕ, ◌+◌, ◌^◌, ◌==◌, ◌&&◌, nat_lt, nat_eq, max, Bool, if◌then◌else◌, List, [], ◌∷◌, length, take, drop, take_while, fold}
+use Rattle.std.specs.Prelude.{ℕ, ◌+◌, nat_lt, nat_eq, max, Bool, if◌then◌else◌, List, [], ◌∷◌, length, take, drop, fold, Option, Some, None}
 use Rattle.std.specs.List.{ends_with}
-use Rattle.std.specs.Char.{is_ascii_digit}
 use Rattle.std.specs.Str.{bytes_eq}
-use Rattle.fwd_base.specs.Number.{decimal}
+use Rattle.fwd_base.specs.Limits.{past_numbers}
+use Rattle.fwd_base.specs.Number.{number_of}
 use Rattle.fwd_found.specs.declared.chunk.Found.{Found}
 
 -- `.flb`
@@ -14,13 +14,15 @@ flb = 46 ∷ 102 ∷ 108 ∷ 98 ∷ []
 abbrev pub is_chunk_name : List ℕ → Bool
 is_chunk_name name = ends_with nat_eq name flb
 
--- A serial is a name of twenty digits and `.flb` whose number is below 2^63. Other names are foreign.
-abbrev pub is_serial : List ℕ → Bool
-is_serial name = (length (take_while is_ascii_digit name) == 20) && bytes_eq (drop 20 name) flb && nat_lt (decimal (take 20 name)) (2 ^ 63)
+-- a number of serials, and 0 in place of another
+abbrev pub below_past : Option ℕ → ℕ
+below_past None = 0
+below_past (Some number) = if nat_lt number past_numbers then number else 0
 
--- the number of a serial, and 0 of a foreign name
+-- A serial is a name of twenty digits and `.flb` whose number is below 2^63: its number. Other names are foreign, and
+-- have 0.
 abbrev pub serial_number : List ℕ → ℕ
-serial_number name = if is_serial name then decimal (take 20 name) else 0
+serial_number name = if bytes_eq (drop 20 name) flb then below_past (number_of (take 20 name)) else 0
 
 -- the greatest serial, 0 where there is none
 abbrev pub greatest_serial : List Found → ℕ

@@ -1,17 +1,18 @@
 //! What holds of the calls of loading, whatever the disk answers.
 
-ghost use Rattle.std.specs.Prelude.{◌≡◌, ◌↔◌, List, ℕ, Option, Some, Contains};
+ghost use Rattle.std.specs.Prelude.{◌≡◌, ◌↔◌, ◌≤◌, List, ℕ, Option, Some, IsTrue, false, Contains};
 ghost use Rattle.std.specs.List.{AllZip};
 ghost use Rattle.std.specs.List.Sorted.{IsStrictlySortedBy};
 ghost use Rattle.fwd_program.specs.Program.{Return, Way};
 ghost use Rattle.fwd_program.specs.Moments.{Ends, Moments};
-ghost use Rattle.fwd_outside.specs.Disk.{DiskEntry, DiskGiven, DiskProgram};
+ghost use Rattle.fwd_outside.specs.Disk.{DiskEntry, DiskGiven, DiskProgram, IsFileName};
 ghost use Rattle.fwd_image.specs.Disk.{Files, Steps, MayHold};
 ghost use Rattle.fwd_found.specs.declared.chunk.Found.{Found};
 ghost use Rattle.fwd_backlog.specs.declared.listed.Listed.{Listed};
-ghost use Rattle.fwd_backlog.specs.Listing.{by_name, in_order};
+ghost use Rattle.fwd_backlog.specs.Serial.{is_chunk_name, serial_number, next_number};
+ghost use Rattle.fwd_backlog.specs.Listing.{path_of, by_name, in_order};
 ghost use Rattle.fwd_backlog.specs.Loading.{FileRead, loads, IsFoundOf};
-ghost use Rattle.fwd_backlog.specs.Found.{AreFoundIn, LeavesNoMore};
+ghost use Rattle.fwd_backlog.specs.Found.{AreFoundIn, IsFresh, LeavesNoMore};
 
 /// The order of files has each of them once, by name, then by stream.
 pub fn files_stand_in_order()
@@ -30,4 +31,17 @@ pub fn loading_leaves_no_more()
 pub fn what_is_loaded_stands()
     ensures { (root : List ℕ) (given : DiskGiven) (before entries : List DiskEntry) (first last : Files) (files : List FileRead) (found : List Found)
         → MayHold given before first → Way (loads root) entries (Return (Some files)) → Ends Steps first entries last → AllZip IsFoundOf files found → AreFoundIn root last found }
+{}
+
+/// From a disk on which no file is in doubt, loading changes no file at any moment.
+pub fn loading_changes_no_fresh_file()
+    ensures { (root : List ℕ) (files : Files) (entries : List DiskEntry) (left : DiskProgram (Option (List FileRead)))
+        → IsFresh files → Way (loads root) entries left → Moments Steps (λ now. now ≡ files) files entries }
+{}
+
+/// Under no stream a file has the serial of the next chunk, or a later one.
+pub fn later_numbers_are_free()
+    ensures { (root stream name : List ℕ) (files : Files) (found : List Found)
+        → AreFoundIn root files found → IsFileName stream → IsFileName name → IsTrue (is_chunk_name name) → next_number found ≤ serial_number name
+        → (files (path_of root (record { name = name; stream = stream }))).there ≡ false }
 {}

@@ -1,6 +1,7 @@
 //! All files of chunks are loaded.
 
-ghost use Rattle.std.specs.Prelude.{◌≡◌, ◌≤◌, ◌^◌, IfOk, IsErrOf};
+ghost use Rattle.std.specs.Prelude.{◌≡◌, ◌≤◌, IfOk, IsErrOf};
+ghost use Rattle.fwd_base.specs.Limits.{past_numbers};
 ghost use Rattle.fwd_program.specs.Cause.{HasCause};
 ghost use Rattle.fwd_image.specs.Crash.{DiskSince, DiskAfter};
 ghost use Rattle.fwd_backlog.specs.declared.errors.LoadErr.TheVariants.{DiskFailed};
@@ -41,7 +42,7 @@ pub fn load_all<D: Disk>(
     root: &[u8],
 ) -> Result<Backlog, LoadErr>
     ensures loaded { Loads (D.told disk.old) (D.told disk.new) (loads root.now) IsBacklog result }
-    ensures next { IfOk result (λ backlog. (1 ≤ backlog.next) × (backlog.next ≤ 2 ^ 63)) }
+    ensures next { IfOk result (λ backlog. (1 ≤ backlog.next) × (backlog.next ≤ past_numbers)) }
 
     // What was found is what stands there, and a crash at any moment of the call leaves nothing else than before it.
     ensures found { IfOk result (λ backlog. DiskAfter (D.told disk.old) (D.told disk.new) (λ _. Unit {0}) (λ _ last. AreFoundIn root.now last backlog.found)) }
@@ -54,7 +55,7 @@ pub fn load_all<D: Disk>(
 
 fn load<D: Disk>(alloc: Global, disk: &mut D, root: &[u8]) -> Result<Backlog, LoadErr>
     ensures loaded { Loads (D.told disk.old) (D.told disk.new) (loads root.now) IsBacklog result }
-    ensures next { IfOk result (λ backlog. (1 ≤ backlog.next) × (backlog.next ≤ 2 ^ 63)) }
+    ensures next { IfOk result (λ backlog. (1 ≤ backlog.next) × (backlog.next ≤ past_numbers)) }
     ensures cause { HasCause (D.faults disk.old) (D.faults disk.new) (IsErrOf result DiskFailed) }
 {
     let listed = list_files(alloc, disk, root)?;

@@ -12,13 +12,14 @@ ghost use Rattle.fwd_backlog.specs.Loading.{file_read, reads_synced, reads_files
 use crate::LoadErr;
 use crate::listed::Listed;
 use crate::paths::path_of;
+use fwd_base::limits::LONGEST_FILE;
 use fwd_base::{Bytes, Items, Memory};
 use fwd_found::{Found, check_file};
 use fwd_outside::Disk;
 use std::alloc::Global;
 
 /// So many bytes tell what a file stands for: the longest that is taken has one byte less.
-const ENOUGH: u64 = 67_108_865;
+const ENOUGH: u64 = LONGEST_FILE as u64 + 1;
 
 fn read_synced<D: Disk>(alloc: Global, disk: &mut D, path: &[u8]) -> Result<Bytes, LoadErr>
     ensures calls { Makes (D.told disk.old) (D.told disk.new) (reads_synced path.now) (outcome result) }

@@ -1,4 +1,2 @@
-pub mod Places
-pub mod Utf8
 pub mod Splitting
 pub mod Typing

@@ -1,19 +1,10 @@
 -- Numbers as a configuration writes them.
-use Rattle.std.specs.Prelude.{ℕ, ◌+◌, ◌-◌, ◌*◌, Bool, ◌==◌, ◌&&◌, ◌||◌, nat_lt, nat_le, if◌then◌else◌, List, [], ◌∷◌, length, codes, Option, Some, None, option_and_then, option_map}
-use Rattle.std.specs.Char.{is_ascii_digit}
-use Rattle.std.specs.List.{list_all, before_first, after_first}
-use Rattle.std.specs.Str.{bytes_eq, byte}
-use Rattle.fwd_base.specs.Number.{decimal, within_64_bits}
+use Rattle.std.specs.Prelude.{ℕ, ◌+◌, ◌-◌, ◌*◌, ◌==◌, ◌&&◌, ◌||◌, nat_lt, nat_le, if◌then◌else◌, List, [], ◌∷◌, length, codes, Option, Some, None, option_and_then, option_map}
+use Rattle.std.specs.List.{before_first, after_first}
+use Rattle.std.specs.Str.{str_eq_ignore_ascii_case, byte}
+use Rattle.fwd_base.specs.Number.{within_64_bits, is_digits, number_of}
 use Rattle.fwd_base.specs.declared.choices.Retries.{Retries}
 use Rattle.fwd_base.specs.declared.choices.Retries.TheVariants.{Times, Unlimited}
-
--- digits, at least one
-abbrev pub is_digits : List ℕ → Bool
-is_digits text = nat_lt 0 (length text) && list_all is_ascii_digit text
-
--- a number: digits whose value has at most 64 bits
-abbrev pub number_of : List ℕ → Option ℕ
-number_of text = if is_digits text then within_64_bits (decimal text) else None
 
 -- the number, where it lies between these two
 abbrev pub within : ℕ → ℕ → ℕ → Option ℕ
@@ -49,9 +40,9 @@ flush_of text =
     (number_of (before_first (λ b. b == byte ".") text))
     else None
 
--- how often is tried again: a number, `no_limits` or `False` for always, `no_retries` for never
+-- how often is tried again: a number, `no_limits` or `False` for always, `no_retries` for never, case ignored
 abbrev pub retries_of : List ℕ → Option Retries
 retries_of text =
-    if bytes_eq text (codes "no_limits") || bytes_eq text (codes "False") then Some Unlimited
-    else (if bytes_eq text (codes "no_retries") then Some (Times 0)
+    if str_eq_ignore_ascii_case text (codes "no_limits") || str_eq_ignore_ascii_case text (codes "false") then Some Unlimited
+    else (if str_eq_ignore_ascii_case text (codes "no_retries") then Some (Times 0)
     else option_map Times (number_of text))

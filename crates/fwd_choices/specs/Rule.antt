@@ -1,6 +1,6 @@
 -- The rules of `grep` and `modify`, as a configuration writes them.
 use Rattle.std.specs.Prelude.{ℕ, Bool, false, not, ◌==◌, ◌&&◌, nat_lt, if◌then◌else◌, List, [], ◌∷◌, length, codes, Option, Some, None, option_map}
-use Rattle.std.specs.Str.{bytes_eq, byte}
+use Rattle.std.specs.Str.{str_eq_ignore_ascii_case, byte}
 use Rattle.fwd_reshape.specs.declared.rules.Condition.{Condition}
 use Rattle.fwd_reshape.specs.declared.rules.Condition.TheVariants as condition
 use Rattle.fwd_reshape.specs.declared.rules.Change.{Change}
@@ -26,13 +26,13 @@ key_and_rest_of text = if is_key (first_word text) && nat_lt 0 (length (rest tex
 abbrev pub two_keys : List ℕ → Option (List ℕ × List ℕ)
 two_keys text = if is_key (first_word text) && is_key (rest text) then Some (first_word text, rest text) else None
 
--- a condition, by its first word
+-- a condition, by its first word, case ignored
 abbrev pub condition_of : List ℕ → Option Condition
 condition_of text =
-    if bytes_eq (first_word text) (codes "Key_exists") then option_map (λ k. condition.KeyExists k) (one_key (rest text))
-    else (if bytes_eq (first_word text) (codes "Key_does_not_exist") then option_map (λ k. condition.KeyDoesNotExist k) (one_key (rest text))
-    else (if bytes_eq (first_word text) (codes "Key_value_equals") then option_map (λ p. condition.KeyValueEquals p.0 p.1) (key_and_rest_of (rest text))
-    else (if bytes_eq (first_word text) (codes "Key_value_does_not_equal") then option_map (λ p. condition.KeyValueDoesNotEqual p.0 p.1) (key_and_rest_of (rest text))
+    if str_eq_ignore_ascii_case (first_word text) (codes "key_exists") then option_map (λ k. condition.KeyExists k) (one_key (rest text))
+    else (if str_eq_ignore_ascii_case (first_word text) (codes "key_does_not_exist") then option_map (λ k. condition.KeyDoesNotExist k) (one_key (rest text))
+    else (if str_eq_ignore_ascii_case (first_word text) (codes "key_value_equals") then option_map (λ p. condition.KeyValueEquals p.0 p.1) (key_and_rest_of (rest text))
+    else (if str_eq_ignore_ascii_case (first_word text) (codes "key_value_does_not_equal") then option_map (λ p. condition.KeyValueDoesNotEqual p.0 p.1) (key_and_rest_of (rest text))
     else None)))
 
 -- the change that the text of a rule says

@@ -10,11 +10,8 @@ mod truths;
 mod types;
 
 pub use kind::SettingKind;
-pub use numbers::{flush_ms, number, port, positive, retries};
+pub use numbers::{flush_ms, port, positive, retries};
 pub use rules::{ChangeWord, change, condition, key_and_rest};
-pub use texts::{is_plain, is_tag, parts_at};
+pub use texts::{is_plain, is_tag, is_uri, is_visible, parts_at, same_name};
 pub use truths::{is_false, truth};
 pub use types::field_types;
-
-#[cfg(test)]
-mod tests;

@@ -3,7 +3,7 @@
 ghost use Rattle.std.specs.Prelude.{◌≡◌, IfOk, option_map};
 ghost use Rattle.fwd_choices.specs.Rule.{is_key, one_key, key_and_rest_of, two_keys, condition_of, change_of};
 
-use crate::texts::parted;
+use crate::texts::{parted, same_name};
 use fwd_base::{Bytes, Memory};
 use fwd_reshape::{Change, Condition};
 use std::alloc::Global;
@@ -70,24 +70,24 @@ fn two_keys(alloc: Global, text: &[u8]) -> Result<Option<(Bytes, Bytes)>, Memory
     )))
 }
 
-/// A condition of `modify`. `None` where the text says none.
+/// A condition of `modify`, its word in either case. `None` where the text says none.
 pub fn condition(alloc: Global, text: &[u8]) -> Result<Option<Condition>, Memory>
     ensures { IfOk result (λ condition. condition ≡ condition_of text.now) }
 {
     let (word, rest) = parted(text);
-    if word == b"Key_exists".as_slice() {
+    if same_name(word, b"key_exists") {
         return Ok(one_key(alloc, rest)?.map(|key| Condition::KeyExists { key }));
     }
-    if word == b"Key_does_not_exist".as_slice() {
+    if same_name(word, b"key_does_not_exist") {
         return Ok(one_key(alloc, rest)?.map(|key| Condition::KeyDoesNotExist { key }));
     }
-    if word == b"Key_value_equals".as_slice() {
+    if same_name(word, b"key_value_equals") {
         return Ok(key_and_rest(alloc, rest)?.map(|(key, value)| Condition::KeyValueEquals {
             key,
             value,
         }));
     }
-    if word == b"Key_value_does_not_equal".as_slice() {
+    if same_name(word, b"key_value_does_not_equal") {
         return Ok(key_and_rest(alloc, rest)?.map(|(key, value)| Condition::KeyValueDoesNotEqual {
             key,
             value,

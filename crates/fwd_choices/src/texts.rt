@@ -1,11 +1,11 @@
 //! Texts and their parts.
 
-ghost use Rattle.std.specs.Prelude.{◌≡◌, ◌≤◌, length, IfOk};
-ghost use Rattle.std.specs.List.{position_or_len};
-ghost use Rattle.std.specs.Str.{is_utf8};
-ghost use Rattle.fwd_choices.specs.Text.{is_tag_text, is_plain_text, is_one_of, parts_of, is_blank, skip_blanks, first_word, rest};
+ghost use Rattle.std.specs.Prelude.{◌≡◌, IfOk};
+ghost use Rattle.std.specs.Str.{str_eq_ignore_ascii_case};
+ghost use Rattle.fwd_choices.specs.Text.{is_tag_text, is_plain_text, is_visible_text, is_uri_text, is_one_of, parts_of, first_word, rest};
 
-use fwd_base::{Bytes, Memory, Names};
+use fwd_base::limits::LONGEST_TAG;
+use fwd_base::{Bytes, Memory, Names, is_utf8, place_of_blank, skip_blanks};
 use std::alloc::Global;
 use std::mem;
 
@@ -13,13 +13,31 @@ use std::mem;
 pub fn is_tag(text: &[u8]) -> bool
     ensures { result ≡ is_tag_text text.now }
 {
-    !text.is_empty() && text.len() <= 1_024 && is_utf8(text)
+    !text.is_empty() && text.len() <= LONGEST_TAG && is_utf8(text)
 }
 
-fn is_utf8(bytes: &[u8]) -> bool
-    ensures { result ≡ is_utf8 bytes.now }
+/// Whether two names are the same, case ignored.
+pub fn same_name(name: &[u8], other: &[u8]) -> bool
+    ensures { result ≡ str_eq_ignore_ascii_case name.now other.now }
 {
-    str::from_utf8(bytes).is_ok()
+    name.eq_ignore_ascii_case(other)
+}
+
+/// Whether a text has visible ASCII characters alone.
+pub fn is_visible(text: &[u8]) -> bool
+    ensures { result ≡ is_visible_text text.now }
+{
+    text.iter().all(|byte| byte.is_ascii_graphic())
+}
+
+/// Whether a text may be the URI of a request: a slash first, and visible ASCII characters alone.
+pub fn is_uri(text: &[u8]) -> bool
+    ensures { result ≡ is_uri_text text.now }
+{
+    match text {
+        [b'/', rest @ ..] => is_visible(rest),
+        _ => false,
+    }
 }
 
 /// Whether no star stands in a text.
@@ -61,29 +79,4 @@ pub fn parted(text: &[u8]) -> (&[u8], &[u8])
     let text = skip_blanks(text);
     let end = place_of_blank(text);
     (&text[..end], skip_blanks(&text[end..]))
-}
-
-fn place_of_blank(text: &[u8]) -> usize
-    ensures place { result ≡ position_or_len is_blank text.now }
-    ensures within { result ≤ length text.now }
-{
-    text.iter()
-        .position(|byte| is_blank(*byte))
-        .unwrap_or(text.len())
-}
-
-fn is_blank(byte: u8) -> bool
-    ensures { result ≡ is_blank byte }
-{
-    byte == b' ' || byte == b'\t'
-}
-
-fn skip_blanks(text: &[u8]) -> &[u8]
-    ensures { result.now ≡ skip_blanks text.now }
-{
-    let mut rest = text;
-    while let [b' ' | b'\t', behind @ ..] = rest {
-        rest = behind;
-    }
-    rest
 }

@@ -3,9 +3,8 @@
 ghost use Rattle.std.specs.Prelude.{◌≡◌, IfOk};
 ghost use Rattle.fwd_choices.specs.Types.{type_of, field_type_of, types_of_words, types_of};
 
-use crate::numbers::place_of;
 use crate::texts::parts_at;
-use fwd_base::{Bytes, Memory, Names};
+use fwd_base::{Bytes, Memory, Names, place_of};
 use fwd_parser::{FieldType, FieldTypes, TypeKind};
 use std::alloc::Global;
 

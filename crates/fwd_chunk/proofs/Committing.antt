@@ -1,6 +1,7 @@
 -- What a crash leaves of a chunk's file while the selector is written: all but the selector stays, and each selector
 -- chooses the old content or the new.
 use Rattle.std.proofs.Common.{◌≡◌, ◌⊎◌, inl, inr, ⊎_elim, ℕ, ◌+◌, ◌≤◌, Bool, true, false, IsTrue, IsSome, Option, List, [], ◌∷◌, ◌++◌, length, refl, sym, ◌∙◌, ap, subst, arith}
+use Rattle.fwd_base.specs.Limits.{longest_file}
 use Rattle.fwd_program.specs.Moments.{Holds}
 use Rattle.fwd_program.proofs.Holding.{holds_weaker}
 use Rattle.fwd_program.proofs.Going.{holds_and_then}
@@ -10,7 +11,7 @@ use Rattle.fwd_image.specs.Disk.{Files, Steps}
 use Rattle.fwd_image.proofs.Calls.{Local, LocalThen, local_first, holds_writes, holds_syncs}
 use Rattle.fwd_image.proofs.Keeps.{Kept, Keeps, Agrees, keeps_first, keeps_whole, keeps_written, image_agrees, whole_agrees, get_or-overwritten_in}
 use Rattle.fwd_chunk.specs.declared.append.ChunkHead.{ChunkHead}
-use Rattle.fwd_chunk.specs.Layout.{longest, number_at, chosen, other, meta_length, selector_of, HasParts}
+use Rattle.fwd_chunk.specs.Layout.{number_at, chosen, other, meta_length, selector_of, HasParts}
 use Rattle.fwd_chunk.specs.Append.{LeavesEither, IsSettled, IsStaged, syncs_if, next_selector, commits, committed_head, KeepsEither}
 use Rattle.fwd_chunk.proofs.Parts.{Counts, number_same, parts_as, has_parts_at, slots, chosen_or, chosen_next}
 use Rattle.fwd_chunk.proofs.Staging.{by_head, numbers}
@@ -36,14 +37,14 @@ module _ (head : ChunkHead) (meta content batch : List ℕ) (files : Files) (sta
   bounds : (14 ≤ chosen head.selector) × (chosen head.selector ≤ 18) × (14 ≤ other head.selector) × (other head.selector ≤ 18)
   bounds = ⊎_elim (λ s. (omega (arith, s.0), omega (arith, s.0), omega (arith, s.1), omega (arith, s.1))) (λ s. (omega (arith, s.0), omega (arith, s.0), omega (arith, s.1), omega (arith, s.1))) (slots head.selector)
 
-  new_parts : (image : List ℕ) → Agrees 7 8 total longest bytes image → chosen (selector_of image) ≡ other head.selector → HasParts image meta (content ++ batch)
+  new_parts : (image : List ℕ) → Agrees 7 8 total longest_file bytes image → chosen (selector_of image) ≡ other head.selector → HasParts image meta (content ++ batch)
   new_parts image agrees is =
       let by = by_head head meta content files old in
       parts_as image _ _ meta (content ++ batch) by.0 (sym staged_is.behind)
       (has_parts_at bytes image head.meta (other head.selector) (head.size + length batch) agrees.short old.parts.id old.parts.id_end old.parts.mark (sym old.meta_is) is staged_is.slot in_all agrees.covers
       (λ i counts. agrees.same i (counted _ _ i bounds.2 bounds.3 (omega arith) counts)))
 
-  either_parts : (image : List ℕ) → Agrees 7 8 total longest bytes image → HasParts image meta content ⊎ HasParts image meta (content ++ batch)
+  either_parts : (image : List ℕ) → Agrees 7 8 total longest_file bytes image → HasParts image meta content ⊎ HasParts image meta (content ++ batch)
   either_parts image agrees = ⊎_elim (λ is. inl (parts_as image _ _ meta content (by_head head meta content files old).0 (by_head head meta content files old).1
       (has_parts_at bytes image head.meta (chosen head.selector) head.size agrees.short old.parts.id old.parts.id_end old.parts.mark (sym old.meta_is) is (numbers head meta content files old) (omega (arith, in_all)) (omega (arith, agrees.covers))
       (λ i counts. agrees.same i (counted _ _ i bounds.0 bounds.1 (omega arith) counts)))))
@@ -51,14 +52,14 @@ module _ (head : ChunkHead) (meta content batch : List ℕ) (files : Files) (sta
       (chosen_or (selector_of image) head.selector)
 
   abbrev pub Either : FileState → Type 0
-  Either s = Keeps 7 8 total longest bytes s
+  Either s = Keeps 7 8 total longest_file bytes s
 
   pub either_first : Either (files head.name)
-  either_first = subst Either (sym old.state) (keeps_first 7 8 total longest bytes in_all old.parts.short)
+  either_first = subst Either (sym old.state) (keeps_first 7 8 total longest_file bytes in_all old.parts.short)
 
   pub either_leaves : (s : FileState) (image : Option (List ℕ)) → Either s → IsImage s image → LeavesEither meta content (content ++ batch) image
   either_leaves s image either is =
-      let agrees = image_agrees 7 8 total longest bytes s image either is in
+      let agrees = image_agrees 7 8 total longest_file bytes s image either is in
       subst (LeavesEither meta content (content ++ batch)) (sym agrees.1) (either_parts agrees.0 agrees.2)
 
   settled : (s1 s2 : FileState) → s1 ≡ written (files head.name) 7 1 (next_selector head.selector ∷ []) → s2 ≡ whole s1.bytes → Either s2 → IsSettled (committed_head head (head.size + length batch)) meta (content ++ batch) s2
@@ -66,7 +67,7 @@ module _ (head : ChunkHead) (meta content batch : List ℕ) (files : Files) (sta
       let b = overwritten bytes 7 (next_selector head.selector ∷ []) in
       let bytes1 : s1.bytes ≡ b = ap (λ (s : FileState). s.bytes) one ∙ ap (λ (s : FileState). overwritten s.bytes 7 (next_selector head.selector ∷ [])) old.state in
       let state : s2 ≡ whole b = two ∙ ap whole bytes1 in
-      let agrees = whole_agrees 7 8 total longest bytes b (subst Either state either) in
+      let agrees = whole_agrees 7 8 total longest_file bytes b (subst Either state either) in
       let selects : selector_of b ≡ next_selector head.selector = get_or-overwritten_in bytes 7 (next_selector head.selector ∷ []) 0 (omega (arith, in_all)) (omega arith) in
       let chooses_new : chosen (selector_of b) ≡ other head.selector = ap chosen selects ∙ chosen_next head.selector in
       let e = agrees.same 22 (record { below = omega arith; beside = inr (omega arith) }) in
@@ -93,7 +94,7 @@ module _ (head : ChunkHead) (meta content batch : List ℕ) (files : Files) (sta
     last_sync mid one local true is =
         holds_weaker Steps Between Between (LocalThen head.name files Either (λ s. s ≡ whole (mid head.name).bytes)) Committed mid (syncs head.name) (λ _ l. l)
         (λ answer last l. record { local = l.local; done = λ went _. settled (mid head.name) (last head.name) one (l.done went) l.local.here })
-        (holds_syncs head.name files Either mid local (keeps_whole 7 8 total longest bytes))
+        (holds_syncs head.name files Either mid local (keeps_whole 7 8 total longest_file bytes))
     last_sync mid one local false is = (local, record { local = local; done = λ _ f. let no : true ≡ false = sym f ∙ is in absurd (cc no) })
 
     pub holds_commits : Holds Steps Between Committed files (commits head full)
@@ -101,7 +102,7 @@ module _ (head : ChunkHead) (meta content batch : List ℕ) (files : Files) (sta
         holds_and_then Steps Between (LocalThen head.name files Either (λ s. s ≡ written (files head.name) 7 1 (next_selector head.selector ∷ []))) Committed files
         (writes head.name 7 (next_selector head.selector ∷ [])) (λ _. syncs_if full head.name)
         (holds_writes head.name files Either 7 (next_selector head.selector ∷ []) files (local_first head.name files Either either_first)
-        (λ s left good can same. keeps_written 7 8 total longest bytes s 7 1 left good can same (omega arith) (inr (omega arith, omega arith))))
+        (λ s left good can same. keeps_written 7 8 total longest_file bytes s 7 1 left good can same (omega arith) (inr (omega arith, omega arith))))
         (λ x last l. last_sync last (l.done refl) l.local full refl) (λ last l. (l.local, record { local = l.local; done = λ is. absurd (cc is) }))
 
     pub commit_keeps : Holds Steps (KeepsEither head meta content (content ++ batch) files) Committed files (commits head full)

@@ -2,6 +2,7 @@
 use Rattle.std.proofs.Common.{◌≡◌, ℕ, ◌+◌, ◌≤◌, ◌<◌, ◌^◌, Option, Some, IsSome, Result, Ok, Err, IfOk, List, ◌++◌, length, take, drop, refl, sym, ◌∙◌, ap, subst, arith, length-append}
 use Rattle.std.proofs.lemmas.Grind.{common_steps}
 use Rattle.std.proofs.lemmas.List.{take_at, drop_at, take_all}
+use Rattle.fwd_base.specs.Limits.{longest_file, longest_tag}
 use Rattle.fwd_program.specs.Program.{Return}
 use Rattle.fwd_program.specs.Told.{Makes}
 use Rattle.fwd_program.specs.Moments.{Holds}
@@ -16,7 +17,7 @@ use Rattle.fwd_image.specs.Crash.{DiskSince, DiskAfter, WholeOrGone}
 use Rattle.fwd_image.proofs.Calls.{Local, LocalThen}
 use Rattle.fwd_image.proofs.Whole.{AllImages, place_keeps}
 use Rattle.fwd_chunk.specs.declared.append.ChunkHead.{ChunkHead}
-use Rattle.fwd_chunk.specs.Layout.{longest, part, HasParts, new_meta, new_header, new_file, meta_length, committed}
+use Rattle.fwd_chunk.specs.Layout.{part, HasParts, new_meta, new_header, new_file, meta_length, committed}
 use Rattle.fwd_chunk.specs.Append.{IsSettled, SettledIn, ComesWhole, creates, new_head}
 
 -- what stands behind so many bytes in front
@@ -25,7 +26,7 @@ part_behind front content rest from count is_from is_count =
     let all : drop from (front ++ content ++ rest) ≡ content ++ rest = grind (arith, common_steps) in
     ap (λ (l : List ℕ). take count l) all ∙ take_at content rest count is_count
 
-new_meta_length : (tag content : List ℕ) → length tag ≤ 1024 → meta_length (new_file tag content) ≡ 4 + length tag
+new_meta_length : (tag content : List ℕ) → length tag ≤ longest_tag → meta_length (new_file tag content) ≡ 4 + length tag
 new_meta_length tag content le = omega (arith, le)
 
 new_committed : (tag content : List ℕ) → length content < 2 ^ 32 → committed (new_file tag content) ≡ length content
@@ -34,7 +35,7 @@ new_committed tag content lt = omega (arith, lt)
 length-new_file : (tag content : List ℕ) → length (new_file tag content) ≡ 28 + length tag + length content
 length-new_file tag content = omega (arith, length-append tag content)
 
-pub new_parts : (tag content : List ℕ) → length tag ≤ 1024 → 28 + length tag + length content ≤ longest → HasParts (new_file tag content) (new_meta tag) content
+pub new_parts : (tag content : List ℕ) → length tag ≤ longest_tag → 28 + length tag + length content ≤ longest_file → HasParts (new_file tag content) (new_meta tag) content
 new_parts tag content short fits =
     let bytes = new_file tag content in
     let header = new_header (4 + length tag) (length content) in
@@ -56,7 +57,7 @@ new_parts tag content short fits =
         let front : List ℕ = new_header (4 + length tag) (length content) ++ new_meta tag in
         ap (λ (l : List ℕ). take (length content) l) (drop_at front content (24 + (4 + length tag)) (omega arith)) ∙ take_all (length content) content (omega arith)
 
-pub new_settled : (name tag content : List ℕ) → length tag ≤ 1024 → 28 + length tag + length content ≤ longest → IsSettled (new_head name tag content) (new_meta tag) content (whole (new_file tag content))
+pub new_settled : (name tag content : List ℕ) → length tag ≤ longest_tag → 28 + length tag + length content ≤ longest_file → IsSettled (new_head name tag content) (new_meta tag) content (whole (new_file tag content))
 new_settled name tag content short fits = record {
   bytes = new_file tag content;
   state = refl;
@@ -88,7 +89,7 @@ create_since a b r name tag batch calls =
     (λ files is. holds_weaker Steps (ComesWhole name (new_file tag batch) files) (ComesWhole name (new_file tag batch) files) (Created name tag batch files is) (λ _ _. Unit {0}) files (creates name tag batch) (λ _ p. p) (λ _ _ _. tt)
     (create_keeps name tag batch files is))
 
-pub create_after : (a b : DiskTold) (r : Result ChunkHead DiskErr) (name tag batch : List ℕ) → length tag ≤ 1024 → 28 + length tag + length batch ≤ longest → IfOk r (λ head. head ≡ new_head name tag batch) → Makes a b (creates name tag batch) (disk_outcome r)
+pub create_after : (a b : DiskTold) (r : Result ChunkHead DiskErr) (name tag batch : List ℕ) → length tag ≤ longest_tag → 28 + length tag + length batch ≤ longest_file → IfOk r (λ head. head ≡ new_head name tag batch) → Makes a b (creates name tag batch) (disk_outcome r)
     → IfOk r (λ head. DiskAfter a b (λ files. files name ≡ gone) (λ _ last. SettledIn head (new_meta tag) batch last))
 create_after a b (Err e) name tag batch short fits is_head calls = tt
 create_after a b (Ok head) name tag batch short fits is_head calls =

@@ -3,9 +3,10 @@ use Rattle.std.proofs.Common.{◌≡◌, ◌⊎◌, inl, inr, ⊎_elim, ◌==◌
 use Rattle.std.specs.Int.{to_be_bytes, w32}
 use Rattle.std.proofs.lemmas.Grind.{common_steps}
 use Rattle.std.proofs.lemmas.List.{ext_get_or, get_or-take, get_or-drop, drop-append-le, drop-take, take_at}
+use Rattle.fwd_base.specs.Limits.{longest_file}
 use Rattle.fwd_image.specs.File.{overwritten}
 use Rattle.fwd_image.proofs.Keeps.{get_or-overwritten_in}
-use Rattle.fwd_chunk.specs.Layout.{longest, number_at, chosen, other, meta_length, selector_of, committed, part, HasParts}
+use Rattle.fwd_chunk.specs.Layout.{number_at, chosen, other, meta_length, selector_of, committed, part, HasParts}
 use Rattle.fwd_chunk.specs.Append.{next_selector}
 
 pub length-part : (bytes : List ℕ) (from count : ℕ) → from + count ≤ length bytes → length (part bytes from count) ≡ count
@@ -32,7 +33,7 @@ number_same a b at same =
     let e3 = same (at + 3) (omega arith) (omega arith) in
     cc
 
-pub has_parts_at : (first image : List ℕ) (meta slot size : ℕ) → length image ≤ longest → get_or first 0 0 ≡ 193 → get_or first 1 0 ≡ 0 → get_or first 6 0 ≡ 1
+pub has_parts_at : (first image : List ℕ) (meta slot size : ℕ) → length image ≤ longest_file → get_or first 0 0 ≡ 193 → get_or first 1 0 ≡ 0 → get_or first 6 0 ≡ 1
     → meta_length first ≡ meta → chosen (selector_of image) ≡ slot → number_at first slot ≡ size
     → 24 + meta + size ≤ length first → 24 + meta + size ≤ length image
     → ((i : ℕ) → Counts slot (24 + meta + size) i → get_or image i 0 ≡ get_or first i 0)

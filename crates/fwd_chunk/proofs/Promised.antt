@@ -1,5 +1,6 @@
 -- The promises of the contracts of `stage` and `commit`, from their calls alone.
 use Rattle.std.proofs.Common.{◌≡◌, ℕ, ◌+◌, ◌≤◌, Bool, Some, IsTrue, IsSome, refl, Result, Ok, Err, OnOk, List, ◌++◌, length, sym, ◌∙◌, ap, subst}
+use Rattle.fwd_base.specs.Limits.{longest_file}
 use Rattle.fwd_program.specs.Told.{Makes}
 use Rattle.fwd_program.proofs.Holding.{holds_weaker}
 use Rattle.fwd_program.proofs.Promised.{since_makes, after_did}
@@ -8,13 +9,12 @@ use Rattle.fwd_outside.specs.Disk.{DiskTold, disk_outcome}
 use Rattle.fwd_image.specs.Disk.{Files, Steps, stood}
 use Rattle.fwd_image.specs.Crash.{DiskSince, DiskAfter}
 use Rattle.fwd_chunk.specs.declared.append.ChunkHead.{ChunkHead}
-use Rattle.fwd_chunk.specs.Layout.{longest}
 use Rattle.fwd_chunk.specs.Append.{SettledIn, StagedIn, KeepsOld, KeepsEither, IsSettled, stages, commits, committed_head}
 use Rattle.fwd_chunk.proofs.Staging.{Staged, stage_keeps}
 use Rattle.fwd_chunk.proofs.Committing.{Committed, commit_keeps}
 
 module _ (a b : DiskTold) (r : Result (Unit {0}) DiskErr) where
-  pub stage_since : (head : ChunkHead) (meta content batch : List ℕ) (full : Bool) → 24 + head.meta + head.size + length batch ≤ longest
+  pub stage_since : (head : ChunkHead) (meta content batch : List ℕ) (full : Bool) → 24 + head.meta + head.size + length batch ≤ longest_file
       → Makes a b (stages head batch full) (disk_outcome r) → DiskSince a b (SettledIn head meta content) (KeepsOld head meta content)
   stage_since head meta content batch full total calls =
       since_makes Steps stood a b (stages head batch full) (disk_outcome r) (SettledIn head meta content) (KeepsOld head meta content) (λ _ _ _. Unit {0}) calls
@@ -27,7 +27,7 @@ module _ (a b : DiskTold) (r : Result (Unit {0}) DiskErr) where
       (λ files staged. holds_weaker Steps (KeepsEither head meta content (content ++ batch) files) (KeepsEither head meta content (content ++ batch) files) (Committed head meta content batch files staged full) (λ _ _. Unit {0}) files (commits head full) (λ _ p. p) (λ _ _ _. tt)
       (commit_keeps head meta content batch files staged full))
 
-pub stage_after : (a b : DiskTold) (r : Result (Unit {0}) DiskErr) (head : ChunkHead) (batch : List ℕ) (full : Bool) → 24 + head.meta + head.size + length batch ≤ longest → Makes a b (stages head batch full) (disk_outcome r)
+pub stage_after : (a b : DiskTold) (r : Result (Unit {0}) DiskErr) (head : ChunkHead) (batch : List ℕ) (full : Bool) → 24 + head.meta + head.size + length batch ≤ longest_file → Makes a b (stages head batch full) (disk_outcome r)
     → OnOk r (IsTrue full → (meta content : List ℕ) → DiskAfter a b (SettledIn head meta content) (λ _ last. StagedIn head meta content batch last))
 stage_after a b (Err e) head batch full total calls = tt
 stage_after a b (Ok x) head batch full total calls = λ is meta content.

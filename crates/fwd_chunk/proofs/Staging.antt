@@ -1,6 +1,7 @@
 -- What a crash leaves of a chunk's file while a batch is staged.
 use Rattle.std.proofs.Common.{◌≡◌, ◌⊎◌, inl, inr, ⊎_elim, ℕ, ◌+◌, ◌≤◌, max, Bool, true, false, IsTrue, IsSome, Option, List, ◌++◌, length, refl, sym, ◌∙◌, ap, subst, arith}
 use Rattle.std.specs.Int.{to_be_bytes, w32}
+use Rattle.fwd_base.specs.Limits.{longest_file}
 use Rattle.fwd_program.specs.Moments.{Holds}
 use Rattle.fwd_program.specs.Program.{and_then}
 use Rattle.fwd_program.proofs.Holding.{holds_weaker}
@@ -11,7 +12,7 @@ use Rattle.fwd_image.specs.Disk.{Files, Steps}
 use Rattle.fwd_image.proofs.Calls.{Local, LocalThen, local_first, holds_writes, holds_syncs}
 use Rattle.fwd_image.proofs.Keeps.{Kept, Keeps, Agrees, keeps_first, keeps_whole, keeps_written, image_agrees, whole_agrees, length-overwritten, get_or-overwritten}
 use Rattle.fwd_chunk.specs.declared.append.ChunkHead.{ChunkHead}
-use Rattle.fwd_chunk.specs.Layout.{longest, number_at, chosen, other, meta_length, selector_of, part, HasParts}
+use Rattle.fwd_chunk.specs.Layout.{number_at, chosen, other, meta_length, selector_of, part, HasParts}
 use Rattle.fwd_chunk.specs.Append.{Leaves, IsSettled, IsStaged, syncs_if, stages, KeepsOld}
 use Rattle.fwd_chunk.proofs.Parts.{Counts, number_same, number_in, number_of_bytes, part_same, part_and_batch, parts_as, has_parts_at, slots}
 
@@ -50,10 +51,10 @@ module _ (head : ChunkHead) (meta content : List ℕ) (files : Files) (settled :
       beside (inr range) (inl s) = record { below = omega (arith, s.0, range.1); beside = inl (omega (arith, s.0, s.1, range.1)) }
       beside (inr range) (inr s) = record { below = omega (arith, s.0, range.1); beside = inr (omega (arith, s.0, s.1, range.0)) }
 
-  pub same_selector : (image : List ℕ) → Agrees zone (zone + 4) end longest first image → selector_of image ≡ head.selector
+  pub same_selector : (image : List ℕ) → Agrees zone (zone + 4) end longest_file first image → selector_of image ≡ head.selector
   same_selector image agrees = agrees.same 7 (record { below = omega arith; beside = ⊎_elim (λ s. inl (omega (arith, s.1))) (λ s. inl (omega (arith, s.1))) (slots head.selector) }) ∙ sym settled.selector
 
-  pub has_parts : (image : List ℕ) → Agrees zone (zone + 4) end longest first image → HasParts image meta content
+  pub has_parts : (image : List ℕ) → Agrees zone (zone + 4) end longest_file first image → HasParts image meta content
   has_parts image agrees =
       let at_head = has_parts_at first image head.meta (chosen head.selector) head.size agrees.short settled.parts.id settled.parts.id_end settled.parts.mark (sym settled.meta_is)
       (ap chosen (same_selector image agrees)) numbers fits agrees.covers (λ i counts. agrees.same i (kept i counts)) in
@@ -61,18 +62,18 @@ module _ (head : ChunkHead) (meta content : List ℕ) (files : Files) (settled :
 
   -- how the file stands meanwhile
   abbrev pub Good : FileState → Type 0
-  Good s = Keeps zone (zone + 4) end longest first s
+  Good s = Keeps zone (zone + 4) end longest_file first s
 
   pub good_first : Good (files head.name)
-  good_first = subst Good (sym settled.state) (keeps_first zone (zone + 4) end longest first fits settled.parts.short)
+  good_first = subst Good (sym settled.state) (keeps_first zone (zone + 4) end longest_file first fits settled.parts.short)
 
   pub good_leaves : (s : FileState) (image : Option (List ℕ)) → Good s → IsImage s image → Leaves meta content image
   good_leaves s image good is =
-      let agrees = image_agrees zone (zone + 4) end longest first s image good is in
+      let agrees = image_agrees zone (zone + 4) end longest_file first s image good is in
       subst (Leaves meta content) (sym agrees.1) (has_parts agrees.0 agrees.2)
 
   -- another file with the same bytes in front
-  pub settled_as : (bytes : List ℕ) (s : FileState) → s ≡ whole bytes → Agrees zone (zone + 4) end longest first bytes → IsSettled head meta content s
+  pub settled_as : (bytes : List ℕ) (s : FileState) → s ≡ whole bytes → Agrees zone (zone + 4) end longest_file first bytes → IsSettled head meta content s
   settled_as bytes s state agrees =
       let e = agrees.same 22 (kept 22 (inl (inr (omega arith, omega arith)))) in
       let f = agrees.same 23 (kept 23 (inl (inr (omega arith, omega arith)))) in
@@ -86,7 +87,7 @@ module _ (head : ChunkHead) (meta content : List ℕ) (files : Files) (settled :
         selector = sym (same_selector bytes agrees);
       }
 
-  module _ (batch : List ℕ) (total : end + length batch ≤ longest) where
+  module _ (batch : List ℕ) (total : end + length batch ≤ longest_file) where
     -- what is there once each call succeeded
     staged : (s1 s2 s3 : FileState) → s1 ≡ written (files head.name) end (length batch) batch → s2 ≡ written s1 zone 4 (to_be_bytes w32 (head.size + length batch)) → s3 ≡ whole s2.bytes → Good s3 → IsStaged head meta content batch s3
     unfolding settled_as
@@ -98,7 +99,7 @@ module _ (head : ChunkHead) (meta content : List ℕ) (files : Files) (settled :
         let bytes1 : s1.bytes ≡ b1 = ap (λ (s : FileState). s.bytes) one ∙ ap (λ (s : FileState). overwritten s.bytes end batch) settled.state in
         let bytes2 : s2.bytes ≡ b2 = ap (λ (s : FileState). s.bytes) two ∙ ap (λ (b : List ℕ). overwritten b zone bytes) bytes1 in
         let state : s3 ≡ whole b2 = three ∙ ap whole bytes2 in
-        let agrees = whole_agrees zone (zone + 4) end longest first b2 (subst Good state good) in
+        let agrees = whole_agrees zone (zone + 4) end longest_file first b2 (subst Good state good) in
         let low : zone ≤ 18 = ⊎_elim (λ s. omega (arith, s.1)) (λ s. omega (arith, s.1)) (slots head.selector) in
         let long1 : length b1 ≡ max (length first) (end + length batch) = length-overwritten first end batch fits in
         let long2 : length b2 ≡ max (length b1) (zone + length bytes) = length-overwritten b1 zone bytes (omega (arith, fits)) in
@@ -129,7 +130,7 @@ module _ (head : ChunkHead) (meta content : List ℕ) (files : Files) (settled :
       third s1 one mid two local true is =
           holds_weaker Steps During During (LocalThen head.name files Good (λ s. s ≡ whole (mid head.name).bytes)) Staged mid (syncs head.name) (λ _ l. l)
           (λ answer last l. record { local = l.local; done = λ went _. staged s1 (mid head.name) (last head.name) one two (l.done went) l.local.here })
-          (holds_syncs head.name files Good mid local (keeps_whole zone (zone + 4) end longest first))
+          (holds_syncs head.name files Good mid local (keeps_whole zone (zone + 4) end longest_file first))
       third s1 one mid two local false is = (local, record { local = local; done = λ _ f. let no : true ≡ false = sym f ∙ is in absurd (cc no) })
 
       second : (mid : Files) → mid head.name ≡ written (files head.name) end (length batch) batch → During mid
@@ -137,14 +138,14 @@ module _ (head : ChunkHead) (meta content : List ℕ) (files : Files) (settled :
       second mid one local =
           holds_and_then Steps During (LocalThen head.name files Good (λ s. s ≡ written (mid head.name) zone 4 slot_bytes)) Staged mid
           (writes head.name zone slot_bytes) (λ _. syncs_if full head.name)
-          (holds_writes head.name files Good zone slot_bytes mid local (λ s left good can is. keeps_written zone (zone + 4) end longest first s zone 4 left good can is (⊎_elim (λ s. omega (arith, s.1)) (λ s. omega (arith, s.1)) (slots head.selector)) (inr (omega arith, omega arith))))
+          (holds_writes head.name files Good zone slot_bytes mid local (λ s left good can is. keeps_written zone (zone + 4) end longest_file first s zone 4 left good can is (⊎_elim (λ s. omega (arith, s.1)) (λ s. omega (arith, s.1)) (slots head.selector)) (inr (omega arith, omega arith))))
           (λ x last l. third (mid head.name) one last (l.done refl) l.local full refl) (λ last l. (l.local, record { local = l.local; done = λ is. absurd (cc is) }))
 
       pub holds_stages : Holds Steps During Staged files (stages head batch full)
       holds_stages =
           holds_and_then Steps During (LocalThen head.name files Good (λ s. s ≡ written (files head.name) end (length batch) batch)) Staged files
           (writes head.name end batch) (λ _. and_then (writes head.name zone slot_bytes) (λ _. syncs_if full head.name))
-          (holds_writes head.name files Good end batch files (local_first head.name files Good good_first) (λ s left good can is. keeps_written zone (zone + 4) end longest first s end (length batch) left good can is total (inl (omega arith))))
+          (holds_writes head.name files Good end batch files (local_first head.name files Good good_first) (λ s left good can is. keeps_written zone (zone + 4) end longest_file first s end (length batch) left good can is total (inl (omega arith))))
           (λ x last l. second last (l.done refl) l.local) (λ last l. (l.local, record { local = l.local; done = λ is. absurd (cc is) }))
 
       -- the same in the words of the contract

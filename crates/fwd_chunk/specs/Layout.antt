@@ -4,10 +4,7 @@
 use Rattle.std.specs.Prelude.{◌≡◌, ℕ, ◌+◌, ◌*◌, ◌%◌, ◌≤◌, ◌==◌, if◌then◌else◌, List, ◌∷◌, ◌++◌, length, take, drop}
 use Rattle.std.specs.Prelude.{slice_index}
 use Rattle.std.specs.Int.{to_be_bytes, w16, w32}
-
--- no file is read that is longer
-abbrev pub longest : ℕ
-longest = 67108864
+use Rattle.fwd_base.specs.Limits.{longest_file}
 
 -- so many bytes from an offset on
 abbrev pub part : List ℕ → ℕ → ℕ → List ℕ
@@ -37,7 +34,7 @@ committed bytes = number_at bytes (chosen (selector_of bytes))
 
 -- the file is a marked one with these metadata, and this is its content; what stands behind it is torn
 pub record HasParts (bytes meta content : List ℕ) : Type 0 where
-  pub short : length bytes ≤ longest
+  pub short : length bytes ≤ longest_file
   pub id : slice_index bytes 0 ≡ 193
   pub id_end : slice_index bytes 1 ≡ 0
   pub mark : slice_index bytes 6 ≡ 1

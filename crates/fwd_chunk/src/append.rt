@@ -1,12 +1,13 @@
 //! An append to the file of a chunk, in two steps.
 
 ghost use Rattle.std.specs.Prelude.{◌≡◌, ◌+◌, ◌≤◌, ◌++◌, List, ℕ, length, IsTrue, OnOk, OnErr, IsErrOf};
+ghost use Rattle.fwd_base.specs.Limits.{longest_file};
 ghost use Rattle.fwd_program.specs.Told.{Makes};
 ghost use Rattle.fwd_program.specs.Cause.{HasCause};
 ghost use Rattle.fwd_outside.specs.Disk.{disk_outcome};
 ghost use Rattle.fwd_outside.specs.declared.errors.DiskErr.TheVariants.{Failed};
 ghost use Rattle.fwd_image.specs.Crash.{DiskSince, DiskAfter};
-ghost use Rattle.fwd_chunk.specs.Layout.{longest, other};
+ghost use Rattle.fwd_chunk.specs.Layout.{other};
 ghost use Rattle.fwd_chunk.specs.Append.{SettledIn, StagedIn, KeepsOld, KeepsEither, stages, commits, syncs_if, next_selector, committed_head};
 
 use fwd_outside::{Bytes, Disk, DiskErr};
@@ -49,7 +50,7 @@ pub fn stage<D: Disk>(
     batch: &[u8],
     full: bool,
 ) -> Result<(), DiskErr>
-    requires { 24 + head.now.meta + head.now.size + length batch.now ≤ longest }
+    requires { 24 + head.now.meta + head.now.size + length batch.now ≤ longest_file }
     ensures calls { Makes (D.told disk.old) (D.told disk.new) (stages head.now batch.now full) (disk_outcome result) }
 
     // A crash at any moment of the call leaves a file that stands for what it stood for.
@@ -66,7 +67,7 @@ fn stage_calls<D: Disk>(
     batch: &[u8],
     full: bool,
 ) -> Result<(), DiskErr>
-    requires { 24 + head.now.meta + head.now.size + length batch.now ≤ longest }
+    requires { 24 + head.now.meta + head.now.size + length batch.now ≤ longest_file }
     ensures calls { Makes (D.told disk.old) (D.told disk.new) (stages head.now batch.now full) (disk_outcome result) }
     ensures cause { HasCause (D.faults disk.old) (D.faults disk.new) (IsErrOf result Failed) }
 {

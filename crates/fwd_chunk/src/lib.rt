@@ -9,8 +9,6 @@
 mod append;
 mod laws;
 mod new_file;
-#[cfg(test)]
-mod tests;
 
 pub use append::{ChunkHead, commit, stage};
 pub use laws::{commit_keeps_either, create_comes_whole, stage_keeps_the_old};

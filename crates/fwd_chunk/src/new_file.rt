@@ -1,13 +1,14 @@
 //! How the file of a chunk comes.
 
 ghost use Rattle.std.specs.Prelude.{◌≡◌, ◌+◌, ◌≤◌, ◌<◌, ◌^◌, ◌++◌, List, ℕ, length, IfOk, IsErrOf, All};
+ghost use Rattle.fwd_base.specs.Limits.{longest_file, longest_tag};
 ghost use Rattle.fwd_program.specs.Told.{Makes};
 ghost use Rattle.fwd_program.specs.Cause.{HasCause};
 ghost use Rattle.fwd_outside.specs.Disk.{disk_outcome};
 ghost use Rattle.fwd_outside.specs.declared.errors.DiskErr.TheVariants.{Failed};
 ghost use Rattle.fwd_image.specs.File.{gone};
 ghost use Rattle.fwd_image.specs.Crash.{DiskSince, DiskAfter};
-ghost use Rattle.fwd_chunk.specs.Layout.{longest, new_meta, new_file, new_header};
+ghost use Rattle.fwd_chunk.specs.Layout.{new_meta, new_file, new_header};
 ghost use Rattle.fwd_chunk.specs.Append.{SettledIn, ComesWhole, creates, new_head};
 
 use crate::ChunkHead;
@@ -23,8 +24,8 @@ pub fn create<D: Disk>(
     tag: &[u8],
     batch: &[u8],
 ) -> Result<ChunkHead, DiskErr>
-    requires tag { length tag.now ≤ 1024 }
-    requires fits { 28 + length tag.now + length batch.now ≤ longest }
+    requires tag { length tag.now ≤ longest_tag }
+    requires fits { 28 + length tag.now + length batch.now ≤ longest_file }
     ensures calls { Makes (D.told disk.old) (D.told disk.new) (creates name.now tag.now batch.now) (disk_outcome result) }
     ensures head { IfOk result (λ head. head ≡ new_head name.now tag.now batch.now) }
 
@@ -43,8 +44,8 @@ fn create_calls<D: Disk>(
     tag: &[u8],
     batch: &[u8],
 ) -> Result<ChunkHead, DiskErr>
-    requires tag { length tag.now ≤ 1024 }
-    requires fits { 28 + length tag.now + length batch.now ≤ longest }
+    requires tag { length tag.now ≤ longest_tag }
+    requires fits { 28 + length tag.now + length batch.now ≤ longest_file }
     ensures calls { Makes (D.told disk.old) (D.told disk.new) (creates name.now tag.now batch.now) (disk_outcome result) }
     ensures head { IfOk result (λ head. head ≡ new_head name.now tag.now batch.now) }
     ensures cause { HasCause (D.faults disk.old) (D.faults disk.new) (IsErrOf result Failed) }
@@ -62,7 +63,7 @@ fn create_calls<D: Disk>(
 
 // The bytes of a new file.
 fn file_bytes(alloc: Global, tag: &[u8], batch: &[u8]) -> Result<Bytes, Memory>
-    requires tag { length tag.now ≤ 1024 }
+    requires tag { length tag.now ≤ longest_tag }
     requires counted { length batch.now < 2 ^ 32 }
     ensures { IfOk result (λ bytes. bytes ≡ new_file tag.now batch.now) }
 {

@@ -5,9 +5,8 @@ use Rattle.fwd_program.specs.Program.{Return, Ask, bind, Way}
 use Rattle.fwd_program.specs.Told.{Grew, Did, Makes}
 use Rattle.fwd_outside.specs.Files.{FilesTold, FilesGiven, FilesEntry, FilesProgram, IsHonest, found, files_after, files_behind, reads_whole}
 use Rattle.fwd_outside.proofs.Honest.{whole_is_found}
-use Rattle.std.specs.Str.Lines.{lines}
 use Rattle.fwd_config.specs.Variables.{Values}
-use Rattle.fwd_config.specs.Line.{form_of}
+use Rattle.fwd_config.specs.Line.{form_of, lines_of}
 use Rattle.fwd_config.specs.Text.{Text, place, sections_of}
 use Rattle.fwd_config.specs.Meaning.{Meaning, Adds, Includes, Refused, meaning}
 use Rattle.fwd_config.specs.Reading.{Reading, Verdict, fault, then_text, line_stands, lines_stand, text_of, content_stands, file_stands, files_stand, parser_files, parsers_stand, sections_stand, loads, reads_files, given, sections}
@@ -42,7 +41,7 @@ module _ (env : Values) (left : ℕ) (included : List ℕ → Text → Reading V
       (ends_line number above (meaning env left (place file number) above (form_of line))) (ends_lines (number + 1) more)
 
   ends_content : (above : Text) (content : Result (List ℕ) ConfigFault) → Ends (content_stands env left included file above content)
-  ends_content above (Ok bytes) = ends_lines 1 (lines bytes) above
+  ends_content above (Ok bytes) = ends_lines 1 (lines_of bytes) above
   ends_content above (Err f) = tt
 
 ends_file : (env : Values) (may_open : ℕ) (file : List ℕ) (above : Text) → Ends (file_stands env may_open file above)

@@ -1,18 +1,13 @@
 -- How a configuration is read, step by step.
-use Rattle.std.proofs.Common.{◌≡◌, ◌⊎◌, inl, inr, ℕ, zero, suc, ◌+◌, ◌-◌, ◌<◌, length, drop, get_or, Bool, true, false, if◌then◌else◌, List, ◌∷◌, ◌++◌, Option, Some, None, Result, Ok, Err, MatchResult, is_ok, refl, sym, ap, subst, ◌∙◌, arith}
+use Rattle.std.proofs.Common.{◌≡◌, ◌⊎◌, inl, inr, ℕ, zero, suc, ◌+◌, ◌-◌, ◌<◌, length, drop, get_or, Bool, if◌then◌else◌, List, ◌∷◌, ◌++◌, Option, Some, None, Result, Ok, Err, refl, sym, ap, subst, ◌∙◌, arith}
 use mathlib.Core.Path.{fun_ext}
 use Rattle.std.proofs.Math.Seq.{drop-cons}
-use Rattle.std.specs.Borrow.{Bor}
-use Rattle.std.specs.declared.str.Utf8Error.{Utf8Error}
-use Rattle.std.specs.Str.{IsUtf8, is_utf8, IsValidUpTo, valid_up_to}
-use Rattle.std.specs.Str.Lines.{lines}
-use Rattle.std.proofs.lemmas.Str.{IsUtf8-from_is_utf8, is_utf8-from_IsUtf8}
-use Rattle.std.proofs.lemmas.Bool.{cases_Bool}
+use Rattle.std.specs.Str.{is_utf8}
 use Rattle.fwd_program.specs.Program.{Program, Return, Ask, bind}
 use Rattle.fwd_program.specs.Told.{Leads, Did, Began, Makes}
 use Rattle.fwd_program.proofs.Leading.{inside, goes_on, began_inside, makes_after}
 use Rattle.fwd_outside.specs.Files.{FilesTold, FilesProgram, reads_whole}
-use Rattle.fwd_config.specs.Line.{form_of}
+use Rattle.fwd_config.specs.Line.{form_of, lines_of}
 use Rattle.fwd_config.specs.Variables.{Values}
 use Rattle.fwd_config.specs.Text.{Text, place}
 use Rattle.fwd_config.specs.Meaning.{Meaning, Adds, Includes, Refused, meaning}
@@ -63,15 +58,6 @@ refused_inside a b p next answered is makes = inside_by a b p next answered.kind
 
 abbrev pub text_reads : List ℕ → FilesProgram (Result (List ℕ) ConfigFault)
 text_reads file = bind (reads_whole file) (λ content. Return (text_of file content))
-
-utf8_test : (bytes : List ℕ) → (IsUtf8 bytes → ⊥) → (is_utf8 bytes ≡ true) ⊎ (is_utf8 bytes ≡ false) → is_utf8 bytes ≡ false
-utf8_test bytes broken (inl is_so) = absurd (broken (IsUtf8-from_is_utf8 bytes is_so))
-utf8_test bytes broken (inr is_not) = is_not
-
--- what the call that looks for text tells
-pub utf8_by : (bytes : List ℕ) (r : Result (Bor (List ℕ)) Utf8Error) → MatchResult r (λ s. (s.now ≡ bytes) × IsUtf8 bytes) (λ e. (IsUtf8 bytes → ⊥) × IsValidUpTo bytes (valid_up_to e)) → is_ok r ≡ is_utf8 bytes
-utf8_by bytes (Ok s) cases = sym (is_utf8-from_IsUtf8 bytes cases.1)
-utf8_by bytes (Err e) cases = sym (utf8_test bytes cases.0 (cases_Bool (is_utf8 bytes)))
 
 abbrev answers_text : List ℕ → Option (List ℕ) → FilesProgram (Result (List ℕ) ConfigFault)
 answers_text file content = Return (text_of file content)
@@ -132,7 +118,7 @@ module _ (a b : FilesTold) (env : Values) (n : ℕ) (some : 0 < n) (file : List 
       subst (λ (p : FilesProgram Verdict). Makes a b p (outcome {T = Text} (Err answered))) (sym (opened env n file above some)) (refused_inside a b (text_reads file) then_lines answered refl makes)
 
   pub content_read : (bytes : List ℕ) → Did a b (text_reads file) (Ok bytes)
-      → Leads a b (reads_files (file_stands env n file above)) (reads_files (lines_stand env (n - 1) (file_stands env (n - 1)) file 1 (lines bytes) above))
+      → Leads a b (reads_files (file_stands env n file above)) (reads_files (lines_stand env (n - 1) (file_stands env (n - 1)) file 1 (lines_of bytes) above))
   content_read bytes did =
       subst (λ (p : FilesProgram Verdict). Leads a b p (then_lines (Ok bytes))) (sym (opened env n file above some)) (inside then_lines did)
 

@@ -1,7 +1,19 @@
 -- The lines of a configuration file, as they are written.
-use Rattle.std.specs.Prelude.{ℕ, Bool, ◌&&◌, ◌||◌, ◌==◌, nat_lt, if◌then◌else◌, List, [], ◌∷◌, ◌++◌, length, take, drop, ◌-◌, codes}
-use Rattle.std.specs.List.{before_first, after_first, suffix_len}
+use Rattle.std.specs.Prelude.{ℕ, ◌&&◌, ◌==◌, nat_lt, if◌then◌else◌, List, [], ◌∷◌, ◌++◌, length, take, drop, ◌-◌, codes}
+use Rattle.std.specs.List.{before_first, after_first, suffix_len, slice_split}
 use Rattle.std.specs.Str.{bytes_eq, str_eq_ignore_ascii_case}
+use Rattle.std.specs.Str.Lines.{strip_carriage_return}
+use Rattle.fwd_base.specs.Blanks.{is_blank, skip_blanks}
+
+-- the lines in the parts between line feeds, each without a carriage return at its end; an empty last part is no line
+abbrev pub lines_of_parts : List (List ℕ) → List (List ℕ)
+lines_of_parts [] = []
+lines_of_parts (last ∷ []) = if length last == 0 then [] else strip_carriage_return last ∷ []
+lines_of_parts (line ∷ next ∷ more) = strip_carriage_return line ∷ lines_of_parts (next ∷ more)
+
+-- the lines of a text
+abbrev pub lines_of : List ℕ → List (List ℕ)
+lines_of text = lines_of_parts (slice_split (λ byte. byte == 10) text)
 
 -- what a line says
 pub data Form : Type 0 where
@@ -19,15 +31,6 @@ pub data Form : Type 0 where
   NoHeading : Form
   -- a line that begins with `@` and is no command
   NoCommand : Form
-
--- spaces and tabs
-abbrev pub is_blank : ℕ → Bool
-is_blank byte = byte == 32 || byte == 9
-
--- a text without the blanks at its front
-abbrev pub skip_blanks : List ℕ → List ℕ
-skip_blanks [] = []
-skip_blanks (byte ∷ bytes) = if is_blank byte then skip_blanks bytes else byte ∷ bytes
 
 -- a text without the blanks at its end
 abbrev pub drop_end_blanks : List ℕ → List ℕ
@@ -59,12 +62,12 @@ command_of name text =
     if str_eq_ignore_ascii_case name (codes "include") then Inclusion text
     else (if str_eq_ignore_ascii_case name (codes "set") then setting_of text else NoCommand)
 
--- by its first byte other than a blank
+-- by its first byte other than a blank; blanks at the end of a header are passed over
 abbrev pub form_of_text : List ℕ → Form
 form_of_text [] = Blank
 form_of_text (first ∷ behind) =
     if first == 35 then Blank
-    else (if first == 91 then heading_of behind
+    else (if first == 91 then heading_of (drop_end_blanks behind)
     else (if first == 64 then command_of (word behind) (value behind)
     else Pair (word (first ∷ behind)) (value (first ∷ behind))))
 

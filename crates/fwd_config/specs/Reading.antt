@@ -3,10 +3,9 @@
 use Rattle.std.specs.Prelude.{ℕ, zero, suc, ◌+◌, if◌then◌else◌, List, [], ◌∷◌, ◌++◌, Option, Some, None, Result, Ok, Err, codes}
 use Rattle.std.specs.List.{flat_map}
 use Rattle.std.specs.Str.{is_utf8, str_eq_ignore_ascii_case}
-use Rattle.std.specs.Str.Lines.{lines}
 use Rattle.fwd_program.specs.Program.{Program, Return, Ask, bind}
 use Rattle.fwd_outside.specs.Files.{FilesProgram, reads_whole}
-use Rattle.fwd_config.specs.Line.{form_of}
+use Rattle.fwd_config.specs.Line.{form_of, lines_of}
 use Rattle.fwd_config.specs.Variables.{Values}
 use Rattle.fwd_config.specs.Text.{Text, sections_of, place}
 use Rattle.fwd_config.specs.Meaning.{Meaning, Adds, Includes, Refused, meaning, beside}
@@ -56,7 +55,7 @@ text_of file (Some bytes) = if is_utf8 bytes then Ok bytes else Err (fault NotUt
 
 -- the text with the lines of these bytes behind it
 abbrev pub content_stands : Values → ℕ → (List ℕ → Text → Reading Verdict) → List ℕ → Text → Result (List ℕ) ConfigFault → Reading Verdict
-content_stands env left included file above (Ok bytes) = lines_stand env left included file 1 (lines bytes) above
+content_stands env left included file above (Ok bytes) = lines_stand env left included file 1 (lines_of bytes) above
 content_stands env left included file above (Err fault) = Return (Err fault)
 
 -- the text with the lines of a file behind it, where so many files may be open; where none may, no file is asked for

@@ -8,8 +8,6 @@ mod line;
 mod loading;
 mod outline;
 mod section;
-#[cfg(test)]
-mod tests;
 mod variables;
 
 pub use fault::{ConfigFault, ConfigKind};

@@ -1,11 +1,12 @@
 //! One line of a configuration file, as it is written.
 
-ghost use Rattle.std.specs.Prelude.{◌≡◌, ◌<◌, ◌≤◌, ◌∷◌, ◌==◌, length};
-ghost use Rattle.std.specs.List.{position_or_len};
+ghost use Rattle.std.specs.Prelude.{◌≡◌, ◌<◌, ◌∷◌, length};
 ghost use Rattle.std.specs.Str.{str_eq_ignore_ascii_case};
-ghost use Rattle.std.specs.Str.Lines.{lines, strip_carriage_return};
-ghost use Rattle.fwd_config.specs.Line.{form_of, heading_of, command_of, setting_of, is_blank, word, value, skip_blanks, drop_end_blanks};
+ghost use Rattle.std.specs.Str.Lines.{strip_carriage_return};
+ghost use Rattle.fwd_config.specs.Line.{lines_of, form_of, heading_of, command_of, setting_of, word, value, drop_end_blanks};
 ghost use Rattle.fwd_config.specs.Shown.{form};
+
+use fwd_base::{is_blank, place_of, place_of_blank, skip_blanks};
 
 /// What a line says. Its parts are parts of the line.
 pub enum Line<'a> {
@@ -25,28 +26,18 @@ pub enum Line<'a> {
     BadCommand,
 }
 
-/// The first line of a text that isn't empty, without its end, and the text behind it.
+/// The first line of a text that isn't empty, without its end and a carriage return there, and the text behind it.
 pub fn first_line(text: &[u8]) -> (&[u8], &[u8])
     requires { 0 < length text.now }
-    ensures first { lines text.now ≡ result.0.now ∷ lines result.1.now }
+    ensures first { lines_of text.now ≡ result.0.now ∷ lines_of result.1.now }
     ensures shorter { length result.1.now < length text.now }
 {
     let end = place_of(text, b'\n');
     if end < text.len() {
         (without_return(&text[..end]), &text[end + 1..])
     } else {
-        (text, &text[end..])
+        (without_return(text), &text[end..])
     }
-}
-
-/// The place of the first such byte, or the length of the text where there is none.
-pub fn place_of(text: &[u8], wanted: u8) -> usize
-    ensures place { result ≡ position_or_len (λ byte. byte == wanted) text.now }
-    ensures within { result ≤ length text.now }
-{
-    text.iter()
-        .position(|byte| *byte == wanted)
-        .unwrap_or(text.len())
 }
 
 fn without_return(line: &[u8]) -> &[u8]
@@ -62,10 +53,10 @@ fn without_return(line: &[u8]) -> &[u8]
 pub fn read_line(line: &[u8]) -> Line<'_>
     ensures { form result ≡ form_of line.now }
 {
-    let text = without_front_blanks(line);
+    let text = skip_blanks(line);
     match text {
         [] | [b'#', ..] => Line::Nothing,
-        [b'[', header @ ..] => read_header(header),
+        [b'[', header @ ..] => read_header(without_end_blanks(header)),
         [b'@', command @ ..] => read_command(command),
         _ => {
             let (key, value) = parted(text);
@@ -74,7 +65,7 @@ pub fn read_line(line: &[u8]) -> Line<'_>
     }
 }
 
-/// A header behind its `[`.
+/// A header behind its `[`, without the blanks at the end of the line.
 fn read_header(text: &[u8]) -> Line<'_>
     ensures { form result ≡ heading_of text.now }
 {
@@ -128,33 +119,8 @@ fn parted(text: &[u8]) -> (&[u8], &[u8])
     ensures value { result.1.now ≡ value text.now }
 {
     let end = place_of_blank(text);
-    let behind = without_front_blanks(&text[end..]);
+    let behind = skip_blanks(&text[end..]);
     (&text[..end], without_end_blanks(behind))
-}
-
-fn place_of_blank(text: &[u8]) -> usize
-    ensures place { result ≡ position_or_len is_blank text.now }
-    ensures within { result ≤ length text.now }
-{
-    text.iter()
-        .position(|byte| is_blank(*byte))
-        .unwrap_or(text.len())
-}
-
-fn is_blank(byte: u8) -> bool
-    ensures { result ≡ is_blank byte }
-{
-    byte == b' ' || byte == b'\t'
-}
-
-fn without_front_blanks(text: &[u8]) -> &[u8]
-    ensures { result.now ≡ skip_blanks text.now }
-{
-    let mut rest = text;
-    while let [b' ' | b'\t', behind @ ..] = rest {
-        rest = behind;
-    }
-    rest
 }
 
 fn without_end_blanks(text: &[u8]) -> &[u8]

@@ -1,7 +1,6 @@
 //! A configuration is read: its main file, each included file as it is reached, and then the files of parsers.
 
 ghost use Rattle.std.specs.Prelude.{◌≡◌, ◌⊎◌, ◌<◌, ℕ};
-ghost use Rattle.std.specs.Str.{is_utf8};
 ghost use Rattle.fwd_program.specs.Program.{Return, bind};
 ghost use Rattle.fwd_program.specs.Told.{Makes};
 ghost use Rattle.fwd_program.specs.Cause.{HasCause};
@@ -15,7 +14,7 @@ ghost use Rattle.fwd_config.specs.Shown.{Shows};
 use crate::line::first_line;
 use crate::outline::{Outline, place};
 use crate::{ConfigFault, ConfigKind, Place, Sections};
-use fwd_base::{Bytes, Names};
+use fwd_base::{Bytes, Names, is_utf8};
 use fwd_outside::{FileErr, Files, read_whole};
 use std::alloc::Global;
 
@@ -42,12 +41,6 @@ fn out_of_memory(alloc: Global) -> ConfigFault
             line: 0,
         },
     }
-}
-
-fn is_utf8(bytes: &[u8]) -> bool
-    ensures { result ≡ is_utf8 bytes.now }
-{
-    str::from_utf8(bytes).is_ok()
 }
 
 /// Reads a file whole. It is refused where it can't be read or isn't UTF-8.

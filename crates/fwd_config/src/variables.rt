@@ -5,8 +5,7 @@ ghost use Rattle.fwd_config.specs.Variables.{environment, with_value};
 ghost use Rattle.fwd_config.specs.Shown.{value_of, GivesReplaced};
 
 use crate::ConfigKind;
-use crate::line::place_of;
-use fwd_base::{Bytes, Memory};
+use fwd_base::{Bytes, Memory, place_of};
 use std::alloc::Global;
 use std::collections::HashMap;
 

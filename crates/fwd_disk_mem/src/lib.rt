@@ -11,8 +11,6 @@ mod listing;
 mod memory;
 mod parts;
 mod table;
-#[cfg(test)]
-mod tests;
 mod told;
 
 pub use memory::MemDisk;

@@ -2,13 +2,16 @@
 
 ghost use Rattle.std.specs.Prelude.{◌≡◌, ◌++◌, ◌+◌, ◌^◌, ◌-◌, ◌≤◌, ◌%◌, ◌&&◌, min, [], ◌∷◌, List, ℕ, take, drop, length, not, is_some, if◌then◌else◌, Some, None, Option, OnOk, OnErr, IfOk, IsErrOf, MatchBool, Ok, Err};
 ghost use Rattle.std.specs.List.{list_any};
-ghost use Rattle.fwd_program.specs.Cause.{HasCause, Rose};
+ghost use Rattle.fwd_program.specs.Cause.{HasCause};
+ghost use Rattle.fwd_program.specs.Told.{Grew, asking};
 ghost use Rattle.fwd_outside.specs.declared.errors.DiskErr.TheVariants as disk_err;
 ghost use Rattle.fwd_image.specs.File.{content, IsImage};
-ghost use Rattle.fwd_outside.specs.Disk.{IsListing};
+ghost use Rattle.fwd_outside.specs.Disk.{IsListing, disk_outcome};
+ghost use Rattle.fwd_outside.specs.Disk as outside;
 ghost use Rattle.fwd_image.specs.Disk.{IsHonest, AreIn};
 ghost use Rattle.fwd_disk_mem.specs.declared.told.Told.TheVariants as told;
 ghost use Rattle.fwd_disk_mem.specs.Told.{entries_of, given, told_of, works, files_of, can_write, Gives, IsPlayed, IsNoNumber};
+ghost use Rattle.fwd_disk_mem.specs.Seen.{counted};
 ghost use Rattle.fwd_disk_mem.specs.Table.{MemFile};
 ghost use Rattle.fwd_disk_mem.specs.Images.{picked, presets, until};
 
@@ -190,8 +193,7 @@ impl MemDisk {
         ensures calls { self.new.calls ≡ self.old.calls }
         ensures mark { self.new.mark ≡ self.old.mark }
         ensures result { result ≡ disk_err.Failed }
-        ensures later { self.old.faults ≤ self.new.faults }
-        ensures rose { Rose self.old.faults self.new.faults }
+        ensures faults { self.new.faults ≡ min (self.old.faults + 1) (2 ^ 64 - 1) }
     {
         self.faults = self.faults.saturating_add(1);
         DiskErr::Failed
@@ -202,7 +204,7 @@ impl MemDisk {
         ensures calls { self.new.calls ≡ self.old.calls }
         ensures mark { self.new.mark ≡ self.old.mark }
         ensures result { result ≡ (if ok then Ok tt else Err disk_err.Failed) }
-        ensures cause { HasCause self.old.faults self.new.faults (IsErrOf result disk_err.Failed) }
+        ensures faults { self.new.faults ≡ counted result self.old.faults }
     {
         if ok {
             return Ok(());
@@ -217,7 +219,12 @@ impl Disk for MemDisk {
 
     ghost told = { λ m. told_of m.calls };
 
-    fn place(&mut self, name: &[u8], bytes: &[u8]) -> Result<(), DiskErr> {
+    fn place(&mut self, name: &[u8], bytes: &[u8]) -> Result<(), DiskErr>
+        ensures told { Grew (told_of self.old.calls) (told_of self.new.calls) (asking (outside.Place name.now bytes.now) (disk_outcome result)) }
+        ensures cause { HasCause self.old.faults self.new.faults (IsErrOf result disk_err.Failed) }
+        ensures faults { self.new.faults ≡ counted result self.old.faults }
+        ensures mark { self.new.mark ≡ self.old.mark }
+    {
         let ok = self.works();
         let call = Told::Place(
             Bytes::from_slice(self.alloc, name)?,
@@ -228,7 +235,12 @@ impl Disk for MemDisk {
         self.answer(ok)
     }
 
-    fn write_at(&mut self, name: &[u8], at: u64, bytes: &[u8]) -> Result<(), DiskErr> {
+    fn write_at(&mut self, name: &[u8], at: u64, bytes: &[u8]) -> Result<(), DiskErr>
+        ensures told { Grew (told_of self.old.calls) (told_of self.new.calls) (asking (outside.WriteAt name.now at bytes.now) (disk_outcome result)) }
+        ensures cause { HasCause self.old.faults self.new.faults (IsErrOf result disk_err.Failed) }
+        ensures faults { self.new.faults ≡ counted result self.old.faults }
+        ensures mark { self.new.mark ≡ self.old.mark }
+    {
         let works = self.works();
         let ok = both(works, self.may_write(name, at));
         let call = Told::WriteAt(
@@ -241,7 +253,12 @@ impl Disk for MemDisk {
         self.answer(ok)
     }
 
-    fn sync(&mut self, name: &[u8]) -> Result<(), DiskErr> {
+    fn sync(&mut self, name: &[u8]) -> Result<(), DiskErr>
+        ensures told { Grew (told_of self.old.calls) (told_of self.new.calls) (asking (outside.Sync name.now) (disk_outcome result)) }
+        ensures cause { HasCause self.old.faults self.new.faults (IsErrOf result disk_err.Failed) }
+        ensures faults { self.new.faults ≡ counted result self.old.faults }
+        ensures mark { self.new.mark ≡ self.old.mark }
+    {
         let works = self.works();
         let ok = both(works, self.has(name));
         let call = Told::Sync(Bytes::from_slice(self.alloc, name)?, ok);
@@ -249,7 +266,12 @@ impl Disk for MemDisk {
         self.answer(ok)
     }
 
-    fn remove(&mut self, name: &[u8]) -> Result<(), DiskErr> {
+    fn remove(&mut self, name: &[u8]) -> Result<(), DiskErr>
+        ensures told { Grew (told_of self.old.calls) (told_of self.new.calls) (asking (outside.Remove name.now) (disk_outcome result)) }
+        ensures cause { HasCause self.old.faults self.new.faults (IsErrOf result disk_err.Failed) }
+        ensures faults { self.new.faults ≡ counted result self.old.faults }
+        ensures mark { self.new.mark ≡ self.old.mark }
+    {
         let works = self.works();
         let ok = both(works, self.has(name));
         let call = Told::Remove(Bytes::from_slice(self.alloc, name)?, ok);
@@ -257,7 +279,13 @@ impl Disk for MemDisk {
         self.answer(ok)
     }
 
-    fn read(&mut self, alloc: Global, name: &[u8], at: u64, len: u64) -> Result<Bytes, DiskErr> {
+    fn read(&mut self, alloc: Global, name: &[u8], at: u64, len: u64) -> Result<Bytes, DiskErr>
+        ensures told { Grew (told_of self.old.calls) (told_of self.new.calls) (asking (outside.Read name.now at len) (disk_outcome result)) }
+        ensures cause { HasCause self.old.faults self.new.faults (IsErrOf result disk_err.Failed) }
+        ensures within { IfOk result (λ bytes. length bytes ≤ len) }
+        ensures faults { self.new.faults ≡ counted result self.old.faults }
+        ensures mark { self.new.mark ≡ self.old.mark }
+    {
         let works = self.works();
         let given = self.part(alloc, works, name, at, len)?;
         let answer = copy_of(alloc, &given)?;
@@ -269,7 +297,13 @@ impl Disk for MemDisk {
         }
     }
 
-    fn list(&mut self, alloc: Global, folder: &[u8]) -> Result<Names, DiskErr> {
+    fn list(&mut self, alloc: Global, folder: &[u8]) -> Result<Names, DiskErr>
+        ensures told { Grew (told_of self.old.calls) (told_of self.new.calls) (asking (outside.ListNames folder.now) (disk_outcome result)) }
+        ensures cause { HasCause self.old.faults self.new.faults (IsErrOf result disk_err.Failed) }
+        ensures names { IfOk result IsListing }
+        ensures faults { self.new.faults ≡ counted result self.old.faults }
+        ensures mark { self.new.mark ≡ self.old.mark }
+    {
         let works = self.works();
         let given = self.names(alloc, works, folder)?;
         let answer = copy_of_names(alloc, &given)?;

@@ -26,7 +26,8 @@ fn payload_for(alloc: Global, kind: &OutputKind, kept: &Kept) -> Result<Bytes, M
     match kind {
         OutputKind::Stdout { form }
         | OutputKind::File { form, .. }
-        | OutputKind::Tcp { form, .. } => kept.records.payload(alloc, *form, kept.tag.as_slice()),
+        | OutputKind::Tcp { form, .. }
+        | OutputKind::Http { form, .. } => kept.records.payload(alloc, *form, kept.tag.as_slice()),
         OutputKind::Forward { .. } => Ok(Bytes::new(alloc)),
     }
 }

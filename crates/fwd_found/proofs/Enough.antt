@@ -2,7 +2,7 @@
 use Rattle.std.proofs.Common.{◌≡◌, ◌⊎◌, inl, inr, ℕ, ◌+◌, ◌<◌, ◌≤◌, true, false, nat_lt, List, length, take, length-take, Result, Ok, Err, refl, sym, ◌∙◌, subst, arith}
 use Rattle.std.proofs.lemmas.Bool.{lt-ltb}
 use Rattle.std.proofs.lemmas.List.{take_all}
-use Rattle.fwd_chunk.specs.Layout.{longest}
+use Rattle.fwd_base.specs.Limits.{longest_file}
 use Rattle.fwd_found.specs.declared.chunk.Seen.{Seen}
 use Rattle.fwd_found.specs.declared.chunk.Seen.TheVariants.{Whole, Empty, Refused}
 use Rattle.fwd_found.specs.declared.refusal.NotAChunk.{NotAChunk}
@@ -11,8 +11,8 @@ use Rattle.fwd_found.specs.Standing.{headed, ChunkRead, StandsFor}
 use Rattle.fwd_found.specs.Seen.{refusal_of, IsSeen, enough}
 use Rattle.fwd_found.proofs.Answers.{refused, refused_by_header}
 
-pub too_long : (bytes : List ℕ) → longest < length bytes → headed bytes ≡ Err TooLong
-too_long bytes long = let is = lt-ltb longest (length bytes) long in rw is refl
+pub too_long : (bytes : List ℕ) → longest_file < length bytes → headed bytes ≡ Err TooLong
+too_long bytes long = let is = lt-ltb longest_file (length bytes) long in rw is refl
 
 -- so bytes that are too long stand for
 stands_too_long : (bytes part : List ℕ) → headed bytes ≡ Err TooLong → headed part ≡ Err TooLong → (r : ChunkRead) → StandsFor part r → StandsFor bytes r
@@ -25,14 +25,14 @@ stands_too_long bytes part long is (Err e) stands = elim (refused part e stands)
   | inr bad ↦ let no : Err TooLong ≡ Ok bad.1 = sym is ∙ bad.2 in absurd (cc no)
 ]
 
-stands_as_part : (bytes : List ℕ) (r : ChunkRead) → (length bytes ≤ longest) ⊎ (longest < length bytes) → StandsFor (take enough bytes) r → StandsFor bytes r
+stands_as_part : (bytes : List ℕ) (r : ChunkRead) → (length bytes ≤ longest_file) ⊎ (longest_file < length bytes) → StandsFor (take enough bytes) r → StandsFor bytes r
 stands_as_part bytes r (inl short) stands =
     let all : take enough bytes ≡ bytes = take_all enough bytes (omega arith) in
     subst (λ (b : List ℕ). StandsFor b r) all stands
 stands_as_part bytes r (inr long) stands =
     stands_too_long bytes (take enough bytes) (too_long bytes long) (too_long (take enough bytes) (omega (arith, length-take enough bytes))) r stands
 
-short_or_long : (bytes : List ℕ) → (length bytes ≤ longest) ⊎ (longest < length bytes)
+short_or_long : (bytes : List ℕ) → (length bytes ≤ longest_file) ⊎ (longest_file < length bytes)
 short_or_long bytes = grind arith
 
 part_stands : (bytes : List ℕ) (r : ChunkRead) → StandsFor (take enough bytes) r → StandsFor bytes r

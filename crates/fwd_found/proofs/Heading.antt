@@ -1,26 +1,23 @@
 -- The header of a file that isn't refused, and its tag.
-use Rattle.std.proofs.Common.{◌≡◌, ℕ, ◌+◌, ◌-◌, ◌≤◌, true, false, not, nat_lt, List, length, take, drop, Result, Ok, Err, MatchResult, is_ok, refl, sym, ap, subst, ◌∙◌, ◌⊎◌, inl, inr, arith}
+use Rattle.std.proofs.Common.{◌≡◌, ℕ, ◌+◌, ◌-◌, ◌≤◌, true, false, not, nat_lt, List, length, take, drop, Result, Ok, Err, MatchResult, refl, sym, ap, subst, ◌∙◌, arith}
 use Rattle.std.specs.Borrow.{Bor}
-use Rattle.std.specs.declared.str.Utf8Error.{Utf8Error}
-use Rattle.std.specs.Str.{IsUtf8, is_utf8, IsValidUpTo, valid_up_to}
-use Rattle.std.proofs.lemmas.Str.{IsUtf8-from_is_utf8, is_utf8-from_IsUtf8}
-use Rattle.std.proofs.lemmas.Bool.{cases_Bool}
 use Rattle.std.proofs.lemmas.Bool.{le-ltb}
-use Rattle.fwd_chunk.specs.Layout.{longest, part, meta_length}
+use Rattle.fwd_base.specs.Limits.{longest_file}
+use Rattle.fwd_chunk.specs.Layout.{part, meta_length}
 use Rattle.fwd_found.specs.declared.refusal.NotAChunk.{NotAChunk}
 use Rattle.fwd_found.specs.Standing.{has_id, tag_of, tagged, headed}
 
-pub headed_by : (bytes : List ℕ) → length bytes ≤ longest → 24 ≤ length bytes → has_id bytes ≡ true → 24 + meta_length bytes ≤ length bytes
+pub headed_by : (bytes : List ℕ) → length bytes ≤ longest_file → 24 ≤ length bytes → has_id bytes ≡ true → 24 + meta_length bytes ≤ length bytes
     → headed bytes ≡ tagged bytes (tag_of (part bytes 24 (meta_length bytes)))
 headed_by bytes short header id whole =
-    let a : nat_lt longest (length bytes) ≡ false = le-ltb longest (length bytes) short in
+    let a : nat_lt longest_file (length bytes) ≡ false = le-ltb longest_file (length bytes) short in
     let b : nat_lt (length bytes) 24 ≡ false = le-ltb (length bytes) 24 header in
     let c : not (has_id bytes) ≡ false = ap not id in
     let d : nat_lt (length bytes) (24 + meta_length bytes) ≡ false = le-ltb (length bytes) (24 + meta_length bytes) whole in
     rw (a, b, c, d) refl
 
 -- the tag of the metadata that were found to have n bytes
-pub headed_as : (bytes : List ℕ) (r : Result (Bor (List ℕ)) NotAChunk) (n : ℕ) → n ≡ meta_length bytes → length bytes ≤ longest → 24 ≤ length bytes → has_id bytes ≡ true → 24 + n ≤ length bytes
+pub headed_as : (bytes : List ℕ) (r : Result (Bor (List ℕ)) NotAChunk) (n : ℕ) → n ≡ meta_length bytes → length bytes ≤ longest_file → 24 ≤ length bytes → has_id bytes ≡ true → 24 + n ≤ length bytes
     → MatchResult r (λ tag. tagged bytes (tag_of (take (24 + n - 24) (drop 24 bytes))) ≡ Ok tag.now) (λ e. tagged bytes (tag_of (take (24 + n - 24) (drop 24 bytes))) ≡ Err e)
     → MatchResult r (λ tag. headed bytes ≡ Ok tag.now) (λ e. headed bytes ≡ Err e)
 headed_as bytes r n is short header id whole h =
@@ -28,11 +25,3 @@ headed_as bytes r n is short header id whole h =
     let count : meta_length bytes ≡ 24 + n - 24 = omega arith in
     let all : headed bytes ≡ tagged bytes (tag_of (take (24 + n - 24) (drop 24 bytes))) = by ∙ ap (λ (k : ℕ). tagged bytes (tag_of (take k (drop 24 bytes)))) count in
     subst (λ (x : Result (List ℕ) NotAChunk). MatchResult r (λ tag. x ≡ Ok tag.now) (λ e. x ≡ Err e)) (sym all) h
-
-not_utf8 : (bytes : List ℕ) → (IsUtf8 bytes → ⊥) → (is_utf8 bytes ≡ true) ⊎ (is_utf8 bytes ≡ false) → is_utf8 bytes ≡ false
-not_utf8 bytes broken (inl is_so) = absurd (broken (IsUtf8-from_is_utf8 bytes is_so))
-not_utf8 bytes broken (inr is_not) = is_not
-
-pub utf8_by : (bytes : List ℕ) (r : Result (Bor (List ℕ)) Utf8Error) → MatchResult r (λ s. (s.now ≡ bytes) × IsUtf8 bytes) (λ e. (IsUtf8 bytes → ⊥) × IsValidUpTo bytes (valid_up_to e)) → is_ok r ≡ is_utf8 bytes
-utf8_by bytes (Ok s) cases = sym (is_utf8-from_IsUtf8 bytes cases.1)
-utf8_by bytes (Err e) cases = sym (not_utf8 bytes cases.0 (cases_Bool (is_utf8 bytes)))

@@ -1,6 +1,6 @@
 -- What is kept of the file of a chunk once its bytes were checked.
 use Rattle.std.specs.Prelude.{◌≡◌, ℕ, ◌+◌, ◌≤◌, List, length, take, Ok, Err}
-use Rattle.fwd_chunk.specs.Layout.{longest}
+use Rattle.fwd_base.specs.Limits.{longest_file}
 use Rattle.fwd_found.specs.declared.chunk.Chunk.{Chunk}
 use Rattle.fwd_found.specs.declared.chunk.Brief.{Brief}
 use Rattle.fwd_found.specs.declared.chunk.Seen.{Seen}
@@ -33,4 +33,4 @@ IsSeen bytes (Refused kind) = StandsFor bytes (Err (refusal_of kind))
 
 -- as many bytes as tell what a file stands for: the longest that is read, and one more
 abbrev pub enough : ℕ
-enough = longest + 1
+enough = longest_file + 1

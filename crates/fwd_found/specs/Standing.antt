@@ -2,9 +2,10 @@
 use Rattle.std.specs.Prelude.{◌≡◌, ◌⊎◌, ℕ, ◌+◌, ◌-◌, ◌==◌, ◌&&◌, not, nat_lt, Bool, IsTrue, if◌then◌else◌, List, length, take, drop, Option, Some, None, Result, Ok, Err}
 use Rattle.std.specs.Prelude.{slice_index}
 use Rattle.std.specs.Str.{is_utf8}
+use Rattle.fwd_base.specs.Limits.{longest_file}
 use Rattle.fwd_event.specs.declared.event.Event.{Event}
 use Rattle.fwd_event.specs.Event.{AreEvents, IsWholePrefix}
-use Rattle.fwd_chunk.specs.Layout.{longest, part, meta_length, committed}
+use Rattle.fwd_chunk.specs.Layout.{part, meta_length, committed}
 use Rattle.fwd_found.specs.declared.chunk.Chunk.{Chunk}
 use Rattle.fwd_found.specs.declared.refusal.NotAChunk.{NotAChunk}
 use Rattle.fwd_found.specs.declared.refusal.NotAChunk.TheVariants.{TooShort, BadId, BadLength, NotLogs, NotUtf8Tag, BadEvents, Memory, TooLong}
@@ -42,7 +43,7 @@ tagged bytes (Some tag) = if is_utf8 tag then sized bytes tag else Err NotUtf8Ta
 -- the tag that the header and the metadata give, or the first of their refusals
 abbrev pub headed : List ℕ → Result (List ℕ) NotAChunk
 headed bytes =
-    if nat_lt longest (length bytes) then Err TooLong
+    if nat_lt longest_file (length bytes) then Err TooLong
     else if nat_lt (length bytes) 24 then Err TooShort
     else if not (has_id bytes) then Err BadId
     else if nat_lt (length bytes) (24 + meta_length bytes) then Err TooShort

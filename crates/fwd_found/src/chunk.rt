@@ -1,7 +1,7 @@
 //! A chunk that was read, and what is kept of it.
 
 use crate::ChunkKind;
-use fwd_base::Bytes;
+use fwd_base::{Bytes, crosses};
 
 /// A chunk as its file has it. Lengths are counted in bytes.
 #[derive(Debug, Drop)]
@@ -46,10 +46,17 @@ pub struct Found {
     pub seen: Seen,
 }
 
-fn crosses<T: Send + Sync>(_: &T) {}
+/// Threads may share chunks that were read and hand them over.
+pub fn chunks_cross(chunk: &Chunk) {
+    crosses(chunk)
+}
 
-/// Threads may share chunks and what is found, and hand them over.
-pub fn chunks_cross(chunk: &Chunk, found: &Found) {
-    crosses(chunk);
-    crosses(found);
+/// Threads may share descriptions of chunks and hand them over.
+pub fn briefs_cross(brief: &Brief) {
+    crosses(brief)
+}
+
+/// Threads may share files that were found and hand them over.
+pub fn found_cross(found: &Found) {
+    crosses(found)
 }

@@ -1,14 +1,12 @@
 //! The header and the metadata.
 
 ghost use Rattle.std.specs.Prelude.{◌≡◌, ◌+◌, ◌≤◌, length, Some, None, Ok, Err, MatchOption, MatchResult};
-ghost use Rattle.std.specs.Str.{is_utf8};
 ghost use Rattle.fwd_chunk.specs.Layout.{meta_length, committed};
 ghost use Rattle.fwd_found.specs.Standing.{has_id, is_marked, tag_of, tagged, sized, headed};
 
 use crate::NotAChunk;
-
-/// The length of the longest file that is read.
-const LONGEST: usize = 67_108_864;
+use fwd_base::is_utf8;
+use fwd_base::limits::LONGEST_FILE;
 
 /// The length of what stands before the metadata.
 pub const HEADER: usize = 24;
@@ -61,12 +59,6 @@ fn tag_of(meta: &[u8]) -> Option<&[u8]>
     }
 }
 
-fn is_utf8(bytes: &[u8]) -> bool
-    ensures { result ≡ is_utf8 bytes.now }
-{
-    str::from_utf8(bytes).is_ok()
-}
-
 /// The tag, where a marked file has all of its committed bytes.
 fn sized<'a>(bytes: &[u8], tag: &'a [u8]) -> Result<&'a [u8], NotAChunk>
     requires { 24 + meta_length bytes.now ≤ length bytes.now }
@@ -99,7 +91,7 @@ fn tagged<'a>(bytes: &[u8], meta: &'a [u8]) -> Result<&'a [u8], NotAChunk>
 pub fn headed(bytes: &[u8]) -> Result<&[u8], NotAChunk>
     ensures { MatchResult result (λ tag. headed bytes.now ≡ Ok tag.now) (λ e. headed bytes.now ≡ Err e) }
 {
-    if bytes.len() > LONGEST {
+    if bytes.len() > LONGEST_FILE {
         return Err(NotAChunk::TooLong);
     }
     if bytes.len() < HEADER {

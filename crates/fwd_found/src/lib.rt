@@ -13,11 +13,8 @@ mod reading;
 mod refusal;
 
 pub use check::check_file;
-pub use chunk::{Brief, Chunk, Found, Seen, chunks_cross};
+pub use chunk::{Brief, Chunk, Found, Seen, briefs_cross, chunks_cross, found_cross};
 pub use fwd_base::{Bytes, Memory};
 pub use laws::{enough_tells, new_metadata_say_the_tag, parts_stand};
 pub use reading::read_chunk;
 pub use refusal::{ChunkKind, NotAChunk};
-
-#[cfg(test)]
-mod tests;

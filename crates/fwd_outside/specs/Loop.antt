@@ -2,6 +2,7 @@
 use Rattle.std.specs.Prelude.{◌≡◌, ◌≢◌, ℕ, ◌+◌, ◌-◌, ◌^◌, ◌≤◌, min, Bool, true, false, List, [], length, Option, Some, None, Result, Ok, Err, IsBitSet}
 use Rattle.fwd_program.specs.Program.{Entry, Program, Return, Ask}
 use Rattle.fwd_program.specs.Told.{Told}
+use Rattle.fwd_base.specs.Limits.{longest_piece}
 use Rattle.fwd_base.specs.declared.ids.InputId.{InputId}
 use Rattle.fwd_outside.specs.declared.ends.Ends.{Ends}
 use Rattle.fwd_outside.specs.declared.happening.Happening.{Happening}
@@ -133,11 +134,11 @@ WaitFails (Err e) = ⊥
 abbrev pub IsHeard : ℕ → InputId → Type 0
 IsHeard paused input = IsBitSet paused input.0 → ⊥
 
--- What may be brought while these inputs are paused: nothing of a paused one, pieces of 1 to 65,536 bytes, and no end where
--- the loop is endless.
+-- What may be brought while these inputs are paused: nothing of a paused one, pieces of 1 byte to the longest piece, and no
+-- end where the loop is endless.
 abbrev pub MayCome : Bool → ℕ → Happening → Type 0
 MayCome endless paused (happening.Joined input conn) = IsHeard paused input
-MayCome endless paused (happening.Piece input conn bytes) = IsHeard paused input × (1 ≤ length bytes) × (length bytes ≤ 65536)
+MayCome endless paused (happening.Piece input conn bytes) = IsHeard paused input × (1 ≤ length bytes) × (length bytes ≤ longest_piece)
 MayCome endless paused (happening.Gone input conn) = IsHeard paused input
 MayCome endless paused (happening.InputEnd input) = IsHeard paused input
 MayCome endless paused happening.End = endless ≡ false

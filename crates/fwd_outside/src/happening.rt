@@ -17,7 +17,7 @@ pub enum Happening {
         input: InputId,
         conn: ConnId,
     },
-    /// Bytes came over a connection, 1 to 65,536 of them.
+    /// Bytes came over a connection, one at least and at most `LONGEST_PIECE` of them.
     Piece {
         input: InputId,
         conn: ConnId,

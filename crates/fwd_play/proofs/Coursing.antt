@@ -8,6 +8,7 @@ use Rattle.fwd_base.specs.declared.ids.InputId.{InputId}
 use Rattle.fwd_play.specs.declared.queue.Coming.{Coming}
 use Rattle.std.specs.Option.{option_or}
 use Rattle.std.proofs.lemmas.List.Folds.{find-append}
+use Rattle.fwd_base.specs.Limits.{longest_piece}
 use Rattle.fwd_script.specs.declared.schedule.Planned.{Planned}
 use Rattle.fwd_play.specs.declared.course.Course.{Course}
 use Rattle.fwd_play.specs.declared.course.Fetched.{Fetched}
@@ -135,8 +136,8 @@ pub may : (paused : ℕ) (brought : Happening) → is_heard paused brought ≡ t
 may paused (Tick now) is come = tt
 may paused (Joined input conn) is come = heard paused input is
 may paused (Piece input conn bytes) is come =
-    let sizes = both (leb 1 (length bytes)) (leb (length bytes) 65536) come in
-    (heard paused input is, leb-true 1 (length bytes) sizes.0, leb-true (length bytes) 65536 sizes.1)
+    let sizes = both (leb 1 (length bytes)) (leb (length bytes) longest_piece) come in
+    (heard paused input is, leb-true 1 (length bytes) sizes.0, leb-true (length bytes) longest_piece sizes.1)
 may paused (Gone input conn) is come = heard paused input is
 may paused (Room link) is come = tt
 may paused (Back link bytes) is come = tt

@@ -1,5 +1,5 @@
 -- The lines that weren't come to, from one line to the next.
-use Rattle.std.proofs.Common.{◌≡◌, ⊎_elim, ℕ, zero, suc, ◌+◌, ◌-◌, ◌^◌, ◌<◌, ◌≤◌, min, Bool, true, false, if◌then◌else◌, List, [], ◌∷◌, ◌++◌, length, get_or, drop, find, Option, Some, None, is_none, refl, sym, ap, subst, ◌∙◌, add-one, arith}
+use Rattle.std.proofs.Common.{◌≡◌, ⊎_elim, ℕ, zero, suc, ◌+◌, ◌-◌, ◌^◌, ◌<◌, ◌≤◌, min, Bool, true, if◌then◌else◌, List, [], ◌∷◌, ◌++◌, length, get_or, drop, find, Option, Some, None, refl, sym, ap, subst, ◌∙◌, add-one, arith}
 use Rattle.std.proofs.Math.Seq.{drop-cons}
 use Rattle.std.proofs.Math.ListN.{drop_of_length-le}
 use Rattle.std.specs.List.{slice_get}
@@ -50,13 +50,6 @@ module _ (lines : List Planned) (at : ℕ) (line reading step count : ℕ) (none
       whole line reading step count at (coming (at + 1) (drop (at + 1) lines)) none
       ∙ ap (λ (l : List Coming). l ++ coming (at + 1) (drop (at + 1) lines)) (sym silent)
       ∙ sym (stepped planned is)
-
-  -- the first of a line that brings one happening
-  pub happens_first : (brought : Happening) → Happens brought ≡ get_or lines at (Happens brought) → comes brought ≡ true
-      → first_in (ticks line reading step count ++ coming at (drop at lines)) ≡ Some (record { line = at; behind = 0; happening = brought })
-  happens_first brought is may =
-      ap (λ (l : List Coming). first_in l) (stepped (Happens brought) is)
-      ∙ ap (λ (b : Bool). first_in ((if b then record { line = at; behind = 0; happening = brought } ∷ [] else []) ++ coming (at + 1) (drop (at + 1) lines))) may
 
   pub happens_rest : (brought : Happening) → Happens brought ≡ get_or lines at (Happens brought) → comes brought ≡ true
       → ticks line reading step count ++ coming (at + 1) (drop (at + 1) lines) ≡ drop 1 (ticks line reading step count ++ coming at (drop at lines))
@@ -126,24 +119,6 @@ module _ (paused : ℕ) (lines : List Planned) (at : ℕ) (planned : Planned) (w
   heard_later none =
       ap place_in split
       ∙ place_rest (find (hears paused) (brought_by at planned)) (find (hears paused) (coming (at + 1) (drop (at + 1) lines))) (place_none (find (hears paused) (brought_by at planned)) none)
-
-silent_append : (xs ys : List Coming) → is_none (first_in xs) ≡ true → is_none (first_in (xs ++ ys)) ≡ is_none (first_in ys)
-silent_append [] ys is = refl
-silent_append (x ∷ xs) ys is = absurd (cc is)
-
-loud_append : (xs ys : List Coming) → is_none (first_in xs) ≡ false → is_none (first_in (xs ++ ys)) ≡ false
-loud_append [] ys is = absurd (cc is)
-loud_append (x ∷ xs) ys is = refl
-
--- whether lines bring anything, from one line to the next
-module _ (lines : List Planned) (at : ℕ) (planned : Planned) (within : at < length lines) (is : planned ≡ get_or lines at planned) where
-  pub silent_later : is_none (first_in (brought_by at planned)) ≡ true → is_none (first_in (coming at (drop at lines))) ≡ is_none (first_in (coming (at + 1) (drop (at + 1) lines)))
-  silent_later silent =
-      ap (λ (l : List Coming). is_none (first_in l)) (coming_step lines at planned within is) ∙ silent_append (brought_by at planned) (coming (at + 1) (drop (at + 1) lines)) silent
-
-  pub loud_here : is_none (first_in (brought_by at planned)) ≡ false → is_none (first_in (coming at (drop at lines))) ≡ false
-  loud_here loud =
-      ap (λ (l : List Coming). is_none (first_in l)) (coming_step lines at planned within is) ∙ loud_append (brought_by at planned) (coming (at + 1) (drop (at + 1) lines)) loud
 
 one_of : ℕ → Happening → Coming
 one_of line brought = record { line = line; behind = 0; happening = brought }

@@ -1,6 +1,7 @@
 -- What may come, and what of it is heard while inputs are paused.
 use Rattle.std.specs.Prelude.{ℕ, ◌==◌, nat_le, Bool, true, not, ◌&&◌, List, length, find, unwrap_or}
 use Rattle.std.specs.Int.{bit_at}
+use Rattle.fwd_base.specs.Limits.{longest_piece}
 use Rattle.fwd_outside.specs.declared.happening.Happening.{Happening}
 use Rattle.fwd_outside.specs.declared.happening.Happening.TheVariants.{Tick, Joined, Piece, Gone, Room, Back, Broken, InputEnd, Stop, End, Failed}
 use Rattle.fwd_play.specs.declared.queue.Coming.{Coming}
@@ -22,9 +23,9 @@ is_heard paused Stop = true
 is_heard paused End = true
 is_heard paused Failed = true
 
--- A piece has 1 to 65,536 bytes. Another one is passed over, so that it never comes.
+-- A piece has one byte at least, and at most the longest piece. Another one is passed over, so that it never comes.
 abbrev pub comes : Happening → Bool
-comes (Piece input conn bytes) = nat_le 1 (length bytes) && nat_le (length bytes) 65536
+comes (Piece input conn bytes) = nat_le 1 (length bytes) && nat_le (length bytes) longest_piece
 comes brought = true
 
 abbrev pub happening_of : Coming → Happening

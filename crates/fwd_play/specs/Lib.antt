@@ -8,6 +8,7 @@ pub mod Lanes
 pub mod Place
 pub mod Stands
 pub mod Told
+pub mod Counted
 pub mod ScriptHeld
 pub mod Held
 pub mod Handed

@@ -10,8 +10,6 @@ mod masks;
 mod notes;
 mod queue;
 mod script;
-#[cfg(test)]
-mod tests;
 mod unread;
 
 pub use notes::LoopNote;

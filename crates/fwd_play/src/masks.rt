@@ -3,6 +3,7 @@
 ghost use Rattle.std.specs.Prelude.{◌≡◌};
 ghost use Rattle.fwd_play.specs.Heard.{comes, is_heard, is_set};
 
+use fwd_base::limits::LONGEST_PIECE;
 use fwd_outside::Happening;
 
 /// Whether a bit is set.
@@ -38,7 +39,7 @@ pub fn is_heard(paused: u64, happening: &Happening) -> bool
     }
 }
 
-/// Whether a happening may come: a piece has 1 to 65,536 bytes.
+/// Whether a happening may come: a piece has one byte at least, and at most `LONGEST_PIECE`.
 pub fn comes(happening: &Happening) -> bool
     ensures { result ≡ comes happening.now }
 {
@@ -49,7 +50,7 @@ pub fn comes(happening: &Happening) -> bool
             bytes,
         } => {
             let len = bytes.len();
-            1 <= len && len <= 65_536
+            1 <= len && len <= LONGEST_PIECE
         }
         _ => true,
     }

@@ -1,11 +1,15 @@
 //! A loop in memory that plays a life.
 
-ghost use Rattle.std.specs.Prelude.{◌≡◌, ◌+◌, ◌-◌, ◌^◌, ℕ, ◌≤◌, ◌++◌, min, [], if◌then◌else◌, IfOk, OnOk, OnErr};
+ghost use Rattle.std.specs.Prelude.{◌≡◌, ◌≤◌, ◌++◌, [], IfOk, OnOk, OnErr};
 ghost use Rattle.std.specs.List.{cons_option};
 ghost use Rattle.fwd_program.specs.Told.{Grew, asking};
 ghost use Rattle.fwd_program.specs.Cause.{HasCause};
 ghost use Rattle.fwd_outside.specs.Loop as outside;
-ghost use Rattle.fwd_outside.specs.declared.happening.Happening.TheVariants as happening;
+ghost use Rattle.fwd_outside.specs.Loop.{IsNewLink, MayCome, PushFails, TakesAtMost, WaitFails, begun_outcome, dialed_outcome, linked, loop_outcome, pushed_outcome, replied_outcome, waited};
+ghost use Rattle.fwd_outside.specs.declared.answers.Begun.TheVariants as begun;
+ghost use Rattle.fwd_outside.specs.declared.answers.Dialed.TheVariants as dialed;
+ghost use Rattle.fwd_outside.specs.declared.answers.Replied.TheVariants as replied;
+ghost use Rattle.fwd_play.specs.Counted.{counted, dial_fails, is_failure, push_fails, reply_fails, start_fails, wait_fails};
 ghost use Rattle.fwd_play.specs.Handed.{handed};
 ghost use Rattle.fwd_play.specs.Held.{change_in, changed, changes_between, changes_in, counts_of, is_before_crash, new_held, told_of};
 ghost use Rattle.fwd_play.specs.Lines.{given_in};
@@ -111,7 +115,12 @@ impl Loop for Script {
 
     ghost told = { told_of };
 
-    fn start(&mut self, ends: &Ends) -> Begun {
+    fn start(&mut self, ends: &Ends) -> Begun
+        ensures told { Grew (told_of self.old) (told_of self.new) (asking (outside.Start ends.now) (begun_outcome result)) }
+        ensures cause { HasCause self.old.faults self.new.faults (result ≡ begun.Failed) }
+        ensures same { counts_of self.new ≡ counts_of self.old }
+        ensures failed { self.new.faults ≡ counted (start_fails result) self.old.faults }
+    {
         let Ok(()) = self.notes.reserve(1) else {
             return Begun::Memory;
         };
@@ -122,7 +131,13 @@ impl Loop for Script {
         Begun::Ready
     }
 
-    fn wait(&mut self, alloc: Global, until: u64, paused: u64) -> Result<Happening, Memory> {
+    fn wait(&mut self, alloc: Global, until: u64, paused: u64) -> Result<Happening, Memory>
+        ensures told { Grew (told_of self.old) (told_of self.new) (asking (outside.Wait until paused) (loop_outcome result)) }
+        ensures cause { HasCause self.old.faults self.new.faults (WaitFails result) }
+        ensures counted { counts_of self.new ≡ waited (counts_of self.old) result }
+        ensures allowed { IfOk result (MayCome (counts_of self.old).endless paused) }
+        ensures failed { self.new.faults ≡ counted (wait_fails result) self.old.faults }
+    {
         self.notes.reserve(1)?;
         let Some(at) = self.course.seek(alloc, paused)? else {
             self.notes.push_reserved(LoopNote::Wait {
@@ -145,7 +160,13 @@ impl Loop for Script {
         Ok(happening)
     }
 
-    fn dial(&mut self, output: OutputId, tag: &[u8]) -> Dialed {
+    fn dial(&mut self, output: OutputId, tag: &[u8]) -> Dialed
+        ensures told { Grew (told_of self.old) (told_of self.new) (asking (outside.Dial output.0 tag.now) (dialed_outcome result)) }
+        ensures cause { HasCause self.old.faults self.new.faults (result ≡ dialed.Refused) }
+        ensures counted { counts_of self.new ≡ linked (counts_of self.old) result }
+        ensures newest { IsNewLink (counts_of self.old) result }
+        ensures failed { self.new.faults ≡ counted (dial_fails result) self.old.faults }
+    {
         let Ok(()) = self.notes.reserve(1) else {
             return Dialed::Memory;
         };
@@ -166,7 +187,13 @@ impl Loop for Script {
         }
     }
 
-    fn push(&mut self, link: LinkId, bytes: &[u8]) -> Pushed {
+    fn push(&mut self, link: LinkId, bytes: &[u8]) -> Pushed
+        ensures told { Grew (told_of self.old) (told_of self.new) (asking (outside.Push link.0 bytes.now) (pushed_outcome result)) }
+        ensures cause { HasCause self.old.faults self.new.faults (PushFails bytes.now result) }
+        ensures same { counts_of self.new ≡ counts_of self.old }
+        ensures within { TakesAtMost bytes.now result }
+        ensures failed { self.new.faults ≡ counted (push_fails bytes.now result) self.old.faults }
+    {
         let Ok(()) = self.notes.reserve(1) else {
             return Pushed::Memory;
         };
@@ -194,14 +221,24 @@ impl Loop for Script {
         }
     }
 
-    fn close(&mut self, link: LinkId) -> Result<(), Memory> {
+    fn close(&mut self, link: LinkId) -> Result<(), Memory>
+        ensures told { Grew (told_of self.old) (told_of self.new) (asking (outside.Close link.0) (loop_outcome result)) }
+        ensures later { self.old.faults ≤ self.new.faults }
+        ensures same { counts_of self.new ≡ counts_of self.old }
+        ensures failed { self.new.faults ≡ self.old.faults }
+    {
         self.notes.reserve(1)?;
         self.notes.push_reserved(LoopNote::Close { link });
         self.left.close(link.0);
         Ok(())
     }
 
-    fn reply(&mut self, conn: ConnId, bytes: &[u8]) -> Replied {
+    fn reply(&mut self, conn: ConnId, bytes: &[u8]) -> Replied
+        ensures told { Grew (told_of self.old) (told_of self.new) (asking (outside.Reply conn.0 bytes.now) (replied_outcome result)) }
+        ensures cause { HasCause self.old.faults self.new.faults (result ≡ replied.Broken) }
+        ensures same { counts_of self.new ≡ counts_of self.old }
+        ensures failed { self.new.faults ≡ counted (reply_fails result) self.old.faults }
+    {
         let Ok(()) = self.notes.reserve(1) else {
             return Replied::Memory;
         };
@@ -219,13 +256,23 @@ impl Loop for Script {
         }
     }
 
-    fn drop_conn(&mut self, conn: ConnId) -> Result<(), Memory> {
+    fn drop_conn(&mut self, conn: ConnId) -> Result<(), Memory>
+        ensures told { Grew (told_of self.old) (told_of self.new) (asking (outside.DropConn conn.0) (loop_outcome result)) }
+        ensures later { self.old.faults ≤ self.new.faults }
+        ensures same { counts_of self.new ≡ counts_of self.old }
+        ensures failed { self.new.faults ≡ self.old.faults }
+    {
         self.notes.reserve(1)?;
         self.notes.push_reserved(LoopNote::DropConn { conn });
         Ok(())
     }
 
-    fn word(&mut self) -> Result<u64, Memory> {
+    fn word(&mut self) -> Result<u64, Memory>
+        ensures told { Grew (told_of self.old) (told_of self.new) (asking outside.Word (loop_outcome result)) }
+        ensures later { self.old.faults ≤ self.new.faults }
+        ensures same { counts_of self.new ≡ counts_of self.old }
+        ensures failed { self.new.faults ≡ self.old.faults }
+    {
         self.notes.reserve(1)?;
         let word = self.left.word();
         self.notes.push_reserved(LoopNote::Word { word });
@@ -235,7 +282,7 @@ impl Loop for Script {
 
 /// The count of faults behind a happening.
 fn faults_after(faults: u64, brought: &Happening) -> u64
-    ensures { HasCause faults result (brought.now ≡ happening.Failed) }
+    ensures { result ≡ counted (is_failure brought.now) faults }
 {
     match brought {
         Happening::Failed => faults.saturating_add(1),

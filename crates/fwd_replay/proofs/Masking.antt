@@ -1,5 +1,6 @@
 -- The mask of standard outputs.
 use Rattle.std.proofs.Common.{arith, ◌≡◌, ℕ, zero, suc, ◌+◌, ◌*◌, ◌^◌, ◌<◌, ◌≤◌, Bool, true, false, if◌then◌else◌, List, [], ◌∷◌, length}
+use Rattle.fwd_base.specs.Limits.{most_outputs}
 use Rattle.fwd_settings.specs.declared.chosen.OutputSet.{OutputSet}
 use Rattle.fwd_replay.specs.Text.{is_stdout, stdout_mask}
 
@@ -20,7 +21,7 @@ mask_within (suc n) (set ∷ more) few =
     grind arith
 
 -- twice the mask of outputs of which there may be one more, and a bit, has 64 bits
-pub doubled_fits : (more : List OutputSet) (all mask : ℕ) → length more + 1 ≡ all → all ≤ 64 → mask ≡ stdout_mask more → 2 * mask + 1 < 2 ^ 64
+pub doubled_fits : (more : List OutputSet) (all mask : ℕ) → length more + 1 ≡ all → all ≤ most_outputs → mask ≡ stdout_mask more → 2 * mask + 1 < 2 ^ 64
 doubled_fits more all mask long few masked =
     let small = mask_within 63 more (omega (arith, long, few)) in
     rw masked (omega (arith, small))

@@ -27,7 +27,7 @@ use Rattle.fwd_replay.specs.Text.{IsTraceOf, IsReplayed, told_by, with_line_end,
 
 -- a disk and files that tell, and weren't asked anything
 abbrev pub quiet : World
-quiet = record { loop = None; disk = Some (record { files = []; mark = 0 }, []); files = Some ([], []) }
+quiet = record { loop = None; disk = Some (record { files = [] }, []); files = Some ([], []) }
 
 -- what a loop in memory was asked is the loop's part of the trace
 pub asked_is : (planned : Life) (now : ScriptHeld) (s : AllSettings) (most : ℕ) (lived : Lived)

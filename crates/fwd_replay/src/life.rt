@@ -1,6 +1,7 @@
 //! A life, from its lines to its text.
 
 ghost use Rattle.std.specs.Prelude.{◌≡◌, ◌≤◌, ◌++◌, [], length, IfOk, OnOk};
+ghost use Rattle.fwd_base.specs.Limits.{most_inputs, most_outputs};
 ghost use Rattle.fwd_settings.specs.declared.chosen.AllSettings.{AllSettings};
 ghost use Rattle.fwd_trace.specs.Fact.{History};
 ghost use Rattle.fwd_play.specs.Handed.{handed};
@@ -79,8 +80,8 @@ fn come_to(
     }
 }
 
-/// Replays a life with the settings of a configuration, which have at most 64 inputs and 64 outputs and a base of at least
-/// one second: the engine runs over the life, for at most so many turns. The only error is want of memory.
+/// Replays a life with the settings of a configuration, which have no more inputs and outputs than one may have and a base
+/// of at least one second: the engine runs over the life, for at most so many turns. The only error is want of memory.
 pub fn replay(
     rt: &(impl Threads + Sync),
     alloc: Global,
@@ -88,8 +89,8 @@ pub fn replay(
     life: &Life,
     most: u64,
 ) -> Result<Replayed, Memory>
-    requires inputs { length settings.inputs ≤ 64 }
-    requires outputs { length settings.outputs ≤ 64 }
+    requires inputs { length settings.inputs ≤ most_inputs }
+    requires outputs { length settings.outputs ≤ most_outputs }
     requires base { 1 ≤ settings.service.base }
     ensures { IfOk result (λ replayed. IsReplayed settings most life.now replayed) }
 {

@@ -1,6 +1,7 @@
 //! What the text of a life takes from the settings.
 
 ghost use Rattle.std.specs.Prelude.{◌≡◌, ◌≤◌, length, IfOk};
+ghost use Rattle.fwd_base.specs.Limits.{most_outputs};
 ghost use Rattle.fwd_replay.specs.Naming.{IsNamed};
 ghost use Rattle.fwd_replay.specs.Text.{input_names, output_names, is_stdout, stdout_mask};
 
@@ -41,13 +42,16 @@ fn is_stdout(kind: &OutputKind) -> bool
 {
     match kind {
         OutputKind::Stdout { .. } => true,
-        OutputKind::File { .. } | OutputKind::Tcp { .. } | OutputKind::Forward { .. } => false,
+        OutputKind::File { .. }
+        | OutputKind::Tcp { .. }
+        | OutputKind::Forward { .. }
+        | OutputKind::Http { .. } => false,
     }
 }
 
 /// Bit `i` is set where output `i` is a standard output.
 fn stdout_mask(outputs: &[OutputSet]) -> u64
-    requires { length outputs.now ≤ 64 }
+    requires { length outputs.now ≤ most_outputs }
     ensures { result ≡ stdout_mask outputs.now }
 {
     let Some((set, more)) = outputs.split_first() else {
@@ -57,9 +61,9 @@ fn stdout_mask(outputs: &[OutputSet]) -> u64
 }
 
 impl Named {
-    /// What the text takes from the settings of a configuration, which has at most 64 outputs.
+    /// What the text takes from the settings of a configuration, which has no more outputs than one may have.
     pub fn of(alloc: Global, settings: &AllSettings) -> Result<Named, Memory>
-        requires { length settings.now.outputs ≤ 64 }
+        requires { length settings.now.outputs ≤ most_outputs }
         ensures { IfOk result (λ named. IsNamed named settings.now) }
     {
         Ok(Named {

@@ -1,9 +1,7 @@
 -- How escapes are read.
-use Rattle.std.proofs.Common.{◌≡◌, ◌≢◌, ℕ, suc, ◌+◌, ◌-◌, ◌<◌, ◌≤◌, ◌==◌, Bool, false, if◌then◌else◌, List, [], ◌∷◌, ◌++◌, length, get_or, take, drop, add-one, Option, Some, None, refl, sym, ◌∙◌, ap, append_assoc, arith}
+use Rattle.std.proofs.Common.{◌≡◌, ◌≢◌, ℕ, ◌-◌, ◌≤◌, ◌==◌, Bool, false, if◌then◌else◌, List, [], ◌∷◌, ◌++◌, length, get_or, take, drop, Option, Some, None, refl, sym, ◌∙◌, ap, append_assoc, arith}
 use Rattle.std.specs.Option.{option_map}
-use Rattle.std.specs.List.{find}
 use Rattle.std.proofs.lemmas.List.{take_all}
-use Rattle.std.proofs.Math.Seq.{drop-cons}
 use Rattle.std.proofs.lemmas.Bool.Decides.{nat_tests}
 use Rattle.fwd_script.specs.Words.{escaped, in_front, unescaped}
 
@@ -44,8 +42,3 @@ reads_escape text bytes rest more new byte some is tail_is some_more means so_fa
     so_far ∙ ap (λ (l : List ℕ). behind bytes (unescaped l)) (parts rest some ∙ ap (λ (l : List ℕ). get_or rest 0 0 ∷ l) (sym tail_is ∙ parts more some_more))
     ∙ escape bytes (get_or rest 0 0) (get_or more 0 0) byte (take (length more - 1) (drop 1 more)) is means
     ∙ ap (λ (l : List ℕ). behind l (unescaped (take (length more - 1) (drop 1 more)))) (sym pushed)
-
--- a search goes on behind what doesn't pass
-pub find_on : {X : Type 0} (p : X → Bool) (xs : List X) (i : ℕ) (d : X) → i < length xs → p (get_or xs i d) ≡ false → find p (drop i xs) ≡ find p (drop (i + 1) xs)
-find_on p xs i d lt fails =
-    ap (find p) (drop-cons xs i d lt) ∙ ap (λ (b : Bool). if b then Some (get_or xs i d) else find p (drop (suc i) xs)) fails ∙ ap (λ (n : ℕ). find p (drop n xs)) (sym (add-one i))

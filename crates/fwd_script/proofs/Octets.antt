@@ -7,6 +7,7 @@ use Rattle.std.proofs.lemmas.Bool.Decides.{nat_tests}
 use Rattle.hex.specs.Hex.{IsBytes, encode_lower, encode_with, lower_digits}
 use Rattle.hex.specs.declared.error.FromHexError.{FromHexError}
 use Rattle.hex.proofs.HexLemmas.{decode_of-encode_lower}
+use Rattle.fwd_base.specs.Limits.{longest_piece}
 use Rattle.fwd_script.specs.declared.refused.ScheduleKind.TheVariants.{BadHex, BadNumber}
 use Rattle.fwd_script.specs.Words.{decoded, escaped, in_front, judged, octets, piece, then_read, unescaped}
 use Rattle.fwd_script.specs.Text.{byte_text, is_text, octets_text}
@@ -78,11 +79,11 @@ octets_read bytes is = by (list_all is_text bytes)
         rw (parted_whole 32 (encode_lower bytes) (hex_lacks 32 (omega arith) bytes is))
         (ap (λ (r : Result (List ℕ) FromHexError). judged BadHex (decoded r) None) (decode_of-encode_lower bytes is))
 
-pub piece_read : (bytes : List ℕ) → IsBytes bytes → 0 < length bytes → length bytes ≤ 65536 → piece (Some (octets_text bytes)) ≡ Ok (bytes, None)
+pub piece_read : (bytes : List ℕ) → IsBytes bytes → 0 < length bytes → length bytes ≤ longest_piece → piece (Some (octets_text bytes)) ≡ Ok (bytes, None)
 piece_read bytes is some most =
-    ap (then_read (λ (read : List ℕ). judged BadNumber (if nat_lt 0 (length read) && nat_le (length read) 65536 then Some read else None))) (octets_read bytes is)
-    ∙ ap (λ (b : Bool). judged BadNumber (if b && nat_le (length bytes) 65536 then Some bytes else None) None) (lt-ltb 0 (length bytes) some)
-    ∙ ap (λ (b : Bool). judged BadNumber (if b then Some bytes else None) None) (le-leb (length bytes) 65536 most)
+    ap (then_read (λ (read : List ℕ). judged BadNumber (if nat_lt 0 (length read) && nat_le (length read) longest_piece then Some read else None))) (octets_read bytes is)
+    ∙ ap (λ (b : Bool). judged BadNumber (if b && nat_le (length bytes) longest_piece then Some bytes else None) None) (lt-ltb 0 (length bytes) some)
+    ∙ ap (λ (b : Bool). judged BadNumber (if b then Some bytes else None) None) (le-leb (length bytes) longest_piece most)
 
 -- no line feed
 pub lacks_append : (byte : ℕ) (xs ys : List ℕ) → Lacks byte xs → Lacks byte ys → Lacks byte (xs ++ ys)

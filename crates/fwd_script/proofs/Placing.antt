@@ -75,9 +75,6 @@ is_first : (files : FilesGiven) (path : List ℕ) (place : ℕ) (d : List ℕ ×
 is_first files path place d is =
     let at = position-Some (λ (f : List ℕ × List ℕ). bytes_eq f.0 path) files place d is in record { within = at.0; here = at.1; before = at.2 }
 
-pub place_within : (files : FilesGiven) (path : List ℕ) (place : ℕ) → position (λ (f : List ℕ × List ℕ). bytes_eq f.0 path) files ≡ Some place → place < length files
-place_within files path place is = (is_first files path place ([], []) is).within
-
 pub found_at : (files : FilesGiven) (path : List ℕ) (place : ℕ) (d : List ℕ × List ℕ) → position (λ (f : List ℕ × List ℕ). bytes_eq f.0 path) files ≡ Some place → found files path ≡ Some (get_or files place d).1
 found_at files path place d is = found_first files path place d (is_first files path place d is)
 

@@ -1,14 +1,16 @@
 -- What is written is read as what it was written for: the words.
-use Rattle.std.proofs.Common.{◌≡◌, ℕ, ◌^◌, ◌<◌, ◌≤◌, ◌==◌, ◌&&◌, ◌||◌, nat_lt, nat_le, Bool, true, false, if◌then◌else◌, List, [], ◌∷◌, ◌++◌, length, decimal, Option, Some, None, Ok, refl, ◌∙◌, ap, arith}
+use Rattle.std.proofs.Common.{◌≡◌, ℕ, ◌+◌, ◌-◌, ◌*◌, ◌^◌, ◌<◌, ◌≤◌, ◌==◌, ◌&&◌, ◌||◌, nat_lt, Bool, true, false, if◌then◌else◌, List, [], ◌∷◌, ◌++◌, length, decimal, Option, Some, None, Ok, refl, ◌∙◌, ap, arith}
 use Rattle.std.specs.List.{list_all, list_any}
 use Rattle.std.specs.Char.{is_ascii_digit, digit_value}
-use Rattle.std.specs.Str.Parse.{AllDigits, digits_value}
+use Rattle.std.specs.Str.Parse.{AllDigits, digits_value_after}
 use Rattle.std.proofs.lemmas.Fmt.{decimal_is_IsNumeral}
 use Rattle.std.proofs.lemmas.Bool.{lt-ltb, le-leb}
 use Rattle.std.proofs.lemmas.Bool.Decides.{nat_tests}
+use Rattle.fwd_base.specs.Number as base
+use Rattle.fwd_base.proofs.Decimal.{with_digits}
 use Rattle.fwd_script.specs.declared.refused.ScheduleKind.TheVariants.{BadNumber}
 use Rattle.fwd_script.specs.Writable.{Lacks}
-use Rattle.fwd_script.specs.Words.{Left, judged, number_of, number_to, parted, then_read, word}
+use Rattle.fwd_script.specs.Words.{Left, at_most, judged, number_of, number_to, parted, then_read, word}
 use Rattle.fwd_script.proofs.Parting.{both}
 
 -- a word, and what stands behind it on its line
@@ -55,15 +57,24 @@ digits_lack byte low (c ∷ cs) digits =
     let apart : (c == byte) ≡ false = digit_apart byte c low digits.0 in
     ap (λ (b : Bool). b || list_any (λ (x : ℕ). x == byte) cs) apart ∙ digits_lack byte low cs digits.1
 
+digit_worth : (c : ℕ) → digit_value c < 10 → c - 48 ≡ digit_value c
+digit_worth c small = grind (arith, nat_tests)
+
+-- the number that digits write is their value
+digits_written : (number : ℕ) (ds : List ℕ) → AllDigits 10 ds → with_digits number ds ≡ digits_value_after 10 number ds
+digits_written number [] digits = refl
+digits_written number (c ∷ cs) digits =
+    ap (λ (worth : ℕ). with_digits (number * 10 + worth) cs) (digit_worth c digits.0) ∙ digits_written (number * 10 + digit_value c) cs digits.1
+
 number_of_decimal : (n most : ℕ) → n ≤ most → n < 2 ^ 64 → number_of most (decimal n) ≡ Some n
 number_of_decimal n most fits small =
     let is = decimal_is_IsNumeral n small in
     let some : nat_lt 0 (length (decimal n)) ≡ true = lt-ltb 0 (length (decimal n)) is.0.0 in
-    let below : nat_le (digits_value 10 (decimal n)) most ≡ true = rw is.1 (le-leb n most fits) in
-    ap (λ (b : Bool). if b && (list_all is_ascii_digit (decimal n) && nat_le (digits_value 10 (decimal n)) most) then Some (digits_value 10 (decimal n)) else None) some
-    ∙ ap (λ (b : Bool). if b && nat_le (digits_value 10 (decimal n)) most then Some (digits_value 10 (decimal n)) else None) (all_digits (decimal n) is.0.1)
-    ∙ ap (λ (b : Bool). if b then Some (digits_value 10 (decimal n)) else None) below
-    ∙ ap (λ (v : ℕ). Some v) is.1
+    ap (λ (b : Bool). at_most most (if b && list_all is_ascii_digit (decimal n) then base.within_64_bits (base.decimal (decimal n)) else None)) some
+    ∙ ap (λ (b : Bool). at_most most (if b then base.within_64_bits (base.decimal (decimal n)) else None)) (all_digits (decimal n) is.0.1)
+    ∙ ap (λ (v : ℕ). at_most most (base.within_64_bits v)) (digits_written 0 (decimal n) is.0.1 ∙ is.1)
+    ∙ ap (λ (b : Bool). at_most most (if b then Some n else None)) (lt-ltb n (2 ^ 64) small)
+    ∙ ap (λ (b : Bool). if b then Some n else None) (le-leb n most fits)
 
 pub number_is_read : (n most : ℕ) → n ≤ most → n < 2 ^ 64 → (rest : Left) → number_to most (Some (spaced (decimal n) rest)) ≡ Ok (n, rest)
 number_is_read n most fits small rest =

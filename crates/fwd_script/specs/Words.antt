@@ -1,10 +1,10 @@
 -- The words of a line, from left to right.
 use Rattle.std.specs.Prelude.{◌≡◌, ◌≢◌, ℕ, ◌==◌, ◌&&◌, nat_lt, nat_le, if◌then◌else◌, List, [], ◌∷◌, length, drop, codes, Option, Some, None, Result, Ok, Err, nat_eq}
-use Rattle.std.specs.List.{list_all, starts_with}
-use Rattle.std.specs.Char.{is_ascii_digit}
-use Rattle.std.specs.Str.Parse.{digits_value}
+use Rattle.std.specs.List.{starts_with}
 use Rattle.hex.specs.Hex.{decode_of}
 use Rattle.hex.specs.declared.error.FromHexError.{FromHexError}
+use Rattle.fwd_base.specs.Limits.{longest_piece}
+use Rattle.fwd_base.specs.Number as base
 use Rattle.fwd_script.specs.declared.refused.ScheduleKind.{ScheduleKind}
 use Rattle.fwd_script.specs.declared.refused.ScheduleKind.TheVariants.{UnknownWord, BadNumber, BadHex, Memory}
 
@@ -45,12 +45,13 @@ abbrev pub judged : {X : Type 0} → ScheduleKind → Option X → Reader X
 judged kind None left = Err kind
 judged kind (Some meaning) left = Ok (meaning, left)
 
--- a number: digits, whose value is at most so much
+abbrev pub at_most : ℕ → Option ℕ → Option ℕ
+at_most most (Some number) = if nat_le number most then Some number else None
+at_most most None = None
+
+-- a number that is at most so much
 abbrev pub number_of : ℕ → List ℕ → Option ℕ
-number_of most digits =
-    if nat_lt 0 (length digits) && (list_all is_ascii_digit digits && nat_le (digits_value 10 digits) most)
-    then Some (digits_value 10 digits)
-    else None
+number_of most digits = at_most most (base.number_of digits)
 
 abbrev pub number_to : ℕ → Reader ℕ
 number_to most = do
@@ -63,12 +64,6 @@ number = number_to 18446744073709551615
 
 abbrev pub id : Reader ℕ
 id = number_to 4294967295
-
--- a word of choice, by the table of its words
-abbrev pub choice : {X : Type 0} → (List ℕ → Option X) → Reader X
-choice table = do
-  chosen ← word
-  judged UnknownWord (table chosen)
 
 -- the byte that an escape stands for
 abbrev pub escaped : ℕ → Option ℕ
@@ -104,11 +99,11 @@ octets (Some rest) =
     hex_word : List ℕ × Left → Result (List ℕ × Left) ScheduleKind
     hex_word (digits, left) = if starts_with nat_eq digits (codes "x:") then judged BadHex (decoded (decode_of (drop 2 digits))) left else Err BadHex
 
--- BYTES of a piece: 1 to 65,536 of them
+-- BYTES of a piece: one at least, and at most the longest piece
 abbrev pub piece : Reader (List ℕ)
 piece = do
   bytes ← octets
-  judged BadNumber (if nat_lt 0 (length bytes) && nat_le (length bytes) 65536 then Some bytes else None)
+  judged BadNumber (if nat_lt 0 (length bytes) && nat_le (length bytes) longest_piece then Some bytes else None)
 
 -- what a reading gave, and where it stands behind it; `Memory` says nothing
 abbrev pub Reads : {X : Type 0} → Reader X → Left → Result X ScheduleKind → Left → Type 0

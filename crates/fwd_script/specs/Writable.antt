@@ -2,6 +2,7 @@
 use Rattle.std.specs.Prelude.{◌≡◌, ℕ, ◌^◌, ◌<◌, ◌≤◌, ◌==◌, false, List, [], ◌∷◌, ◌++◌, length, Some, None, All}
 use Rattle.std.specs.List.{list_any, sum_by}
 use Rattle.hex.specs.Hex.{IsBytes}
+use Rattle.fwd_base.specs.Limits.{longest_piece}
 use Rattle.fwd_outside.specs.declared.happening.Happening.{Happening}
 use Rattle.fwd_outside.specs.declared.happening.Happening.TheVariants.{Tick, Joined, Piece, Gone, Room, Back, Broken, InputEnd, Stop, End, Failed}
 use Rattle.fwd_script.specs.declared.schedule.Schedule.{Schedule}
@@ -38,7 +39,7 @@ pub record IsName (name : List ℕ) : Type 0 where
 abbrev pub HappeningFits : Happening → Type 0
 HappeningFits (Tick now) = Is64 now
 HappeningFits (Joined input conn) = Is32 input.0 × Is64 conn.0
-HappeningFits (Piece input conn bytes) = Is32 input.0 × Is64 conn.0 × (0 < length bytes) × (length bytes ≤ 65536) × IsBytes bytes
+HappeningFits (Piece input conn bytes) = Is32 input.0 × Is64 conn.0 × (0 < length bytes) × (length bytes ≤ longest_piece) × IsBytes bytes
 HappeningFits (Gone input conn) = Is32 input.0 × Is64 conn.0
 HappeningFits (Room link) = Is64 link.0
 HappeningFits (Back link bytes) = Is64 link.0 × IsBytes bytes

@@ -10,8 +10,6 @@ mod reading;
 mod refused;
 mod schedule;
 mod sink;
-#[cfg(test)]
-mod tests;
 mod words;
 mod writing;
 

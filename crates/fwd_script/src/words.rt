@@ -1,14 +1,14 @@
 //! The words of a line, from left to right.
 
-ghost use Rattle.std.specs.Prelude.{◌≡◌, ℕ, ◌+◌, ◌-◌, ◌*◌, ◌^◌, ◌<◌, ◌≤◌, ◌==◌, List, Option, Some, MatchResult, IfOk, IfErr, ◌≢◌, None, IsTrue, position};
-ghost use Rattle.std.specs.Char.{is_ascii_digit};
-ghost use Rattle.std.specs.Option.{option_copied, SomeIff};
+ghost use Rattle.std.specs.Prelude.{◌≡◌, ◌≢◌, List, Option, Some, None, MatchResult, IfOk, IfErr};
+ghost use Rattle.std.specs.Option.{option_copied};
 ghost use Rattle.hex.specs.Hex.{decode_of};
 ghost use Rattle.fwd_script.specs.declared.refused.ScheduleKind.TheVariants.{BadHex, Memory};
 ghost use Rattle.fwd_script.specs.Words.{Reads, decoded, escaped, id, number, number_of, number_to, octets, over, parted, piece, unescaped, word};
 
 use crate::ScheduleKind;
-use fwd_base::Bytes;
+use fwd_base::limits::LONGEST_PIECE;
+use fwd_base::{Bytes, number, place_of};
 use hex::FromHexError;
 use std::alloc::Global;
 use std::marker::Model;
@@ -18,16 +18,12 @@ pub fn part(text: &[u8], byte: u8) -> (&[u8], Option<&[u8]>)
     ensures before { result.0.now ≡ (parted byte text.entry.now).0 }
     ensures behind { option_copied result.1 ≡ (parted byte text.entry.now).1 }
 {
-    match place_of(text, byte) {
-        Some(place) => (&text[..place], Some(&text[place + 1..])),
-        None => (text, None),
+    let place = place_of(text, byte);
+    if place < text.len() {
+        (&text[..place], Some(&text[place + 1..]))
+    } else {
+        (text, None)
     }
-}
-
-fn place_of(text: &[u8], byte: u8) -> Option<usize>
-    ensures { result ≡ position (λ x. x == byte) text.now }
-{
-    text.iter().position(|x| *x == byte)
 }
 
 /// What is left of a line behind the words that were read.
@@ -114,12 +110,12 @@ impl<'a> Words<'a> {
         decode(alloc, &digits[2..])
     }
 
-    /// BYTES of a piece: 1 to 65,536 of them.
+    /// BYTES of a piece: one at least, and at most `LONGEST_PIECE`.
     pub fn piece(&mut self, alloc: Global) -> Result<Bytes, ScheduleKind>
         ensures { Reads piece self.old result self.new }
     {
         let bytes = self.octets(alloc)?;
-        if 0 < bytes.len() && bytes.len() <= 65_536 {
+        if 0 < bytes.len() && bytes.len() <= LONGEST_PIECE {
             Ok(bytes)
         } else {
             Err(ScheduleKind::BadNumber)
@@ -178,28 +174,9 @@ fn unescape(alloc: Global, text: &[u8]) -> Result<Bytes, ScheduleKind>
 }
 
 /// The value of digits, where it is at most so much.
-pub fn number_of(digits: &[u8], most: u64) -> Option<u64>
+fn number_of(digits: &[u8], most: u64) -> Option<u64>
     ensures { result ≡ number_of most digits.now }
 {
-    if digits.is_empty() {
-        return None;
-    }
-    let mut value: u64 = 0;
-    for digit in digits {
-        match with_digit(value, *digit) {
-            Some(more) => value = more,
-            None => return None,
-        }
-    }
+    let value = number(digits)?;
     if value <= most { Some(value) } else { None }
-}
-
-/// The value with one digit more behind it.
-fn with_digit(value: u64, digit: u8) -> Option<u64>
-    ensures { SomeIff result (IsTrue (is_ascii_digit digit) × (value * 10 + (digit - 48) < 2 ^ 64)) (value * 10 + (digit - 48)) }
-{
-    if !digit.is_ascii_digit() {
-        return None;
-    }
-    value.checked_mul(10)?.checked_add(u64::from(digit - b'0'))
 }

@@ -9,6 +9,7 @@ use Rattle.std.proofs.lemmas.Fmt.{IsAscii-decimal, length-decimal-le}
 use Rattle.std.proofs.lemmas.List.Sums.{count_by-le-length}
 use Rattle.std.proofs.Common.{zero, suc}
 use Rattle.std.proofs.Common.{lit≤}
+use Rattle.fwd_choices.specs.Text.{is_visible_text, is_uri_text}
 use Rattle.fwd_choices.specs.declared.kind.SettingKind.TheVariants.{Missing, TooMany}
 use Rattle.fwd_filters.specs.declared.steps.FilterStep.{FilterStep}
 use Rattle.fwd_config.specs.declared.section.Place.{Place}
@@ -41,9 +42,9 @@ use Rattle.fwd_settings.specs.Inputs.{is_input_of, input_kind, input_name, tag_o
 use Rattle.fwd_settings.specs.Outputs.{output_kind, output_from, output_name}
 use Rattle.fwd_settings.specs.Filters.{filter_from}
 use Rattle.fwd_settings.specs.Settings.{nothing, plugin_at, named, headed, part_of, entries_here, with_input, with_filter, with_output, taken, section_taken, sections_taken, all_of, settings_of}
-use Rattle.fwd_settings.specs.Sound.{input_plugin, output_plugin, AreInputsNamed, AreOutputsNamed, IsTagText, HasTag, IsSound}
+use Rattle.fwd_settings.specs.Sound.{input_plugin, output_plugin, AreInputsNamed, AreOutputsNamed, IsTagText, HasTag, CanRequest, IsSound}
 use Rattle.fwd_settings.proofs.Always.{Always, always_then, always_known, always_comes, always_each, Pairs, all_of_pairs}
-use Rattle.fwd_settings.proofs.Table.{IsPositive, IsTagValue, IsText, IsOfKind, IsSaidBy, always_said, found_passes, named_passes, kind_passes, Holds, last_holds, last_there}
+use Rattle.fwd_settings.proofs.Table.{IsPositive, IsTagValue, IsText, IsTextSo, IsOfKind, IsSaidBy, always_said, found_passes, named_passes, kind_passes, Holds, last_holds, last_there}
 
 -- ---- lists that grow
 
@@ -96,6 +97,22 @@ abbrev is_text : Kind → Bool
 is_text (kind.Plain plain.Text) = true
 is_text _ = false
 
+abbrev is_visible : Kind → Bool
+is_visible (kind.Plain plain.Visible) = true
+is_visible _ = false
+
+abbrev is_uri : Kind → Bool
+is_uri (kind.Plain plain.Uri) = true
+is_uri _ = false
+
+visible_of_kind : (k : Kind) (v : Value) → is_visible k ≡ true → IsOfKind k v → IsTextSo is_visible_text v
+visible_of_kind (kind.Plain plain.Visible) v so of = of
+visible_of_kind _ v so of = absurd (cc so)
+
+uri_of_kind : (k : Kind) (v : Value) → is_uri k ≡ true → IsOfKind k v → IsTextSo is_uri_text v
+uri_of_kind (kind.Plain plain.Uri) v so of = of
+uri_of_kind _ v so of = absurd (cc so)
+
 positive_of_kind : (k : Kind) (v : Value) → is_positive k ≡ true → IsOfKind k v → IsPositive v
 positive_of_kind (kind.Plain plain.Positive) v so of = of
 positive_of_kind _ v so of = absurd (cc so)
@@ -147,6 +164,29 @@ path_is (Some (value.Grep g)) here some = absurd here
 path_is (Some (value.Condition c)) here some = absurd here
 path_is (Some (value.Change c)) here some = absurd here
 path_is (Some (value.Wildcard w)) here some = absurd here
+
+-- a text that passes a test, or a default that does
+text_or_so : (test : List ℕ → Bool) (default : List ℕ) → test default ≡ true → (o : Option Value) → Holds (IsTextSo test) o → test (unwrap_or (as_text o) default) ≡ true
+text_or_so test default so None here = so
+text_or_so test default so (Some (value.Text t)) here = here
+text_or_so test default so (Some value.Nothing) here = absurd here
+text_or_so test default so (Some (value.Number n)) here = absurd here
+text_or_so test default so (Some (value.Port n)) here = absurd here
+text_or_so test default so (Some (value.Truth b)) here = absurd here
+text_or_so test default so (Some (value.Word w)) here = absurd here
+text_or_so test default so (Some (value.Retries r)) here = absurd here
+text_or_so test default so (Some (value.Pattern p)) here = absurd here
+text_or_so test default so (Some (value.Parser p)) here = absurd here
+text_or_so test default so (Some (value.Grep g)) here = absurd here
+text_or_so test default so (Some (value.Condition c)) here = absurd here
+text_or_so test default so (Some (value.Change c)) here = absurd here
+text_or_so test default so (Some (value.Wildcard w)) here = absurd here
+
+http_requests : (said : List Said) → AllByRecursion (IsSaidIn part.HttpPeer) said → CanRequest (output_kind part.HttpPeer said)
+http_requests said all = (
+  text_or_so is_visible_text (codes "127.0.0.1") refl (last_value key.Host said) (last_of_named key.Host is_visible (IsTextSo is_visible_text) visible_of_kind part.HttpPeer refl said all),
+  text_or_so is_uri_text (codes "/") refl (last_value key.Uri said) (last_of_named key.Uri is_uri (IsTextSo is_uri_text) uri_of_kind part.HttpPeer refl said all),
+)
 
 abbrev HoldsText : Option (List ℕ) → Type 0
 HoldsText None = Unit {0}
@@ -228,6 +268,7 @@ is_output part.Stdout = true
 is_output part.File = true
 is_output part.TcpPeer = true
 is_output part.ForwardPeer = true
+is_output part.HttpPeer = true
 is_output _ = false
 
 kind_ok : {a b : InputKind} → ◌≡◌ {A = Checked InputKind} (Ok a) (Ok b) → a ≡ b
@@ -282,6 +323,7 @@ pub record Sound (path : Bool) (s : SoFar) : Type 0 where
   pub few_outputs : length s.outputs ≤ 64
   pub inputs_named : AreInputsNamed [] s.inputs
   pub outputs_named : AreOutputsNamed [] s.outputs
+  pub requests : AllByRecursion (λ set. CanRequest set.kind) s.outputs
   pub tagged : AllByRecursion (λ set. HasTag set.kind set.tag) s.inputs
   pub stored : AllByRecursion (λ set. set.stored ≡ true → path ≡ true) s.inputs
 
@@ -292,17 +334,19 @@ with_input_sound path s set sound room new = record {
   few_outputs = sound.few_outputs;
   inputs_named = inputs_more [] s.inputs set sound.inputs_named new.0;
   outputs_named = sound.outputs_named;
+  requests = sound.requests;
   tagged = all_more (λ x. HasTag x.kind x.tag) s.inputs set sound.tagged new.1.0;
   stored = all_more (λ x. x.stored ≡ true → path ≡ true) s.inputs set sound.stored new.1.1;
 }
 
-with_output_sound : (path : Bool) (s : SoFar) (set : OutputSet) → Sound path s → length s.outputs < 64 → set.name ≡ output_name s.outputs (output_plugin set.kind) → Sound path (record s { outputs = s.outputs ++ set ∷ [] })
-with_output_sound path s set sound room new = record {
+with_output_sound : (path : Bool) (s : SoFar) (set : OutputSet) → Sound path s → length s.outputs < 64 → set.name ≡ output_name s.outputs (output_plugin set.kind) → CanRequest set.kind → Sound path (record s { outputs = s.outputs ++ set ∷ [] })
+with_output_sound path s set sound room new asked = record {
   said = sound.said;
   few_inputs = sound.few_inputs;
   few_outputs = omega (arith, room, length-append s.outputs (set ∷ []));
   inputs_named = sound.inputs_named;
   outputs_named = outputs_more [] s.outputs set sound.outputs_named new;
+  requests = all_more (λ x. CanRequest x.kind) s.outputs set sound.requests asked;
   tagged = sound.tagged;
   stored = sound.stored;
 }
@@ -388,12 +432,13 @@ module _ (path : Bool) (s : SoFar) (place : Place) (said : List Said) (new : SoF
     few_outputs = sound.few_outputs;
     inputs_named = sound.inputs_named;
     outputs_named = sound.outputs_named;
+    requests = sound.requests;
     tagged = sound.tagged;
     stored = sound.stored;
   })
 
-  output_sound : (p : Part) → output_plugin (output_kind p said) ≡ p → length s.outputs < 64 → ◌≡◌ {A = Checked SoFar} (Ok (with_output s (output_from p s.outputs said))) (Ok new) → Sound path new
-  output_sound p same room is = subst (Sound path) (so_far_ok is) (with_output_sound path s (output_from p s.outputs said) sound room (ap (output_name s.outputs) (sym same)))
+  output_sound : (p : Part) → output_plugin (output_kind p said) ≡ p → CanRequest (output_kind p said) → length s.outputs < 64 → ◌≡◌ {A = Checked SoFar} (Ok (with_output s (output_from p s.outputs said))) (Ok new) → Sound path new
+  output_sound p same asked room is = subst (Sound path) (so_far_ok is) (with_output_sound path s (output_from p s.outputs said) sound room (ap (output_name s.outputs) (sym same)) asked)
 
   service_sound : AllByRecursion (IsSaidIn part.Service) said → ◌≡◌ {A = Checked SoFar} (Ok (record s { service = s.service ++ said })) (Ok new) → Sound path new
   service_sound all is = subst (Sound path) (so_far_ok is) (record {
@@ -402,6 +447,7 @@ module _ (path : Bool) (s : SoFar) (place : Place) (said : List Said) (new : SoF
     few_outputs = sound.few_outputs;
     inputs_named = sound.inputs_named;
     outputs_named = sound.outputs_named;
+    requests = sound.requests;
     tagged = sound.tagged;
     stored = sound.stored;
   })
@@ -416,10 +462,11 @@ module _ (path : Bool) (s : SoFar) (place : Place) (said : List Said) (new : SoF
   taken_sound part.Grep room all is = filter_sound (filter_from part.Grep place said) is
   taken_sound part.Modify room all is = filter_sound (filter_from part.Modify place said) is
   taken_sound part.Nest room all is = filter_sound (filter_from part.Nest place said) is
-  taken_sound part.Stdout room all is = output_sound part.Stdout refl (room.1 refl) is
-  taken_sound part.File room all is = output_sound part.File refl (room.1 refl) is
-  taken_sound part.TcpPeer room all is = output_sound part.TcpPeer refl (room.1 refl) is
-  taken_sound part.ForwardPeer room all is = output_sound part.ForwardPeer refl (room.1 refl) is
+  taken_sound part.Stdout room all is = output_sound part.Stdout refl tt (room.1 refl) is
+  taken_sound part.File room all is = output_sound part.File refl tt (room.1 refl) is
+  taken_sound part.TcpPeer room all is = output_sound part.TcpPeer refl tt (room.1 refl) is
+  taken_sound part.ForwardPeer room all is = output_sound part.ForwardPeer refl tt (room.1 refl) is
+  taken_sound part.HttpPeer room all is = output_sound part.HttpPeer refl (http_requests said all) (room.1 refl) is
 
 -- ---- a storage path that is said is there at the end
 
@@ -486,6 +533,7 @@ service_stays path s place said new part.Nest is any = of_filter s new (filter_f
 service_stays path s place said new part.Stdout is any = subst (λ (x : SoFar). NamesPath x.service) (so_far_ok is) any
 service_stays path s place said new part.File is any = subst (λ (x : SoFar). NamesPath x.service) (so_far_ok is) any
 service_stays path s place said new part.TcpPeer is any = subst (λ (x : SoFar). NamesPath x.service) (so_far_ok is) any
+service_stays path s place said new part.HttpPeer is any = subst (λ (x : SoFar). NamesPath x.service) (so_far_ok is) any
 service_stays path s place said new part.ForwardPeer is any = subst (λ (x : SoFar). NamesPath x.service) (so_far_ok is) any
 
 -- ---- all sections
@@ -546,6 +594,7 @@ all_sound path s sound there = record {
   few_outputs = sound.few_outputs;
   inputs_named = sound.inputs_named;
   outputs_named = sound.outputs_named;
+  requests = sound.requests;
   tagged = sound.tagged;
   base = base_is (last_value key.SchedulerBase s.service) (last_of_named key.SchedulerBase is_positive IsPositive positive_of_kind part.Service refl s.service sound.said);
   stored = all_so (λ set. set.stored ≡ true → path ≡ true) (λ set. IsTrue set.stored → IsSome (text_at key.StoragePath s.service))
@@ -555,7 +604,7 @@ all_sound path s sound there = record {
 }
 
 nothing_sound : (path : Bool) → Sound path nothing
-nothing_sound path = record { said = tt; few_inputs = omega arith; few_outputs = omega arith; inputs_named = tt; outputs_named = tt; tagged = tt; stored = tt }
+nothing_sound path = record { said = tt; few_inputs = omega arith; few_outputs = omega arith; inputs_named = tt; outputs_named = tt; requests = tt; tagged = tt; stored = tt }
 
 always_sound : (sections : List Section) → Always IsSound (settings_of sections)
 unfolding settings_of

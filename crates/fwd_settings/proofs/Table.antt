@@ -4,12 +4,13 @@ use Rattle.std.specs.List.{AllByRecursion, find, filter_map, last_or, list_all, 
 use Rattle.std.specs.Str.{bytes_eq, is_utf8}
 use Rattle.std.proofs.lemmas.Bool.Decides.{nat_tests}
 use Rattle.std.proofs.lemmas.Str.{IsUtf8-from_is_utf8}
+use Rattle.fwd_base.specs.Number.{number_of}
 use Rattle.fwd_program.specs.Program.{Return, Ask}
 use Rattle.fwd_parser.specs.declared.parser.Parser.{Parser}
 use Rattle.fwd_choices.specs.declared.kind.SettingKind.{SettingKind}
 use Rattle.fwd_choices.specs.declared.kind.SettingKind.TheVariants.{BadNumber, BadChoice}
-use Rattle.fwd_choices.specs.Number.{number_of, positive_of, within}
-use Rattle.fwd_choices.specs.Text.{is_tag_text, is_plain_text}
+use Rattle.fwd_choices.specs.Number.{positive_of, within}
+use Rattle.fwd_choices.specs.Text.{is_tag_text, is_plain_text, is_visible_text, is_uri_text}
 use Rattle.fwd_config.specs.declared.section.Entry.{Entry}
 use Rattle.fwd_settings.specs.declared.keys.Key.{Key}
 use Rattle.fwd_settings.specs.declared.keys.Kind.{Kind}
@@ -41,11 +42,18 @@ abbrev pub IsText : Value → Type 0
 IsText (value.Text t) = Unit {0}
 IsText _ = ⊥
 
+-- a text that passes the test
+abbrev pub IsTextSo : (List ℕ → Bool) → Value → Type 0
+IsTextSo test (value.Text t) = test t ≡ true
+IsTextSo test _ = ⊥
+
 abbrev pub IsOfPlain : Plain → Value → Type 0
 IsOfPlain plain.Positive v = IsPositive v
 IsOfPlain plain.Tag v = IsTagValue v
 IsOfPlain plain.PlainTag v = IsTagValue v
 IsOfPlain plain.Text v = IsText v
+IsOfPlain plain.Visible v = IsTextSo is_visible_text v
+IsOfPlain plain.Uri v = IsTextSo is_uri_text v
 IsOfPlain _ v = Unit {0}
 
 abbrev pub IsOfKind : Kind → Value → Type 0
@@ -94,6 +102,13 @@ text_is text v is = subst IsText (ok_value is) tt
     ok_value : ◌≡◌ {A = Result Value SettingKind} (Ok (value.Text text)) (Ok v) → value.Text text ≡ v
     ok_value e = cc
 
+text_so : (test : List ℕ → Bool) (text : List ℕ) (v : Value) (b : Bool) → test text ≡ b → or_else BadChoice value.Text (when b text) ≡ Ok v → IsTextSo test v
+text_so test text v true so is = subst (IsTextSo test) (ok_value is) so
+  where
+    ok_value : ◌≡◌ {A = Result Value SettingKind} (Ok (value.Text text)) (Ok v) → value.Text text ≡ v
+    ok_value e = cc
+text_so test text v false so is = absurd (cc is)
+
 is_tag_so : (text : List ℕ) → is_tag_text text ≡ true → IsTagText text
 is_tag_so text so = tag_is text _ _ _ refl refl refl so
 
@@ -112,6 +127,8 @@ plain_is plain.False text v is = tt
 plain_is (plain.Choice menu) text v is = tt
 plain_is plain.Paths text v is = tt
 plain_is plain.Retries text v is = tt
+plain_is plain.Visible text v is = text_so is_visible_text text v (is_visible_text text) refl is
+plain_is plain.Uri text v is = text_so is_uri_text text v (is_uri_text text) refl is
 plain_is plain.Types text v is = tt
 plain_is plain.Condition text v is = tt
 plain_is (plain.Change word) text v is = tt

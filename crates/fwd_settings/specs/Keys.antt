@@ -1,8 +1,7 @@
--- The table of sections, plugins and keys. Names are in lower case; those of sections and keys ignore case, those of plugins
--- and the words of a choice don't.
+-- The table of sections, plugins, keys and words of choice. Each is written here in lower case, and ignores case.
 use Rattle.std.specs.Prelude.{ℕ, Bool, true, false, List, [], ◌∷◌, codes, Option}
 use Rattle.std.specs.List.{find}
-use Rattle.std.specs.Str.{bytes_eq, str_eq_ignore_ascii_case}
+use Rattle.std.specs.Str.{str_eq_ignore_ascii_case}
 use Rattle.fwd_choices.specs.declared.rules.ChangeWord.TheVariants as change
 use Rattle.fwd_settings.specs.declared.keys.Key.{Key}
 use Rattle.fwd_settings.specs.declared.keys.Key.TheVariants as key
@@ -35,7 +34,7 @@ plugins_of head.Service = []
 plugins_of head.Input = part.Tail ∷ part.Tcp ∷ part.Forward ∷ part.Stdin ∷ []
 plugins_of head.Parser = []
 plugins_of head.Filter = part.Grep ∷ part.Modify ∷ part.Nest ∷ []
-plugins_of head.Output = part.Stdout ∷ part.File ∷ part.TcpPeer ∷ part.ForwardPeer ∷ []
+plugins_of head.Output = part.Stdout ∷ part.File ∷ part.TcpPeer ∷ part.ForwardPeer ∷ part.HttpPeer ∷ []
 
 abbrev pub name_of_plugin : Part → List ℕ
 name_of_plugin part.Service = []
@@ -51,6 +50,7 @@ name_of_plugin part.Stdout = codes "stdout"
 name_of_plugin part.File = codes "file"
 name_of_plugin part.TcpPeer = codes "tcp"
 name_of_plugin part.ForwardPeer = codes "forward"
+name_of_plugin part.HttpPeer = codes "http"
 
 -- the keys of each section and plugin
 abbrev pub keys_of : Part → List Key
@@ -67,6 +67,7 @@ keys_of part.Stdout = key.Name ∷ key.Match ∷ key.RetryLimit ∷ key.TotalLim
 keys_of part.File = key.Name ∷ key.Match ∷ key.RetryLimit ∷ key.TotalLimit ∷ key.Tls ∷ key.Alias ∷ key.LogLevel ∷ key.Workers ∷ key.Folder ∷ key.File ∷ key.FileFormat ∷ key.Mkdir ∷ []
 keys_of part.TcpPeer = key.Name ∷ key.Match ∷ key.RetryLimit ∷ key.TotalLimit ∷ key.Tls ∷ key.Alias ∷ key.LogLevel ∷ key.Workers ∷ key.Host ∷ key.Port ∷ key.RecordFormat ∷ []
 keys_of part.ForwardPeer = key.Name ∷ key.Match ∷ key.RetryLimit ∷ key.TotalLimit ∷ key.Tls ∷ key.Alias ∷ key.LogLevel ∷ key.Workers ∷ key.Host ∷ key.Port ∷ key.RequireAck ∷ key.TimeAsInteger ∷ []
+keys_of part.HttpPeer = key.Name ∷ key.Match ∷ key.RetryLimit ∷ key.TotalLimit ∷ key.Tls ∷ key.Alias ∷ key.LogLevel ∷ key.Workers ∷ key.RequestHost ∷ key.Port ∷ key.Uri ∷ key.RecordFormat ∷ []
 
 -- how each key is written
 abbrev pub name_of : Key → List ℕ
@@ -145,6 +146,8 @@ name_of key.Mkdir = codes "mkdir"
 name_of key.Host = codes "host"
 name_of key.RequireAck = codes "require_ack_response"
 name_of key.TimeAsInteger = codes "time_as_integer"
+name_of key.RequestHost = codes "host"
+name_of key.Uri = codes "uri"
 
 -- how the value of each key is read
 abbrev pub kind_of : Key → Kind
@@ -223,6 +226,8 @@ kind_of key.Mkdir = kind.Plain plain.Ignored
 kind_of key.Host = kind.Plain plain.Text
 kind_of key.RequireAck = kind.Plain plain.Truth
 kind_of key.TimeAsInteger = kind.Plain plain.Truth
+kind_of key.RequestHost = kind.Plain plain.Visible
+kind_of key.Uri = kind.Plain plain.Uri
 
 -- the words of each choice
 abbrev pub words_of : Menu → List Word
@@ -257,7 +262,7 @@ head_of name = find (is_head_named name) heads
 
 -- the plugin of that name
 abbrev pub is_plugin_named : List ℕ → Part → Bool
-is_plugin_named name plugin = bytes_eq (name_of_plugin plugin) name
+is_plugin_named name plugin = str_eq_ignore_ascii_case (name_of_plugin plugin) name
 
 abbrev pub plugin_of : Head → List ℕ → Option Part
 plugin_of head name = find (is_plugin_named name) (plugins_of head)
@@ -271,7 +276,7 @@ key_of part name = find (is_key_named name) (keys_of part)
 
 -- the word of a choice
 abbrev pub is_written : List ℕ → Word → Bool
-is_written text word = bytes_eq (text_of word) text
+is_written text word = str_eq_ignore_ascii_case (text_of word) text
 
 abbrev pub word_of : Menu → List ℕ → Option Word
 word_of menu text = find (is_written text) (words_of menu)

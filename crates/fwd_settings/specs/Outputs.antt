@@ -25,6 +25,7 @@ is_output_of plugin set = of_kind plugin set.kind
     of_kind part.File (output.File folder file form) = true
     of_kind part.TcpPeer (output.Tcp host port form) = true
     of_kind part.ForwardPeer (output.Forward host port ack whole_time) = true
+    of_kind part.HttpPeer (output.Http host port uri form) = true
     of_kind _ _ = false
 
 -- its number among the outputs of the plugin, from 0
@@ -41,6 +42,11 @@ abbrev pub file_form : Option Word → Form
 file_form (Some word.JsonLines) = form.JsonLines
 file_form _ = form.OutFile
 
+-- of a request, events as they are stored
+abbrev pub request_form : Option Word → Form
+request_form (Some word.JsonLines) = form.JsonLines
+request_form _ = form.MsgPack
+
 abbrev pub host_of : List Said → List ℕ
 host_of said = unwrap_or (text_at key.Host said) (codes "127.0.0.1")
 
@@ -49,6 +55,8 @@ output_kind part.File said = output.File (unwrap_or (text_at key.Folder said) (c
 output_kind part.TcpPeer said = output.Tcp (host_of said) (unwrap_or (port_at key.Port said) 5170) (record_form (word_at key.RecordFormat said))
 output_kind part.ForwardPeer said =
     output.Forward (host_of said) (unwrap_or (port_at key.Port said) 24224) (unwrap_or (truth_at key.RequireAck said) false) (unwrap_or (truth_at key.TimeAsInteger said) false)
+output_kind part.HttpPeer said =
+    output.Http (host_of said) (unwrap_or (port_at key.Port said) 80) (unwrap_or (text_at key.Uri said) (codes "/")) (request_form (word_at key.RecordFormat said))
 output_kind _ said = output.Stdout (record_form (word_at key.RecordFormat said))
 
 -- an output behind those before it

@@ -1,6 +1,7 @@
 -- The settings of sections, or the first refusal.
 use Rattle.std.specs.Prelude.{◌≡◌, ◌⊎◌, Bool, false, nat_le, if◌then◌else◌, List, [], ◌∷◌, ◌++◌, length, Option, Some, None, Result, Ok, Err, IsErrAnd}
 use Rattle.std.specs.List.{list_any}
+use Rattle.fwd_base.specs.Limits.{most_inputs, most_outputs}
 use Rattle.fwd_filters.specs.declared.steps.FilterStep.{FilterStep}
 use Rattle.fwd_choices.specs.declared.kind.SettingKind.TheVariants as kind
 use Rattle.fwd_config.specs.declared.section.Place.{Place}
@@ -29,10 +30,10 @@ use Rattle.fwd_settings.specs.Outputs.{output_from}
 abbrev pub nothing : SoFar
 nothing = record { service = []; inputs = []; filters = []; outputs = [] }
 
--- there are 64 inputs, or outputs, already
+-- there are as many inputs, or outputs, as may be
 abbrev pub is_full : SoFar → Head → Bool
-is_full so_far head.Input = nat_le 64 (length so_far.inputs)
-is_full so_far head.Output = nat_le 64 (length so_far.outputs)
+is_full so_far head.Input = nat_le most_inputs (length so_far.inputs)
+is_full so_far head.Output = nat_le most_outputs (length so_far.outputs)
 is_full so_far _ = false
 
 abbrev pub plugin_at : Entry → Option Part → Checked Part
@@ -87,6 +88,7 @@ taken path so_far part.Stdout place said = Ok (with_output so_far (output_from p
 taken path so_far part.File place said = Ok (with_output so_far (output_from part.File so_far.outputs said))
 taken path so_far part.TcpPeer place said = Ok (with_output so_far (output_from part.TcpPeer so_far.outputs said))
 taken path so_far part.ForwardPeer place said = Ok (with_output so_far (output_from part.ForwardPeer so_far.outputs said))
+taken path so_far part.HttpPeer place said = Ok (with_output so_far (output_from part.HttpPeer so_far.outputs said))
 
 -- A section is checked in five steps: its header, whether it has a Name where one is wanted, its plugin, each entry in
 -- order, and what else is required.

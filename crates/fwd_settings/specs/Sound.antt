@@ -1,6 +1,8 @@
 -- What the engine asks of its settings.
 use Rattle.std.specs.Prelude.{◌≡◌, ℕ, ◌≤◌, IsTrue, List, [], ◌∷◌, ◌++◌, length, Option, Some, None, IsSome, IsUtf8}
 use Rattle.std.specs.List.{AllByRecursion}
+use Rattle.fwd_base.specs.Limits.{longest_tag, most_inputs, most_outputs}
+use Rattle.fwd_choices.specs.Text.{is_visible_text, is_uri_text}
 use Rattle.fwd_settings.specs.declared.chosen.AllSettings.{AllSettings}
 use Rattle.fwd_settings.specs.declared.chosen.InputSet.{InputSet}
 use Rattle.fwd_settings.specs.declared.chosen.InputKind.{InputKind}
@@ -24,6 +26,7 @@ output_plugin (output.Stdout form) = part.Stdout
 output_plugin (output.File folder file form) = part.File
 output_plugin (output.Tcp host port form) = part.TcpPeer
 output_plugin (output.Forward host port ack whole_time) = part.ForwardPeer
+output_plugin (output.Http host port uri form) = part.HttpPeer
 
 -- each is named by its plugin and its number among those of the plugin
 abbrev pub AreInputsNamed : List InputSet → List InputSet → Type 0
@@ -34,20 +37,26 @@ abbrev pub AreOutputsNamed : List OutputSet → List OutputSet → Type 0
 AreOutputsNamed before [] = Unit {0}
 AreOutputsNamed before (set ∷ more) = (set.name ≡ output_name before (output_plugin set.kind)) × AreOutputsNamed (before ++ set ∷ []) more
 
--- a tag has 1 to 1,024 bytes of UTF-8; forward alone may have none
+-- a tag has at least one byte, and at most as many as a tag may have; forward alone may have none
 abbrev pub IsTagText : List ℕ → Type 0
-IsTagText tag = (1 ≤ length tag) × (length tag ≤ 1024) × IsUtf8 tag
+IsTagText tag = (1 ≤ length tag) × (length tag ≤ longest_tag) × IsUtf8 tag
 
 abbrev pub HasTag : InputKind → Option (List ℕ) → Type 0
 HasTag kind (Some tag) = IsTagText tag
 HasTag (input.Forward host port) None = Unit {0}
 HasTag _ None = ⊥
 
+-- what a request is written from: a host of visible characters, and a slash with visible characters behind it
+abbrev pub CanRequest : OutputKind → Type 0
+CanRequest (output.Http host port uri form) = IsTrue (is_visible_text host) × IsTrue (is_uri_text uri)
+CanRequest _ = Unit {0}
+
 pub record IsSound (settings : AllSettings) : Type 0 where
-  pub few_inputs : length settings.inputs ≤ 64
-  pub few_outputs : length settings.outputs ≤ 64
+  pub few_inputs : length settings.inputs ≤ most_inputs
+  pub few_outputs : length settings.outputs ≤ most_outputs
   pub inputs_named : AreInputsNamed [] settings.inputs
   pub outputs_named : AreOutputsNamed [] settings.outputs
+  pub requests : AllByRecursion (λ set. CanRequest set.kind) settings.outputs
   pub tagged : AllByRecursion (λ set. HasTag set.kind set.tag) settings.inputs
   pub base : 1 ≤ settings.service.base
   pub stored : AllByRecursion (λ set. IsTrue set.stored → IsSome settings.service.path) settings.inputs

@@ -1,11 +1,12 @@
 -- How the value of an entry is read, by the kind of its key.
 use Rattle.std.specs.Prelude.{ℕ, Bool, false, ◌&&◌, if◌then◌else◌, List, Option, Some, None, Result, Ok, Err, is_some}
+use Rattle.fwd_base.specs.Number.{number_of}
 use Rattle.fwd_base.specs.Size.{size_of}
 use Rattle.fwd_parser.specs.declared.parser.Parser.{Parser}
 use Rattle.fwd_choices.specs.declared.kind.SettingKind.{SettingKind}
 use Rattle.fwd_choices.specs.declared.kind.SettingKind.TheVariants.{UnknownKey, BadNumber, BadSize, BadChoice}
-use Rattle.fwd_choices.specs.Number.{number_of, positive_of, port_of, flush_of, retries_of}
-use Rattle.fwd_choices.specs.Text.{truth_of, is_false_word, is_tag_text, is_plain_text}
+use Rattle.fwd_choices.specs.Number.{positive_of, port_of, flush_of, retries_of}
+use Rattle.fwd_choices.specs.Text.{truth_of, is_false_word, is_tag_text, is_plain_text, is_visible_text, is_uri_text}
 use Rattle.fwd_choices.specs.Types.{types_of}
 use Rattle.fwd_choices.specs.Rule.{key_and_rest_of, condition_of, change_of}
 use Rattle.fwd_config.specs.declared.section.Place.{Place}
@@ -46,6 +47,8 @@ value_of plain.Text text = Ok (value.Text text)
 value_of plain.Tag text = or_else BadChoice value.Text (when (is_tag_text text) text)
 value_of plain.PlainTag text = or_else BadChoice value.Text (when (is_plain_text text && is_tag_text text) text)
 value_of plain.Paths text = or_else BadChoice value.Text (when (is_plain_text text) text)
+value_of plain.Visible text = or_else BadChoice value.Text (when (is_visible_text text) text)
+value_of plain.Uri text = or_else BadChoice value.Text (when (is_uri_text text) text)
 value_of plain.Types text = or_else BadChoice value.Text (when (is_some (types_of text)) text)
 value_of plain.Condition text = or_else BadChoice value.Condition (condition_of text)
 value_of (plain.Change word) text = or_else BadChoice value.Change (change_of word text)

@@ -80,6 +80,13 @@ pub enum OutputKind {
         /// Whether times are written as whole seconds.
         whole_time: bool,
     },
+    /// A peer that is asked by requests of HTTP to take what is sent.
+    Http {
+        host: Bytes,
+        port: u16,
+        uri: Bytes,
+        form: Form,
+    },
 }
 
 /// An output.

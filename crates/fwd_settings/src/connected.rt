@@ -9,7 +9,7 @@ use fwd_outside::{Ends, InEnd, InEnds, OutEnd, OutEnds};
 use std::alloc::Global;
 
 /// The ends of the inputs and outputs, in order: a loop listens for tcp and forward, reads standard input and brings
-/// nothing for a tail; it writes to standard output and to files, and connects to the peers of tcp and forward.
+/// nothing for a tail; it writes to standard output and to files, and connects to the peers of tcp, forward and http.
 pub fn ends(alloc: Global, s: &AllSettings) -> Result<Ends, Memory>
     ensures { IfOk result (λ ends. ends ≡ ends_of s.now) }
 {
@@ -61,12 +61,12 @@ fn out_end(alloc: Global, kind: &OutputKind) -> Result<OutEnd, Memory>
             path: folder.try_clone(alloc)?,
             file: own_file(alloc, file)?,
         }),
-        OutputKind::Tcp { host, port, .. } | OutputKind::Forward { host, port, .. } => {
-            Ok(OutEnd::Peer {
-                host: host.try_clone(alloc)?,
-                port: *port,
-            })
-        }
+        OutputKind::Tcp { host, port, .. }
+        | OutputKind::Forward { host, port, .. }
+        | OutputKind::Http { host, port, .. } => Ok(OutEnd::Peer {
+            host: host.try_clone(alloc)?,
+            port: *port,
+        }),
     }
 }
 

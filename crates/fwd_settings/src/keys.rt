@@ -6,8 +6,8 @@ ghost use Rattle.std.specs.Str.{bytes_eq};
 ghost use Rattle.fwd_settings.specs.Keys.{name_of, kind_of, keys_of, is_key_named, key_of};
 
 use crate::parts::Part;
-use crate::words::{Menu, same_name};
-use fwd_choices::ChangeWord;
+use crate::words::Menu;
+use fwd_choices::{ChangeWord, same_name};
 
 /// A key of a section.
 #[derive(Clone, Copy)]
@@ -87,6 +87,8 @@ pub enum Key {
     Host,
     RequireAck,
     TimeAsInteger,
+    RequestHost,
+    Uri,
 }
 
 /// How a value is read.
@@ -130,6 +132,10 @@ pub enum Plain {
     PlainTag,
     /// Paths without a star, parted by commas.
     Paths,
+    /// A text of visible characters.
+    Visible,
+    /// A slash, and visible characters behind it.
+    Uri,
     /// A number, `no_limits`, `False` or `no_retries`.
     Retries,
     /// Words `key:type`.
@@ -312,6 +318,21 @@ const FORWARD_PEER: [Key; 12] = [
     Key::TimeAsInteger,
 ];
 
+const HTTP_PEER: [Key; 12] = [
+    Key::Name,
+    Key::Match,
+    Key::RetryLimit,
+    Key::TotalLimit,
+    Key::Tls,
+    Key::Alias,
+    Key::LogLevel,
+    Key::Workers,
+    Key::RequestHost,
+    Key::Port,
+    Key::Uri,
+    Key::RecordFormat,
+];
+
 impl Key {
     /// As it is written, in lower case.
     pub fn name(self) -> &'static [u8]
@@ -393,6 +414,8 @@ impl Key {
             Key::Host => b"host",
             Key::RequireAck => b"require_ack_response",
             Key::TimeAsInteger => b"time_as_integer",
+            Key::RequestHost => b"host",
+            Key::Uri => b"uri",
         }
     }
 
@@ -476,6 +499,8 @@ impl Key {
             Key::Host => Kind::Plain(Plain::Text),
             Key::RequireAck => Kind::Plain(Plain::Truth),
             Key::TimeAsInteger => Kind::Plain(Plain::Truth),
+            Key::RequestHost => Kind::Plain(Plain::Visible),
+            Key::Uri => Kind::Plain(Plain::Uri),
         }
     }
 
@@ -519,6 +544,7 @@ fn keys(part: Part) -> &'static [Key]
         Part::File => &FILE,
         Part::TcpPeer => &TCP_PEER,
         Part::ForwardPeer => &FORWARD_PEER,
+        Part::HttpPeer => &HTTP_PEER,
     }
 }
 

@@ -27,6 +27,3 @@ pub use fwd_base::{Form, Retries};
 pub use fwd_choices::SettingKind;
 pub use fwd_outside::{Ends, InEnd, InEnds, OutEnd, OutEnds};
 pub use sections::settings;
-
-#[cfg(test)]
-mod tests;

@@ -1,7 +1,7 @@
 //! Outputs.
 
 ghost use Rattle.std.specs.Prelude.{◌≡◌, IfOk, count_by};
-ghost use Rattle.fwd_settings.specs.Outputs.{is_output_of, record_form, file_form, host_of, output_kind, output_from};
+ghost use Rattle.fwd_settings.specs.Outputs.{is_output_of, record_form, file_form, request_form, host_of, output_kind, output_from};
 
 use crate::filters::glob_of;
 use crate::inputs::instance;
@@ -20,7 +20,8 @@ fn is_output_of(plugin: Part, set: &OutputSet) -> bool
         (Part::Stdout, OutputKind::Stdout { .. })
         | (Part::File, OutputKind::File { .. })
         | (Part::TcpPeer, OutputKind::Tcp { .. })
-        | (Part::ForwardPeer, OutputKind::Forward { .. }) => true,
+        | (Part::ForwardPeer, OutputKind::Forward { .. })
+        | (Part::HttpPeer, OutputKind::Http { .. }) => true,
         _ => false,
     }
 }
@@ -52,6 +53,15 @@ fn file_form(word: Option<Word>) -> Form
     }
 }
 
+fn request_form(word: Option<Word>) -> Form
+    ensures { result ≡ request_form word }
+{
+    match word {
+        Some(Word::JsonLines) => Form::JsonLines,
+        _ => Form::MsgPack,
+    }
+}
+
 fn host_of(alloc: Global, said: &[Said]) -> Result<Bytes, Memory>
     ensures { IfOk result (λ host. host ≡ host_of said.now) }
 {
@@ -78,6 +88,12 @@ fn output_kind(alloc: Global, plugin: Part, said: &[Said]) -> Result<OutputKind,
             port: port_at(said, Key::Port).unwrap_or(24224),
             ack: truth_at(said, Key::RequireAck).unwrap_or(false),
             whole_time: truth_at(said, Key::TimeAsInteger).unwrap_or(false),
+        }),
+        Part::HttpPeer => Ok(OutputKind::Http {
+            host: host_of(alloc, said)?,
+            port: port_at(said, Key::Port).unwrap_or(80),
+            uri: text_or(alloc, said, Key::Uri, b"/")?,
+            form: request_form(word_at(said, Key::RecordFormat)),
         }),
         _ => Ok(OutputKind::Stdout {
             form: record_form(word_at(said, Key::RecordFormat)),

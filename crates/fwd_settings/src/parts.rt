@@ -4,7 +4,7 @@ ghost use Rattle.std.specs.Prelude.{◌≡◌};
 ghost use Rattle.std.specs.List.{find};
 ghost use Rattle.fwd_settings.specs.Keys.{heads, name_of_head, is_head_named, head_of, plugins_of, name_of_plugin, is_plugin_named, plugin_of};
 
-use crate::words::same_name;
+use fwd_choices::same_name;
 
 /// The kind of a section.
 #[derive(Clone, Copy)]
@@ -32,6 +32,7 @@ pub enum Part {
     File,
     TcpPeer,
     ForwardPeer,
+    HttpPeer,
 }
 
 const HEADS: [Head; 5] = [
@@ -46,7 +47,13 @@ const INPUTS: [Part; 4] = [Part::Tail, Part::Tcp, Part::Forward, Part::Stdin];
 
 const FILTERS: [Part; 3] = [Part::Grep, Part::Modify, Part::Nest];
 
-const OUTPUTS: [Part; 4] = [Part::Stdout, Part::File, Part::TcpPeer, Part::ForwardPeer];
+const OUTPUTS: [Part; 5] = [
+    Part::Stdout,
+    Part::File,
+    Part::TcpPeer,
+    Part::ForwardPeer,
+    Part::HttpPeer,
+];
 
 impl Head {
     fn name(self) -> &'static [u8]
@@ -106,7 +113,7 @@ fn first_head(heads: &[Head], name: &[u8]) -> Option<Head>
 }
 
 impl Part {
-    /// The name of a plugin.
+    /// The name of a plugin, in lower case.
     pub fn name(self) -> &'static [u8]
         ensures { result.now ≡ name_of_plugin self }
     {
@@ -122,6 +129,7 @@ impl Part {
             Part::File => b"file",
             Part::TcpPeer => b"tcp",
             Part::ForwardPeer => b"forward",
+            Part::HttpPeer => b"http",
             Part::Service | Part::Parser => b"",
         }
     }
@@ -129,7 +137,7 @@ impl Part {
     fn is_named(self, name: &[u8]) -> bool
         ensures { result ≡ is_plugin_named name.now self }
     {
-        self.name() == name
+        same_name(self.name(), name)
     }
 }
 

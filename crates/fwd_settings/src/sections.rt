@@ -22,13 +22,11 @@ use crate::said::SaidList;
 use crate::service::service_of;
 use crate::{AllSettings, InputSets, OutputSets, SettingFault};
 use fwd_base::Memory;
+use fwd_base::limits::{MOST_INPUTS, MOST_OUTPUTS};
 use fwd_choices::SettingKind;
 use fwd_config::{Entry, Place, Section, Sections};
 use fwd_filters::FilterSteps;
 use std::alloc::Global;
-
-/// How many inputs, and how many outputs, there may be.
-const MOST: usize = 64;
 
 /// What the sections so far say.
 #[derive(Drop)]
@@ -57,8 +55,8 @@ impl SoFar {
         ensures { result ≡ is_full self.now head }
     {
         match head {
-            Head::Input => self.inputs.len() >= MOST,
-            Head::Output => self.outputs.len() >= MOST,
+            Head::Input => self.inputs.len() >= MOST_INPUTS,
+            Head::Output => self.outputs.len() >= MOST_OUTPUTS,
             _ => false,
         }
     }
@@ -104,6 +102,7 @@ impl SoFar {
             Part::File => self.with_output(alloc, Part::File, said),
             Part::TcpPeer => self.with_output(alloc, Part::TcpPeer, said),
             Part::ForwardPeer => self.with_output(alloc, Part::ForwardPeer, said),
+            Part::HttpPeer => self.with_output(alloc, Part::HttpPeer, said),
         }
     }
 

@@ -9,10 +9,10 @@ ghost use Rattle.fwd_settings.specs.declared.keys.Plain.TheVariants as plain;
 use crate::keys::Plain;
 use crate::said::Value;
 use crate::words::{Menu, Word};
-use fwd_base::{Bytes, parse_size};
+use fwd_base::{Bytes, number, parse_size};
 use fwd_choices::{
     ChangeWord, SettingKind, change, condition, field_types, flush_ms, is_false, is_plain, is_tag,
-    number, port, positive, retries, truth,
+    is_uri, is_visible, port, positive, retries, truth,
 };
 use std::alloc::Global;
 
@@ -140,6 +140,8 @@ pub fn read_plain(alloc: Global, plain: Plain, text: &[u8]) -> Result<Value, Set
         Plain::Tag => text_if(alloc, is_tag(text), text),
         Plain::PlainTag => text_if(alloc, is_plain(text) && is_tag(text), text),
         Plain::Paths => text_if(alloc, is_plain(text), text),
+        Plain::Visible => text_if(alloc, is_visible(text), text),
+        Plain::Uri => text_if(alloc, is_uri(text), text),
         Plain::Types => read_types(alloc, text),
         Plain::Condition => read_condition(alloc, text),
         Plain::Change(word) => read_change(alloc, word, text),

@@ -2,8 +2,9 @@
 
 ghost use Rattle.std.specs.Prelude.{◌≡◌};
 ghost use Rattle.std.specs.List.{find};
-ghost use Rattle.std.specs.Str.{str_eq_ignore_ascii_case};
 ghost use Rattle.fwd_settings.specs.Keys.{text_of, words_of, is_written, word_of};
+
+use fwd_choices::same_name;
 
 /// A word of a choice.
 #[derive(Clone, Copy)]
@@ -49,7 +50,7 @@ const FILE_RECORDS: [Word; 2] = [Word::OutFile, Word::JsonLines];
 const OPERATIONS: [Word; 2] = [Word::Nest, Word::Lift];
 
 impl Word {
-    /// As it is written.
+    /// As it is written, in lower case.
     fn text(self) -> &'static [u8]
         ensures { result.now ≡ text_of self }
     {
@@ -72,22 +73,15 @@ impl Word {
     fn is_written(self, text: &[u8]) -> bool
         ensures { result ≡ is_written text.now self }
     {
-        self.text() == text
+        same_name(self.text(), text)
     }
 
-    /// The word of a choice that a text is.
+    /// The word of a choice that a text is, case ignored.
     pub fn of(menu: Menu, text: &[u8]) -> Option<Word>
         ensures { result ≡ word_of menu text.now }
     {
         first_written(words(menu), text)
     }
-}
-
-/// Whether two names are the same, case ignored.
-pub fn same_name(name: &[u8], other: &[u8]) -> bool
-    ensures { result ≡ str_eq_ignore_ascii_case name.now other.now }
-{
-    name.eq_ignore_ascii_case(other)
 }
 
 fn words(menu: Menu) -> &'static [Word]

@@ -2,6 +2,7 @@
 use Rattle.std.proofs.Common.{◌≡◌, inl, inr, ℕ, ◌≤◌, nat_lt, Bool, true, false, ◌||◌, IsTrue, if◌then◌else◌, IsSome, Option, Some, None, Result, Ok, Err, OnOk, IfOk, List, ◌++◌, length, refl, sym, ◌∙◌, ap, subst, arith}
 use Rattle.std.proofs.lemmas.Bool.{ltb-false}
 use Rattle.std.specs.FinMap as map
+use Rattle.fwd_base.specs.Limits.{largest_batch, longest_tag}
 use Rattle.fwd_program.specs.Program.{Return}
 use Rattle.fwd_program.specs.Told.{Makes}
 use Rattle.fwd_program.specs.Moments.{Holds}
@@ -26,7 +27,7 @@ use Rattle.fwd_store.specs.declared.answers.Accepted.{Accepted}
 use Rattle.fwd_store.specs.declared.answers.StoreRefusal.{StoreRefusal}
 use Rattle.fwd_store.specs.Kept.{grown, HasRoom, appends}
 use Rattle.fwd_store.specs.Stored.{Stored}
-use Rattle.fwd_store.specs.Store.{longest_batch, has_room, has_no_number, chunk_for, new_name, kept_as, begins_as, appends_to, goes_to, accepts, accept_outcome, drops, CanGrow, IsSound, Took}
+use Rattle.fwd_store.specs.Store.{has_room, has_no_number, chunk_for, new_name, kept_as, begins_as, appends_to, goes_to, accepts, accept_outcome, drops, CanGrow, IsSound, Took}
 use Rattle.fwd_store.specs.Crash.{file_held, file_for, KeepsOthers, Stands, IsReady, GrowsFrom, TakesBatch, HasTaken, Goes, IsGone}
 use Rattle.fwd_store.proofs.Holding.{get_here}
 use Rattle.fwd_store.proofs.Sound.{open_grows, room_for}
@@ -74,7 +75,7 @@ module _ (s : Stored) (input : ℕ) (stream tag : List ℕ) (home : Home) (batch
   goes_others None Ram files = (refl, tt)
 
   accepts_others : (files : Files) → Holds Steps (KeepsOthers (file_for s (chunk_for s input tag) stream home) files) (λ _ _. Unit {0}) files (accepts s input stream tag home batch)
-  accepts_others files = by (nat_lt longest_batch (length batch) || has_no_number s input tag) (goes_others (chunk_for s input tag) home files)
+  accepts_others files = by (nat_lt largest_batch (length batch) || has_no_number s input tag) (goes_others (chunk_for s input tag) home files)
     where
       by : (b : Bool) → Holds Steps (KeepsOthers (file_for s (chunk_for s input tag) stream home) files) (λ _ _. Unit {0}) files (goes_to s (chunk_for s input tag) stream tag home batch)
           → Holds Steps (KeepsOthers (file_for s (chunk_for s input tag) stream home) files) (λ _ _. Unit {0}) files (if b then Return None else goes_to s (chunk_for s input tag) stream tag home batch)
@@ -85,14 +86,14 @@ module _ (s : Stored) (input : ℕ) (stream tag : List ℕ) (home : Home) (batch
   others_stay a b r makes =
       since_makes Steps stood a b (accepts s input stream tag home batch) (accept_outcome r) (λ _. Unit {0}) (KeepsOthers (file_for s (chunk_for s input tag) stream home)) (λ _ _ _. Unit {0}) makes (λ first _. accepts_others first)
 
-  module _ (meta content : List ℕ) (short : length tag ≤ 1024) where
+  module _ (meta content : List ℕ) (short : length tag ≤ longest_tag) where
     -- the chunk that took the batch stands for it too
     abbrev StandsAfter : Option ℕ → Home → Option (Unit {0}) → Files → Type 0
     StandsAfter (Some n) h answer last = Stood meta content batch (map.get s.chunks n) answer last
     StandsAfter None Disk answer last = IsSome answer → SettledIn (new_head (new_name s stream) tag batch) (new_meta tag) batch last
     StandsAfter None Ram answer last = Unit {0}
 
-    goes_keeping : (o : Option ℕ) (h : Home) (files : Files) → s.full ≡ true → length batch ≤ longest_batch → ((n : ℕ) → o ≡ Some n → CanGrow (map.get s.chunks n)) → IsTrue (has_room s o) → IsReady s o stream h meta content files
+    goes_keeping : (o : Option ℕ) (h : Home) (files : Files) → s.full ≡ true → length batch ≤ largest_batch → ((n : ℕ) → o ≡ Some n → CanGrow (map.get s.chunks n)) → IsTrue (has_room s o) → IsReady s o stream h meta content files
         → Holds Steps (TakesBatch s o stream tag h batch meta content files) (StandsAfter o h) files (goes_to s o stream tag h batch)
     goes_keeping (Some n) h files full le grows room ready =
         subst (λ (f : Bool). Holds Steps (GrowsFrom (map.get s.chunks n) meta content batch files) (Stood meta content batch (map.get s.chunks n)) files (appends_to (map.get s.chunks n) batch f)) (sym full)
@@ -122,13 +123,13 @@ module _ (s : Stored) (input : ℕ) (stream tag : List ℕ) (home : Home) (batch
 
     accepts_keeping : (files : Files) → IsSound s → s.full ≡ true → IsTrue (has_room s (chunk_for s input tag)) → IsReady s (chunk_for s input tag) stream home meta content files
         → Holds Steps (TakesBatch s (chunk_for s input tag) stream tag home batch meta content files) (StandsAfter (chunk_for s input tag) home) files (accepts s input stream tag home batch)
-    accepts_keeping files sound full room ready = by (nat_lt longest_batch (length batch) || has_no_number s input tag) refl
+    accepts_keeping files sound full room ready = by (nat_lt largest_batch (length batch) || has_no_number s input tag) refl
       where
-        by : (b : Bool) → (nat_lt longest_batch (length batch) || has_no_number s input tag) ≡ b
+        by : (b : Bool) → (nat_lt largest_batch (length batch) || has_no_number s input tag) ≡ b
             → Holds Steps (TakesBatch s (chunk_for s input tag) stream tag home batch meta content files) (StandsAfter (chunk_for s input tag) home) files (if b then Return None else goes_to s (chunk_for s input tag) stream tag home batch)
         by true is = (ready_first (chunk_for s input tag) home files ready, none_taken (chunk_for s input tag) home files)
         by false is =
-            goes_keeping (chunk_for s input tag) home files full (ltb-false longest_batch (length batch) (small (nat_lt longest_batch (length batch)) (has_no_number s input tag) is)) (λ n open_is. open_grows s input tag n sound open_is) room ready
+            goes_keeping (chunk_for s input tag) home files full (ltb-false largest_batch (length batch) (small (nat_lt largest_batch (length batch)) (has_no_number s input tag) is)) (λ n open_is. open_grows s input tag n sound open_is) room ready
 
     pub accepting : (a b : DiskTold) (r : Result Accepted StoreRefusal) → IsSound s → s.full ≡ true → IsTrue (has_room s (chunk_for s input tag)) → Makes a b (accepts s input stream tag home batch) (accept_outcome r)
         → DiskSince a b (IsReady s (chunk_for s input tag) stream home meta content) (TakesBatch s (chunk_for s input tag) stream tag home batch meta content)

@@ -8,6 +8,7 @@ mod Moments
 mod Reading
 mod Contents
 mod Standing
+mod Sealed
 mod Own
 mod Others
 mod Crashes

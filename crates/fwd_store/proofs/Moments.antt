@@ -1,5 +1,6 @@
 -- What each moment of an acceptance keeps.
 use Rattle.std.proofs.Common.{◌≡◌, inl, ℕ, ◌+◌, ◌≤◌, true, refl, IsSome, Option, Some, None, List, ◌++◌, length, sym, ◌∙◌, subst}
+use Rattle.fwd_base.specs.Limits.{longest_file, longest_tag}
 use Rattle.fwd_program.specs.Program.{Return, Ask}
 use Rattle.fwd_program.specs.Moments.{Holds}
 use Rattle.fwd_program.proofs.Holding.{holds_weaker}
@@ -9,7 +10,7 @@ use Rattle.fwd_image.specs.File.{FileState, whole, gone}
 use Rattle.fwd_image.specs.Disk.{Files, Steps}
 use Rattle.fwd_image.specs.Crash.{SameBut}
 use Rattle.fwd_chunk.specs.declared.append.ChunkHead.{ChunkHead}
-use Rattle.fwd_chunk.specs.Layout.{longest, new_file, new_meta}
+use Rattle.fwd_chunk.specs.Layout.{new_file, new_meta}
 use Rattle.fwd_chunk.specs.Append.{Leaves, LeavesEither, IsSettled, SettledIn, StagedIn, KeepsOld, KeepsEither, ComesWhole, stages, commits, creates, new_head, committed_head}
 use Rattle.fwd_chunk.proofs.Staging.{Staged, stage_keeps, good_leaves}
 use Rattle.fwd_chunk.proofs.Committing.{Committed, commit_keeps}
@@ -23,7 +24,7 @@ old_or_new : (meta old new : List ℕ) (image : Option (List ℕ)) → Leaves me
 old_or_new meta old new None leaves = leaves
 old_or_new meta old new (Some image) leaves = inl leaves
 
-module _ (head : ChunkHead) (meta content batch : List ℕ) (files : Files) (total : 24 + head.meta + head.size + length batch ≤ longest) (settled : SettledIn head meta content files) where
+module _ (head : ChunkHead) (meta content batch : List ℕ) (files : Files) (total : 24 + head.meta + head.size + length batch ≤ longest_file) (settled : SettledIn head meta content files) where
   abbrev pub Either : Files → Type 0
   Either now = KeepsEither head meta content (content ++ batch) files now
 
@@ -77,6 +78,6 @@ module _ (name tag batch : List ℕ) (files : Files) (is : files name ≡ gone) 
       (λ x mid m. (m.0, λ went. m.1.whole_at_end refl))
       (λ mid m. (m.0, λ none. absurd (cc none)))
 
-pub placed_settled : (name tag batch : List ℕ) (last : Files) → length tag ≤ 1024 → 28 + length tag + length batch ≤ longest → last name ≡ whole (new_file tag batch) → SettledIn (new_head name tag batch) (new_meta tag) batch last
+pub placed_settled : (name tag batch : List ℕ) (last : Files) → length tag ≤ longest_tag → 28 + length tag + length batch ≤ longest_file → last name ≡ whole (new_file tag batch) → SettledIn (new_head name tag batch) (new_meta tag) batch last
 placed_settled name tag batch last short fits is =
     subst (λ (s : FileState). IsSettled (new_head name tag batch) (new_meta tag) batch s) (sym is) (new_settled name tag batch short fits)

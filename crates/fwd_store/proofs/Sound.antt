@@ -5,6 +5,7 @@ use Rattle.std.proofs.lemmas.Bool.Decides.{Decides-eqb}
 use Rattle.std.proofs.lemmas.List.Elements.{All-nil, All-cons, All-head, All-tail, All-push, All-filter, All-weaker}
 use Rattle.std.specs.FinMap as map
 use Rattle.std.specs.Ordering.{nat_cmp}
+use Rattle.fwd_base.specs.Limits.{full_chunk, largest_batch, longest_tag, past_numbers}
 use Rattle.fwd_outside.specs.declared.home.Home.{Home}
 use Rattle.fwd_outside.specs.declared.home.Home.TheVariants.{Disk, Ram}
 use Rattle.fwd_store.specs.declared.kept.Kept.{Kept}
@@ -13,7 +14,7 @@ use Rattle.fwd_store.specs.Kept.{size_of, size_held, grown, HasRoom}
 use Rattle.fwd_store.specs.Name.{file_name}
 use Rattle.fwd_store.specs.Opened.{Opened, is_for, open_for, without}
 use Rattle.fwd_store.specs.Stored.{Held, Stored}
-use Rattle.fwd_store.specs.Store.{CanGrow, IsHeldAs, IsSound, last_number, used, with_new, with_kept, sealed, dropped, after_failed_append, has_file, has_room, kept_as, longest_batch}
+use Rattle.fwd_store.specs.Store.{CanGrow, IsHeldAs, IsSound, used, with_new, with_kept, sealed, dropped, after_failed_append, has_file, has_room, kept_as}
 use Rattle.fwd_store.proofs.Holding.{get_inserted, get_removed}
 
 abbrev Grows : Held → Opened → Type 0
@@ -40,13 +41,13 @@ held_without root chunks k held n = subst (IsHeldAs root n) (sym (get_removed ch
     by true = tt
     by false = held n
 
-pub sound_new : (root : Option (List ℕ)) (full : Bool) (next : ℕ) → next ≤ last_number → IsSound (record { root = root; full = full; next = next; chunks = map.empty; opened = [] })
+pub sound_new : (root : Option (List ℕ)) (full : Bool) (next : ℕ) → next ≤ past_numbers → IsSound (record { root = root; full = full; next = next; chunks = map.empty; opened = [] })
 sound_new root full next le = record { each = All-nil (Grows map.empty); held = held_new root; below = λ n is. absurd (none_held n is); numbers = le }
 
 pub sound_sealed : (s : Stored) (n : ℕ) → IsSound s → IsSound (sealed s n)
 sound_sealed s n sound = record { each = All-filter (λ o. not (o.chunk == n)) (Grows s.chunks) s.opened sound.each; held = sound.held; below = sound.below; numbers = sound.numbers }
 
-pub sound_used : (s : Stored) → s.next < last_number → IsSound s → IsSound (used s)
+pub sound_used : (s : Stored) → s.next < past_numbers → IsSound s → IsSound (used s)
 sound_used s lt sound = record { each = sound.each; held = sound.held; below = λ n is. let b : n < s.next = sound.below n is in omega arith; numbers = omega arith }
 
 -- one chunk changes, and takes batches after as before
@@ -73,7 +74,7 @@ sound_with_kept s n old new is may stays sound = record {
   numbers = sound.numbers;
 }
 
-pub sound_with_new : (s : Stored) (input : ℕ) (tag : List ℕ) (kept : Kept) → s.next < last_number → CanGrow (Some kept) → IsHeldAs s.root s.next (Some kept) → IsSound s → IsSound (with_new s input tag kept)
+pub sound_with_new : (s : Stored) (input : ℕ) (tag : List ℕ) (kept : Kept) → s.next < past_numbers → CanGrow (Some kept) → IsHeldAs s.root s.next (Some kept) → IsSound s → IsSound (with_new s input tag kept)
 sound_with_new s input tag kept lt can as_held sound = record {
   each = All-push (Grows (map.insert s.chunks s.next kept)) s.opened (record { input = input; tag = tag; chunk = s.next })
       (All-weaker (Grows s.chunks) (Grows (map.insert s.chunks s.next kept)) (λ o grows. grows_put s.chunks s.next kept o (λ e here. can) grows) s.opened sound.each)
@@ -143,15 +144,15 @@ open_grows s input tag n sound is = found s.opened sound.each is
 
 pub sound_as_new : (s : Stored) (input : ℕ) (tag : List ℕ) (kept : Kept) (next : ℕ) (chunks : Held) (opened : List Opened)
     → next ≡ s.next + 1 → chunks ≡ map.insert s.chunks s.next kept → opened ≡ s.opened ++ record { input = input; tag = tag; chunk = s.next } ∷ []
-    → s.next < last_number → CanGrow (Some kept) → IsHeldAs s.root s.next (Some kept) → IsSound s → IsSound (record { root = s.root; full = s.full; next = next; chunks = chunks; opened = opened })
+    → s.next < past_numbers → CanGrow (Some kept) → IsHeldAs s.root s.next (Some kept) → IsSound s → IsSound (record { root = s.root; full = s.full; next = next; chunks = chunks; opened = opened })
 sound_as_new s input tag kept next chunks opened is_next is_chunks is_opened lt can as_held sound =
     subst IsSound (λ i. record { root = s.root; full = s.full; next = sym is_next i; chunks = sym is_chunks i; opened = sym is_opened i }) (sound_with_new s input tag kept lt can as_held sound)
 
-pub can_begin : (name tag : List ℕ) (home : Home) (batch : List ℕ) → length tag ≤ 1024 → CanGrow (Some (kept_as name tag home batch))
+pub can_begin : (name tag : List ℕ) (home : Home) (batch : List ℕ) → length tag ≤ longest_tag → CanGrow (Some (kept_as name tag home batch))
 can_begin name tag Disk batch le = omega arith
 can_begin name tag Ram batch le = tt
 
-pub begins_held : (root : Option (List ℕ)) (stream : List ℕ) (n : ℕ) (tag : List ℕ) (home : Home) (batch : List ℕ) → length tag ≤ 1024 → length batch ≤ longest_batch → IsHeldAs root n (Some (kept_as (file_name (unwrap_or root []) stream n) tag home batch))
+pub begins_held : (root : Option (List ℕ)) (stream : List ℕ) (n : ℕ) (tag : List ℕ) (home : Home) (batch : List ℕ) → length tag ≤ longest_tag → length batch ≤ largest_batch → IsHeldAs root n (Some (kept_as (file_name (unwrap_or root []) stream n) tag home batch))
 begins_held root stream n tag Disk batch short le = (omega arith, stream, refl)
 begins_held root stream n tag Ram batch short le = omega arith
 
@@ -169,14 +170,14 @@ pub grows_some : (o : Option Kept) → CanGrow o → (kept : Kept) × (o ≡ Som
 grows_some (Some kept) can = (kept, refl)
 grows_some None can = absurd can
 
-room_in : (kept : Kept) (batch : List ℕ) → CanGrow (Some kept) → size_of kept < 2048000 → length batch ≤ longest_batch → HasRoom kept batch
+room_in : (kept : Kept) (batch : List ℕ) → CanGrow (Some kept) → size_of kept < full_chunk → length batch ≤ largest_batch → HasRoom kept batch
 room_in (InFile head) batch can small le = omega arith
 room_in (Adopted file) batch can small le = tt
 room_in (InMemory content) batch can small le = tt
 
-pub room_for : (s : Stored) (n : ℕ) (kept : Kept) (batch : List ℕ) → map.get s.chunks n ≡ Some kept → CanGrow (map.get s.chunks n) → IsTrue (has_room s (Some n)) → length batch ≤ longest_batch → HasRoom kept batch
+pub room_for : (s : Stored) (n : ℕ) (kept : Kept) (batch : List ℕ) → map.get s.chunks n ≡ Some kept → CanGrow (map.get s.chunks n) → IsTrue (has_room s (Some n)) → length batch ≤ largest_batch → HasRoom kept batch
 room_for s n kept batch is can small le =
-    room_in kept batch (subst CanGrow is can) (ltb-true (size_of kept) 2048000 (subst (λ (o : Option Kept). IsTrue (nat_lt (size_held o) 2048000)) is small)) le
+    room_in kept batch (subst CanGrow is can) (ltb-true (size_of kept) full_chunk (subst (λ (o : Option Kept). IsTrue (nat_lt (size_held o) full_chunk)) is small)) le
 
 pub sound_as_kept : (s : Stored) (n : ℕ) (old new : Kept) (chunks : Held) → map.get s.chunks n ≡ Some old → chunks ≡ map.insert s.chunks n new → (CanGrow (Some old) → CanGrow (Some new)) → (IsHeldAs s.root n (Some old) → IsHeldAs s.root n (Some new)) → IsSound s
     → IsSound (record { root = s.root; full = s.full; next = s.next; chunks = chunks; opened = s.opened })

@@ -2,12 +2,13 @@
 use Rattle.std.proofs.Common.{◌≡◌, inl, inr, ℕ, ◌+◌, ◌-◌, ◌^◌, ◌<◌, ◌≤◌, min, nat_lt, not, Bool, true, false, if◌then◌else◌, List, length, length-take, length-drop, take, drop, Some, None, Result, Ok, Err, refl, sym, ◌∙◌, ap, subst, arith}
 use Rattle.std.proofs.lemmas.Bool.{ltb-false}
 use Rattle.std.proofs.lemmas.List.{take_min}
+use Rattle.fwd_base.specs.Limits.{longest_file}
 use Rattle.fwd_image.specs.File.{FileState, content}
 use Rattle.fwd_image.specs.Disk.{Files}
 use Rattle.fwd_event.specs.declared.event.Event.{Event}
 use Rattle.fwd_event.specs.Event.{AreEvents}
 use Rattle.fwd_chunk.specs.declared.append.ChunkHead.{ChunkHead}
-use Rattle.fwd_chunk.specs.Layout.{longest, part, meta_length}
+use Rattle.fwd_chunk.specs.Layout.{part, meta_length}
 use Rattle.fwd_chunk.specs.Append.{SettledIn}
 use Rattle.fwd_chunk.proofs.Staging.{by_head}
 use Rattle.fwd_found.specs.declared.chunk.Chunk.{Chunk}
@@ -36,17 +37,17 @@ settled_is_kept head meta content files events settled are =
     record { long = omega (arith, settled.parts.fits, settled.meta_is, settled.size); events = events; are = are }
 
 -- the header and the metadata of a file that stands for a chunk are whole
-whole_header : (bytes tag : List ℕ) → headed bytes ≡ Ok tag → (length bytes ≤ longest) × (24 + meta_length bytes ≤ length bytes)
-whole_header bytes tag is = by (nat_lt longest (length bytes)) (nat_lt (length bytes) 24) (has_id bytes) (nat_lt (length bytes) (24 + meta_length bytes)) refl refl is
+whole_header : (bytes tag : List ℕ) → headed bytes ≡ Ok tag → (length bytes ≤ longest_file) × (24 + meta_length bytes ≤ length bytes)
+whole_header bytes tag is = by (nat_lt longest_file (length bytes)) (nat_lt (length bytes) 24) (has_id bytes) (nat_lt (length bytes) (24 + meta_length bytes)) refl refl is
   where
-    by : (long short known cut : Bool) → nat_lt longest (length bytes) ≡ long → nat_lt (length bytes) (24 + meta_length bytes) ≡ cut
+    by : (long short known cut : Bool) → nat_lt longest_file (length bytes) ≡ long → nat_lt (length bytes) (24 + meta_length bytes) ≡ cut
         → ◌≡◌ {A = Result (List ℕ) NotAChunk} (if long then Err TooLong else if short then Err TooShort else if not known then Err BadId else if cut then Err TooShort else tagged bytes (tag_of (part bytes 24 (meta_length bytes)))) (Ok tag)
-        → (length bytes ≤ longest) × (24 + meta_length bytes ≤ length bytes)
+        → (length bytes ≤ longest_file) × (24 + meta_length bytes ≤ length bytes)
     by true b known cut l c is = absurd (cc is)
     by false true known cut l c is = absurd (cc is)
     by false false false cut l c is = absurd (cc is)
     by false false true true l c is = absurd (cc is)
-    by false false true false l c is = (ltb-false longest (length bytes) l, ltb-false (length bytes) (24 + meta_length bytes) c)
+    by false false true false l c is = (ltb-false longest_file (length bytes) l, ltb-false (length bytes) (24 + meta_length bytes) c)
 
 events_of : (bytes : List ℕ) (events : List Event) (n : ℕ) → HasContent bytes events n → AreEvents events (take n (body_of bytes))
 events_of bytes events n (inl marked) = marked.2

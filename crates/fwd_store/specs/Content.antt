@@ -1,5 +1,6 @@
 -- How the content of a chunk is read back, and what comes of it.
 use Rattle.std.specs.Prelude.{◌≡◌, ◌≢◌, ℕ, zero, suc, ◌+◌, ◌-◌, min, nat_lt, if◌then◌else◌, List, [], ◌++◌, length, Option, Some, None, Result, Ok, Err}
+use Rattle.fwd_base.specs.Limits.{longest_piece}
 use Rattle.fwd_program.specs.Program.{Return, Ask}
 use Rattle.fwd_program.specs.Told.{Did, Began}
 use Rattle.fwd_outside.specs.Disk.{DiskTold, DiskProgram, Read}
@@ -15,7 +16,7 @@ use Rattle.fwd_store.specs.Kept.{size_of}
 
 -- a read asks for the rest, and for no more than this
 abbrev pub piece : ℕ → ℕ
-piece rest = min rest 65536
+piece rest = min rest longest_piece
 
 -- behind the answer to a read: a failure ends the reading, and so does a piece shorter than was asked for
 abbrev pub piece_read : (List ℕ → DiskProgram (Option (List ℕ))) → List ℕ → ℕ → Option (List ℕ) → DiskProgram (Option (List ℕ))

@@ -1,8 +1,8 @@
 -- A chunk that is held: where its content is, and what an append asks of the disk and makes of it.
 use Rattle.std.specs.Prelude.{ℕ, ◌+◌, ◌≤◌, Bool, List, ◌++◌, length, Option, Some, None}
+use Rattle.fwd_base.specs.Limits.{longest_file}
 use Rattle.fwd_program.specs.Program.{Return, and_then}
 use Rattle.fwd_outside.specs.Disk.{DiskProgram, removes}
-use Rattle.fwd_chunk.specs.Layout.{longest}
 use Rattle.fwd_chunk.specs.Append.{stages, commits, committed_head}
 use Rattle.fwd_store.specs.declared.kept.Kept.{Kept}
 use Rattle.fwd_store.specs.declared.kept.Kept.TheVariants.{InFile, Adopted, InMemory}
@@ -44,7 +44,7 @@ grown (InMemory content) batch = InMemory (content ++ batch)
 
 -- with the batch its file isn't too long to be read
 abbrev pub HasRoom : Kept → List ℕ → Type 0
-HasRoom (InFile head) batch = 24 + head.meta + head.size + length batch ≤ longest
+HasRoom (InFile head) batch = 24 + head.meta + head.size + length batch ≤ longest_file
 HasRoom (Adopted file) batch = Unit {0}
 HasRoom (InMemory content) batch = Unit {0}
 

@@ -1,6 +1,7 @@
 -- What an acceptance asks of the disk, and the store after it.
 use Rattle.std.specs.Prelude.{◌≡◌, ◌⊎◌, ℕ, ◌+◌, ◌^◌, ◌<◌, ◌≤◌, ◌==◌, ◌&&◌, ◌||◌, nat_lt, not, is_some, unwrap_or, Bool, true, false, if◌then◌else◌, List, [], ◌∷◌, ◌++◌, length, All, Option, Some, None, IsSome, Result, Ok, Err}
 use Rattle.std.specs.FinMap as map
+use Rattle.fwd_base.specs.Limits.{full_chunk, largest_batch, longest_tag, past_numbers}
 use Rattle.fwd_program.specs.Program.{Return, and_then}
 use Rattle.fwd_program.specs.Told.{Grew}
 use Rattle.fwd_outside.specs.declared.home.Home.{Home}
@@ -23,21 +24,13 @@ use Rattle.fwd_store.specs.Kept.{size_of, size_held, end_of, appends, grown, rem
 use Rattle.fwd_store.specs.Opened.{open_for, without}
 use Rattle.fwd_store.specs.Stored.{Stored}
 
--- no batch is longer
-abbrev pub longest_batch : ℕ
-longest_batch = 16777216
-
--- no chunk has this number or a greater one
-abbrev pub last_number : ℕ
-last_number = 9223372036854775808
-
 -- the chunk that takes the batches of an input and a tag, or none
 abbrev pub chunk_for : Stored → ℕ → List ℕ → Option ℕ
 chunk_for s input tag = open_for s.opened input tag
 
 -- the content of the open chunk, where one is, has less than 2,048,000 bytes
 abbrev pub has_room : Stored → Option ℕ → Bool
-has_room s (Some n) = nat_lt (size_held (map.get s.chunks n)) 2048000
+has_room s (Some n) = nat_lt (size_held (map.get s.chunks n)) full_chunk
 has_room s None = true
 
 -- the name of the next new chunk's file
@@ -46,7 +39,7 @@ new_name s stream = file_name (unwrap_or s.root []) stream s.next
 
 -- a new chunk is wanted, and no number is left for it
 abbrev pub has_no_number : Stored → ℕ → List ℕ → Bool
-has_no_number s input tag = (s.next == last_number) && not (is_some (chunk_for s input tag))
+has_no_number s input tag = (s.next == past_numbers) && not (is_some (chunk_for s input tag))
 
 -- how a new chunk of this name is kept
 abbrev pub kept_as : List ℕ → List ℕ → Home → List ℕ → Kept
@@ -70,7 +63,7 @@ goes_to s None stream tag home batch = begins_as (new_name s stream) tag home ba
 -- the calls of an acceptance; of a batch that is too long or finds no number there are none
 abbrev pub accepts : Stored → ℕ → List ℕ → List ℕ → Home → List ℕ → DiskProgram (Option (Unit {0}))
 accepts s input stream tag home batch =
-    if nat_lt longest_batch (length batch) || has_no_number s input tag then Return None
+    if nat_lt largest_batch (length batch) || has_no_number s input tag then Return None
     else goes_to s (chunk_for s input tag) stream tag home batch
 
 -- what an acceptance came to: the batch was accepted, it wasn't, or there was no memory for the calls
@@ -160,7 +153,7 @@ dropped s n = record s { chunks = map.remove s.chunks n; opened = without n s.op
 
 -- A chunk that takes batches: its metadata are those of a new file.
 abbrev pub CanGrow : Option Kept → Type 0
-CanGrow (Some (InFile head)) = head.meta ≤ 1028
+CanGrow (Some (InFile head)) = head.meta ≤ 4 + longest_tag
 CanGrow (Some (Adopted file)) = ⊥
 CanGrow (Some (InMemory content)) = Unit {0}
 CanGrow None = ⊥
@@ -176,7 +169,7 @@ pub record IsSound (s : Stored) : Type 0 where
   pub each : All (λ o. CanGrow (map.get s.chunks o.chunk)) s.opened
   pub held : (n : ℕ) → IsHeldAs s.root n (map.get s.chunks n)
   pub below : (n : ℕ) → IsSome (map.get s.chunks n) → n < s.next
-  pub numbers : s.next ≤ last_number
+  pub numbers : s.next ≤ past_numbers
 
 -- the refusal for a call on the disk that wasn't made to its end
 abbrev pub IsRefusalOf : DiskErr → Option ChunkId → StoreRefusal → Type 0

@@ -8,13 +8,11 @@ ghost use Rattle.fwd_outside.specs.declared.errors.DiskErr.TheVariants.{Failed};
 ghost use Rattle.fwd_store.specs.declared.content.PartErr.TheVariants as part_err;
 ghost use Rattle.fwd_store.specs.Content.{reads_part, IsJudged, Gives};
 
+use fwd_base::limits::LONGEST_PIECE;
 use fwd_event::whole_prefix;
 use fwd_outside::{Bytes, Disk, DiskErr, Memory};
 use std::alloc::Global;
 use thiserror::Error;
-
-/// No read asks for more bytes.
-const PIECE: u64 = 65_536;
 
 /// Why the content of a chunk can't be had.
 #[derive(Clone, Copy, Debug, PartialEq, Eq, Error)]
@@ -53,7 +51,7 @@ fn read_part<D: Disk>(
     let mut bytes = Bytes::new(alloc);
     'reading: while (bytes.len() as u64) < size {
         let at = bytes.len() as u64;
-        let wanted = (size - at).min(PIECE);
+        let wanted = (size - at).min(LONGEST_PIECE as u64);
         let part = disk.read(alloc, name, from + at, wanted)?;
         bytes.extend_from_slice(part.as_slice())?;
         if (part.len() as u64) < wanted {

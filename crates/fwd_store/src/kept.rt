@@ -1,11 +1,11 @@
 //! A chunk that is held.
 
 ghost use Rattle.std.specs.Prelude.{◌≡◌, ◌+◌, ◌<◌, ◌≤◌, ◌^◌, length, OnOk, OnErr, IsErrOf, is_some};
+ghost use Rattle.fwd_base.specs.Limits.{longest_file};
 ghost use Rattle.fwd_program.specs.Told.{Makes};
 ghost use Rattle.fwd_program.specs.Cause.{HasCause};
 ghost use Rattle.fwd_outside.specs.Disk.{disk_outcome};
 ghost use Rattle.fwd_outside.specs.declared.errors.DiskErr.TheVariants.{Failed};
-ghost use Rattle.fwd_chunk.specs.Layout.{longest};
 ghost use Rattle.fwd_chunk.specs.Append.{stages, commits, committed_head};
 ghost use Rattle.fwd_program.specs.Program.{and_then};
 ghost use Rattle.fwd_store.specs.declared.content.PartErr.TheVariants.{DiskFailed};
@@ -107,7 +107,7 @@ fn append_to_file<D: Disk>(
     batch: &[u8],
     full: bool,
 ) -> Result<(), DiskErr>
-    requires { 24 + head.old.meta + head.old.size + length batch.now ≤ longest }
+    requires { 24 + head.old.meta + head.old.size + length batch.now ≤ longest_file }
     ensures calls { Makes (D.told disk.old) (D.told disk.new) (and_then (stages head.old batch.now full) (λ _. commits head.old full)) (disk_outcome result) }
     ensures ok { OnOk result (head.new ≡ committed_head head.old (head.old.size + length batch.now)) }
     ensures err { OnErr result (head.new ≡ head.old) }

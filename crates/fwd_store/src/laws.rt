@@ -2,15 +2,16 @@
 
 ghost use Rattle.std.specs.Prelude.{List, [], ℕ, true, Option, Some, Ok, unwrap_or, All, ◌+◌, ◌^◌, ◌<◌, ◌≤◌, ◌++◌, ◌≡◌, ◌≢◌, length};
 ghost use Rattle.std.specs.FinMap as map;
+ghost use Rattle.fwd_base.specs.Limits.{longest_file, longest_tag};
 ghost use Rattle.fwd_program.specs.Program.{Way, Return};
 ghost use Rattle.fwd_program.specs.Moments.{Moments, Ends};
-ghost use Rattle.fwd_outside.specs.Disk.{DiskEntry, DiskProgram};
+ghost use Rattle.fwd_outside.specs.Disk.{DiskEntry, DiskGiven, DiskProgram};
 ghost use Rattle.fwd_outside.specs.declared.home.Home.TheVariants as home_of;
 ghost use Rattle.fwd_image.specs.File.{gone, content};
-ghost use Rattle.fwd_image.specs.Disk.{Files, Steps};
+ghost use Rattle.fwd_image.specs.Disk.{Files, MayHold, Steps};
 ghost use Rattle.fwd_image.specs.Crash.{Images, IsOn};
 ghost use Rattle.fwd_chunk.specs.declared.append.ChunkHead.{ChunkHead};
-ghost use Rattle.fwd_chunk.specs.Layout.{longest, new_file, new_meta};
+ghost use Rattle.fwd_chunk.specs.Layout.{new_file, new_meta};
 ghost use Rattle.fwd_chunk.specs.Append.{SettledIn, Leaves, LeavesEither, ComesWhole, KeepsEither, new_head, committed_head};
 ghost use Rattle.fwd_store.specs.declared.kept.Kept.TheVariants.{InFile};
 ghost use Rattle.fwd_store.specs.Kept.{appends};
@@ -31,10 +32,10 @@ ghost use Rattle.fwd_store.specs.Content.{StandsIn, AreKept};
 /// the batch, and no other file changes. After it succeeded, the file stands for both.
 pub fn append_keeps_either()
     ensures any_moment { (head : ChunkHead) (meta content batch : List ℕ) (files : Files) (entries : List DiskEntry) (left : DiskProgram (Option (Unit {0})))
-        → 24 + head.meta + head.size + length batch ≤ longest → SettledIn head meta content files → Way (appends (InFile head) batch true) entries left
+        → 24 + head.meta + head.size + length batch ≤ longest_file → SettledIn head meta content files → Way (appends (InFile head) batch true) entries left
         → Moments Steps (KeepsEither head meta content (content ++ batch) files) files entries }
     ensures accepted { (head : ChunkHead) (meta content batch : List ℕ) (files last : Files) (entries : List DiskEntry)
-        → 24 + head.meta + head.size + length batch ≤ longest → SettledIn head meta content files → Way (appends (InFile head) batch true) entries (Return (Some tt)) → Ends Steps files entries last
+        → 24 + head.meta + head.size + length batch ≤ longest_file → SettledIn head meta content files → Way (appends (InFile head) batch true) entries (Return (Some tt)) → Ends Steps files entries last
         → SettledIn (committed_head head (head.size + length batch)) meta (content ++ batch) last }
 {}
 
@@ -44,7 +45,7 @@ pub fn first_batch_comes_whole()
     ensures any_moment { (name tag batch : List ℕ) (files : Files) (entries : List DiskEntry) (left : DiskProgram (Option (Unit {0})))
         → files name ≡ gone → Way (begins_as name tag home_of.Disk batch) entries left → Moments Steps (ComesWhole name (new_file tag batch) files) files entries }
     ensures accepted { (name tag batch : List ℕ) (files last : Files) (entries : List DiskEntry)
-        → length tag ≤ 1024 → 28 + length tag + length batch ≤ longest → files name ≡ gone → Way (begins_as name tag home_of.Disk batch) entries (Return (Some tt)) → Ends Steps files entries last
+        → length tag ≤ longest_tag → 28 + length tag + length batch ≤ longest_file → files name ≡ gone → Way (begins_as name tag home_of.Disk batch) entries (Return (Some tt)) → Ends Steps files entries last
         → SettledIn (new_head name tag batch) (new_meta tag) batch last }
 {}
 
@@ -52,6 +53,14 @@ pub fn first_batch_comes_whole()
 pub fn settled_content_stands()
     ensures stands { (head : ChunkHead) (meta content : List ℕ) (files : Files) → SettledIn head meta content files → StandsIn (InFile head) content files }
     ensures kept { (head : ChunkHead) (meta content : List ℕ) (files : Files) (events : List Event) → SettledIn head meta content files → AreEvents events content → AreKept (InFile head) content }
+{}
+
+/// Of a file that stands for a content, or for that and the batch of an append that failed, the content is where it is
+/// read from.
+pub fn sealed_content_stands()
+    ensures { (head : ChunkHead) (meta content batch : List ℕ) (given : DiskGiven) (before : List DiskEntry) (files : Files)
+        → MayHold given before files → Images head.name (LeavesEither meta content (content ++ batch)) files → length meta ≡ head.meta → length content ≡ head.size
+        → StandsIn (InFile head) content files }
 {}
 
 /// A file that was found to be a chunk with events can be adopted, and its content is where it is read from.

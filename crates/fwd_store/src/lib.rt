@@ -13,8 +13,6 @@ mod laws;
 mod name;
 mod opened;
 mod store;
-#[cfg(test)]
-mod tests;
 
 pub use answers::{Accepted, StoreRefusal};
 pub use content::PartErr;
@@ -24,7 +22,7 @@ pub use held::Chunks;
 pub use kept::{FoundFile, Kept};
 pub use laws::{
     append_keeps_either, content_stays, first_batch_comes_whole, found_content_stands,
-    names_tell_numbers, settled_content_stands,
+    names_tell_numbers, sealed_content_stands, settled_content_stands,
 };
 #[doc(hidden)]
 pub use opened::{OpenChunks, Source};

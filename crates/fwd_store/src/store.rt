@@ -2,6 +2,7 @@
 
 ghost use Rattle.std.specs.Prelude.{◌≡◌, ◌≢◌, ◌⊎◌, ◌↔◌, ℕ, ◌+◌, ◌<◌, ◌≤◌, ◌^◌, ◌==◌, [], List, length, Some, None, Option, IfOk, IfErr, OnOk, OnErr, IsTrue, IsSome, IsErrOf, is_some, unwrap_or, Err, false};
 ghost use Rattle.std.specs.FinMap as map;
+ghost use Rattle.fwd_base.specs.Limits.{largest_batch, longest_tag, past_numbers};
 ghost use Rattle.fwd_program.specs.Program.{Return, and_then};
 ghost use Rattle.fwd_program.specs.Told.{Makes, Grew};
 ghost use Rattle.fwd_program.specs.Cause.{HasCause};
@@ -21,7 +22,7 @@ ghost use Rattle.fwd_store.specs.Crash.{file_held, file_for, KeepsOthers, IsRead
 ghost use Rattle.fwd_store.specs.Content.{Gives, reads_content, IsContentOf, AreKept, StandsIn, IsGiven};
 ghost use Rattle.fwd_store.specs.Kept.{size_held};
 ghost use Rattle.fwd_store.specs.Opened.{first_of};
-ghost use Rattle.fwd_store.specs.Store.{longest_batch, last_number, has_room, kept_outcome, IsRefusalOf, begins_as, kept_as, sealed, named, after_failed_append, has_file, IsSound, chunk_for, new_name, accept_outcome, BeganChunk, GrewChunk, Took, GivesUp, Refused, HasFailed, CanGrow, appends_to, goes_to, accepts, has_no_number, drops, dropped, with_kept, IsWhole, adopted};
+ghost use Rattle.fwd_store.specs.Store.{has_room, kept_outcome, IsRefusalOf, begins_as, kept_as, sealed, named, after_failed_append, has_file, IsSound, chunk_for, new_name, accept_outcome, BeganChunk, GrewChunk, Took, GivesUp, Refused, HasFailed, CanGrow, appends_to, goes_to, accepts, has_no_number, drops, dropped, with_kept, IsWhole, adopted};
 
 use crate::answers::{Accepted, StoreRefusal};
 use crate::content::PartErr;
@@ -29,20 +30,12 @@ use crate::held::Chunks;
 use crate::kept::{FoundFile, Kept};
 use crate::name::{file_name, found_name};
 use crate::opened::{OpenChunks, Source};
+use fwd_base::limits::{FULL_CHUNK, LARGEST_BATCH, PAST_NUMBERS};
 use fwd_chunk::create;
 use fwd_found::{Brief, Found, Seen};
 use fwd_outside::{Bytes, ChunkId, Disk, DiskErr, Home, InputId, Memory};
 use std::alloc::Global;
 use std::marker::Model;
-
-/// No batch has more bytes.
-const LONGEST_BATCH: usize = 16_777_216;
-
-/// A chunk whose content has so many bytes takes no more batches.
-const LARGE_CONTENT: u64 = 2_048_000;
-
-/// No chunk has this number.
-const LAST_NUMBER: u64 = 9_223_372_036_854_775_808;
 
 /// The chunks of a forwarder, in files or in memory, by number; and which of them take the batches of an input and a tag.
 #[derive(Drop)]
@@ -88,9 +81,9 @@ fn place<D: Disk>(
     tag: &[u8],
     batch: &[u8],
 ) -> Result<Kept, StoreRefusal>
-    requires tag { length tag.now ≤ 1024 }
-    requires batch { length batch.now ≤ longest_batch }
-    requires number { next.old < last_number }
+    requires tag { length tag.now ≤ longest_tag }
+    requires batch { length batch.now ≤ largest_batch }
+    requires number { next.old < past_numbers }
     ensures calls { Makes (D.told disk.old) (D.told disk.new) (and_then (creates (file_name root.now stream.now next.old) tag.now batch.now) (λ _. Return (Some tt))) (kept_outcome result) }
     ensures ok { IfOk result (λ kept. (kept ≡ InFile (new_head (file_name root.now stream.now next.old) tag.now batch.now)) × (next.new ≡ next.old + 1)) }
     ensures err { IfErr result (λ e. ((e ≡ refusal.Memory) × Grew (D.told disk.old) (D.told disk.new) [] × (next.new ≡ next.old)) ⊎ (((e ≡ refusal.Memory) ⊎ (e ≡ refusal.DiskFailed None)) × (next.new ≡ next.old + 1))) }
@@ -116,9 +109,9 @@ fn begin<D: Disk>(
     home: Home,
     batch: &[u8],
 ) -> Result<Kept, StoreRefusal>
-    requires tag { length tag.now ≤ 1024 }
-    requires batch { length batch.now ≤ longest_batch }
-    requires number { next.old < last_number }
+    requires tag { length tag.now ≤ longest_tag }
+    requires batch { length batch.now ≤ largest_batch }
+    requires number { next.old < past_numbers }
     ensures calls { Makes (D.told disk.old) (D.told disk.new) (begins_as (file_name root.now stream.now next.old) tag.now home batch.now) (kept_outcome result) }
     ensures ok { IfOk result (λ kept. (kept ≡ kept_as (file_name root.now stream.now next.old) tag.now home batch.now) × (next.new ≡ next.old + 1)) }
     ensures err { IfErr result (λ e. ((e ≡ refusal.Memory) × Grew (D.told disk.old) (D.told disk.new) [] × (next.new ≡ next.old)) ⊎ (((e ≡ refusal.Memory) ⊎ (e ≡ refusal.DiskFailed None)) × (next.new ≡ next.old + 1))) }
@@ -148,7 +141,7 @@ impl Store {
     /// A store without chunks. The files of its chunks stand below `root`; where `full`, each append is synced; the first
     /// new chunk has the number `next`, from 1 to 2^63.
     pub fn new(alloc: Global, root: Option<Bytes>, full: bool, next: u64) -> Self
-        requires { next ≤ last_number }
+        requires { next ≤ past_numbers }
         ensures { result ≡ record { root = root; full = full; next = next; chunks = map.empty; opened = [] } }
     {
         Store {
@@ -204,7 +197,7 @@ impl Store {
         ensures { result ≡ has_room self.now (chunk_for self.now input.0 tag.now) }
     {
         match self.opened.find(input, tag) {
-            Some(number) => self.size(number) < LARGE_CONTENT,
+            Some(number) => self.size(number) < FULL_CHUNK,
             None => true,
         }
     }
@@ -224,7 +217,7 @@ impl Store {
         home: Home,
         batch: &[u8],
     ) -> Result<Accepted, StoreRefusal>
-        requires tag { length tag.now ≤ 1024 }
+        requires tag { length tag.now ≤ longest_tag }
         requires root { home ≡ home_of.Disk → IsSome self.old.root }
         requires room { IsTrue (has_room self.old (chunk_for self.old input.0 tag.now)) }
         ensures calls { Makes (D.told disk.old) (D.told disk.new) (accepts self.old input.0 stream.now tag.now home batch.now) (accept_outcome result) }
@@ -234,8 +227,8 @@ impl Store {
         ensures err { IfErr result (Refused (D.told disk.old) (D.told disk.new) self.old self.new (chunk_for self.old input.0 tag.now)) }
 
         // A batch that is too large comes first, a number that isn't there second.
-        ensures too_large { (result ≡ Err refusal.BatchTooLarge) ↔ (longest_batch < length batch.now) }
-        ensures no_number { (result ≡ Err refusal.NoNumber) ↔ ((length batch.now ≤ longest_batch) × IsTrue (has_no_number self.old input.0 tag.now)) }
+        ensures too_large { (result ≡ Err refusal.BatchTooLarge) ↔ (largest_batch < length batch.now) }
+        ensures no_number { (result ≡ Err refusal.NoNumber) ↔ ((length batch.now ≤ largest_batch) × IsTrue (has_no_number self.old input.0 tag.now)) }
 
         // Under full sync a crash at any moment of the call leaves the open chunk's file with its content of before, or with
         // that and the batch, and a new file whole or not there. After Ok the file has the batch.
@@ -363,7 +356,7 @@ impl Store {
     fn has_no_number(&self, input: InputId, tag: &[u8]) -> bool
         ensures { result ≡ has_no_number self.now input.0 tag.now }
     {
-        self.next == LAST_NUMBER && self.opened.find(input, tag).is_none()
+        self.next == PAST_NUMBERS && self.opened.find(input, tag).is_none()
     }
 
     // The same, without what a crash leaves.
@@ -377,7 +370,7 @@ impl Store {
         home: Home,
         batch: &[u8],
     ) -> Result<Accepted, StoreRefusal>
-        requires tag { length tag.now ≤ 1024 }
+        requires tag { length tag.now ≤ longest_tag }
         requires root { home ≡ home_of.Disk → IsSome self.old.root }
         requires room { IsTrue (has_room self.old (chunk_for self.old input.0 tag.now)) }
         ensures calls { Makes (D.told disk.old) (D.told disk.new) (accepts self.old input.0 stream.now tag.now home batch.now) (accept_outcome result) }
@@ -387,11 +380,11 @@ impl Store {
         ensures err { IfErr result (Refused (D.told disk.old) (D.told disk.new) self.old self.new (chunk_for self.old input.0 tag.now)) }
 
         // A batch that is too large comes first, a number that isn't there second.
-        ensures too_large { (result ≡ Err refusal.BatchTooLarge) ↔ (longest_batch < length batch.now) }
-        ensures no_number { (result ≡ Err refusal.NoNumber) ↔ ((length batch.now ≤ longest_batch) × IsTrue (has_no_number self.old input.0 tag.now)) }
+        ensures too_large { (result ≡ Err refusal.BatchTooLarge) ↔ (largest_batch < length batch.now) }
+        ensures no_number { (result ≡ Err refusal.NoNumber) ↔ ((length batch.now ≤ largest_batch) × IsTrue (has_no_number self.old input.0 tag.now)) }
         ensures cause { HasCause (D.faults disk.old) (D.faults disk.new) (HasFailed result) }
     {
-        if batch.len() > LONGEST_BATCH {
+        if batch.len() as u64 > LARGEST_BATCH {
             return Err(StoreRefusal::BatchTooLarge);
         }
         if self.has_no_number(input, tag) {
@@ -411,8 +404,8 @@ impl Store {
         home: Home,
         batch: &[u8],
     ) -> Result<Accepted, StoreRefusal>
-        requires tag { length tag.now ≤ 1024 }
-        requires batch { length batch.now ≤ longest_batch }
+        requires tag { length tag.now ≤ longest_tag }
+        requires batch { length batch.now ≤ largest_batch }
         requires number { has_no_number self.old input.0 tag.now ≡ false }
         requires room { IsTrue (has_room self.old (chunk_for self.old input.0 tag.now)) }
         ensures calls { Makes (D.told disk.old) (D.told disk.new) (goes_to self.old (chunk_for self.old input.0 tag.now) stream.now tag.now home batch.now) (accept_outcome result) }
@@ -470,11 +463,11 @@ impl Store {
         home: Home,
         batch: &[u8],
     ) -> Result<Accepted, StoreRefusal>
-        requires tag { length tag.now ≤ 1024 }
-        requires batch { length batch.now ≤ longest_batch }
+        requires tag { length tag.now ≤ longest_tag }
+        requires batch { length batch.now ≤ largest_batch }
         requires source { source.tag.items ≡ tag.now }
         requires none { chunk_for self.old source.input.0 tag.now ≡ None }
-        requires number { self.old.next < last_number }
+        requires number { self.old.next < past_numbers }
         ensures calls { Makes (D.told disk.old) (D.told disk.new) (begins_as (new_name self.old stream.now) tag.now home batch.now) (accept_outcome result) }
         ensures ok { IfOk result (BeganChunk self.old self.new source.input.0 stream.now tag.now home batch.now) }
         ensures err { IfErr result (GivesUp (D.told disk.old) (D.told disk.new) self.old self.new None) }
@@ -506,7 +499,7 @@ impl Store {
         batch: &[u8],
     ) -> Result<Accepted, StoreRefusal>
         requires grows { CanGrow (map.get self.old.chunks number) }
-        requires batch { length batch.now ≤ longest_batch }
+        requires batch { length batch.now ≤ largest_batch }
         requires room { IsTrue (has_room self.old (Some number)) }
         ensures calls { Makes (D.told disk.old) (D.told disk.new) (appends_to (map.get self.old.chunks number) batch.now self.old.full) (accept_outcome result) }
         ensures ok { IfOk result (GrewChunk self.old self.new number batch.now) }

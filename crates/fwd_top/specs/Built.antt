@@ -24,9 +24,10 @@ is_built_input set = reads_lines set.kind && is_none set.mem_limit
 
 abbrev pub takes_text : OutputKind → Bool
 takes_text (output.Forward host port ack whole_time) = false
+takes_text (output.Http host port uri form) = false
 takes_text _ = true
 
--- any output but forward
+-- any output but forward and http
 abbrev pub is_built_output : OutputSet → Bool
 is_built_output set = takes_text set.kind
 

@@ -18,13 +18,13 @@ fn is_built_input(set: &InputSet) -> bool
     }
 }
 
-/// An output that is run: any but forward.
+/// An output that is run: any but forward and http.
 fn is_built_output(set: &OutputSet) -> bool
     ensures { result ≡ is_built_output set.now }
 {
     match set.kind {
         OutputKind::Stdout { .. } | OutputKind::File { .. } | OutputKind::Tcp { .. } => true,
-        OutputKind::Forward { .. } => false,
+        OutputKind::Forward { .. } | OutputKind::Http { .. } => false,
     }
 }
 

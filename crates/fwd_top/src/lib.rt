@@ -4,8 +4,6 @@
 mod asking;
 mod built;
 mod status;
-#[cfg(test)]
-mod tests;
 mod top;
 mod words;
 

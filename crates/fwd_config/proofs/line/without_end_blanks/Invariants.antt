@@ -1,6 +1,6 @@
 use Rattle.std.proofs.Common.{◌≡◌, ◌+◌, ◌-◌, ◌≤◌, length, take}
 use Rattle.std.specs.List.{suffix_len}
-use Rattle.fwd_config.specs.Line.{is_blank}
+use Rattle.fwd_base.specs.Blanks.{is_blank}
 use Rattle.fwd_config.proofs.line.without_end_blanks.Given as goal
 
 -- the bytes behind `end` are blanks

@@ -1,6 +1,6 @@
 use Rattle.std.proofs.Common.{◌+◌, ◌≤◌, length}
-use Rattle.std.specs.Str.Lines.{lines}
 use Rattle.fwd_program.specs.Told.{Leads}
+use Rattle.fwd_config.specs.Line.{lines_of}
 use Rattle.fwd_config.specs.Variables.{Values}
 use Rattle.fwd_config.specs.Text.{Text}
 use Rattle.fwd_config.specs.Reading.{reads_files, file_stands, lines_stand}
@@ -16,7 +16,7 @@ invariant-lines g l =
     ((env : Values) (above : Text) → Shows env above l.fn.outline
     → (text : Text) × Shows env text l.outline
     × Leads (g.F.Files.told l.fn.files) (g.F.Files.told l.files) (reads_files (file_stands env l.may_open l.file above))
-    (reads_files (lines_stand env l.includes_left (file_stands env l.includes_left) l.file (l.number + 1) (lines l.rest) text)))
+    (reads_files (lines_stand env l.includes_left (file_stands env l.includes_left) l.file (l.number + 1) (lines_of l.rest) text)))
     × (l.number + length l.rest ≤ length l.initial.rest)
     × (g.F.Files.faults l.fn.files ≤ g.F.Files.faults l.files)
 

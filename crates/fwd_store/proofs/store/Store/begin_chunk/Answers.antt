@@ -1,9 +1,10 @@
 use Rattle.std.proofs.Common.{Some, ap, ◌∙◌, ◌++◌, [], ◌∷◌, ◌<◌, ℕ, List, sym, subst}
 use Rattle.std.specs.FinMap as map
+use Rattle.fwd_base.specs.Limits.{past_numbers}
 use Rattle.fwd_store.specs.declared.kept.Kept.{Kept}
 use Rattle.fwd_store.specs.Opened.{Opened}
 use Rattle.fwd_store.specs.Stored.{Held, Stored}
-use Rattle.fwd_store.specs.Store.{begins_as, new_name, CanGrow, IsHeldAs, kept_as, last_number}
+use Rattle.fwd_store.specs.Store.{begins_as, new_name, CanGrow, IsHeldAs, kept_as}
 use Rattle.fwd_store.specs.Name.{file_name}
 use Rattle.fwd_store.proofs.Making.{nothing_accepted}
 use Rattle.fwd_store.proofs.Sound.{sound_as_new, can_begin, begins_held}
@@ -22,7 +23,7 @@ invariant_of-self-in-Ok g c =
     sound_as_new _ c.args.source.input.0 c.args.source.tag.items c.in-Ok.kept _ _ _ c.in-Ok.ensures.ok.1
     (c.insert.ensures ∙ ap (λ (chunks : Held). map.insert chunks c.self.inside.next c.in-Ok.kept) c.reserve.ensures.same)
     (c.push.ensures ∙ ap (λ (l : List Opened). l ++ record { input = c.args.source.input.0; tag = c.args.source.tag.items; chunk = c.self.inside.next } ∷ []) c.reserve-2.ensures.same)
-    (subst (λ (s : Stored). s.next < last_number) (sym c.self.view_is) c.requires.number)
+    (subst (λ (s : Stored). s.next < past_numbers) (sym c.self.view_is) c.requires.number)
     (subst (λ (kept : Kept). CanGrow (Some kept)) (sym c.in-Ok.ensures.ok.0) (can_begin _ c.args.tag.now c.args.home c.args.batch.now c.requires.tag))
     (subst (λ (kept : Kept). IsHeldAs c.self.inside.root c.self.inside.next (Some kept)) (sym (c.in-Ok.ensures.ok.0 ∙ ap (λ (root : List ℕ). kept_as (file_name root c.args.stream.now c.self.inside.next) c.args.tag.now c.args.home c.args.batch.now) c.bytes_of-root.ensures))
     (begins_held c.self.inside.root c.args.stream.now c.self.inside.next c.args.tag.now c.args.home c.args.batch.now c.requires.tag c.requires.batch))

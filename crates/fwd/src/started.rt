@@ -1,0 +1,91 @@
+//! The words and the environment that the program is started with.
+
+use fwd_outside::Memory;
+use fwd_top::Status;
+use std::alloc::Global;
+use std::env::{self, Env, FillError};
+use std::io::ErrorKind;
+
+/// The room that a variable of the environment is given at first.
+const ROOM: usize = 256;
+
+/// The words behind the program's name. Words that aren't text are none of a command.
+pub fn words(rt: &HostRuntime) -> Result<Vec<String>, Status> {
+    let args = match env::args(rt) {
+        Ok(args) => args,
+        Err(error) if error.kind() == ErrorKind::OutOfMemory => return Err(Status::Memory),
+        Err(_) => return Err(Status::Usage),
+    };
+    let mut words = Vec::new(rt.alloc());
+    for word in args.skip(1) {
+        if words.push(word).is_err() {
+            return Err(Status::Memory);
+        }
+    }
+    Ok(words)
+}
+
+/// What stands at a place of the environment.
+#[derive(Drop)]
+enum Entry {
+    /// A variable, as its bytes.
+    Is(Vec<u8>),
+    /// A variable that is longer than its room.
+    TooLong,
+    /// None: the places end before this one.
+    Over,
+}
+
+fn entry_within(rt: &HostRuntime, place: usize, room: usize) -> Result<Entry, Memory> {
+    let mut bytes = Vec::new(rt.alloc());
+    bytes.resize(room, 0)?;
+    match rt.var_at(place, &mut bytes) {
+        Ok(length) => {
+            bytes.truncate(length);
+            Ok(Entry::Is(bytes))
+        }
+        Err(FillError::TooLong) => Ok(Entry::TooLong),
+        Err(FillError::NotPresent) => Ok(Entry::Over),
+    }
+}
+
+/// The bytes at a place of the environment. None behind the last.
+fn bytes_at(rt: &HostRuntime, place: usize) -> Result<Option<Vec<u8>>, Memory> {
+    let mut room = ROOM;
+    for _ in 0..usize::BITS {
+        match entry_within(rt, place, room)? {
+            Entry::Is(bytes) => return Ok(Some(bytes)),
+            Entry::Over => return Ok(None),
+            Entry::TooLong => room = room.saturating_mul(2),
+        }
+    }
+    Err(Memory)
+}
+
+/// The name and the value of a variable. None where it isn't text or has no name.
+fn variable(alloc: Global, bytes: &[u8]) -> Result<Option<(String, String)>, Memory> {
+    let Ok(text) = str::from_utf8(bytes) else {
+        return Ok(None);
+    };
+    match text.split_once('=') {
+        Some((name, value)) if !name.is_empty() => Ok(Some((
+            String::from_str(alloc, name)?,
+            String::from_str(alloc, value)?,
+        ))),
+        _ => Ok(None),
+    }
+}
+
+/// The environment. A variable that isn't text is left out.
+pub fn environment(rt: &HostRuntime) -> Result<Vec<(String, String)>, Memory> {
+    let mut all = Vec::new(rt.alloc());
+    for place in 0..usize::MAX {
+        let Some(bytes) = bytes_at(rt, place)? else {
+            break;
+        };
+        if let Some(found) = variable(rt.alloc(), &bytes)? {
+            all.push(found)?;
+        }
+    }
+    Ok(all)
+}
