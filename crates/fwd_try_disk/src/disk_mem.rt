@@ -133,7 +133,7 @@ fn a_placing_that_failed_is_in_doubt(rt: HostRuntime) -> Result<(), Fail> {
 }
 
 /// Names with a folder, one behind the other; one of them isn't a text.
-const NAMES: [&[u8]; 7] = [
+const NAMES: &[&[u8]] = &[
     b"S/b/2",
     b"S/b/1/x",
     b"S/a",
@@ -143,7 +143,7 @@ const NAMES: [&[u8]; 7] = [
     b"S/\xff/1",
 ];
 
-const FOLDERS: [&[u8]; 5] = [b"S", b"S/b", b"S/a", b"S/b/1", b"U"];
+const FOLDERS: &[&[u8]] = &[b"S", b"S/b", b"S/a", b"S/b/1", b"U"];
 
 fn preset_all(disk: &mut MemDisk) -> Result<(), Fail> {
     for name in NAMES {
