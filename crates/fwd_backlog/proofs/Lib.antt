@@ -6,5 +6,7 @@ pub mod Serials
 pub mod Keeping
 pub mod Standing
 mod Fresh
+mod Places
+mod Fitting
 mod Free
 pub mod Promised

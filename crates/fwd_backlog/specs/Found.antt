@@ -1,10 +1,13 @@
 -- What is found on a disk as it reads.
-use Rattle.std.specs.Prelude.{◌≡◌, ◌⊎◌, ℕ, IsTrue, List, Option, Some, map, Contains, All}
+use Rattle.std.specs.Prelude.{◌≡◌, ◌⊎◌, ℕ, ◌+◌, ◌≤◌, IsTrue, List, Option, Some, map, Contains, All}
 use Rattle.std.specs.List.Sorted.{IsStrictlySortedBy}
 use Rattle.fwd_outside.specs.Disk.{IsFileName}
 use Rattle.fwd_image.specs.File.{IsImage, content, whole, gone}
 use Rattle.fwd_image.specs.Disk.{Files}
+use Rattle.fwd_base.specs.Limits.{longest_file}
+use Rattle.fwd_found.specs.declared.chunk.Brief.{Brief}
 use Rattle.fwd_found.specs.declared.chunk.Found.{Found}
+use Rattle.fwd_found.specs.declared.chunk.Seen.TheVariants.{Whole}
 use Rattle.fwd_found.specs.Seen.{IsSeen}
 use Rattle.fwd_backlog.specs.declared.listed.Listed.{Listed}
 use Rattle.fwd_backlog.specs.Serial.{is_chunk_name}
@@ -21,6 +24,10 @@ pub record AreFoundIn (root : List ℕ) (files : Files) (found : List Found) : T
   pub all : (stream name : List ℕ) → IsFileName stream → IsFileName name → IsTrue (is_chunk_name name)
       → IsTrue (files (path_of root (record { name = name; stream = stream }))).there → Contains (map place_of found) (record { name = name; stream = stream })
   pub sorted : IsStrictlySortedBy by_name (map place_of found)
+
+-- the content of a found chunk with events ends within the longest file that is read
+abbrev pub FitsFile : Found → Type 0
+FitsFile found = (brief : Brief) → found.seen ≡ Whole brief → 24 + brief.meta + brief.size ≤ longest_file
 
 -- what a read finds is as before, and a crash leaves nothing that it couldn't have left before
 pub record LeavesNoMore (old new : Files) : Type 0 where

@@ -45,3 +45,8 @@ pub fn later_numbers_are_free()
         → AreFoundIn root files found → IsFileName stream → IsFileName name → IsTrue (is_chunk_name name) → next_number found ≤ serial_number name
         → (files (path_of root (record { name = name; stream = stream }))).there ≡ false }
 {}
+
+/// A path tells its file: files of two streams, or of two names, have two paths.
+pub fn paths_tell_files()
+    ensures { (root : List ℕ) (one two : Listed) → IsFileName one.stream → IsFileName two.stream → path_of root one ≡ path_of root two → one ≡ two }
+{}

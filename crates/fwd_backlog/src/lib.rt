@@ -20,6 +20,6 @@ pub use errors::LoadErr;
 pub use fwd_found::{Brief, ChunkKind, Found, Seen};
 pub use laws::{
     files_stand_in_order, later_numbers_are_free, loading_changes_no_fresh_file,
-    loading_leaves_no_more, what_is_loaded_stands,
+    loading_leaves_no_more, paths_tell_files, what_is_loaded_stands,
 };
 pub use loading::{Backlog, FoundList, load_all};

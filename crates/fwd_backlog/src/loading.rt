@@ -1,13 +1,13 @@
 //! All files of chunks are loaded.
 
-ghost use Rattle.std.specs.Prelude.{◌≡◌, ◌≤◌, IfOk, IsErrOf};
+ghost use Rattle.std.specs.Prelude.{◌≡◌, ◌≤◌, All, IfOk, IsErrOf};
 ghost use Rattle.fwd_base.specs.Limits.{past_numbers};
 ghost use Rattle.fwd_program.specs.Cause.{HasCause};
 ghost use Rattle.fwd_image.specs.Crash.{DiskSince, DiskAfter};
 ghost use Rattle.fwd_backlog.specs.declared.errors.LoadErr.TheVariants.{DiskFailed};
 ghost use Rattle.fwd_backlog.specs.Answer.{Loads};
 ghost use Rattle.fwd_backlog.specs.Loading.{loads, IsBacklog};
-ghost use Rattle.fwd_backlog.specs.Found.{AreFoundIn, LeavesNoMore};
+ghost use Rattle.fwd_backlog.specs.Found.{AreFoundIn, FitsFile, LeavesNoMore};
 
 use crate::LoadErr;
 use crate::in_order::in_order;
@@ -43,6 +43,9 @@ pub fn load_all<D: Disk>(
 ) -> Result<Backlog, LoadErr>
     ensures loaded { Loads (D.told disk.old) (D.told disk.new) (loads root.now) IsBacklog result }
     ensures next { IfOk result (λ backlog. (1 ≤ backlog.next) × (backlog.next ≤ past_numbers)) }
+
+    // A chunk that was found ends within the longest file that is read.
+    ensures lengths { IfOk result (λ backlog. All FitsFile backlog.found) }
 
     // What was found is what stands there, and a crash at any moment of the call leaves nothing else than before it.
     ensures found { IfOk result (λ backlog. DiskAfter (D.told disk.old) (D.told disk.new) (λ _. Unit {0}) (λ _ last. AreFoundIn root.now last backlog.found)) }

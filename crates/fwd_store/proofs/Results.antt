@@ -1,5 +1,5 @@
 -- What follows of a result's value.
-use Rattle.std.proofs.Common.{◌≡◌, Option, Some, None, IsSome, is_some, false, Result, Ok, Err, OnOk, OnErr, refl}
+use Rattle.std.proofs.Common.{◌≡◌, Option, Some, None, IsSome, Result, Ok, Err, OnOk, OnErr, refl}
 
 pub on_ok : {T E : Type 0} {P Q : Type 0} (r : Result T E) → (P → Q) → OnOk r P → OnOk r Q
 on_ok (Ok x) so holds = so holds
@@ -19,7 +19,3 @@ on_err (Err e) so holds = so holds
 pub some_of : {T : Type 0} (o : Option T) → IsSome o → (x : T) × (o ≡ Some x)
 some_of (Some x) is = (x, refl)
 some_of None is = absurd (cc is)
-
-pub none_of : {T : Type 0} (o : Option T) → is_some o ≡ false → o ≡ None
-none_of (Some x) is = absurd (cc is)
-none_of None is = refl

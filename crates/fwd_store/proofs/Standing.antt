@@ -20,6 +20,7 @@ use Rattle.fwd_found.specs.declared.refusal.NotAChunk.{NotAChunk}
 use Rattle.fwd_found.specs.declared.refusal.NotAChunk.TheVariants.{TooLong, TooShort, BadId}
 use Rattle.fwd_found.specs.Standing.{has_id, tag_of, tagged, headed, body_of, HasContent, StandsFor}
 use Rattle.fwd_found.specs.Seen.{IsSeen}
+use Rattle.fwd_found.proofs.Heading.{read_fits}
 use Rattle.fwd_store.specs.declared.kept.Kept.TheVariants.{InFile, Adopted}
 use Rattle.fwd_store.specs.Name.{found_name}
 use Rattle.fwd_store.specs.Store.{IsWhole}
@@ -35,19 +36,6 @@ settled_is_kept head meta content files events settled are =
     let long : length content ≡ min head.size (length bytes - (24 + head.meta)) =
     ap length (by_head head meta content files settled).1 ∙ length-take head.size (drop (24 + head.meta) bytes) ∙ ap (λ (n : ℕ). min head.size n) (length-drop (24 + head.meta) bytes) in
     record { long = omega (arith, settled.parts.fits, settled.meta_is, settled.size); events = events; are = are }
-
--- the header and the metadata of a file that stands for a chunk are whole
-whole_header : (bytes tag : List ℕ) → headed bytes ≡ Ok tag → (length bytes ≤ longest_file) × (24 + meta_length bytes ≤ length bytes)
-whole_header bytes tag is = by (nat_lt longest_file (length bytes)) (nat_lt (length bytes) 24) (has_id bytes) (nat_lt (length bytes) (24 + meta_length bytes)) refl refl is
-  where
-    by : (long short known cut : Bool) → nat_lt longest_file (length bytes) ≡ long → nat_lt (length bytes) (24 + meta_length bytes) ≡ cut
-        → ◌≡◌ {A = Result (List ℕ) NotAChunk} (if long then Err TooLong else if short then Err TooShort else if not known then Err BadId else if cut then Err TooShort else tagged bytes (tag_of (part bytes 24 (meta_length bytes)))) (Ok tag)
-        → (length bytes ≤ longest_file) × (24 + meta_length bytes ≤ length bytes)
-    by true b known cut l c is = absurd (cc is)
-    by false true known cut l c is = absurd (cc is)
-    by false false false cut l c is = absurd (cc is)
-    by false false true true l c is = absurd (cc is)
-    by false false true false l c is = (ltb-false longest_file (length bytes) l, ltb-false (length bytes) (24 + meta_length bytes) c)
 
 events_of : (bytes : List ℕ) (events : List Event) (n : ℕ) → HasContent bytes events n → AreEvents events (take n (body_of bytes))
 events_of bytes events n (inl marked) = marked.2
@@ -86,11 +74,7 @@ module _ (found : Found) (bytes : List ℕ) (chunk : Chunk) (stands : StandsFor 
   found_is_kept name = record { long = refl; events = stands.1; are = subst (λ (c : List ℕ). AreEvents stands.1 c) (sym content_is) (events_of bytes stands.1 n stands.4) }
 
   pub found_offsets : 24 + chunk.meta + length chunk.content < 2 ^ 64
-  found_offsets =
-      let header = whole_header bytes stands.0 stands.3 in
-      let size : length chunk.content ≡ min n (length body) = ap length content_is ∙ length-take n body in
-      let rest : length body ≡ length bytes - (24 + meta_length bytes) = length-drop (24 + meta_length bytes) bytes in
-      omega (arith, header.0, header.1, meta_is)
+  found_offsets = let fits = read_fits bytes chunk stands in omega arith
 
 pub seen_is_whole : (found : Found) (brief : Brief) (bytes : List ℕ) → found.seen ≡ Whole brief → IsSeen bytes found.seen → IsWhole found
 seen_is_whole found brief bytes is seen =

@@ -1,3 +1,4 @@
+use Rattle.fwd_backlog.proofs.Fitting.{loaded_fit}
 use Rattle.fwd_backlog.proofs.Promised.{found_after, no_more_since}
 use Rattle.fwd_backlog.proofs.loading.load_all.Goals as goal
 
@@ -6,3 +7,6 @@ returns-clause-found g c = found_after _ _ c.args.root.now c.load.result c.load.
 
 pub returns-clause-any_moment : goal.returns-clause-any_moment
 returns-clause-any_moment g c = no_more_since _ _ c.args.root.now c.load.result c.load.ensures.loaded
+
+pub returns-clause-lengths : goal.returns-clause-lengths
+returns-clause-lengths g c = loaded_fit _ _ c.args.root.now c.load.result c.load.ensures.loaded
