@@ -17,12 +17,12 @@ mod search;
 mod size;
 
 pub use blanks::{is_blank, is_utf8, place_of, place_of_blank, skip_blanks};
-pub use bytes::{Bytes, Names, crosses};
+pub use bytes::{Bytes, Names, bytes_cross, crosses, names_cross};
 pub use choices::{Form, Retries};
 pub use ids::{ChunkId, ConnId, InputId, LinkId, OutputId};
 pub use items::Items;
 pub use memory::Memory;
 pub use numbers::{is_digits, number};
-pub use pattern::{Pattern, PatternErr};
+pub use pattern::{Pattern, PatternErr, patterns_cross};
 pub use search::{Capture, Search};
 pub use size::{NotASize, parse_size};

@@ -82,9 +82,10 @@ fn parted(alloc: Global, stream: &[u8]) -> Result<u64, Memory> {
 
 /// How many of the lines a parser reads with the time that stands in them.
 fn timed(alloc: Global, parser: &Parser, lines: &Lines) -> Result<u64, Memory> {
+    let mut reader = parser.reader(alloc)?;
     let mut count: u64 = 0;
     for line in lines.as_slice() {
-        let event = parser.parse(alloc, line.bytes.as_slice(), 0)?;
+        let event = reader.read(alloc, line.bytes.as_slice(), 0)?;
         if event.sec > 0 {
             count = count.saturating_add(1);
         }

@@ -20,6 +20,7 @@ use crate::contents::{Contents, Kept};
 use crate::flights::{Flight, Flights, RouteId};
 use crate::opens::{OpenChunk, Opens};
 use crate::walks::due_in;
+use fwd_base::limits::LAST_READING;
 use fwd_base::{Bytes, ChunkId, ConnId, InputId, LinkId, Memory, OutputId};
 use fwd_counts::Counts;
 use fwd_frames::Lines;
@@ -36,9 +37,6 @@ fn free_unowed(contents: &mut Contents, table: &Table, chunk: ChunkId)
         contents.free(chunk);
     }
 }
-
-/// A reading of the clock counts as this at most.
-const LAST_READING: u64 = 4_294_967_295_999;
 
 /// The state of an engine: its chunks and what is kept of them, its connections and streams, its flights, its clock and
 /// its counts.

@@ -9,8 +9,6 @@ mod chunks;
 mod contents;
 mod flights;
 mod opens;
-#[cfg(test)]
-mod tests;
 mod walks;
 
 pub use book::Book;

@@ -6,8 +6,6 @@
 mod changes;
 mod counts;
 mod laws;
-#[cfg(test)]
-mod tests;
 
 pub use counts::Counts;
 pub use laws::flights_count_nothing;

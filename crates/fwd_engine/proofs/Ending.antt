@@ -2,8 +2,9 @@
 use Rattle.std.proofs.Common.{◌≡◌, ℕ, ◌+◌, ◌*◌, ◌^◌, ◌-◌, ◌≤◌, inl, inr, [], ◌∷◌, sym, ◌∙◌, ap, arith}
 use Rattle.std.specs.Prelude.{nat_le, min}
 use Rattle.std.proofs.lemmas.Bool.{cases_lt, lt-leb}
+use Rattle.fwd_base.specs.Limits.{last_reading}
 use Rattle.fwd_trace.specs.Fact.{History, Ticked}
-use Rattle.fwd_history.specs.Clock.{clock, last_reading}
+use Rattle.fwd_history.specs.Clock.{clock}
 
 pub clock_within : (h : History) → clock h ≤ last_reading
 clock_within [] = omega arith

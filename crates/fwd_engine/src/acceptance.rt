@@ -10,17 +10,12 @@ ghost use Rattle.fwd_run.specs.Acts.{is_empty, fills, grows, stores, accepts, cl
 ghost use Rattle.fwd_book.specs.Stands.{Shows, is_open};
 ghost use Rattle.fwd_engine.specs.Meets.{Acted, Meets, ActsAlone};
 
+use fwd_base::limits::{FULL_CHUNK, PAST_NUMBERS};
 use fwd_base::{ChunkId, InputId, Memory};
 use fwd_book::Book;
 use fwd_event::Events;
 use fwd_records::Records;
 use fwd_setup::Setup;
-
-/// A chunk of so many bytes closes.
-const FULL_CHUNK: u64 = 2_048_000;
-
-/// Numbers of chunks are below this.
-const NUMBER_END: u64 = 9_223_372_036_854_775_808;
 
 /// A chunk closes where its content, of so many bytes, is long enough.
 fn fill(book: &mut Book, chunk: ChunkId, bytes: u64)
@@ -55,7 +50,7 @@ fn store(
     match book.open_chunk(input, tag) {
         Some(chunk) => grow(book, input, chunk, batch),
         None => {
-            if book.opened() < NUMBER_END - 1 {
+            if book.opened() < PAST_NUMBERS - 1 {
                 let chunk = book.opens(input, tag, setup.owed(tag))?;
                 grow(book, input, chunk, batch)
             } else {

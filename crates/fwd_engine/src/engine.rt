@@ -1,6 +1,7 @@
 //! The engine.
 
 ghost use Rattle.std.specs.Prelude.{◌≡◌, ◌≤◌, [], length, IfOk};
+ghost use Rattle.fwd_base.specs.Limits.{most_inputs, most_outputs};
 ghost use Rattle.fwd_settings.specs.declared.chosen.AllSettings.{AllSettings};
 ghost use Rattle.fwd_trace.specs.Fact.{History};
 ghost use Rattle.fwd_trace.specs.World.{World};
@@ -64,11 +65,11 @@ pub struct Engine {
 }
 
 impl Engine {
-    /// An engine before anything happened. The settings are those of a configuration: at most 64 inputs and 64 outputs,
-    /// and a base of at least one second.
+    /// An engine before anything happened. The settings are those of a configuration: at most `MOST_INPUTS` inputs
+    /// and `MOST_OUTPUTS` outputs, and a base of at least one second.
     pub fn begin(alloc: Global, settings: AllSettings) -> Result<Engine, BeginErr>
-        requires inputs { length settings.inputs ≤ 64 }
-        requires outputs { length settings.outputs ≤ 64 }
+        requires inputs { length settings.inputs ≤ most_inputs }
+        requires outputs { length settings.outputs ≤ most_outputs }
         requires base { 1 ≤ settings.service.base }
         ensures { IfOk result (λ engine. IsAt engine settings []) }
     {

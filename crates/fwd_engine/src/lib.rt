@@ -9,8 +9,6 @@ mod engine;
 mod landing;
 mod stepping;
 mod streaming;
-#[cfg(test)]
-mod tests;
 mod walking;
 
 pub use engine::{BeginErr, Engine, EngineStop, Turn};

@@ -3,9 +3,7 @@ use Rattle.std.proofs.Common.{◌≡◌, ℕ, List, [], ◌∷◌, ◌++◌, len
 use Rattle.std.proofs.lemmas.List.{append-nil}
 use Rattle.fwd_program.specs.Program.{Return, Way}
 use Rattle.fwd_outside.specs.Loop.{LoopEntry}
-use Rattle.fwd_table.specs.declared.answer.Answer.TheVariants.{Bad}
 use Rattle.fwd_flush.specs.declared.stage.Stage.{Stage}
-use Rattle.fwd_flush.specs.declared.stage.Stage.TheVariants.{Ended}
 use Rattle.fwd_flush.specs.Flight.{Progress, Delivery, unopened, starts}
 use Rattle.fwd_flush.specs.Verdict.{Event, Turns, handed, turned, events_of, happened, calls_of, IsAt, Stands, HasLink, IsFlight, Flies}
 use Rattle.fwd_flush.proofs.Verdicts.{starts_law, goes_law}

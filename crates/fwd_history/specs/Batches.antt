@@ -4,7 +4,6 @@ use Rattle.std.specs.Prelude.{ℕ, List, [], ◌++◌, length, drop, map, unwrap
 use Rattle.fwd_event.specs.declared.event.Event.{Event}
 use Rattle.fwd_frames.specs.declared.line.Line.{Line}
 use Rattle.fwd_frames.specs.Lines.{lines, last_line}
-use Rattle.fwd_parser.specs.declared.parser.Parser.{Parser}
 use Rattle.fwd_parser.specs.Parsed.{parsed}
 use Rattle.fwd_filters.specs.Through.{filtered}
 use Rattle.fwd_settings.specs.declared.chosen.AllSettings.{AllSettings}

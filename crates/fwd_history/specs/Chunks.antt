@@ -1,14 +1,14 @@
 -- Chunks: which were opened, which are open, and what each holds.
-use Rattle.std.specs.Prelude.{ℕ, ◌+◌, ◌==◌, ◌&&◌, nat_le, not, Bool, true, false, if◌then◌else◌, List, [], ◌∷◌, ◌++◌, length, filter, find, Option, option_map}
+use Rattle.std.specs.Prelude.{ℕ, ◌+◌, ◌==◌, ◌&&◌, nat_le, not, Bool, true, false, if◌then◌else◌, List, [], ◌∷◌, ◌++◌, length, filter, find, Option}
 use Rattle.std.specs.List.{flat_map, list_all}
 use Rattle.std.specs.Str.{bytes_eq}
+use Rattle.fwd_base.specs.Limits.{largest_batch}
 use Rattle.fwd_value.specs.Val.{mapping, entries_of}
 use Rattle.fwd_value.specs.Limits.{nesting}
 use Rattle.fwd_msgpack.specs.Canonical.{canonical}
 use Rattle.fwd_event.specs.declared.event.Event.{Event}
 use Rattle.fwd_event.specs.Event.{event_val}
 use Rattle.fwd_trace.specs.Fact.{History, Opened, Grown, Shut}
-use Rattle.fwd_history.specs.Setup.{largest_batch}
 
 -- a chunk by its number, the input that it is of, and its tag
 pub record ChunkOf : Type 0 where

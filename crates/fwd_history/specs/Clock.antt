@@ -1,12 +1,9 @@
 -- Times: the clock, the moment of Stop, and the next closing.
-use Rattle.std.specs.Prelude.{ℕ, max, min, List, [], ◌∷◌, Option, Some, None}
+use Rattle.std.specs.Prelude.{ℕ, max, min, [], ◌∷◌, Option, Some, None}
+use Rattle.fwd_base.specs.Limits.{last_reading}
 use Rattle.fwd_trace.specs.Fact.{History, Ticked, Stopped, Closing}
 use Rattle.fwd_settings.specs.declared.chosen.AllSettings.{AllSettings}
 use Rattle.fwd_history.specs.Setup.{plus}
-
--- a reading of the clock counts as this at most
-abbrev pub last_reading : ℕ
-last_reading = 4294967295999
 
 -- the greatest reading so far, in milliseconds; 0 before the first
 abbrev pub clock : History → ℕ

@@ -1,7 +1,6 @@
 -- What is handed over for a route: the records of its chunk, in the form of its output.
-use Rattle.std.specs.Prelude.{ℕ, ◌==◌, Bool, false, List, [], find, Option, Some, None}
+use Rattle.std.specs.Prelude.{ℕ, ◌==◌, false, List, [], find, Option, Some, None}
 use Rattle.std.specs.Option.{option_map_or}
-use Rattle.fwd_base.specs.declared.choices.Form.{Form}
 use Rattle.fwd_event.specs.declared.event.Event.{Event}
 use Rattle.fwd_out_text.specs.Payload.{payload_of}
 use Rattle.fwd_flush.specs.declared.judged.Judged.TheVariants.{Right}
@@ -18,7 +17,7 @@ use Rattle.fwd_history.specs.Chunks.{ChunkOf, chunks_of, records}
 abbrev pub tag_for : History → ℕ → List ℕ
 tag_for h chunk = option_map_or (λ (c : ChunkOf). c.tag) (find (λ (c : ChunkOf). c.number == chunk) (chunks_of h)) []
 
--- events as an output is handed them; a forward output isn't reached yet
+-- events as an output is handed them; forward and http outputs aren't reached yet
 abbrev pub payload_for : OutputKind → List ℕ → List Event → List ℕ
 payload_for (output_kind.Stdout form) tag events = payload_of form tag events
 payload_for (output_kind.File folder file form) tag events = payload_of form tag events

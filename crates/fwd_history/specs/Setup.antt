@@ -1,7 +1,5 @@
 -- What a run begins with, as its settings say.
-use Rattle.std.specs.Prelude.{ℕ, ◌+◌, ◌-◌, ◌^◌, min, Bool, true, false, List, map, length, slice_get, Option, Some, None, option_map, option_and_then}
-use Rattle.fwd_base.specs.declared.choices.Form.{Form}
-use Rattle.fwd_base.specs.declared.choices.Form.TheVariants.{JsonLines}
+use Rattle.std.specs.Prelude.{ℕ, ◌+◌, ◌-◌, ◌^◌, min, Bool, true, false, List, map, slice_get, Option, Some, None}
 use Rattle.fwd_base.specs.declared.choices.Retries.{Retries}
 use Rattle.fwd_base.specs.declared.choices.Retries.TheVariants.{Times}
 use Rattle.fwd_route.specs.Globs.{takers}
@@ -16,17 +14,6 @@ use Rattle.fwd_settings.specs.declared.chosen.OutputKind.TheVariants as output_k
 -- a count or a time stands still at its last value
 abbrev pub plus : ℕ → ℕ → ℕ
 plus count more = min (count + more) (2 ^ 64 - 1)
-
--- a chunk of so many bytes closes, and a batch of more isn't accepted
-abbrev pub full_chunk : ℕ
-full_chunk = 2048000
-
-abbrev pub largest_batch : ℕ
-largest_batch = 16777216
-
--- numbers of chunks are below this
-abbrev pub number_end : ℕ
-number_end = 2 ^ 63
 
 abbrev pub input_at : AllSettings → ℕ → Option InputSet
 input_at s input = slice_get s.inputs input

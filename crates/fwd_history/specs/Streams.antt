@@ -1,5 +1,5 @@
 -- Connections, and the bytes that came over each stream.
-use Rattle.std.specs.Prelude.{ℕ, ◌==◌, Bool, true, false, if◌then◌else◌, List, [], ◌∷◌, ◌++◌, Option, Some, None}
+use Rattle.std.specs.Prelude.{ℕ, ◌==◌, Bool, false, if◌then◌else◌, List, [], ◌∷◌, ◌++◌, Option, Some, None}
 use Rattle.fwd_trace.specs.Fact.{History, Stream, Connection, Standard, Joined, Gone, Said, Ended}
 
 -- the input that a connection has joined; none where it isn't there

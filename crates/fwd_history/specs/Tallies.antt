@@ -4,7 +4,7 @@ use Rattle.fwd_table.specs.declared.tally.InputTally.{InputTally}
 use Rattle.fwd_table.specs.declared.tally.OutputTally.{OutputTally}
 use Rattle.fwd_table.specs.declared.tally.Tally.{Tally}
 use Rattle.fwd_settings.specs.declared.chosen.AllSettings.{AllSettings}
-use Rattle.fwd_trace.specs.Fact.{History, Route, Accepted, Refused, Handed, OnRoute, Outcome, Flies, Retries, Delivered, Failed, Spent}
+use Rattle.fwd_trace.specs.Fact.{History, Accepted, Refused, Handed, OnRoute, Outcome, Retries, Delivered, Failed, Spent}
 use Rattle.fwd_history.specs.Setup.{plus}
 
 -- the batches accepted from an input, their events, and the batches refused

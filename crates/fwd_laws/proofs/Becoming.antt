@@ -5,12 +5,13 @@ use Rattle.std.specs.Str.{bytes_eq}
 use Rattle.std.proofs.lemmas.Bool.{eq-eqb, eqb-true, ltb-false, and_parts, cond-true}
 use Rattle.std.proofs.lemmas.List.Elements.{Contains-push}
 use Rattle.std.proofs.lemmas.Slice.Eq.{bytes_eq-Decides}
+use Rattle.fwd_base.specs.Limits.{full_chunk, past_numbers}
 use Rattle.fwd_event.specs.declared.event.Event.{Event}
 use Rattle.fwd_program.specs.Program.{Return}
 use Rattle.fwd_settings.specs.declared.chosen.AllSettings.{AllSettings}
 use Rattle.fwd_trace.specs.Fact.{History, Accepted, Refused, Opened, Grown, Shut}
 use Rattle.fwd_trace.specs.Trace.{Act}
-use Rattle.fwd_history.specs.Setup.{plus, full_chunk, number_end, outputs_for}
+use Rattle.fwd_history.specs.Setup.{plus, outputs_for}
 use Rattle.fwd_history.specs.Chunks.{ChunkOf, chunks_of, open_chunks, open_chunk, opened, records, size, is_storable}
 use Rattle.fwd_history.specs.Tallies.{batches, events, refused}
 use Rattle.fwd_run.specs.Acts.{is_empty, note, noting, fills, grows, stores, accepts}
@@ -95,7 +96,7 @@ module _ (s : AllSettings) (input : ℕ) (tag : List ℕ) (batch : List Event) w
   becomes_still old h mid new before behind (TooLarge large is) = TooLarge large (refused_still input old h mid new before.0 behind.0 is)
   becomes_still old h mid new before behind (NoNumber none last is) =
       NoNumber (ap (λ (l : List ChunkOf). find (λ (c : ChunkOf). c.input == input && bytes_eq c.tag tag) l) (sym before.2) ∙ none)
-      (subst (λ (n : ℕ). number_end ≤ n + 1) before.1 last) (refused_still input old h mid new before.0 behind.0 is)
+      (subst (λ (n : ℕ). past_numbers ≤ n + 1) before.1 last) (refused_still input old h mid new before.0 behind.0 is)
 
   -- ---- a batch of an input and a tag
 
@@ -126,10 +127,10 @@ module _ (s : AllSettings) (input : ℕ) (tag : List ℕ) (batch : List Event) w
     unfolding stores
     becomes_stored (Some c) noted is = let stood = found_open h input tag c is in becomes_grown c.number noted h (inl stood) (is_opened h (chunk_of c.number input tag) stood) (alike h)
     becomes_stored None noted is =
-        ends_when (λ (new : History) (now : History). BecomesOf s input tag batch h new) (nat_lt (opened h + 1) number_end) noted
+        ends_when (λ (new : History) (now : History). BecomesOf s input tag batch h new) (nat_lt (opened h + 1) past_numbers) noted
         (noting (Opened input tag) h (grows input (opened h + 1) batch)) (note (Refused input) h)
         (λ _ _. becomes_grown (opened h + 1) _ (Opened input tag ∷ h) (inr refl) (Contains-push (chunks_of h) (chunk_of (opened h + 1) input tag)) (alike h))
-        (λ none _. NoNumber is (ltb-false (opened h + 1) number_end none) (refused_now input h))
+        (λ none _. NoNumber is (ltb-false (opened h + 1) past_numbers none) (refused_now input h))
 
     pub becomes_accepted : (noted : History) → Becomes noted (accepts s input tag batch h)
     unfolding accepts

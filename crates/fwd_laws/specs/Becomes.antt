@@ -1,10 +1,11 @@
 -- What becomes of the batches that bytes complete.
 use Rattle.std.specs.Prelude.{◌≡◌, ◌≤◌, ◌⊎◌, ℕ, ◌+◌, true, false, List, [], ◌++◌, length, Contains, Some, None}
+use Rattle.fwd_base.specs.Limits.{past_numbers}
 use Rattle.fwd_event.specs.declared.event.Event.{Event}
 use Rattle.fwd_settings.specs.declared.chosen.AllSettings.{AllSettings}
 use Rattle.fwd_settings.specs.declared.chosen.InputSet.{InputSet}
 use Rattle.fwd_trace.specs.Fact.{History, Stream, Connection, Standard}
-use Rattle.fwd_history.specs.Setup.{plus, number_end, outputs_for, hears_peers, reads_standard}
+use Rattle.fwd_history.specs.Setup.{plus, outputs_for, hears_peers, reads_standard}
 use Rattle.fwd_history.specs.Streams.{input_of}
 use Rattle.fwd_history.specs.Chunks.{ChunkOf, chunks_of, open_chunks, open_chunk, opened, records, is_storable}
 use Rattle.fwd_history.specs.Tallies.{batches, events, refused}
@@ -43,4 +44,4 @@ pub data BecomesOf (s : AllSettings) (input : ℕ) (tag : List ℕ) (batch : Lis
   Empty : batch ≡ [] → BecomesOf s input tag batch h new
   ForNobody : outputs_for s tag ≡ [] → IsAccepted input (length batch) h new → BecomesOf s input tag batch h new
   TooLarge : is_storable batch ≡ false → IsRefused input h new → BecomesOf s input tag batch h new
-  NoNumber : open_chunk h input tag ≡ None → number_end ≤ opened h + 1 → IsRefused input h new → BecomesOf s input tag batch h new
+  NoNumber : open_chunk h input tag ≡ None → past_numbers ≤ opened h + 1 → IsRefused input h new → BecomesOf s input tag batch h new

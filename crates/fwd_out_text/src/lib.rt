@@ -10,6 +10,3 @@ mod record_text;
 pub use fwd_base::{Bytes, Form, Memory};
 pub use fwd_event::{Event, Events};
 pub use payload::payload_text;
-
-#[cfg(test)]
-mod tests;

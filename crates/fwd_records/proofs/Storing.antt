@@ -6,13 +6,13 @@ use Rattle.std.specs.Int.{w32, to_be_bytes}
 use Rattle.std.proofs.lemmas.Bool.Decides.{nat_tests}
 use Rattle.std.proofs.lemmas.List.Folds.{length-flat_map-take}
 use Rattle.std.proofs.lemmas.List.Sums.{AllPass-from_list_all}
+use Rattle.fwd_base.specs.Limits.{largest_batch}
 use Rattle.fwd_value.specs.Val.{mapping, entries_of}
 use Rattle.fwd_msgpack.specs.Canonical.{canonical}
 use Rattle.fwd_event.specs.declared.event.Event.{Event}
 use Rattle.fwd_event.specs.Event.{EventFits, event_val}
 use Rattle.fwd_event.proofs.Written.{event_bytes}
 use Rattle.fwd_history.specs.Chunks.{is_shallow, is_storable, spelled}
-use Rattle.fwd_history.specs.Setup.{largest_batch}
 use Rattle.fwd_records.proofs.Lengths.{lengths-fit}
 
 both-true : (a b : Bool) → (a && b) ≡ true → (a ≡ true) × (b ≡ true)

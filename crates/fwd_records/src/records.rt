@@ -4,15 +4,13 @@ ghost use Rattle.std.specs.Prelude.{◌≡◌, ◌++◌, [], length, Some, None,
 ghost use Rattle.fwd_history.specs.Chunks.{is_storable, spelled};
 ghost use Rattle.fwd_out_text.specs.Payload.{payload_of};
 
+use fwd_base::limits::LARGEST_BATCH;
 use fwd_base::{Bytes, Form, Memory};
 use fwd_event::{Event, Events, can_write, write_event};
 use fwd_out_text::payload_text;
 use std::alloc::Global;
 use std::marker::Model;
 use std::mem;
-
-/// No batch has more bytes.
-const LARGEST_BATCH: u64 = 16_777_216;
 
 /// Events that have a spelling of their own, in order. Contracts see the events. The length of their spellings is known
 /// without going over them.
@@ -52,7 +50,7 @@ impl Records {
     }
 
     /// Events as records, where they may be stored as one batch: none is nested too deep, and their spellings have at
-    /// most 16,777,216 bytes.
+    /// most `LARGEST_BATCH` bytes.
     pub fn of(alloc: Global, events: Events) -> Result<Option<Records>, Memory>
         ensures { IfOk result (λ records. records ≡ (if is_storable events then Some events else None)) }
     {
@@ -80,9 +78,10 @@ impl Records {
         self.size
     }
 
-    /// Puts others behind them. More than 2^64 - 1 bytes are answered as want of memory.
+    /// Puts others behind them. More than 2^64 - 1 bytes are answered as want of memory. After `Memory` they are unchanged.
     pub fn append(&mut self, more: Records) -> Result<(), Memory>
-        ensures { OnOk result (self.new ≡ self.old ++ more) }
+        ensures ok { OnOk result (self.new ≡ self.old ++ more) }
+        ensures err { OnErr result (self.new ≡ self.old) }
     {
         let Records {
             events,

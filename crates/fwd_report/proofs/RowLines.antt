@@ -1,5 +1,5 @@
 -- The lines of rows.
-use Rattle.std.proofs.Common.{◌≡◌, ℕ, zero, suc, ◌+◌, ◌-◌, ◌/◌, ◌<◌, ◌≤◌, min, Bool, true, false, List, [], ◌∷◌, ◌++◌, length, get_or, take, drop, Option, Some, None, codes, decimal, refl, sym, ◌∙◌, ap, subst, append_assoc, arith}
+use Rattle.std.proofs.Common.{◌≡◌, ℕ, zero, suc, ◌+◌, ◌-◌, ◌/◌, ◌<◌, min, List, [], ◌∷◌, ◌++◌, length, get_or, take, drop, Option, Some, None, codes, decimal, refl, sym, ◌∙◌, ap, subst, append_assoc, arith}
 use Rattle.std.specs.Prelude.{sum_by, slice_get, IfSome, option_map}
 use Rattle.std.specs.List.{flat_map}
 use Rattle.std.specs.Int.RustNames.{bit_and, count_ones}
@@ -14,7 +14,7 @@ use Rattle.fwd_table.specs.declared.row.Row.{Row}
 use Rattle.fwd_table.specs.declared.row.RowSeen.{RowSeen}
 use Rattle.fwd_table.specs.Routes.{mask_of, IsMaskOf}
 use Rattle.fwd_table.specs.Rows.{seen_of}
-use Rattle.fwd_report.specs.Report.{owed_routes, is_owed_to, names_from, chunk_line, row_lines}
+use Rattle.fwd_report.specs.Report.{owed_routes, names_from, chunk_line, row_lines}
 use Rattle.fwd_report.proofs.Lists.{lines_more}
 use Rattle.fwd_report.proofs.Masks.{owed_set, owed_clear, owed_none, ones-routes}
 

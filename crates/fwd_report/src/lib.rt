@@ -3,8 +3,6 @@
 
 mod lines;
 mod owed;
-#[cfg(test)]
-mod tests;
 mod writing;
 
 pub use writing::report;

@@ -8,6 +8,3 @@ mod wait;
 pub use timer::{Timer, earlier};
 pub use timers::Timers;
 pub use wait::wait_of;
-
-#[cfg(test)]
-mod tests;

@@ -1,6 +1,6 @@
 -- A worked row, computed: a line comes over tcp for two outputs, and the second one's link breaks behind three bytes.
-use Rattle.std.proofs.Common.{◌≡◌, ℕ, false, List, [], ◌∷◌, Some, None, refl}
-use Rattle.std.specs.Prelude.{codes, drop, length}
+use Rattle.std.proofs.Common.{ℕ, false, List, [], ◌∷◌, Some, None, refl}
+use Rattle.std.specs.Prelude.{codes, drop}
 use Rattle.fwd_base.specs.declared.choices.Form.TheVariants.{JsonLines}
 use Rattle.fwd_base.specs.declared.choices.Retries.TheVariants.{Times}
 use Rattle.fwd_event.specs.declared.event.Event.{Event}
@@ -21,7 +21,7 @@ use Rattle.fwd_settings.specs.declared.chosen.AllSettings.{AllSettings}
 use Rattle.fwd_settings.specs.declared.chosen.InputKind.TheVariants.{Tcp}
 use Rattle.fwd_settings.specs.declared.chosen.OutputKind.TheVariants.{Stdout, Tcp as TcpOut}
 use Rattle.fwd_trace.specs.Fact.{History, Connection, Ticked, Closing, Joined, Said, Accepted, Opened, Grown, Shut, Handed, OnRoute, Retries, Delivered}
-use Rattle.fwd_trace.specs.Trace.{TraceEntry, OnLoop, Note}
+use Rattle.fwd_trace.specs.Trace.{OnLoop, Note}
 use Rattle.fwd_history.specs.Routes.{route}
 use Rattle.fwd_run.specs.Acts.{step, ticks, joins, pieces, says, accepts, stores, grows, fills, closes_due, walk, turn, begins, lands, stands, retries}
 

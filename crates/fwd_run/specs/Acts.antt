@@ -1,7 +1,6 @@
 -- The acts of the engine, as programs over its history: the calls that each makes, and the facts that it notes.
-use Rattle.std.specs.Prelude.{ℕ, zero, suc, ◌+◌, ◌-◌, ◌*◌, ◌^◌, ◌==◌, ◌&&◌, ◌||◌, not, nat_le, nat_lt, Bool, true, false, if◌then◌else◌, List, [], ◌∷◌, length, filter, slice_get, Option, Some, None, is_some}
-use Rattle.fwd_base.specs.declared.ids.LinkId.{LinkId}
-use Rattle.fwd_base.specs.declared.choices.Form.{Form}
+use Rattle.std.specs.Prelude.{ℕ, zero, suc, ◌+◌, ◌-◌, ◌*◌, ◌==◌, ◌&&◌, not, nat_le, nat_lt, Bool, true, false, if◌then◌else◌, List, [], ◌∷◌, length, filter, Option, Some, None, is_some}
+use Rattle.fwd_base.specs.Limits.{full_chunk, most_outputs, past_numbers}
 use Rattle.fwd_event.specs.declared.event.Event.{Event}
 use Rattle.fwd_program.specs.Program.{Return, Ask, bind}
 use Rattle.fwd_outside.specs.Loop.{Word}
@@ -12,20 +11,17 @@ use Rattle.fwd_retry.specs.Timer.{first, is_next}
 use Rattle.fwd_retry.specs.Wait.{wait}
 use Rattle.fwd_table.specs.Answers.{may_retry}
 use Rattle.fwd_table.specs.Rows.{idle_timers_of}
-use Rattle.fwd_table.specs.declared.row.Row.{Row}
 use Rattle.fwd_table.specs.declared.answer.Answer.{Answer}
 use Rattle.fwd_table.specs.declared.answer.Answer.TheVariants.{Good, Retry, Bad}
 use Rattle.fwd_flush.specs.declared.stage.Stage.{Stage}
-use Rattle.fwd_flush.specs.declared.stage.Stage.TheVariants.{Opening, Writing, AwaitingAck, Ended as HasEnded}
+use Rattle.fwd_flush.specs.declared.stage.Stage.TheVariants.{Ended as HasEnded}
 use Rattle.fwd_flush.specs.Flight.{Progress, Delivery, unopened, starts, polls, backs, breaks}
 use Rattle.fwd_settings.specs.declared.chosen.AllSettings.{AllSettings}
 use Rattle.fwd_settings.specs.declared.chosen.InputSet.{InputSet}
-use Rattle.fwd_settings.specs.declared.chosen.InputKind.{InputKind}
-use Rattle.fwd_settings.specs.declared.chosen.InputKind.TheVariants as input_kind
 use Rattle.fwd_trace.specs.Fact.{Fact, History, Stream, Connection, Standard, Route, Ticked, Stopped, Closing, Joined, Gone, Said, Ended, Accepted, Refused, Opened, Grown, Shut, Handed, OnRoute, Flies, Retries, Delivered, Failed, Spent}
 use Rattle.fwd_trace.specs.Trace.{Act, OnLoop, Note}
 use Rattle.fwd_trace.specs.Parts.{on_loop}
-use Rattle.fwd_history.specs.Setup.{plus, full_chunk, number_end, input_at, output_at, outputs_for, hears_peers, reads_standard, places_at, retries_at}
+use Rattle.fwd_history.specs.Setup.{plus, input_at, output_at, outputs_for, hears_peers, reads_standard, places_at, retries_at}
 use Rattle.fwd_history.specs.Clock.{clock, stopped, next_closing}
 use Rattle.fwd_history.specs.Streams.{input_of}
 use Rattle.fwd_history.specs.Batches.{tag_of, piece_batch, end_batch}
@@ -51,7 +47,7 @@ grows input chunk events h = noting (Accepted input (length events)) h (λ count
 unfoldable pub stores : ℕ → List ℕ → List Event → Option ChunkOf → History → Act History
 stores input tag events (Some c) h = grows input c.number events h
 stores input tag events None h =
-    if nat_lt (opened h + 1) number_end then noting (Opened input tag) h (grows input (opened h + 1) events)
+    if nat_lt (opened h + 1) past_numbers then noting (Opened input tag) h (grows input (opened h + 1) events)
     else note (Refused input) h
 
 abbrev pub is_empty : {T : Type 0} → List T → Bool
@@ -124,9 +120,9 @@ abbrev pub in_order : ℕ → ℕ → Option Timer → List Timer → List Route
 in_order zero now after timers = []
 in_order (suc more) now after timers = behind_first (λ timer. in_order more now (Some timer) timers) (first (filter (is_next now after) timers))
 
--- the routes that are idle and due when a walk begins; a chunk has 64 of them at most
+-- the routes that are idle and due when a walk begins; a chunk has one for each output at most
 abbrev pub due_routes : AllSettings → History → List Route
-due_routes s h = let rows = rows_of s h in in_order (64 * length rows) (clock h) None (idle_timers_of rows)
+due_routes s h = let rows = rows_of s h in in_order (most_outputs * length rows) (clock h) None (idle_timers_of rows)
 
 unfoldable pub walk : AllSettings → History → Act History
 walk s h = turns s (due_routes s h) h

@@ -1,5 +1,5 @@
 -- The written run: what calls a life makes from its start on, and how it ends.
-use Rattle.std.specs.Prelude.{ℕ, zero, suc, ◌+◌, ◌-◌, ◌*◌, ◌^◌, ◌&&◌, ◌||◌, nat_le, Bool, true, false, if◌then◌else◌, List, [], ◌∷◌, length, Option, Some, None, is_some}
+use Rattle.std.specs.Prelude.{ℕ, zero, suc, ◌+◌, ◌-◌, ◌*◌, ◌^◌, ◌&&◌, ◌||◌, nat_le, Bool, true, false, if◌then◌else◌, [], length, Option, Some, None, is_some}
 use Rattle.fwd_program.specs.Program.{Return, Ask, bind}
 use Rattle.fwd_outside.specs.Loop.{Start, Wait}
 use Rattle.fwd_outside.specs.declared.ends.Ends.{Ends}

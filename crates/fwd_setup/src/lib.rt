@@ -2,7 +2,5 @@
 #![tactic(auto)]
 
 mod setup;
-#[cfg(test)]
-mod tests;
 
 pub use setup::{Setup, events_at};

@@ -1,12 +1,14 @@
 //! Settings with the bounds that every configuration keeps.
 
 ghost use Rattle.std.specs.Prelude.{◌≡◌, ◌-◌, ◌^◌, ◌≤◌, length, map, option_copied, IfOk};
+ghost use Rattle.fwd_base.specs.Limits.{most_inputs, most_outputs};
 ghost use Rattle.fwd_route.specs.Globs.{globs};
 ghost use Rattle.fwd_table.specs.Routes.{idle_at, routes_to};
 ghost use Rattle.fwd_history.specs.Setup.{input_at, output_at, outputs_for, places_at, places_of, retries_at};
 ghost use Rattle.fwd_history.specs.Batches.{events_of};
 ghost use Rattle.fwd_run.specs.Acts.{is_empty};
 
+use fwd_base::limits::MOST_INPUTS;
 use fwd_base::{InputId, Memory, OutputId, Retries};
 use fwd_event::Events;
 use fwd_filters::FilterSteps;
@@ -16,8 +18,8 @@ use fwd_settings::{AllSettings, InputSet, OutputKind, OutputSet};
 use std::alloc::Global;
 use std::marker::Model;
 
-/// Settings with at most 64 inputs and 64 outputs, whose shortest wait before a retry is at least a second. Contracts see
-/// the settings.
+/// Settings with at most `MOST_INPUTS` inputs and `MOST_OUTPUTS` outputs, whose shortest wait before a retry is at least a
+/// second. Contracts see the settings.
 #[derive(Debug, Drop)]
 pub struct Setup {
     settings: AllSettings,
@@ -25,6 +27,7 @@ pub struct Setup {
 
 impl Model for Setup {
     ghost use Rattle.std.specs.Prelude.{◌≤◌, length};
+    ghost use Rattle.fwd_base.specs.Limits.{most_inputs, most_outputs};
     ghost use Rattle.fwd_settings.specs.declared.chosen.AllSettings.{AllSettings};
     ghost use Rattle.fwd_settings.specs.contracts.chosen.AllSettings as all;
 
@@ -34,14 +37,14 @@ impl Model for Setup {
 
     ghost view = { λ s. s.settings };
 
-    ghost invariant = { λ s. (length s.settings.inputs ≤ 64) × (length s.settings.outputs ≤ 64) × (1 ≤ s.settings.service.base) };
+    ghost invariant = { λ s. (length s.settings.inputs ≤ most_inputs) × (length s.settings.outputs ≤ most_outputs) × (1 ≤ s.settings.service.base) };
 }
 
 impl Setup {
     /// The settings as they are. They ask for the bounds that every configuration keeps.
     pub fn new(settings: AllSettings) -> Setup
-        requires inputs { length settings.inputs ≤ 64 }
-        requires outputs { length settings.outputs ≤ 64 }
+        requires inputs { length settings.inputs ≤ most_inputs }
+        requires outputs { length settings.outputs ≤ most_outputs }
         requires base { 1 ≤ settings.service.base }
         ensures { result ≡ settings }
     {
@@ -166,7 +169,7 @@ impl Setup {
         ensures { result ≡ 2 ^ length self.now.inputs - 1 }
     {
         let inputs = self.settings.inputs.len();
-        if inputs < 64 {
+        if inputs < MOST_INPUTS {
             (1 << inputs) - 1
         } else {
             u64::MAX
@@ -195,9 +198,10 @@ fn places_of(kind: &OutputKind) -> u64
 pub fn events_at(alloc: Global, input: &InputSet, now: u64, lines: &Lines) -> Result<Events, Memory>
     ensures { IfOk result (λ events. events ≡ events_of input.now now lines.now) }
 {
+    let mut reader = input.parser.reader(alloc)?;
     let mut events = Events::new(alloc);
     for line in lines.as_slice() {
-        events.push(input.parser.parse(alloc, line.bytes.as_slice(), now)?)?;
+        events.push(reader.read(alloc, line.bytes.as_slice(), now)?)?;
     }
     Ok(events)
 }

@@ -1,6 +1,6 @@
 //! Which connections there are.
 
-ghost use Rattle.std.specs.Prelude.{◌≡◌, ◌==◌, ℕ, Some, None, OnOk, if◌then◌else◌};
+ghost use Rattle.std.specs.Prelude.{◌≡◌, ◌==◌, ℕ, Some, None, OnOk, OnErr, if◌then◌else◌};
 ghost use Rattle.fwd_streams.specs.Streams.{input_in};
 
 use fwd_base::Memory;
@@ -30,9 +30,10 @@ impl Connections {
         self.inputs.get(&conn).copied()
     }
 
-    /// A connection joins an input. The others stay.
+    /// A connection joins an input. The others stay. After `Memory` all of them are unchanged.
     pub fn join(&mut self, conn: u64, input: u32) -> Result<(), Memory>
-        ensures { OnOk result ((c : ℕ) → input_in self.new c ≡ (if conn == c then Some input else input_in self.old c)) }
+        ensures ok { OnOk result ((c : ℕ) → input_in self.new c ≡ (if conn == c then Some input else input_in self.old c)) }
+        ensures err { OnErr result ((c : ℕ) → input_in self.new c ≡ input_in self.old c) }
     {
         self.inputs.insert(conn, input)?;
         Ok(())

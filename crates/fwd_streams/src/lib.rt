@@ -5,8 +5,6 @@
 
 mod connections;
 mod readers;
-#[cfg(test)]
-mod tests;
 
 pub use connections::Connections;
 pub use readers::Readers;

@@ -3,16 +3,17 @@ use Rattle.std.specs.Prelude.{◌≡◌, ◌↔◌, ℕ, ◌+◌, ◌^◌, ◌<�
 use Rattle.std.specs.List.{range_with_len}
 use Rattle.std.specs.Int.{bit_at}
 use Rattle.std.specs.Option.{option_map_or}
+use Rattle.fwd_base.specs.Limits.{most_outputs}
 use Rattle.fwd_base.specs.declared.ids.ChunkId.{ChunkId}
 use Rattle.fwd_base.specs.declared.ids.OutputId.{OutputId}
 use Rattle.fwd_retry.specs.declared.timer.Timer.{Timer}
 use Rattle.fwd_table.specs.Answers.{plus}
 use Rattle.fwd_table.specs.declared.route.Route.{Route}
 
--- the outputs rise, from a number on, and are below 64
+-- the outputs rise, from a number on, and there are no more of them than there may be
 abbrev pub RiseFrom : ℕ → List Route → Type 0
 RiseFrom n [] = Unit {0}
-RiseFrom n (r ∷ rs) = (n ≤ r.output.0) × (r.output.0 < 64) × RiseFrom (r.output.0 + 1) rs
+RiseFrom n (r ∷ rs) = (n ≤ r.output.0) × (r.output.0 < most_outputs) × RiseFrom (r.output.0 + 1) rs
 
 -- a route that is idle, due at a time and not tried yet
 abbrev pub idle_at : ℕ → OutputId → Route
@@ -24,7 +25,7 @@ routes_below n mask = filter (λ r. bit_at mask r.output.0 == 1) (map (λ i. idl
 
 -- the routes to the outputs whose bits are set in a mask
 abbrev pub routes_to : ℕ → List Route
-routes_to mask = routes_below 64 mask
+routes_to mask = routes_below most_outputs mask
 
 -- the mask of outputs that are different
 abbrev pub mask_of : List Route → ℕ

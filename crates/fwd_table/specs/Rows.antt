@@ -2,6 +2,7 @@
 use Rattle.std.specs.Prelude.{◌≡◌, ℕ, ◌<◌, ◌==◌, ◌&&◌, nat_le, min, Bool, true, false, not, List, [], length, map, filter, find, Option, is_some, IsSomeAnd, IsTrue, AllPairs, if◌then◌else◌}
 use Rattle.std.specs.List.{flat_map}
 use Rattle.std.specs.Option.{option_map_or}
+use Rattle.fwd_base.specs.Limits.{most_outputs}
 use Rattle.fwd_base.specs.declared.ids.ChunkId.{ChunkId}
 use Rattle.fwd_base.specs.declared.ids.InputId.{InputId}
 use Rattle.fwd_base.specs.declared.ids.OutputId.{OutputId}
@@ -19,7 +20,7 @@ pub record TableSeen : Type 0 where
 
 -- for how many rows there is room, where routes and rows have this much
 abbrev pub spare_of : ℕ → ℕ → ℕ
-spare_of storage room = if nat_le 64 storage then min 1 room else 0
+spare_of storage room = if nat_le most_outputs storage then min 1 room else 0
 
 -- ---- what a table holds
 
@@ -47,17 +48,9 @@ tries_of chunk output rows = tries_to output (routes_at chunk rows)
 abbrev pub owes_nothing : ChunkId → List Row → Bool
 owes_nothing chunk rows = length (routes_at chunk rows) == 0
 
--- a chunk has a row that isn't shut
-abbrev pub IsOpen : ChunkId → List Row → Type 0
-IsOpen chunk rows = IsSomeAnd (row_at chunk rows) (λ row. row.shut ≡ false)
-
 -- a chunk has a row without routes
 abbrev pub IsOwedToNobody : ChunkId → List Row → Type 0
 IsOwedToNobody chunk rows = IsSomeAnd (row_at chunk rows) (λ row. row.routes ≡ [])
-
--- a route is owed and under way
-abbrev pub IsFlying : ChunkId → OutputId → List Row → Type 0
-IsFlying chunk output rows = IsSomeAnd (find (is_to output) (routes_at chunk rows)) (λ r. IsTrue r.flying)
 
 -- a route is owed, of a shut row, and not under way
 pub record IsIdle (chunk : ChunkId) (output : OutputId) (rows : List Row) : Type 0 where

@@ -12,6 +12,3 @@ pub use answer::{Answer, Outcome, may_retry};
 pub use row::RowSeen;
 pub use table::Table;
 pub use tally::{InputTallies, InputTally, OutputTallies, OutputTally, Tally};
-
-#[cfg(test)]
-mod tests;

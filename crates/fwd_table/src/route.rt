@@ -1,16 +1,15 @@
 //! Routes: the outputs that a chunk is owed to still.
 
 ghost use Rattle.std.specs.Prelude.{◌≡◌, ◌==◌, ◌≤◌, [], fold, filter, find, length, map, option_copied, option_map, vec_capacity, if◌then◌else◌};
+ghost use Rattle.fwd_base.specs.Limits.{most_outputs};
 ghost use Rattle.fwd_retry.specs.Timer.{earlier as earlier_of, is_next};
 ghost use Rattle.fwd_table.specs.Routes.{idle_at, due_at, is_to, on_output, without_output, timer_of, idle_timers, tries_to, routes_below, routes_to, mask_of, flying_of, IsMaskOf};
 ghost use Rattle.fwd_table.specs.Changes.{changed};
 
+use fwd_base::limits::MOST_OUTPUTS;
 use fwd_base::{ChunkId, OutputId};
 use fwd_retry::{Timer, earlier};
 use std::marker::Model;
-
-/// How many outputs there may be.
-pub const MAX_OUTPUTS: u32 = 64;
 
 /// An output that a chunk is owed to still.
 #[derive(Clone, Copy, Debug, PartialEq, Eq)]
@@ -90,7 +89,7 @@ impl Route {
 
 /// Puts the routes to the outputs below a number whose bits are set.
 fn put_routes(routes: &mut Vec<Route>, owed: u64, end: u32)
-    requires within { end ≤ 64 }
+    requires within { end ≤ most_outputs }
     requires none { routes.old.items ≡ [] }
     requires room { end ≤ vec_capacity routes.old }
     ensures { routes.new.items ≡ routes_below end owed }
@@ -146,12 +145,12 @@ impl Routes {
     /// The routes to the outputs whose bits are set, not due yet. They are put into the storage, which asks for room for
     /// all outputs and takes no memory.
     pub fn to(mut storage: Vec<Route>, owed: u64) -> Self
-        requires { MAX_OUTPUTS ≤ vec_capacity storage }
+        requires { most_outputs ≤ vec_capacity storage }
         ensures value { result ≡ routes_to owed }
         ensures bits { IsMaskOf (routes_to owed) owed }
     {
         storage.clear();
-        put_routes(&mut storage, owed, MAX_OUTPUTS);
+        put_routes(&mut storage, owed, MOST_OUTPUTS as u32);
         Routes { routes: storage }
     }
 

@@ -5,12 +5,13 @@ ghost use Rattle.fwd_retry.specs.Timer.{first, is_next, IsFirst};
 ghost use Rattle.fwd_table.specs.Answers.{due_after, may_retry, is_tried_again, outcome_of, resolved};
 ghost use Rattle.fwd_table.specs.Routes.{flying_of, mask_of, IsMaskOf};
 ghost use Rattle.fwd_table.specs.Changes.{row_changed};
-ghost use Rattle.fwd_table.specs.Rows.{IsOpen, IsIdle, IsFlying, IsOwedToNobody, has_row, is_idle_in, flights_to, owed_rows, row_at, routes_at, tries_of, owes_nothing, idle_timers_of, seen_of, opened, on_chunk, without_chunk, grown, shut_at, started_to, stayed_to, answered_by, resolved_to};
+ghost use Rattle.fwd_table.specs.Rows.{IsIdle, IsOwedToNobody, has_row, is_idle_in, flights_to, owed_rows, row_at, routes_at, tries_of, owes_nothing, idle_timers_of, seen_of, opened, on_chunk, without_chunk, grown, shut_at, started_to, stayed_to, answered_by, resolved_to};
 
 use crate::answer::{due_after, may_retry, resolved, spent};
-use crate::route::{Change, MAX_OUTPUTS, Route, Routes};
+use crate::route::{Change, Route, Routes};
 use crate::row::{Row, RowChange, change_rows, find_row, flights_in, next_in};
 use crate::{Answer, Outcome, RowSeen};
+use fwd_base::limits::MOST_OUTPUTS;
 use fwd_base::{Bytes, ChunkId, InputId, Memory, OutputId, Retries};
 use fwd_outside::Home;
 use fwd_retry::Timer;
@@ -58,7 +59,7 @@ impl Table {
         ensures spare { self.old.spare ≤ self.new.spare }
     {
         self.rows.reserve(1)?;
-        self.storage.reserve(MAX_OUTPUTS as usize)?;
+        self.storage.reserve(MOST_OUTPUTS)?;
         Ok(())
     }
 
@@ -98,16 +99,6 @@ impl Table {
         find_row(&self.rows, chunk).is_some()
     }
 
-    /// Whether a chunk has a row that isn't shut.
-    pub fn is_open(&self, chunk: ChunkId) -> bool
-        ensures { IsTrue result ↔ IsOpen chunk self.now.rows }
-    {
-        match find_row(&self.rows, chunk) {
-            Some(row) => !row.shut,
-            None => false,
-        }
-    }
-
     /// Whether a route is owed, of a shut row, and not under way.
     pub fn is_idle(&self, chunk: ChunkId, output: OutputId) -> bool
         ensures value { result ≡ is_idle_in chunk output self.now.rows }
@@ -115,16 +106,6 @@ impl Table {
     {
         match find_row(&self.rows, chunk) {
             Some(row) => row.waits_for(output),
-            None => false,
-        }
-    }
-
-    /// Whether a route is owed and under way.
-    pub fn is_flying(&self, chunk: ChunkId, output: OutputId) -> bool
-        ensures { IsTrue result ↔ IsFlying chunk output self.now.rows }
-    {
-        match find_row(&self.rows, chunk) {
-            Some(row) => row.routes.is_flying(output) == Some(true),
             None => false,
         }
     }

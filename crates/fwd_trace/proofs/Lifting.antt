@@ -1,13 +1,13 @@
 -- The calls of one device, as calls of all.
-use Rattle.std.proofs.Common.{◌≡◌, List, [], ◌∷◌, ◌++◌, Option, Some, None, refl, sym, ap, subst}
-use Rattle.fwd_program.specs.Program.{Entry, entry, Program, Return, Ask, Way}
-use Rattle.fwd_program.specs.Told.{Told, Grew, Leads as LeadsOne, Makes}
+use Rattle.std.proofs.Common.{◌≡◌, List, [], ◌∷◌, Option, Some, None, refl, sym, ap, subst}
+use Rattle.fwd_program.specs.Program.{entry, Return, Ask, Way}
+use Rattle.fwd_program.specs.Told.{Grew, Leads as LeadsOne, Makes}
 use Rattle.fwd_program.proofs.Grown.{grew_none}
-use Rattle.fwd_outside.specs.Loop.{LoopTold, LoopProgram, LoopCall, LoopAnswer, LoopEntry}
-use Rattle.fwd_outside.specs.Disk.{DiskTold, DiskProgram, DiskCall, DiskAnswer, DiskEntry}
-use Rattle.fwd_outside.specs.Files.{FilesTold, FilesProgram, FilesCall, FilesAnswer, FilesEntry}
-use Rattle.fwd_trace.specs.Trace.{Act, TraceEntry, Call, Answer, OnLoop, OnDisk, OnFiles, loop_part, disk_part, files_part}
-use Rattle.fwd_trace.specs.World.{World, Asked, Leads, Does}
+use Rattle.fwd_outside.specs.Loop.{LoopTold, LoopProgram, LoopEntry}
+use Rattle.fwd_outside.specs.Disk.{DiskTold, DiskProgram, DiskEntry}
+use Rattle.fwd_outside.specs.Files.{FilesTold, FilesProgram, FilesEntry}
+use Rattle.fwd_trace.specs.Trace.{TraceEntry, OnLoop, OnDisk, OnFiles, loop_part, disk_part, files_part}
+use Rattle.fwd_trace.specs.World.{World, Leads, Does}
 use Rattle.fwd_trace.specs.Parts.{on_loop, on_disk, on_files}
 
 -- entries of one device

@@ -1,7 +1,7 @@
 -- The joined trace of a life: the calls on the loop, the disk and the files in their order, and between them the facts that
 -- the engine takes note of.
 use Rattle.std.specs.Prelude.{List, [], ◌∷◌, ◌++◌}
-use Rattle.fwd_program.specs.Program.{Entry, entry, Program, Return, Ask}
+use Rattle.fwd_program.specs.Program.{Entry, entry, Program}
 use Rattle.fwd_outside.specs.Loop.{LoopCall, LoopAnswer, LoopEntry}
 use Rattle.fwd_outside.specs.Disk.{DiskCall, DiskAnswer, DiskEntry}
 use Rattle.fwd_outside.specs.Files.{FilesCall, FilesAnswer, FilesEntry}
@@ -68,7 +68,3 @@ behind_call (Note fact) facts = fact ∷ facts
 abbrev pub behind : List TraceEntry → History → History
 behind [] facts = facts
 behind (e ∷ es) facts = behind es (behind_call e.call facts)
-
--- a fact is noted
-abbrev pub notes : {R : Type 0} → Fact → Act R → Act R
-notes fact next = Ask (Note fact) (λ _. next)

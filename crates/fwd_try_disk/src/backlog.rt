@@ -6,6 +6,7 @@ use fwd_disk_mem::MemDisk;
 use fwd_outside::Disk;
 use std::alloc::Global;
 use std::test::Fail;
+use std::thread::Threads;
 
 /// A plain file with the tag `zz` and one event.
 const OTHER: &[u8] =
@@ -48,13 +49,18 @@ fn push_backlog(alloc: Global, backlog: &Backlog, text: &mut String) -> Result<(
     push_number(alloc, backlog.next, text)
 }
 
-fn push_loaded(rt: &HostRuntime, disk: &mut MemDisk, text: &mut String) -> Result<(), Fail> {
-    let backlog = load_all(rt, rt.alloc(), disk, b"S")?;
-    push_backlog(rt.alloc(), &backlog, text)
+fn push_loaded(
+    rt: &(impl Threads + Sync),
+    alloc: Global,
+    disk: &mut MemDisk,
+    text: &mut String,
+) -> Result<(), Fail> {
+    let backlog = load_all(rt, alloc, disk, b"S")?;
+    push_backlog(alloc, &backlog, text)
 }
 
 /// Files that stand on the disk.
-const FILES: [(&[u8], &[u8]); 10] = [
+const FILES: &[(&[u8], &[u8])] = &[
     (b"S/b/2.flb", PLAIN),
     (b"S/a/2.flb", PLAIN),
     (b"S/a/1.flb", OTHER),
@@ -74,10 +80,10 @@ fn preset_all(disk: &mut MemDisk) -> Result<(), Fail> {
     Ok(())
 }
 
-fn push_in_order(rt: &HostRuntime, text: &mut String) -> Result<(), Fail> {
-    let mut disk = MemDisk::new(rt.alloc());
+fn push_in_order(rt: &(impl Threads + Sync), alloc: Global, text: &mut String) -> Result<(), Fail> {
+    let mut disk = MemDisk::new(alloc);
     preset_all(&mut disk)?;
-    push_loaded(rt, &mut disk, text)
+    push_loaded(rt, alloc, &mut disk, text)
 }
 
 const IN_ORDER: &str = "\
@@ -93,13 +99,13 @@ a 99999999999999999999.flb BadId
 #[test]
 fn files_are_found_by_name_then_by_stream(rt: HostRuntime) -> Result<(), Fail> {
     let mut text = String::new(rt.alloc());
-    push_in_order(&rt, &mut text)?;
+    push_in_order(&rt, rt.alloc(), &mut text)?;
     assert_eq!(rt; text.as_str(), IN_ORDER);
     Ok(())
 }
 
 /// Names of files, and behind them the number of the next chunk.
-const NUMBERS: [(&str, u64); 10] = [
+const NUMBERS: &[(&str, u64)] = &[
     ("", 1),
     ("S/a/x.flb S/b/x.flb", 3),
     ("S/a/00000000000000000007.flb", 8),
@@ -119,48 +125,60 @@ fn preset_names(disk: &mut MemDisk, names: &str) -> Result<(), Fail> {
     Ok(())
 }
 
-fn next_on(rt: &HostRuntime, disk: &mut MemDisk) -> Result<u64, LoadErr> {
-    let backlog = load_all(rt, rt.alloc(), disk, b"S")?;
+fn next_on(rt: &(impl Threads + Sync), alloc: Global, disk: &mut MemDisk) -> Result<u64, LoadErr> {
+    let backlog = load_all(rt, alloc, disk, b"S")?;
     Ok(backlog.next)
 }
 
-fn next_behind(rt: &HostRuntime, names: &str) -> Result<u64, Fail> {
-    let mut disk = MemDisk::new(rt.alloc());
+fn next_behind(rt: &(impl Threads + Sync), alloc: Global, names: &str) -> Result<u64, Fail> {
+    let mut disk = MemDisk::new(alloc);
     preset_names(&mut disk, names)?;
-    Ok(next_on(rt, &mut disk)?)
+    Ok(next_on(rt, alloc, &mut disk)?)
 }
 
 #[test]
 fn the_next_number_is_above_all(rt: HostRuntime) -> Result<(), Fail> {
     for (names, next) in NUMBERS {
-        assert_eq!(rt; next_behind(&rt, names)?, next, "behind {names}");
+        assert_eq!(rt;
+            next_behind(&rt, rt.alloc(), names)?,
+            *next,
+            "behind {names}"
+        );
     }
     Ok(())
 }
 
 /// What loading comes to over one file where the call of that number fails.
-fn loaded_with(rt: &HostRuntime, call: u64) -> Result<Result<u64, LoadErr>, Fail> {
-    let mut disk = MemDisk::new(rt.alloc());
+fn loaded_with(
+    rt: &(impl Threads + Sync),
+    alloc: Global,
+    call: u64,
+) -> Result<Result<u64, LoadErr>, Fail> {
+    let mut disk = MemDisk::new(alloc);
     disk.preset(b"S/a/x.flb", PLAIN)?;
     disk.fail_at(call)?;
-    Ok(next_on(rt, &mut disk))
+    Ok(next_on(rt, alloc, &mut disk))
 }
 
 /// What stands under the name is a folder.
-fn loaded_folder(rt: &HostRuntime) -> Result<Result<u64, LoadErr>, Fail> {
-    let mut disk = MemDisk::new(rt.alloc());
+fn loaded_folder(rt: &(impl Threads + Sync), alloc: Global) -> Result<Result<u64, LoadErr>, Fail> {
+    let mut disk = MemDisk::new(alloc);
     disk.preset(b"S/a/x.flb/deep", PLAIN)?;
-    Ok(next_on(rt, &mut disk))
+    Ok(next_on(rt, alloc, &mut disk))
 }
 
 #[test]
 fn a_call_that_fails_ends_loading(rt: HostRuntime) -> Result<(), Fail> {
     // The root and one folder are listed, and one file is synced and read.
     for call in 1..5 {
-        assert_eq!(rt; loaded_with(&rt, call)?, Err(LoadErr::DiskFailed), "call {call}");
+        assert_eq!(rt;
+            loaded_with(&rt, rt.alloc(), call)?,
+            Err(LoadErr::DiskFailed),
+            "call {call}"
+        );
     }
-    assert_eq!(rt; loaded_with(&rt, 5)?, Ok(2));
-    assert_eq!(rt; loaded_folder(&rt)?, Err(LoadErr::DiskFailed));
+    assert_eq!(rt; loaded_with(&rt, rt.alloc(), 5)?, Ok(2));
+    assert_eq!(rt; loaded_folder(&rt, rt.alloc())?, Err(LoadErr::DiskFailed));
     Ok(())
 }
 
@@ -171,21 +189,22 @@ fn write_unsynced(disk: &mut MemDisk) -> Result<(), Fail> {
 }
 
 fn push_image(
-    rt: &HostRuntime,
+    rt: &(impl Threads + Sync),
+    alloc: Global,
     disk: &MemDisk,
     pick: u64,
     text: &mut String,
 ) -> Result<(), Fail> {
-    let mut image = disk.image(rt.alloc(), 9, pick)?;
-    push_loaded(rt, &mut image, text)
+    let mut image = disk.image(alloc, 9, pick)?;
+    push_loaded(rt, alloc, &mut image, text)
 }
 
-fn push_left(rt: &HostRuntime, text: &mut String) -> Result<(), Fail> {
-    let mut disk = MemDisk::new(rt.alloc());
+fn push_left(rt: &(impl Threads + Sync), alloc: Global, text: &mut String) -> Result<(), Fail> {
+    let mut disk = MemDisk::new(alloc);
     write_unsynced(&mut disk)?;
-    push_loaded(rt, &mut disk, text)?;
+    push_loaded(rt, alloc, &mut disk, text)?;
     for pick in 0..4 {
-        push_image(rt, &disk, pick, text)?;
+        push_image(rt, alloc, &disk, pick, text)?;
     }
     Ok(())
 }
@@ -206,7 +225,7 @@ a x.flb zz 2 12 0
 #[test]
 fn what_is_loaded_is_what_a_crash_leaves(rt: HostRuntime) -> Result<(), Fail> {
     let mut text = String::new(rt.alloc());
-    push_left(&rt, &mut text)?;
+    push_left(&rt, rt.alloc(), &mut text)?;
     assert_eq!(rt; text.as_str(), LEFT);
     Ok(())
 }
@@ -227,9 +246,14 @@ fn preset_many(alloc: Global, disk: &mut MemDisk) -> Result<(), Fail> {
 }
 
 /// How many files of chunks are found, the name of the last, and the number of the next chunk.
-fn push_many(rt: &HostRuntime, disk: &mut MemDisk, text: &mut String) -> Result<(), Fail> {
-    let backlog = load_all(rt, rt.alloc(), disk, b"S")?;
-    push_last(rt.alloc(), &backlog, text)
+fn push_many(
+    rt: &(impl Threads + Sync),
+    alloc: Global,
+    disk: &mut MemDisk,
+    text: &mut String,
+) -> Result<(), Fail> {
+    let backlog = load_all(rt, alloc, disk, b"S")?;
+    push_last(alloc, &backlog, text)
 }
 
 fn push_last(alloc: Global, backlog: &Backlog, text: &mut String) -> Result<(), Fail> {
@@ -240,10 +264,14 @@ fn push_last(alloc: Global, backlog: &Backlog, text: &mut String) -> Result<(), 
     push_number(alloc, backlog.next, text)
 }
 
-fn push_thousands(rt: &HostRuntime, text: &mut String) -> Result<(), Fail> {
-    let mut disk = MemDisk::new(rt.alloc());
-    preset_many(rt.alloc(), &mut disk)?;
-    push_many(rt, &mut disk, text)
+fn push_thousands(
+    rt: &(impl Threads + Sync),
+    alloc: Global,
+    text: &mut String,
+) -> Result<(), Fail> {
+    let mut disk = MemDisk::new(alloc);
+    preset_many(alloc, &mut disk)?;
+    push_many(rt, alloc, &mut disk, text)
 }
 
 const THOUSANDS: &str = "\
@@ -255,7 +283,7 @@ tcp.0 00000000000000003000.flb app 3 18 6
 #[test]
 fn thousands_of_files_are_found(rt: HostRuntime) -> Result<(), Fail> {
     let mut text = String::new(rt.alloc());
-    push_thousands(&rt, &mut text)?;
+    push_thousands(&rt, rt.alloc(), &mut text)?;
     assert_eq!(rt; text.as_str(), THOUSANDS);
     Ok(())
 }

@@ -133,11 +133,17 @@ fn a_placing_that_failed_is_in_doubt(rt: HostRuntime) -> Result<(), Fail> {
 }
 
 /// Names with a folder, one behind the other; one of them isn't a text.
-const NAMES: [&[u8]; 7] = [
-    b"S/b/2", b"S/b/1/x", b"S/a", b"S/b/1/y", b"T/z", b"S", b"S/\xff/1",
+const NAMES: &[&[u8]] = &[
+    b"S/b/2",
+    b"S/b/1/x",
+    b"S/a",
+    b"S/b/1/y",
+    b"T/z",
+    b"S",
+    b"S/\xff/1",
 ];
 
-const FOLDERS: [&[u8]; 5] = [b"S", b"S/b", b"S/a", b"S/b/1", b"U"];
+const FOLDERS: &[&[u8]] = &[b"S", b"S/b", b"S/a", b"S/b/1", b"U"];
 
 fn preset_all(disk: &mut MemDisk) -> Result<(), Fail> {
     for name in NAMES {
@@ -171,7 +177,11 @@ fn push_folders(alloc: Global, text: &mut String) -> Result<(), Fail> {
         push_names(alloc, &mut disk, folder, text)?;
     }
     let found = disk.read(alloc, b"S/b", 0, 9).is_ok();
-    Ok(text.push_str(if found { "S/b is a file" } else { "S/b is none" })?)
+    Ok(text.push_str(if found {
+        "S/b is a file"
+    } else {
+        "S/b is none"
+    })?)
 }
 
 #[test]
@@ -235,7 +245,10 @@ fn large_lengths(alloc: Global, bytes: &[u8]) -> Result<[usize; 5], Fail> {
 fn files_may_be_large(rt: HostRuntime) -> Result<(), Fail> {
     let bytes = vec![in rt.alloc(); 7; LARGE]?;
     let lengths = large_lengths(rt.alloc(), &bytes)?;
-    assert_eq!(rt; lengths, [4_000_000, 3_000_000, 3_000_000, 3_000_000, 3_000_000]);
+    assert_eq!(rt;
+        lengths,
+        [4_000_000, 3_000_000, 3_000_000, 3_000_000, 3_000_000]
+    );
     Ok(())
 }
 

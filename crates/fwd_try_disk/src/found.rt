@@ -12,12 +12,7 @@ const ACKNOWLEDGED: &[u8] = b"\xc1\0\0\0\0\0\x01\0\0\0\0\0\0\0\0\0\0\x11\0\0\0\0
 
 /// The length of the metadata, the tag, the length of the content, events, torn bytes and mark, and whether this is the
 /// content.
-fn push_chunk(
-    alloc: Global,
-    chunk: &Chunk,
-    content: &[u8],
-    text: &mut String,
-) -> Result<(), Fail> {
+fn push_chunk(alloc: Global, chunk: &Chunk, content: &[u8], text: &mut String) -> Result<(), Fail> {
     let tag = str::from_utf8(chunk.tag.as_slice())?;
     let (size, same) = (chunk.content.len(), chunk.content.as_slice() == content);
     let (meta, events, torn, mark) = (chunk.meta, chunk.events, chunk.torn, chunk.mark);
@@ -55,7 +50,7 @@ fn files_stand_for_what_was_written(rt: HostRuntime) -> Result<(), Fail> {
 }
 
 /// The selector and the two slots of a file with the line `one`, and with it once more behind its committed content.
-const SELECTED: [(u8, u8, u8); 4] = [(0, 22, 44), (1, 22, 44), (254, 44, 22), (255, 44, 22)];
+const SELECTED: &[(u8, u8, u8)] = &[(0, 22, 44), (1, 22, 44), (254, 44, 22), (255, 44, 22)];
 
 fn extend_selected(file: &mut Bytes, selected: (u8, u8, u8)) -> Result<(), Memory> {
     let (selector, first, second) = selected;
@@ -83,14 +78,14 @@ const COMMITTED: &str = "\
 fn the_selector_chooses_the_committed_length(rt: HostRuntime) -> Result<(), Fail> {
     let mut text = String::new(rt.alloc());
     for selected in SELECTED {
-        push_selected(rt.alloc(), selected, &mut text)?;
+        push_selected(rt.alloc(), *selected, &mut text)?;
     }
     assert_eq!(rt; text.as_str(), COMMITTED);
     Ok(())
 }
 
 /// Files that are refused: the mark, the last byte of the first slot, what stands behind the padding, and why.
-const REFUSED: [(u8, u8, &[u8], &str); 13] = [
+const REFUSED: &[(u8, u8, &[u8], &str)] = &[
     (2, 9, b"\0", "TooShort"),
     (2, 9, b"\0\x01", "BadId"),
     (1, 9, b"\0\x04\xf1\x77\x01", "TooShort"),
@@ -128,7 +123,7 @@ fn push_refused(
 
 fn push_all_refused(alloc: Global, text: &mut String) -> Result<(), Fail> {
     for (mark, first, rest, _) in REFUSED {
-        push_refused(alloc, mark, first, rest, text)?;
+        push_refused(alloc, *mark, *first, rest, text)?;
     }
     push_read(alloc, OTHER_ID, b"", text)
 }
@@ -151,12 +146,25 @@ fn refusals_come_in_order(rt: HostRuntime) -> Result<(), Fail> {
     Ok(())
 }
 
-const LONGEST: usize = 67_108_864;
+const LONGEST: u32 = 67_108_864;
+
+fn push_zeros(file: &mut Bytes, count: u32) -> Result<(), Memory> {
+    for _ in 0..count {
+        file.push(0)?;
+    }
+    Ok(())
+}
+
+fn push_lengths(alloc: Global, file: &mut Bytes, text: &mut String) -> Result<(), Fail> {
+    push_zeros(file, LONGEST)?;
+    push_read(alloc, file.as_slice(), b"", text)?;
+    file.push(0)?;
+    push_read(alloc, file.as_slice(), b"", text)
+}
 
 fn push_long(alloc: Global, text: &mut String) -> Result<(), Fail> {
-    let file = vec![in alloc; 0; LONGEST + 1]?;
-    push_read(alloc, &file[..LONGEST], b"", text)?;
-    push_read(alloc, &file, b"", text)
+    let mut file = Bytes::new(alloc);
+    push_lengths(alloc, &mut file, text)
 }
 
 #[test]
@@ -169,8 +177,13 @@ fn a_file_may_be_so_long(rt: HostRuntime) -> Result<(), Fail> {
 
 fn push_brief(alloc: Global, kind: &str, brief: &Brief, text: &mut String) -> Result<(), Fail> {
     let tag = str::from_utf8(brief.tag.as_slice())?;
-    let (meta, size, events, torn, mark) =
-        (brief.meta, brief.size, brief.events, brief.torn, brief.mark);
+    let (meta, size, events, torn, mark) = (
+        brief.meta,
+        brief.size,
+        brief.events,
+        brief.torn,
+        brief.mark,
+    );
     let line = format!(in alloc; "{kind} {meta} {tag} {size} {events} {torn} {mark}\n")?;
     Ok(text.push_str(line.as_str())?)
 }

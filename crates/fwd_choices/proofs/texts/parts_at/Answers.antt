@@ -1,7 +1,6 @@
-use Rattle.std.proofs.Common.{◌≡◌, ◌++◌, List, ℕ, Bool, [], drop, sym, ap, ◌∙◌, arith}
-use Rattle.std.specs.List.{slice_split}
+use Rattle.std.proofs.Common.{sym, ◌∙◌, arith}
 use Rattle.fwd_choices.specs.Text.{is_one_of}
-use Rattle.fwd_choices.proofs.Splitting.{onto, split_from_start, split_at, split_on, split_done, starts_empty, goes_empty}
+use Rattle.fwd_choices.proofs.Splitting.{split_on, split_done, starts_empty, goes_empty}
 use Rattle.fwd_choices.proofs.texts.parts_at.Goals as goal
 
 pub loop-byte-init : goal.loop-byte-init

@@ -1,4 +1,4 @@
-use Rattle.std.proofs.Common.{◌≡◌, ◌<◌, List, ℕ, [], length, get_or, sym, ap, subst, ◌∙◌, arith}
+use Rattle.std.proofs.Common.{◌≡◌, ◌<◌, List, ℕ, length, get_or, sym, ap, subst, ◌∙◌, arith}
 use Rattle.fwd_choices.specs.Types.{field_type_of}
 use Rattle.fwd_choices.proofs.Typing.{good_word}
 use Rattle.fwd_choices.proofs.types.types_of_words.Goals as goal

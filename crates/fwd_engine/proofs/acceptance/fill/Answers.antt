@@ -1,8 +1,8 @@
 use Rattle.std.proofs.Common.{◌≡◌, true, false, None, sym, ◌∙◌, ap}
 use Rattle.std.specs.Prelude.{nat_le}
 use Rattle.std.proofs.lemmas.Bool.{le-leb, lt-leb}
+use Rattle.fwd_base.specs.Limits.{full_chunk}
 use Rattle.fwd_trace.specs.Fact.{Shut}
-use Rattle.fwd_history.specs.Setup.{full_chunk}
 use Rattle.fwd_history.specs.Chunks.{size}
 use Rattle.fwd_run.specs.Acts.{fills}
 use Rattle.fwd_engine.proofs.Acting.{idles, notes_one}

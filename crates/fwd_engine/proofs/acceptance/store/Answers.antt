@@ -4,7 +4,8 @@ use Rattle.std.proofs.lemmas.Bool.{lt-ltb, le-ltb}
 use Rattle.fwd_base.specs.declared.ids.ChunkId.{ChunkId}
 use Rattle.fwd_trace.specs.Fact.{Opened, Refused}
 use Rattle.fwd_trace.proofs.Acting.{stays, noted}
-use Rattle.fwd_history.specs.Setup.{number_end, outputs_for}
+use Rattle.fwd_base.specs.Limits.{past_numbers}
+use Rattle.fwd_history.specs.Setup.{outputs_for}
 use Rattle.fwd_history.specs.Chunks.{opened}
 use Rattle.fwd_run.specs.Acts.{stores, grows}
 use Rattle.fwd_book.specs.Stands.{OwedAs, is_open}
@@ -30,8 +31,8 @@ returns-in_ok-chunk-in-None c w h shows =
     let s = c.args.setup.now in
     let told = ap (option_map (λ (n : ChunkId). n.0)) (sym c.in-None.is) ∙ c.open_chunk.ensures s h None shows in
     let count = c.opened.ensures s h None shows in
-    let within : opened h < number_end - 1 = subst (λ (n : ℕ). n < number_end - 1) count c.if-opened.true in
-    let room : nat_lt (opened h + 1) number_end ≡ true = lt-ltb _ _ (omega (arith, within)) in
+    let within : opened h < past_numbers - 1 = subst (λ (n : ℕ). n < past_numbers - 1) count c.if-opened.true in
+    let room : nat_lt (opened h + 1) past_numbers ≡ true = lt-ltb _ _ (omega (arith, within)) in
     let owes : OwedAs s c.args.tag.now c.owed.result = record { routes = c.owed.ensures.routes; some = some_of (outputs_for s c.args.tag.now) c.requires } in
     let number = c.in_ok-chunk-in-None.ensures.number s h None shows in
     let now = c.in_ok-chunk-in-None.ensures.notes s h None shows owes in
@@ -47,6 +48,6 @@ returns-else-opened c w h shows =
     let s = c.args.setup.now in
     let told = ap (option_map (λ (n : ChunkId). n.0)) (sym c.in-None.is) ∙ c.open_chunk.ensures s h None shows in
     let count = c.opened.ensures s h None shows in
-    let past : number_end - 1 ≤ opened h = subst (λ (n : ℕ). number_end - 1 ≤ n) count c.if-opened.false in
-    let room : nat_lt (opened h + 1) number_end ≡ false = le-ltb _ _ (omega (arith, past)) in
+    let past : past_numbers - 1 ≤ opened h = subst (λ (n : ℕ). past_numbers - 1 ≤ n) count c.if-opened.false in
+    let room : nat_lt (opened h + 1) past_numbers ≡ false = le-ltb _ _ (omega (arith, past)) in
     rw (open_none _ told, room) (notes_one w s (Refused c.args.input.0) h _ (c.refuses.ensures s h None shows))

@@ -1,7 +1,7 @@
 use Rattle.std.proofs.Common.{◌≡◌, ◌≤◌, true, length, take}
 use Rattle.std.specs.List.{list_all}
+use Rattle.fwd_base.specs.Limits.{largest_batch}
 use Rattle.fwd_history.specs.Chunks.{is_shallow, spelled}
-use Rattle.fwd_history.specs.Setup.{largest_batch}
 use Rattle.fwd_records.proofs.records.stored_size.Given as goal
 
 abbrev pub invariant-loop-event : goal.invariant-loop-event

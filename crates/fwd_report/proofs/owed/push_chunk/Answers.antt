@@ -1,4 +1,4 @@
-use Rattle.std.proofs.Common.{refl, append_assoc}
+use Rattle.std.proofs.Common.{refl}
 use Rattle.std.specs.Prelude.{slice_get}
 use Rattle.fwd_report.proofs.RowLines.{chunk_text}
 use Rattle.fwd_report.proofs.owed.push_chunk.Goals as goal

@@ -1,4 +1,4 @@
-use Rattle.std.proofs.Common.{refl, sym, ◌∙◌, arith, ap, List, ℕ, ◌++◌}
+use Rattle.std.proofs.Common.{refl, ◌∙◌}
 use Rattle.fwd_report.proofs.RowLines.{shifted, name_put, name_left}
 use Rattle.fwd_report.proofs.owed.push_names.Goals as goal
 use Rattle.fwd_report.proofs.owed.push_names.Goals.{then-rest-eq1+in_ok-extend_from_slice+in_ok-extend_from_slice-2, else-rest-eq1}

@@ -9,7 +9,7 @@ returns c s h out before = record {
   count = before.count;
   opens = before.opens;
   contents = before.contents;
-  inputs = λ conn. c.in_ok-join.ensures conn ∙ ap (λ (o : Option ℕ). if c.args.conn.0 == conn then Some c.args.input.0 else o) (before.inputs conn);
+  inputs = λ conn. c.in_ok-join.ensures.ok conn ∙ ap (λ (o : Option ℕ). if c.args.conn.0 == conn then Some c.args.input.0 else o) (before.inputs conn);
   peers = λ conn. c.leave.ensures conn ∙ joined_peer h c.args.conn.0 conn _ (before.peers conn);
   standard = before.standard;
   flights = before.flights;
