@@ -4,17 +4,24 @@ use fwd_outside::Memory;
 use fwd_top::Status;
 use std::alloc::Global;
 use std::env::{self, Env, FillError};
-use std::io::ErrorKind;
+use std::io::{self, ErrorKind};
 
 /// The room that a variable of the environment is given at first.
 const ROOM: usize = 256;
+
+/// How the program ends where its words can't be had.
+fn status_without_words(error: &io::Error) -> Status {
+    match error.kind() {
+        ErrorKind::OutOfMemory => Status::Memory,
+        _ => Status::Usage,
+    }
+}
 
 /// The words behind the program's name. Words that aren't text are none of a command.
 pub fn words(rt: &HostRuntime) -> Result<Vec<String>, Status> {
     let args = match env::args(rt) {
         Ok(args) => args,
-        Err(error) if error.kind() == ErrorKind::OutOfMemory => return Err(Status::Memory),
-        Err(_) => return Err(Status::Usage),
+        Err(error) => return Err(status_without_words(&error)),
     };
     let mut words = Vec::new(rt.alloc());
     for word in args.skip(1) {
