@@ -2,16 +2,14 @@
 //! answers ends the program, with its line on standard error.
 #![tactic(auto)]
 
-mod folder_files;
-mod std_sink;
+ghost use Rattle.fwd_outside.specs.Files.{FilesGiven};
 
-use folder_files::FolderFiles;
+use fwd_live::{FolderFiles, StdSink};
 use fwd_top::{Status, log_forwarder, status_line};
 use std::env;
 use std::io::{self, Write};
 use std::process::ExitCode;
 use std::thread::Threads;
-use std_sink::StdSink;
 
 /// The words behind the program's name. None where they aren't text, or memory is wanting.
 fn words(rt: &HostRuntime) -> Option<Vec<String>> {
@@ -35,7 +33,10 @@ fn environment(rt: &HostRuntime) -> Vec<(String, String)> {
     all
 }
 
-fn run(rt: &HostRuntime, threads: &(impl Threads + Sync)) -> Status {
+/// Who calls this picks the files that stand there at first.
+fn run(rt: &HostRuntime, threads: &(impl Threads + Sync)) -> Status
+    ghost given: { FilesGiven }
+{
     let Some(words) = words(rt) else {
         return Status::Usage;
     };

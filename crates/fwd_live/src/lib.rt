@@ -1,0 +1,16 @@
+//! The devices of the machine that the program runs on: the files that it reads, standard output, a disk of folders and
+//! the loop that brings what happens. Each tells its calls with their answers, in proofs alone: nothing of it is kept
+//! when the program runs.
+#![tactic(auto)]
+
+mod calls;
+mod files_calls;
+mod folder_files;
+mod sink_calls;
+mod std_sink;
+
+pub use calls::Calls;
+pub use files_calls::{FilesCalled, FilesCalls, FilesStood};
+pub use folder_files::FolderFiles;
+pub use sink_calls::{SinkCalled, SinkCalls};
+pub use std_sink::StdSink;
