@@ -4,13 +4,19 @@
 #![tactic(auto)]
 
 mod calls;
+mod disk_calls;
+mod file_name;
 mod files_calls;
+mod folder_disk;
 mod folder_files;
+mod folders;
 mod sink_calls;
 mod std_sink;
 
 pub use calls::Calls;
+pub use disk_calls::{DiskCalled, DiskCalls, DiskStood};
 pub use files_calls::{FilesCalled, FilesCalls, FilesStood};
+pub use folder_disk::FolderDisk;
 pub use folder_files::FolderFiles;
 pub use sink_calls::{SinkCalled, SinkCalls};
 pub use std_sink::StdSink;
