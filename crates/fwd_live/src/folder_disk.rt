@@ -53,38 +53,38 @@ impl Disk for FolderDisk {
     ghost told = { λ disk. Some (disk.calls.given, disk.calls.entries) };
 
     fn place(&mut self, name: &[u8], bytes: &[u8]) -> Result<(), DiskErr> {
-        let answer = self.folders.place(name, bytes)?;
-        self.calls = self.calls.then(&(name, bytes, answer));
-        self.settle(answer)
+        let placed = self.folders.place(name, bytes)?;
+        self.calls = self.calls.then(&(name, bytes, placed));
+        self.settle(placed)
     }
 
     fn write_at(&mut self, name: &[u8], at: u64, bytes: &[u8]) -> Result<(), DiskErr> {
-        let answer = self.folders.write_at(name, at, bytes)?;
-        self.calls = self.calls.then(&(name, at, bytes, answer));
-        self.settle(answer)
+        let written = self.folders.write_at(name, at, bytes)?;
+        self.calls = self.calls.then(&(name, at, bytes, written));
+        self.settle(written)
     }
 
     fn sync(&mut self, name: &[u8]) -> Result<(), DiskErr> {
-        let answer = self.folders.sync(name)?;
-        self.calls = self.calls.then(&(name, answer));
-        self.settle(answer)
+        let synced = self.folders.sync(name)?;
+        self.calls = self.calls.then(&(name, synced));
+        self.settle(synced)
     }
 
     fn remove(&mut self, name: &[u8]) -> Result<(), DiskErr> {
-        let answer = self.folders.remove(name);
-        self.calls = self.calls.then(&(name, answer));
-        self.settle(answer)
+        let removed = self.folders.remove(name);
+        self.calls = self.calls.then(&(name, removed));
+        self.settle(removed)
     }
 
     fn read(&mut self, alloc: Global, name: &[u8], at: u64, len: u64) -> Result<Bytes, DiskErr> {
-        let answer = self.folders.read(alloc, name, at, len)?;
-        self.calls = self.calls.then(&(name, at, len, &answer));
-        self.settle(answer)
+        let read = self.folders.read(alloc, name, at, len)?;
+        self.calls = self.calls.then(&(name, at, len, &read));
+        self.settle(read)
     }
 
     fn list(&mut self, alloc: Global, folder: &[u8]) -> Result<Names, DiskErr> {
-        let answer = self.folders.list(alloc, folder)?;
-        self.calls = self.calls.then(&(folder, &answer));
-        self.settle(answer)
+        let listed = self.folders.list(alloc, folder)?;
+        self.calls = self.calls.then(&(folder, &listed));
+        self.settle(listed)
     }
 }

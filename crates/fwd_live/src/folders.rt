@@ -1,8 +1,9 @@
 //! Files in folders of the machine, as a disk places, writes, syncs, removes, reads and lists them.
 
-ghost use Rattle.std.specs.Prelude.{◌≡◌, ◌≤◌, All, Ok, IfOk, IfSome, length};
+ghost use Rattle.std.specs.Prelude.{◌≤◌, All, IfOk, IfSome, length};
 ghost use Rattle.fwd_outside.specs.Disk.{IsFileName, IsListing};
 
+use crate::answers::given;
 use crate::file_name::{FileName, UNPLACED, listing, placed_name};
 use fwd_outside::{Bytes, Memory, Names};
 use std::alloc::{AllocError, Global};
@@ -34,17 +35,6 @@ pub struct Folders {
 
 fn without_memory(_: Memory) -> io::Error {
     io::Error::from(AllocError)
-}
-
-/// What a call gave, none where the machine refuses it.
-fn given<T>(outcome: io::Result<T>) -> Result<Option<T>, Memory>
-    ensures { IfOk result (λ answer. IfSome answer (λ value. outcome ≡ Ok value)) }
-{
-    match outcome {
-        Ok(value) => Ok(Some(value)),
-        Err(error) if error.kind() == ErrorKind::OutOfMemory => Err(Memory),
-        Err(_) => Ok(None),
-    }
 }
 
 fn has_name(names: &[Bytes], name: &[u8]) -> bool {

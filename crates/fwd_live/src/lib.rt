@@ -3,6 +3,7 @@
 //! when the program runs.
 #![tactic(auto)]
 
+mod answers;
 mod calls;
 mod disk_calls;
 mod file_name;
@@ -10,6 +11,8 @@ mod files_calls;
 mod folder_disk;
 mod folder_files;
 mod folders;
+mod live_loop;
+mod loop_calls;
 mod sink_calls;
 mod std_sink;
 
@@ -18,5 +21,7 @@ pub use disk_calls::{DiskCalled, DiskCalls, DiskStood};
 pub use files_calls::{FilesCalled, FilesCalls, FilesStood};
 pub use folder_disk::FolderDisk;
 pub use folder_files::FolderFiles;
+pub use live_loop::LiveLoop;
+pub use loop_calls::{LoopBrought, LoopCalled, LoopCalls};
 pub use sink_calls::{SinkCalled, SinkCalls};
 pub use std_sink::StdSink;
