@@ -2,19 +2,21 @@
 //! answers ends the program, with its line on standard error.
 #![tactic(auto)]
 
-mod folder_files;
 mod started;
-mod std_sink;
 
-use folder_files::FolderFiles;
+ghost use Rattle.fwd_outside.specs.Files.{FilesGiven};
+
+use fwd_live::{FolderFiles, StdSink};
 use fwd_top::{Status, log_forwarder, status_line};
 use started::{environment, words};
 use std::io::{self, Write};
 use std::process::ExitCode;
 use std::thread::Threads;
-use std_sink::StdSink;
 
-fn run(rt: &HostRuntime, threads: &(impl Threads + Sync)) -> Status {
+/// Who calls this picks the files that stand there at first.
+fn run(rt: &HostRuntime, threads: &(impl Threads + Sync)) -> Status
+    ghost given: { FilesGiven }
+{
     let words = match words(rt) {
         Ok(words) => words,
         Err(status) => return status,

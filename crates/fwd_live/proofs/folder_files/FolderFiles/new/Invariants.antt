@@ -1,0 +1,4 @@
+use Rattle.fwd_live.proofs.folder_files.FolderFiles.new.Given as goal
+
+abbrev pub ghost-new : goal.ghost-new
+ghost-new g a = g.given

@@ -1,0 +1,6 @@
+use Rattle.fwd_program.specs.Program.{entry}
+use Rattle.fwd_outside.specs.Loop.{Dial}
+use Rattle.fwd_live.proofs.live_loop.LiveLoopLoop.dial.Given as goal
+
+abbrev pub ghost-then : goal.ghost-then
+ghost-then a = entry (Dial (a._note.now.0).0 a._note.now.1.now) a._note.now.2

@@ -1,0 +1,104 @@
+//! Names of files within a folder.
+
+ghost use Rattle.std.specs.Prelude.{◌≡◌, All, Some, IfOk, IfSome};
+ghost use Rattle.std.specs.Cmp.{partial_equiv_from_equiv};
+ghost use Rattle.std.specs.Cmp.Lexicographic.{slice_cmp, nat_list_eq_equiv, nat_list_cmp_total, texts_ties, texts_po};
+ghost use Rattle.std.specs.Ordering.{nat_cmp};
+ghost use Rattle.std.specs.Str.{bytes_eq};
+ghost use Rattle.std.proofs.Common.{refl};
+ghost use Rattle.fwd_outside.specs.Disk.{IsFileName, IsListing};
+
+use fwd_outside::{Bytes, Memory, Names};
+use std::alloc::Global;
+use std::cmp::Ordering;
+use std::marker::Model;
+
+/// What the name of a file ends with while it is being placed. It is no file yet.
+pub const UNPLACED: &str = ".tmp";
+
+/// A name within a folder, by the order of its bytes.
+#[derive(Drop)]
+pub struct FileName {
+    name: Bytes,
+}
+
+impl Model for FileName {
+    ghost use Rattle.std.specs.Prelude.{List, ℕ};
+
+    ghost Value = { List ℕ };
+
+    ghost view = { λ f. f.name };
+}
+
+impl PartialEq for FileName {
+    ghost eq = { bytes_eq };
+
+    ghost laws = { partial_equiv_from_equiv nat_list_eq_equiv };
+
+    fn eq(&self, other: &Self) -> bool {
+        self.name.as_slice() == other.name.as_slice()
+    }
+}
+
+impl Eq for FileName {
+    ghost laws = { nat_list_eq_equiv };
+}
+
+impl PartialOrd for FileName {
+    ghost partial_cmp = { λ x y. Some (slice_cmp nat_cmp x y) };
+
+    ghost laws = { texts_po };
+
+    fn partial_cmp(&self, other: &Self) -> Option<Ordering> {
+        Some(self.cmp(other))
+    }
+}
+
+impl Ord for FileName {
+    ghost cmp = { slice_cmp nat_cmp };
+
+    ghost total = { nat_list_cmp_total };
+
+    ghost matches_partial_cmp = { λ x y. refl };
+
+    ghost matches_eq = { λ x y. texts_ties x y };
+
+    fn cmp(&self, other: &Self) -> Ordering {
+        self.name.as_slice().cmp(other.name.as_slice())
+    }
+}
+
+/// The name of a file that is placed. None where it has a `/`, or isn't placed yet.
+pub fn placed_name(alloc: Global, name: &str) -> Result<Option<FileName>, Memory>
+    ensures { IfOk result (λ found. IfSome found IsFileName) }
+{
+    if name.ends_with(UNPLACED) {
+        return Ok(None);
+    }
+    if name.as_bytes().contains(&b'/') {
+        return Ok(None);
+    }
+    let name = Bytes::from_slice(alloc, name.as_bytes())?;
+    Ok(Some(FileName { name }))
+}
+
+fn copied_names(alloc: Global, files: &[FileName]) -> Result<Names, Memory>
+    ensures { IfOk result (λ names. names ≡ files.now) }
+{
+    let mut names = Names::new(alloc);
+    for file in files {
+        names.push(file.name.try_clone(alloc)?)?;
+    }
+    Ok(names)
+}
+
+/// Names, sorted, each once.
+pub fn listing(alloc: Global, names: Vec<FileName>) -> Result<Names, Memory>
+    requires { All IsFileName names.items }
+    ensures { IfOk result IsListing }
+{
+    let mut names = names;
+    names.sort()?;
+    names.dedup();
+    copied_names(alloc, &names)
+}

@@ -1,0 +1,90 @@
+//! A disk on folders of the machine.
+
+ghost use Rattle.std.specs.Prelude.{Some, [], ◌≡◌, IsErrOf};
+ghost use Rattle.fwd_program.specs.Cause.{HasCause};
+ghost use Rattle.fwd_outside.specs.Disk.{DiskGiven, disk_outcome};
+ghost use Rattle.fwd_outside.specs.declared.errors.DiskErr.TheVariants.{Failed};
+
+use crate::disk_calls::DiskCalls;
+use crate::folders::Folders;
+use fwd_outside::{Bytes, Disk, DiskErr, Names};
+use std::alloc::Global;
+
+/// Files of the machine, by their paths, that last over a crash.
+#[derive(Drop)]
+pub struct FolderDisk {
+    folders: Folders,
+    faults: u64,
+    calls: DiskCalls,
+}
+
+impl FolderDisk {
+    /// No call was made. Who calls this picks the files that stand there at first.
+    pub fn new(rt: HostRuntime) -> Self
+        ghost given: { DiskGiven }
+        ensures { (result.calls.given ≡ given) × (result.calls.entries ≡ []) }
+    {
+        FolderDisk {
+            folders: Folders::new(rt),
+            faults: 0,
+            calls: DiskCalls::new(),
+        }
+    }
+
+    /// What a call gave, or a failure, which is counted.
+    fn settle<T>(&mut self, answer: Option<T>) -> Result<T, DiskErr>
+        ensures outcome { disk_outcome result ≡ Some answer }
+        ensures cause { HasCause self.old.faults self.new.faults (IsErrOf result Failed) }
+        ensures calls { self.new.calls ≡ self.old.calls }
+    {
+        match answer {
+            Some(value) => Ok(value),
+            None => {
+                self.faults = self.faults.saturating_add(1);
+                Err(DiskErr::Failed)
+            }
+        }
+    }
+}
+
+impl Disk for FolderDisk {
+    ghost faults = { λ disk. disk.faults };
+
+    ghost told = { λ disk. Some (disk.calls.given, disk.calls.entries) };
+
+    fn place(&mut self, name: &[u8], bytes: &[u8]) -> Result<(), DiskErr> {
+        let placed = self.folders.place(name, bytes)?;
+        self.calls = self.calls.then(&(name, bytes, placed));
+        self.settle(placed)
+    }
+
+    fn write_at(&mut self, name: &[u8], at: u64, bytes: &[u8]) -> Result<(), DiskErr> {
+        let written = self.folders.write_at(name, at, bytes)?;
+        self.calls = self.calls.then(&(name, at, bytes, written));
+        self.settle(written)
+    }
+
+    fn sync(&mut self, name: &[u8]) -> Result<(), DiskErr> {
+        let synced = self.folders.sync(name)?;
+        self.calls = self.calls.then(&(name, synced));
+        self.settle(synced)
+    }
+
+    fn remove(&mut self, name: &[u8]) -> Result<(), DiskErr> {
+        let removed = self.folders.remove(name);
+        self.calls = self.calls.then(&(name, removed));
+        self.settle(removed)
+    }
+
+    fn read(&mut self, alloc: Global, name: &[u8], at: u64, len: u64) -> Result<Bytes, DiskErr> {
+        let read = self.folders.read(alloc, name, at, len)?;
+        self.calls = self.calls.then(&(name, at, len, &read));
+        self.settle(read)
+    }
+
+    fn list(&mut self, alloc: Global, folder: &[u8]) -> Result<Names, DiskErr> {
+        let listed = self.folders.list(alloc, folder)?;
+        self.calls = self.calls.then(&(folder, &listed));
+        self.settle(listed)
+    }
+}

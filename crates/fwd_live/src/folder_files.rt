@@ -1,0 +1,92 @@
+//! The files that the program reads.
+
+ghost use Rattle.std.specs.Prelude.{Some, [], ◌≡◌, ◌≤◌, length, IfOk, IsErrOf};
+ghost use Rattle.fwd_program.specs.Cause.{HasCause};
+ghost use Rattle.fwd_outside.specs.Files.{FilesGiven, outcome};
+ghost use Rattle.fwd_outside.specs.declared.errors.FileErr.TheVariants.{Failed};
+
+use crate::files_calls::FilesCalls;
+use fwd_base::limits::LONGEST_PIECE;
+use fwd_outside::{Bytes, FileErr, Files};
+use std::alloc::Global;
+use std::fs::{self, File, OpenFile};
+use std::io::{self, Read, Seek, SeekFrom};
+
+/// Files of the machine, by their paths. They are taken to stand still while they are read.
+#[derive(Drop)]
+pub struct FolderFiles {
+    rt: HostRuntime,
+    faults: u64,
+    calls: FilesCalls,
+}
+
+impl FolderFiles {
+    /// No call was made. Who calls this picks the files that stand there at first.
+    pub fn new(rt: HostRuntime) -> Self
+        ghost given: { FilesGiven }
+        ensures { (result.calls.given ≡ given) × (result.calls.entries ≡ []) }
+    {
+        FolderFiles {
+            rt,
+            faults: 0,
+            calls: FilesCalls::new(),
+        }
+    }
+
+    /// What a call gave, or a failure, which is counted.
+    fn settle<T>(&mut self, answer: Option<T>) -> Result<T, FileErr>
+        ensures outcome { outcome result ≡ Some answer }
+        ensures cause { HasCause self.old.faults self.new.faults (IsErrOf result Failed) }
+        ensures calls { self.new.calls ≡ self.old.calls }
+    {
+        match answer {
+            Some(value) => Ok(value),
+            None => {
+                self.faults = self.faults.saturating_add(1);
+                Err(FileErr::Failed)
+            }
+        }
+    }
+}
+
+fn open(rt: &HostRuntime, path: &[u8]) -> io::Result<File> {
+    match str::from_utf8(path) {
+        Ok(path) => fs::open(rt, path),
+        Err(_) => Err(io::Error::from(io::ErrorKind::InvalidInput)),
+    }
+}
+
+fn length_of(rt: &HostRuntime, path: &[u8]) -> io::Result<u64> {
+    Ok(open(rt, path)?.metadata()?.len())
+}
+
+/// Reads from an offset on, once, at most as many bytes as the buffer has.
+fn read_part(rt: &HostRuntime, path: &[u8], at: u64, mut part: Vec<u8>) -> io::Result<Bytes>
+    ensures { IfOk result (λ bytes. length bytes ≤ length part.items) }
+{
+    let mut file = open(rt, path)?;
+    file.seek(SeekFrom::Start(at))?;
+    let count = file.read(&mut part)?;
+    part.truncate(count);
+    Ok(Bytes::from_vec(part))
+}
+
+impl Files for FolderFiles {
+    ghost faults = { λ files. files.faults };
+
+    ghost told = { λ files. Some (files.calls.given, files.calls.entries) };
+
+    fn length(&mut self, path: &[u8]) -> Result<u64, FileErr> {
+        let answer = length_of(&self.rt, path).ok();
+        self.calls = self.calls.then(&(path, answer));
+        self.settle(answer)
+    }
+
+    fn read_at(&mut self, alloc: Global, path: &[u8], at: u64, max: u64) -> Result<Bytes, FileErr> {
+        let mut part = Vec::new(alloc);
+        part.resize(LONGEST_PIECE.min(max as usize), 0)?;
+        let answer = read_part(&self.rt, path, at, part).ok();
+        self.calls = self.calls.then(&(path, at, max, &answer));
+        self.settle(answer)
+    }
+}

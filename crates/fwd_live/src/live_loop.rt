@@ -1,0 +1,174 @@
+//! A loop over the machine.
+
+ghost use Rattle.std.specs.Prelude.{◌≡◌, ◌+◌, ◌≤◌, [], Some, true, IfOk, IfSome};
+ghost use Rattle.fwd_outside.specs.Loop.{LoopGiven};
+
+use crate::answers::given;
+use crate::loop_calls::LoopCalls;
+use fwd_machine::{Handed, Machine};
+use fwd_outside::{
+    Begun, ConnId, Dialed, Ends, Happening, InputId, LinkId, Loop, Memory, OutputId, Pushed,
+    Replied,
+};
+use std::alloc::Global;
+use std::io;
+
+/// A loop over sockets of peers, standard input and output, and files that are appended to. It has no end.
+#[derive(Drop)]
+pub struct LiveLoop {
+    machine: Machine,
+    faults: u64,
+    happenings: u64,
+    greatest: u64,
+    calls: LoopCalls,
+}
+
+impl LiveLoop {
+    /// No call was made. Who calls this picks what it is taken to bring.
+    pub fn new(rt: HostRuntime) -> io::Result<LiveLoop>
+        ghost brought: { LoopGiven }
+        ensures { IfOk result (λ l. (l.calls.given ≡ brought) × (l.calls.entries ≡ [])) }
+    {
+        let machine = Machine::new(rt)?;
+        Ok(LiveLoop {
+            machine,
+            faults: 0,
+            happenings: 0,
+            greatest: 0,
+            calls: LoopCalls::new(),
+        })
+    }
+
+    /// The port that an input listens at, once the loop is started.
+    pub fn port(&self, input: InputId) -> Option<u16> {
+        self.machine.port(input)
+    }
+
+    /// The number of a link that is new, none where the machine refuses it.
+    fn connect(&mut self, output: OutputId, tag: &[u8]) -> Result<Option<u64>, Memory>
+        ensures newer { IfOk result (λ answer. IfSome answer (λ number. self.old.greatest + 1 ≤ number)) }
+        ensures faults { self.new.faults ≡ self.old.faults }
+        ensures happenings { self.new.happenings ≡ self.old.happenings }
+        ensures greatest { self.new.greatest ≡ self.old.greatest }
+        ensures calls { self.new.calls ≡ self.old.calls }
+    {
+        let Some(number) = self.greatest.checked_add(1) else {
+            return Ok(None);
+        };
+        match given(self.machine.dial(LinkId(number), output, tag))? {
+            Some(()) => Ok(Some(number)),
+            None => Ok(None),
+        }
+    }
+}
+
+impl Loop for LiveLoop {
+    ghost faults = { λ l. l.faults };
+
+    ghost counts = { λ l. record { happenings = l.happenings; greatest = l.greatest; endless = true } };
+
+    ghost told = { λ l. Some (l.calls.given, l.calls.entries) };
+
+    fn start(&mut self, ends: &Ends) -> Begun {
+        let Ok(answer) = given(self.machine.start(ends)) else {
+            return Begun::Memory;
+        };
+        self.calls = self.calls.then(&(ends, answer));
+        match answer {
+            Some(()) => Begun::Ready,
+            None => {
+                self.faults = self.faults.saturating_add(1);
+                Begun::Failed
+            }
+        }
+    }
+
+    fn wait(&mut self, alloc: Global, until: u64, paused: u64) -> Result<Happening, Memory> {
+        let happening = self.machine.wait(alloc, until, paused)?;
+        self.calls = self.calls.then(&(until, paused, &happening));
+        let misses = self.machine.take_misses();
+        self.faults = self.faults.saturating_add(misses);
+        self.happenings = self.happenings.saturating_add(1);
+        match happening {
+            Happening::Failed => {
+                self.faults = self.faults.saturating_add(1);
+                Ok(Happening::Failed)
+            }
+            brought => Ok(brought),
+        }
+    }
+
+    fn dial(&mut self, output: OutputId, tag: &[u8]) -> Dialed {
+        let Ok(answer) = self.connect(output, tag) else {
+            return Dialed::Memory;
+        };
+        self.calls = self.calls.then(&(output, tag, answer));
+        match answer {
+            Some(number) => {
+                self.greatest = number;
+                Dialed::Link(LinkId(number))
+            }
+            None => {
+                self.faults = self.faults.saturating_add(1);
+                Dialed::Refused
+            }
+        }
+    }
+
+    fn push(&mut self, link: LinkId, bytes: &[u8]) -> Pushed {
+        let handed = self.machine.push(link, bytes);
+        self.calls = self.calls.then(&(link, bytes, handed));
+        match handed {
+            Handed::Took(taken) => {
+                if taken == 0 && !bytes.is_empty() {
+                    self.faults = self.faults.saturating_add(1);
+                }
+                Pushed::Took(taken)
+            }
+            Handed::Full => Pushed::Again,
+            Handed::Broken => {
+                self.faults = self.faults.saturating_add(1);
+                Pushed::Broken
+            }
+        }
+    }
+
+    fn close(&mut self, link: LinkId) -> Result<(), Memory> {
+        self.machine.close(link);
+        self.calls = self.calls.then(&link);
+        Ok(())
+    }
+
+    fn reply(&mut self, conn: ConnId, bytes: &[u8]) -> Replied {
+        let Ok(answer) = given(self.machine.reply(conn, bytes)) else {
+            return Replied::Memory;
+        };
+        self.calls = self.calls.then(&(conn, bytes, answer));
+        match answer {
+            Some(()) => Replied::Taken,
+            None => {
+                self.faults = self.faults.saturating_add(1);
+                Replied::Broken
+            }
+        }
+    }
+
+    fn drop_conn(&mut self, conn: ConnId) -> Result<(), Memory> {
+        self.machine.drop_conn(conn);
+        self.calls = self.calls.then(&conn);
+        Ok(())
+    }
+
+    /// 0 where the machine gives no random bytes.
+    fn word(&mut self) -> Result<u64, Memory> {
+        let word = match self.machine.word() {
+            Ok(word) => word,
+            Err(_) => {
+                self.faults = self.faults.saturating_add(1);
+                0
+            }
+        };
+        self.calls = self.calls.then(&word);
+        Ok(word)
+    }
+}

@@ -1,0 +1,51 @@
+//! Where inputs take their bytes from.
+
+use crate::names::{addresses_of, text};
+use mio::net::TcpListener;
+use std::io::{self, ErrorKind, Write};
+
+/// Where an input takes its bytes from.
+#[derive(Drop)]
+pub enum Feed {
+    Listening(TcpListener),
+    /// Standard input. A file that is no pipe, socket or terminal can't be watched: it always has something.
+    Stdin { watched: bool },
+    Quiet,
+}
+
+/// An input.
+#[derive(Drop)]
+pub struct Input {
+    pub feed: Feed,
+    /// Whether it stands in a queue of what may be read.
+    pub queued: bool,
+}
+
+/// Listens at the first address of the host that can be had.
+fn listen_at(rt: &HostRuntime, host: &[u8], port: u16) -> io::Result<TcpListener> {
+    let mut refusal = io::Error::from(ErrorKind::AddrNotAvailable);
+    for address in addresses_of(rt, host, port)? {
+        match TcpListener::bind(rt, address) {
+            Ok(listener) => return Ok(listener),
+            Err(error) => refusal = error,
+        }
+    }
+    Err(refusal)
+}
+
+/// Says on standard error why there is no listener.
+fn complain(rt: &HostRuntime, host: &[u8], port: u16, reason: &io::Error) -> io::Result<()> {
+    let host = text(host).unwrap_or("?");
+    eprintln!(rt; "fwd: can't listen at {host} port {port}: {reason}")
+}
+
+/// Listens at a host's port. Where that fails, a line on standard error says why.
+pub fn listen(rt: &HostRuntime, host: &[u8], port: u16) -> io::Result<TcpListener> {
+    match listen_at(rt, host, port) {
+        Ok(listener) => Ok(listener),
+        Err(reason) => {
+            let _ = complain(rt, host, port, &reason);
+            Err(reason)
+        }
+    }
+}

@@ -1,0 +1,119 @@
+//! A link to the end of an output.
+
+ghost use Rattle.fwd_machine.specs.Handed.{TakesAtMost};
+
+use crate::conn::write_some;
+use fwd_outside::OutputId;
+use mio::net::TcpStream;
+use std::fs::File;
+use std::io::{self, ErrorKind, Write};
+
+/// What a link said to bytes that it was handed.
+#[derive(Clone, Copy, Debug, PartialEq, Eq)]
+pub enum Handed {
+    /// It took so many of the first.
+    Took(u64),
+    /// It has no room now, and tells when there is.
+    Full,
+    Broken,
+}
+
+/// How far a connection to a peer has come.
+#[derive(Clone, Copy, Debug, PartialEq, Eq)]
+pub enum Standing {
+    Connecting,
+    Open,
+    /// Nothing more is told of it.
+    Over,
+}
+
+/// A connection to the peer of an output.
+#[derive(Drop)]
+pub struct Peer {
+    pub output: OutputId,
+    pub stream: TcpStream,
+    pub standing: Standing,
+    /// Whether a push found no room, so that room is to be told.
+    pub wants_room: bool,
+    pub readable: bool,
+    pub writable: bool,
+    /// Whether it stands in the queue of what may be read.
+    pub queued: bool,
+}
+
+/// The end of a link.
+#[derive(Drop)]
+pub enum Link {
+    Stdout,
+    Appended(File),
+    Connected(Peer),
+}
+
+/// What one write took.
+fn taken_of(written: io::Result<usize>, bytes: &[u8]) -> Handed
+    ensures { TakesAtMost bytes.now result }
+{
+    match written {
+        Ok(taken) => Handed::Took(taken.min(bytes.len()) as u64),
+        Err(error) if error.kind() == ErrorKind::WouldBlock => Handed::Took(0),
+        Err(error) if error.kind() == ErrorKind::Interrupted => Handed::Took(0),
+        Err(_) => Handed::Broken,
+    }
+}
+
+impl Peer {
+    pub fn new(output: OutputId, stream: TcpStream) -> Peer {
+        Peer {
+            output,
+            stream,
+            standing: Standing::Connecting,
+            wants_room: false,
+            readable: false,
+            writable: false,
+            queued: false,
+        }
+    }
+
+    /// Whether the connection that was begun stands.
+    pub fn stands(&self) -> bool {
+        match self.stream.take_error() {
+            Ok(None) => self.stream.peer_addr().is_ok(),
+            Ok(Some(_)) => false,
+            Err(_) => false,
+        }
+    }
+
+    fn push(&mut self, bytes: &[u8]) -> Handed
+        ensures { TakesAtMost bytes.now result }
+    {
+        match self.standing {
+            Standing::Connecting => {
+                self.wants_room = true;
+                Handed::Full
+            }
+            Standing::Over => Handed::Broken,
+            Standing::Open => match write_some(&self.stream, bytes) {
+                Ok(0) if !bytes.is_empty() => {
+                    self.wants_room = true;
+                    self.writable = false;
+                    Handed::Full
+                }
+                Ok(taken) => Handed::Took(taken.min(bytes.len()) as u64),
+                Err(_) => Handed::Broken,
+            },
+        }
+    }
+}
+
+impl Link {
+    /// Hands bytes over, as many as are taken.
+    pub fn push(&mut self, rt: &HostRuntime, bytes: &[u8]) -> Handed
+        ensures { TakesAtMost bytes.now result }
+    {
+        match self {
+            Link::Stdout => taken_of(rt.stdout().write(bytes), bytes),
+            Link::Appended(file) => taken_of(file.write(bytes), bytes),
+            Link::Connected(peer) => peer.push(bytes),
+        }
+    }
+}
