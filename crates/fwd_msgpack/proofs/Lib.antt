@@ -9,3 +9,7 @@ pub mod Shortest
 pub mod Prefix
 pub mod Ranges
 pub mod Least
+pub mod Apart
+pub mod Scanning
+pub mod Depth
+pub mod Answered

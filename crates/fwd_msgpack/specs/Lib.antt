@@ -4,3 +4,6 @@ pub mod Canonical
 pub mod Decoding
 pub mod Reading
 pub mod Writing
+pub mod Opens
+pub mod Part
+pub mod Scan

@@ -10,7 +10,10 @@ mod fault;
 mod form;
 mod laws;
 mod lengths;
+mod opens;
+mod part;
 mod reading;
+mod scan;
 
 pub use decoding::decode;
 pub use encoding::{encode, encode_map};
@@ -20,3 +23,4 @@ pub use laws::{
     canonical_is_a_spelling, canonical_is_read_back, canonical_is_shortest, one_reading,
 };
 pub use lengths::{can_encode, can_encode_map};
+pub use scan::{Scan, Scanned};
