@@ -531,6 +531,12 @@ fn read_length(alloc: Global, parser: &Parser, line: &[u8]) -> Result<usize, Mem
     Ok(last_length(&event))
 }
 
+/// How long it is where the line is of this kind.
+fn read_as(alloc: Global, is: Is, line: &[u8]) -> Result<usize, PatternErr> {
+    let parser = untimed(shape(alloc, is, true)?);
+    Ok(read_length(alloc, &parser, line)?)
+}
+
 /// What a long line is, what stands before and behind its letters, how many these are, and how long the last text is.
 const LONG: [(Is, &str, &str, usize, usize); 8] = [
     (Is::Plain, "", "", 32_768, 32_768),
@@ -565,8 +571,7 @@ const LONG: [(Is, &str, &str, usize, usize); 8] = [
 fn wrong_length(alloc: Global) -> Result<Option<usize>, PatternErr> {
     for (place, (is, before, behind, length, wanted)) in LONG.iter().enumerate() {
         let line = long_line(alloc, before, *length, behind)?;
-        let parser = untimed(shape(alloc, *is, true)?);
-        if read_length(alloc, &parser, line.as_slice())? != *wanted {
+        if read_as(alloc, *is, line.as_slice())? != *wanted {
             return Ok(Some(place));
         }
     }

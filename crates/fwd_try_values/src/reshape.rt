@@ -366,23 +366,29 @@ fn a_body_is_nested_at_most_63(rt: HostRuntime) {
     );
 }
 
-/// The pairs of a large body, gathered under one key and lifted out of it.
-fn there_and_back(alloc: Global, pairs: Pairs) -> Result<(usize, Pairs), Memory> {
-    let gather = nest_rule(alloc, "*", "n", "")?;
-    let gathered = nest(alloc, &gather, pairs)?;
-    let count = gathered.len();
-    let out = lift_rule(alloc, "n", "")?;
-    Ok((count, lift(alloc, &out, gathered)?))
+/// The pairs of a large body, gathered under one key.
+fn gathered(alloc: Global) -> Result<Pairs, Memory> {
+    let rule = nest_rule(alloc, "*", "n", "")?;
+    nest(alloc, &rule, entries(alloc, 5_000)?)
+}
+
+/// The same, lifted out of it.
+fn lifted(alloc: Global, pairs: Pairs) -> Result<Value, Memory> {
+    let rule = lift_rule(alloc, "n", "")?;
+    Ok(Value::Map(lift(alloc, &rule, pairs)?))
+}
+
+/// Whether a value is the map of the large body.
+fn is_large(alloc: Global, value: &Value) -> Result<bool, Memory> {
+    let whole = Value::Map(entries(alloc, 5_000)?);
+    is_same(alloc, value, &whole)
 }
 
 fn are_many_moved(alloc: Global) -> Result<bool, Memory> {
-    let (count, back) = there_and_back(alloc, entries(alloc, 5_000)?)?;
-    let same = is_same(
-        alloc,
-        &Value::Map(back),
-        &Value::Map(entries(alloc, 5_000)?),
-    )?;
-    Ok(count == 1 && same)
+    let pairs = gathered(alloc)?;
+    let is_one = pairs.len() == 1;
+    let back = lifted(alloc, pairs)?;
+    Ok(is_one && is_large(alloc, &back)?)
 }
 
 #[test]
