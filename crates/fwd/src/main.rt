@@ -2,21 +2,19 @@
 //! answers ends the program, with its line on standard error.
 #![tactic(auto)]
 
+mod folder_files;
 mod started;
+mod std_sink;
 
-ghost use Rattle.fwd_outside.specs.Files.{FilesGiven};
-
-use fwd_live::{FolderFiles, StdSink};
+use folder_files::FolderFiles;
 use fwd_top::{Status, log_forwarder, status_line};
 use started::{environment, words};
 use std::io::{self, Write};
 use std::process::ExitCode;
 use std::thread::Threads;
+use std_sink::StdSink;
 
-/// Who calls this picks the files that stand there at first.
-fn run(rt: &HostRuntime, threads: &(impl Threads + Sync)) -> Status
-    ghost given: { FilesGiven }
-{
+fn run(rt: &HostRuntime, threads: &(impl Threads + Sync)) -> Status {
     let words = match words(rt) {
         Ok(words) => words,
         Err(status) => return status,
