@@ -33,6 +33,25 @@ longest_file = 67108864
 abbrev pub longest_reply : ℕ
 longest_reply = 1024
 
+-- what a server answers to a request has at most so many bytes up to the end of the head that counts
+abbrev pub longest_head : ℕ
+longest_head = 8192
+
+-- one read of a followed file asks for at most so many bytes
+abbrev pub longest_read : ℕ
+longest_read = 1048576
+
+-- the name of an output that a chunk's file has is at most so long
+abbrev pub longest_name : ℕ
+longest_name = 255
+
+-- files that are found are checked in groups: a group is full with so many files, or with so many bytes
+abbrev pub group_files : ℕ
+group_files = 4096
+
+abbrev pub group_bytes : ℕ
+group_bytes = 268435456
+
 -- the last reading of the clock, in milliseconds since 1970; a later one counts as this
 abbrev pub last_reading : ℕ
 last_reading = 4294967295999

@@ -27,6 +27,20 @@ pub const LONGEST_FILE: usize = 67_108_864;
 /// The most bytes of what a peer answers to a payload.
 pub const LONGEST_REPLY: usize = 1_024;
 
+/// The most bytes of what a server answers to a request up to the end of the head that counts.
+pub const LONGEST_HEAD: usize = 8_192;
+
+/// The most bytes that one read of a followed file asks for.
+pub const LONGEST_READ: u64 = 1_048_576;
+
+/// The most bytes of the name of an output that a chunk's file has.
+pub const LONGEST_NAME: usize = 255;
+
+/// Files that are found are checked in groups: a group is full with so many files, or with so many bytes.
+pub const GROUP_FILES: usize = 4_096;
+
+pub const GROUP_BYTES: u64 = 268_435_456;
+
 /// The last reading of the clock, in milliseconds since 1970. A later one counts as this.
 pub const LAST_READING: u64 = 4_294_967_295_999;
 
@@ -52,6 +66,11 @@ pub fn limits_are_defined()
     ensures numbers { PAST_NUMBERS ≡ limit.past_numbers }
     ensures file { LONGEST_FILE ≡ limit.longest_file }
     ensures reply { LONGEST_REPLY ≡ limit.longest_reply }
+    ensures head { LONGEST_HEAD ≡ limit.longest_head }
+    ensures read { LONGEST_READ ≡ limit.longest_read }
+    ensures name { LONGEST_NAME ≡ limit.longest_name }
+    ensures group_files { GROUP_FILES ≡ limit.group_files }
+    ensures group_bytes { GROUP_BYTES ≡ limit.group_bytes }
     ensures reading { LAST_READING ≡ limit.last_reading }
     ensures inputs { MOST_INPUTS ≡ limit.most_inputs }
     ensures outputs { MOST_OUTPUTS ≡ limit.most_outputs }

@@ -1,5 +1,6 @@
 -- A file that is followed by polls: where each reads, and the lines that it completes.
 use Rattle.std.specs.Prelude.{ℕ, ◌+◌, ◌-◌, ◌^◌, min, nat_lt, Bool, false, if◌then◌else◌, List, [], ◌++◌, length, drop, fold, Option, Some, None, option_map}
+use Rattle.fwd_base.specs.Limits.{longest_read}
 use Rattle.fwd_frames.specs.Lines.{lines, rest}
 use Rattle.fwd_frames.specs.declared.line.Line.{Line}
 use Rattle.fwd_program.specs.Program.{Return, Ask}
@@ -56,7 +57,7 @@ polled long bytes = record { long = long; bytes = bytes }
 -- behind the file's length at most 1,048,576 bytes are read
 abbrev pub reads_on : List ℕ → Bool → Option ℕ → Option ℕ → FilesProgram (Option Polled)
 reads_on path from_head place None = Return None
-reads_on path from_head place (Some long) = Ask (ReadAt path (from_place from_head long place) 1048576) (λ bytes. Return (option_map (polled long) bytes))
+reads_on path from_head place (Some long) = Ask (ReadAt path (from_place from_head long place) longest_read) (λ bytes. Return (option_map (polled long) bytes))
 
 -- the calls of a poll, and what it came to; none where one of them failed
 abbrev pub polls : List ℕ → Bool → Option ℕ → FilesProgram (Option Polled)

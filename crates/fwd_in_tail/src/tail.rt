@@ -8,15 +8,13 @@ ghost use Rattle.fwd_in_tail.specs.declared.tail.TailErr.TheVariants.{FileFault}
 ghost use Rattle.fwd_in_tail.specs.declared.tail.TailErr.TheVariants as tail_err;
 
 use crate::left::left_behind;
+use fwd_base::limits::LONGEST_READ;
 use fwd_base::{Bytes, Memory};
 use fwd_frames::{Frames, Lines};
 use fwd_outside::{FileErr, Files};
 use std::alloc::Global;
 use std::marker::Model;
 use thiserror::Error;
-
-/// The most bytes that one poll reads.
-const LONGEST_READ: u64 = 1_048_576;
 
 /// Why a poll gave no lines.
 #[derive(Clone, Copy, Debug, PartialEq, Eq, Error)]

@@ -8,6 +8,7 @@ mod ends;
 mod errors;
 mod event_loop;
 mod files;
+mod gate;
 mod happening;
 mod home;
 mod sink;
@@ -21,6 +22,7 @@ pub use files::{Files, read_whole, whole_is_found};
 pub use fwd_base::{
     Bytes, ChunkId, ConnId, Form, InputId, Items, LinkId, Memory, Names, OutputId, Retries,
 };
+pub use gate::{Gate, Open};
 pub use happening::Happening;
 pub use home::Home;
 pub use sink::Sink;
