@@ -4,6 +4,7 @@
 
 mod errors;
 mod event;
+mod laws;
 mod reading;
 mod writing;
 
@@ -11,5 +12,6 @@ pub use errors::EventErr;
 pub use event::{Event, Events, events_cross};
 pub use fwd_base::{Bytes, Memory};
 pub use fwd_msgpack::{Below, Pairs, Value, Values};
+pub use laws::{all_bytes_are_events, events_are_the_whole_prefix, spellings_are_events};
 pub use reading::{read_events, whole_prefix};
 pub use writing::{can_write, write_event};
