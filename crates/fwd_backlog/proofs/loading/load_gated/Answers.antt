@@ -1,6 +1,6 @@
 use Rattle.fwd_backlog.proofs.Fitting.{loaded_fit}
 use Rattle.fwd_backlog.proofs.Promised.{found_after, no_more_since}
-use Rattle.fwd_backlog.proofs.loading.load_all.Goals as goal
+use Rattle.fwd_backlog.proofs.loading.load_gated.Goals as goal
 
 pub returns-clause-found : goal.returns-clause-found
 returns-clause-found g c = found_after _ _ c.args.root.now c.load.result c.load.ensures.loaded
