@@ -1,6 +1,6 @@
 -- How the calls of loading lead through their programs.
 use Rattle.std.proofs.Common.{◌≡◌, Option, Some, None, Result, Ok, Err, IsErrAnd, refl, sym, subst}
-use Rattle.fwd_program.specs.Program.{Return, with_value, and_then}
+use Rattle.fwd_program.specs.Program.{with_value, and_then}
 use Rattle.fwd_program.specs.Told.{Leads, Makes}
 use Rattle.fwd_program.proofs.Leading.{goes_on, inside, began_after, began_inside}
 use Rattle.fwd_outside.specs.Disk.{DiskTold, DiskProgram, disk_outcome}

@@ -1,21 +1,24 @@
 -- How files are read.
-use Rattle.std.proofs.Common.{◌≡◌, ℕ, ◌+◌, ◌<◌, ◌≤◌, List, [], ◌∷◌, ◌++◌, length, get_or, drop, Option, Some, None, Result, Ok, Err, IsErrAnd, refl, sym, ◌∙◌, ap, subst}
+use Rattle.std.proofs.Common.{◌≡◌, ℕ, zero, suc, ◌+◌, ◌-◌, ◌≤◌, List, [], ◌∷◌, ◌++◌, length, take, drop, All, Option, Some, Result, Ok, Err, IsErrAnd, refl, sym, ◌∙◌, ap, subst, arith}
 use Rattle.std.specs.List.{AllZip}
-use Rattle.std.proofs.lemmas.List.{drop_more}
-use Rattle.fwd_program.specs.Program.{Return, with_value, and_then}
+use Rattle.std.proofs.lemmas.List.{take_all, length-drop}
+use Rattle.std.proofs.lemmas.List.Elements.{All-nil, All-cons}
+use Rattle.fwd_program.specs.Program.{with_value}
 use Rattle.fwd_program.specs.Told.{Leads, Makes}
-use Rattle.fwd_program.proofs.Leading.{stays, inside, makes_after}
+use Rattle.fwd_program.proofs.Leading.{stays, inside, goes_on, makes_after}
 use Rattle.fwd_outside.specs.Disk.{DiskTold, syncs, reads}
 use Rattle.fwd_found.specs.declared.chunk.Found.{Found}
 use Rattle.fwd_found.specs.Seen.{enough}
 use Rattle.fwd_backlog.specs.declared.errors.LoadErr.{LoadErr}
-use Rattle.fwd_backlog.specs.declared.errors.LoadErr.TheVariants.{DiskFailed, Memory}
+use Rattle.fwd_backlog.specs.declared.errors.LoadErr.TheVariants.{Memory}
 use Rattle.fwd_backlog.specs.declared.listed.Listed.{Listed}
 use Rattle.fwd_backlog.specs.declared.loading.Backlog.{Backlog}
 use Rattle.fwd_backlog.specs.Answer.{outcome, Loads}
 use Rattle.fwd_backlog.specs.Serial.{next_number}
-use Rattle.fwd_backlog.specs.Listing.{path_of, lists_files, in_order}
-use Rattle.fwd_backlog.specs.Loading.{FileRead, file_read, reads_synced, reads_files, loads, IsFoundOf, IsBacklog}
+use Rattle.fwd_backlog.specs.Listing.{lists_files, in_order}
+use Rattle.fwd_backlog.specs.declared.file_read.FileRead.{FileRead}
+use Rattle.fwd_backlog.specs.Loading.{reads_synced, reads_files, loads, IsFoundOf, IsBacklog}
+use Rattle.fwd_backlog.specs.Groups.{ReadsGroup, HasShortMeta, IsChecked}
 use Rattle.fwd_backlog.proofs.Calling.{err_outcome, goes, stops, rests, made_err, loaded_err, err_of}
 
 -- the sync of a file, and then its read
@@ -29,50 +32,87 @@ module _ (a b : DiskTold) (path : List ℕ) where
   pub synced_then : (c : DiskTold) (o : Option (Option (List ℕ))) → Makes a b (syncs path) (Some (Some tt)) → Makes b c (reads path 0 enough) o → Makes a c (reads_synced path) o
   synced_then c o did makes = makes_after a b c (reads_synced path) (reads path 0 enough) o (synced did) makes
 
-all_zip_push : {A B : Type 0} (R : A → B → Type 0) (xs : List A) (ys : List B) (x : A) (y : B) → AllZip R xs ys → R x y → AllZip R (xs ++ x ∷ []) (ys ++ y ∷ [])
-all_zip_push R [] [] x y all r = (r, tt)
-all_zip_push R [] (z ∷ ys) x y all r = absurd all
-all_zip_push R (w ∷ xs) [] x y all r = absurd all
-all_zip_push R (w ∷ xs) (z ∷ ys) x y all r = (all.0, all_zip_push R xs ys x y all.1 r)
+all_zip_append : {A B : Type 0} (R : A → B → Type 0) (xs us : List A) (ys vs : List B) → AllZip R xs ys → AllZip R us vs → AllZip R (xs ++ us) (ys ++ vs)
+all_zip_append R [] us [] vs all more = more
+all_zip_append R [] us (y ∷ ys) vs all more = absurd all
+all_zip_append R (x ∷ xs) us [] vs all more = absurd all
+all_zip_append R (x ∷ xs) us (y ∷ ys) vs all more = (all.0, all_zip_append R xs us ys vs all.1 more)
 
 -- The files so far were read, and this was found of them; so much is left.
 pub record IsReadTo (a b : DiskTold) (root : List ℕ) (files left : List Listed) (found : List Found) : Type 0 where
   pub read : List FileRead
-  pub each : AllZip IsFoundOf read found
+  pub each : AllZip IsChecked read found
   pub calls : Leads a b (reads_files root files []) (reads_files root left read)
 
--- one more file
-module _ (a b c : DiskTold) (root : List ℕ) (files items : List Listed) (i : ℕ) (file : Listed) (found : List Found) (lt : i < length items) (is : file ≡ get_or items i file)
-    (so_far : IsReadTo a b root files (drop i items) found) where
-  here : drop i items ≡ file ∷ drop (i + 1) items
-  here = drop_more items i file lt ∙ ap (λ (f : Listed). f ∷ drop (i + 1) items) (sym is)
+drop_none : (n : ℕ) → drop {A = Listed} n [] ≡ []
+drop_none zero = refl
+drop_none (suc n) = refl
 
-  at_file : Leads a b (reads_files root files []) (and_then (reads_synced (path_of root file)) (λ bytes. reads_files root (drop (i + 1) items) (so_far.read ++ file_read file bytes ∷ [])))
-  at_file = subst (λ (l : List Listed). Leads a b (reads_files root files []) (reads_files root l so_far.read)) here so_far.calls
+pub none_read : (a : DiskTold) (root : List ℕ) (files : List Listed) (found : List Found) → found ≡ [] → IsReadTo a a root files files found
+none_read a root files found none = record { read = []; each = subst (λ (l : List Found). AllZip IsChecked [] l) (sym none) tt; calls = stays a (reads_files root files []) }
 
-  past_file : (bytes : List ℕ) → Makes b c (reads_synced (path_of root file)) (Some (Some bytes)) → Leads a c (reads_files root files []) (reads_files root (drop (i + 1) items) (so_far.read ++ file_read file bytes ∷ []))
-  past_file bytes did = goes a b c (reads_files root files []) (reads_synced (path_of root file)) (λ bytes. reads_files root (drop (i + 1) items) (so_far.read ++ file_read file bytes ∷ [])) at_file bytes did
+pub all_read : (a b : DiskTold) (root : List ℕ) (files : List Listed) (at : ℕ) (found : List Found) → length files ≤ at → IsReadTo a b root files (drop at files) found → Loads a b (reads_files root files []) (AllZip IsChecked) (Ok found)
+all_read a b root files at found le so_far =
+    let none : drop at files ≡ [] = drop_all files at le in
+    (so_far.read, subst (λ (l : List Listed). Leads a b (reads_files root files []) (reads_files root l so_far.read)) none so_far.calls, so_far.each)
+  where
+    drop_all : (l : List Listed) (n : ℕ) → length l ≤ n → drop n l ≡ []
+    drop_all [] n le = drop_none n
+    drop_all (x ∷ l) zero le = absurd (omega arith)
+    drop_all (x ∷ l) (suc n) le = drop_all l n (omega arith)
 
-  abbrev pub OneFile : Result Found LoadErr → Type 0
-  OneFile r = Loads b c (reads_synced (path_of root file)) (λ bytes one. IsFoundOf (file_read file bytes) one) r
+-- what is left, as a part of the list
+pub rest_is : (files : List Listed) (at : ℕ) → take (length files - at) (drop at files) ≡ drop at files
+rest_is files at = take_all (length files - at) (drop at files) (omega (arith, length-drop at files))
 
-  pub file_loaded : (one : Found) (after : List Found) → OneFile (Ok one) → after ≡ found ++ one ∷ [] → IsReadTo a c root files (drop (i + 1) items) after
-  file_loaded one after loads grown = record {
-    read = so_far.read ++ file_read file loads.0 ∷ [];
-    each = subst (λ (l : List Found). AllZip IsFoundOf (so_far.read ++ file_read file loads.0 ∷ []) l) (sym grown) (all_zip_push IsFoundOf so_far.read found (file_read file loads.0) one so_far.each loads.2);
-    calls = past_file loads.0 loads.1;
-  }
+-- one more group
+module _ (a b c : DiskTold) (root : List ℕ) (files rest : List Listed) (at : ℕ) (found : List Found) (is : rest ≡ drop at files) (so_far : IsReadTo a b root files (drop at files) found) where
+  at_group : Leads a b (reads_files root files []) (reads_files root rest so_far.read)
+  at_group = subst (λ (l : List Listed). Leads a b (reads_files root files []) (reads_files root l so_far.read)) (sym is) so_far.calls
 
-  pub file_stopped : (e : LoadErr) (r : Result (List Found) LoadErr) → IsErrAnd r (λ x. x ≡ e) → OneFile (Err e) → Loads a c (reads_files root files []) (AllZip IsFoundOf) r
-  file_stopped e r is_err loads =
-      loaded_err a c (reads_files root files []) (AllZip IsFoundOf) e r is_err
-      (stops a b c (reads_files root files []) (reads_synced (path_of root file)) (λ bytes. reads_files root (drop (i + 1) items) (so_far.read ++ file_read file bytes ∷ [])) at_file e
-      (err_of b c (reads_synced (path_of root file)) (λ bytes one. IsFoundOf (file_read file bytes) one) e loads))
+  pub group_failed : (e : LoadErr) (r : Result (List Found) LoadErr) → IsErrAnd r (λ x. x ≡ e) → ReadsGroup b c root rest (Err e) → Loads a c (reads_files root files []) (AllZip IsChecked) r
+  group_failed e r is_err reads =
+      loaded_err a c (reads_files root files []) (AllZip IsChecked) e r is_err
+      (makes_after a b c (reads_files root files []) (reads_files root rest so_far.read) (err_outcome (List FileRead) e) at_group (reads so_far.read))
 
-  pub file_unkept : (one : Found) (r : Result (List Found) LoadErr) → IsErrAnd r (λ x. x ≡ Memory) → OneFile (Ok one) → Loads a c (reads_files root files []) (AllZip IsFoundOf) r
-  file_unkept one r is_err loads =
-      loaded_err a c (reads_files root files []) (AllZip IsFoundOf) Memory r is_err
-      (rests a c (reads_files root files []) (reads_files root (drop (i + 1) items) (so_far.read ++ file_read file loads.0 ∷ [])) (past_file loads.0 loads.1))
+  past_group : (group : List FileRead) → ReadsGroup b c root rest (Ok group) → Leads a c (reads_files root files []) (reads_files root (drop (length group) rest) (so_far.read ++ group))
+  past_group group reads = goes_on at_group (reads.1 so_far.read)
+
+  pub group_lost : (group : List FileRead) (r : Result (List Found) LoadErr) → IsErrAnd r (λ x. x ≡ Memory) → ReadsGroup b c root rest (Ok group) → Loads a c (reads_files root files []) (AllZip IsChecked) r
+  group_lost group r is_err reads =
+      loaded_err a c (reads_files root files []) (AllZip IsChecked) Memory r is_err
+      (rests a c (reads_files root files []) (reads_files root (drop (length group) rest) (so_far.read ++ group)) (past_group group reads))
+
+  pub group_found : (group : List FileRead) (more after : List Found) (next : ℕ) → ReadsGroup b c root rest (Ok group) → AllZip IsChecked group more → after ≡ found ++ more → next ≡ at + length group
+      → IsReadTo a c root files (drop next files) after
+  group_found group more after next reads each grown is_next =
+      let left : drop (length group) rest ≡ drop next files = ap (drop (length group)) is ∙ dropped at (length group) files ∙ ap (λ (n : ℕ). drop n files) (sym is_next) in
+      record {
+        read = so_far.read ++ group;
+        each = subst (λ (l : List Found). AllZip IsChecked (so_far.read ++ group) l) (sym grown) (all_zip_append IsChecked so_far.read group found more so_far.each each);
+        calls = subst (λ (l : List Listed). Leads a c (reads_files root files []) (reads_files root l (so_far.read ++ group))) left (past_group group reads);
+      }
+    where
+      dropped : (m n : ℕ) (l : List Listed) → drop n (drop m l) ≡ drop (m + n) l
+      dropped zero n l = let e : n ≡ 0 + n = omega arith in ap (λ (k : ℕ). drop k l) e
+      dropped (suc m) n [] = drop_none n ∙ sym (drop_none (suc m + n))
+      dropped (suc m) n (x ∷ l) = let e : suc (m + n) ≡ suc m + n = omega arith in dropped m n l ∙ ap (λ (k : ℕ). drop k (x ∷ l)) e
+
+-- what was checked was found, and has short metadata
+found_of_checked : (read : List FileRead) (found : List Found) → AllZip IsChecked read found → AllZip IsFoundOf read found
+found_of_checked [] [] h = tt
+found_of_checked [] (f ∷ found) h = absurd h
+found_of_checked (r ∷ read) [] h = absurd h
+found_of_checked (r ∷ read) (f ∷ found) h = (h.0.found_of, found_of_checked read found h.1)
+
+short_of_checked : (read : List FileRead) (found : List Found) → AllZip IsChecked read found → All HasShortMeta found
+short_of_checked [] [] h = All-nil HasShortMeta
+short_of_checked [] (f ∷ found) h = absurd h
+short_of_checked (r ∷ read) [] h = absurd h
+short_of_checked (r ∷ read) (f ∷ found) h = All-cons HasShortMeta f found h.0.meta (short_of_checked read found h.1)
+
+pub all_short : (a b : DiskTold) (root : List ℕ) (files : List Listed) (found : List Found) → Loads a b (reads_files root files []) (AllZip IsChecked) (Ok found) → All HasShortMeta found
+all_short a b root files found loads = short_of_checked loads.0 found loads.2
 
 -- all was listed
 module _ (a b : DiskTold) (root : List ℕ) (listed : List Listed) (did : Makes a b (lists_files root) (Some (Some listed))) where
@@ -87,17 +127,17 @@ module _ (a b c : DiskTold) (root : List ℕ) (listed : List Listed) (did : Make
   then_err : (e : LoadErr) → Makes b c (reads_files root (in_order listed) []) (err_outcome (List FileRead) e) → Makes a c (loads root) (err_outcome (List FileRead) e)
   then_err e makes = makes_after a b c (loads root) (reads_files root (in_order listed) []) (err_outcome (List FileRead) e) (reached a b root listed did) makes
 
-  pub loading_stopped : (files : List Listed) (e : LoadErr) (r : Result Backlog LoadErr) → files ≡ in_order listed → IsErrAnd r (λ x. x ≡ e) → Loads {T = List Found} b c (reads_files root files []) (AllZip IsFoundOf) (Err e)
+  pub loading_stopped : (files : List Listed) (e : LoadErr) (r : Result Backlog LoadErr) → files ≡ in_order listed → IsErrAnd r (λ x. x ≡ e) → Loads {T = List Found} b c (reads_files root files []) (AllZip IsChecked) (Err e)
       → Loads a c (loads root) IsBacklog r
   loading_stopped files e r ordered is loads_files =
-      let made = subst (λ (l : List Listed). Makes b c (reads_files root l []) (err_outcome (List FileRead) e)) ordered (err_of b c (reads_files root files []) (AllZip IsFoundOf) e loads_files) in
+      let made = subst (λ (l : List Listed). Makes b c (reads_files root l []) (err_outcome (List FileRead) e)) ordered (err_of b c (reads_files root files []) (AllZip IsChecked) e loads_files) in
       loaded_err a c (loads root) IsBacklog e r is (then_err e made)
 
-  pub loading_done : (files : List Listed) (found : List Found) (next : ℕ) → files ≡ in_order listed → Loads b c (reads_files root files []) (AllZip IsFoundOf) (Ok found) → next ≡ next_number found
+  pub loading_done : (files : List Listed) (found : List Found) (next : ℕ) → files ≡ in_order listed → Loads b c (reads_files root files []) (AllZip IsChecked) (Ok found) → next ≡ next_number found
       → Loads a c (loads root) IsBacklog (Ok (record { found = found; next = next }))
   loading_done files found next ordered loads_files is_next =
       let made = subst (λ (l : List Listed). Makes b c (reads_files root l []) (Some (Some loads_files.0))) ordered loads_files.1 in
-      (loads_files.0, makes_after a b c (loads root) (reads_files root (in_order listed) []) (Some (Some loads_files.0)) (reached a b root listed did) made, record { found = loads_files.2; next = is_next })
+      (loads_files.0, makes_after a b c (loads root) (reads_files root (in_order listed) []) (Some (Some loads_files.0)) (reached a b root listed did) made, record { found = found_of_checked loads_files.0 found loads_files.2; next = is_next })
 
 -- the listing stopped
 pub listing_stopped : (a b : DiskTold) (root : List ℕ) (e : LoadErr) (r : Result Backlog LoadErr) → IsErrAnd r (λ x. x ≡ e) → Makes a b (lists_files root) (err_outcome (List Listed) e) → Loads a b (loads root) IsBacklog r

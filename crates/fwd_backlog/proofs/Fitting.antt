@@ -1,5 +1,5 @@
 -- What was found fits the longest file that is read.
-use Rattle.std.proofs.Common.{◌≡◌, ℕ, ◌+◌, ◌≤◌, List, [], ◌∷◌, length, All, Result, Ok, Err, IfOk, ap, subst, arith}
+use Rattle.std.proofs.Common.{◌≡◌, ℕ, List, [], ◌∷◌, length, All, Result, Ok, Err, IfOk, ap, subst, arith}
 use Rattle.std.specs.List.{AllZip}
 use Rattle.std.proofs.lemmas.List.Elements.{All-nil, All-cons}
 use Rattle.fwd_outside.specs.Disk.{DiskTold}
@@ -11,7 +11,8 @@ use Rattle.fwd_found.proofs.Heading.{read_fits}
 use Rattle.fwd_backlog.specs.declared.errors.LoadErr.{LoadErr}
 use Rattle.fwd_backlog.specs.declared.loading.Backlog.{Backlog}
 use Rattle.fwd_backlog.specs.Answer.{Loads}
-use Rattle.fwd_backlog.specs.Loading.{FileRead, loads, IsFoundOf, IsBacklog}
+use Rattle.fwd_backlog.specs.declared.file_read.FileRead.{FileRead}
+use Rattle.fwd_backlog.specs.Loading.{loads, IsFoundOf, IsBacklog}
 use Rattle.fwd_backlog.specs.Found.{FitsFile}
 
 one_fits : (read : FileRead) (found : Found) → IsFoundOf read found → FitsFile found

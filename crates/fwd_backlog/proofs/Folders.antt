@@ -1,7 +1,7 @@
 -- How folders are listed.
-use Rattle.std.proofs.Common.{◌≡◌, ◌⊎◌, inl, inr, ℕ, ◌+◌, ◌<◌, ◌≤◌, Bool, true, false, IsTrue, if◌then◌else◌, List, [], ◌∷◌, ◌++◌, length, get_or, take, drop, append_assoc, Option, Some, None, Result, Ok, Err, IsErrAnd, refl, sym, ◌∙◌, ap, subst}
+use Rattle.std.proofs.Common.{◌≡◌, ℕ, ◌+◌, ◌<◌, Bool, true, false, if◌then◌else◌, List, [], ◌∷◌, ◌++◌, length, get_or, take, drop, append_assoc, Some, Result, IsErrAnd, refl, sym, ◌∙◌, ap, subst}
 use Rattle.std.proofs.lemmas.List.{append-nil, drop_more, take_more}
-use Rattle.fwd_program.specs.Program.{Return, and_then}
+use Rattle.fwd_program.specs.Program.{and_then}
 use Rattle.fwd_program.specs.Told.{Leads, Makes}
 use Rattle.fwd_program.proofs.Leading.{stays}
 use Rattle.fwd_outside.specs.Disk.{DiskTold, lists}

@@ -1,5 +1,5 @@
 -- No file has a serial of the next number or a later one.
-use Rattle.std.proofs.Common.{◌≡◌, ◌⊎◌, inl, inr, ℕ, ◌+◌, ◌≤◌, max, Bool, true, false, IsTrue, List, [], ◌∷◌, map, fold, refl, ap, arith}
+use Rattle.std.proofs.Common.{◌≡◌, inl, inr, ℕ, ◌≤◌, max, Bool, true, false, IsTrue, List, [], ◌∷◌, map, fold, refl, ap, arith}
 use Rattle.fwd_outside.specs.Disk.{IsFileName}
 use Rattle.fwd_image.specs.Disk.{Files}
 use Rattle.fwd_found.specs.declared.chunk.Found.{Found}

@@ -10,7 +10,8 @@ use Rattle.fwd_image.specs.Disk.{Files, Synced, OnFile, Steps}
 use Rattle.fwd_found.specs.Seen.{enough}
 use Rattle.fwd_backlog.specs.declared.listed.Listed.{Listed}
 use Rattle.fwd_backlog.specs.Listing.{folder_of, path_of, chunks_in, lists_folders, lists_files, in_order}
-use Rattle.fwd_backlog.specs.Loading.{FileRead, file_read, reads_synced, reads_files, loads}
+use Rattle.fwd_backlog.specs.declared.file_read.FileRead.{FileRead}
+use Rattle.fwd_backlog.specs.Loading.{file_read, reads_synced, reads_files, loads}
 use Rattle.fwd_backlog.specs.Found.{IsFresh}
 use Rattle.fwd_backlog.proofs.Keeping.{one_or_other}
 

@@ -1,14 +1,14 @@
 -- What the calls of loading keep of the files, and what their answers say of them.
-use Rattle.std.proofs.Common.{◌≡◌, ◌≢◌, ◌⊎◌, inl, inr, ℕ, Bool, true, false, IsTrue, if◌then◌else◌, List, [], ◌∷◌, ◌++◌, take, drop, Contains, Option, Some, None, refl, sym, ◌∙◌, ap, subst}
+use Rattle.std.proofs.Common.{◌≡◌, ◌≢◌, ◌⊎◌, inl, inr, ℕ, Bool, true, false, IsTrue, if◌then◌else◌, List, take, drop, Contains, Option, Some, None, refl, sym, ◌∙◌, ap, subst}
 use Rattle.std.specs.Str.{bytes_eq}
 use Rattle.std.proofs.lemmas.Slice.Eq.{bytes_eq-Decides}
-use Rattle.fwd_program.specs.Program.{Return, and_then}
+use Rattle.fwd_program.specs.Program.{and_then}
 use Rattle.fwd_program.specs.Moments.{Holds}
 use Rattle.fwd_program.proofs.Holding.{holds_weaker}
 use Rattle.fwd_program.proofs.Going.{holds_and_then}
 use Rattle.fwd_outside.specs.Disk.{DiskProgram, IsFileName, syncs, reads, lists}
 use Rattle.fwd_image.specs.File.{FileState, IsSound, IsImage, content, whole}
-use Rattle.fwd_image.specs.Disk.{Files, Synced, HasRead, HasListed, IsUnder, OnFile, Stays, Steps}
+use Rattle.fwd_image.specs.Disk.{Files, Synced, HasRead, HasListed, IsUnder, OnFile, Steps}
 use Rattle.fwd_image.proofs.Sound.{AllSound, sound_whole, sound_image}
 use Rattle.fwd_image.proofs.Keeps.{whole_image}
 use Rattle.fwd_backlog.specs.Found.{LeavesNoMore}

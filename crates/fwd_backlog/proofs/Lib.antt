@@ -1,12 +1,15 @@
 pub mod Calling
 pub mod Names
 pub mod Folders
+pub mod Parallel
+pub mod Grouping
 pub mod Files
 pub mod Serials
 pub mod Keeping
 pub mod Standing
 mod Fresh
 mod Places
+mod Once
 mod Fitting
 mod Free
 pub mod Promised

@@ -1,5 +1,5 @@
 -- The names of files: their order, and their numbers.
-use Rattle.std.proofs.Common.{◌≡◌, ◌≢◌, ◌⊎◌, ◌↔◌, inl, inr, ℕ, ◌+◌, ◌<◌, ◌≤◌, ◌*◌, ◌^◌, ◌==◌, ◌&&◌, Bool, true, false, IsTrue, nat_lt, if◌then◌else◌, List, [], ◌∷◌, ◌++◌, length, take, drop, take_while, fold, Option, Some, None, Result, Ok, Err, refl, sym, ◌∙◌, ap, subst, arith}
+use Rattle.std.proofs.Common.{◌≡◌, ◌⊎◌, ◌↔◌, inl, inr, List, [], ◌∷◌, fold, refl, sym, ◌∙◌, ap, subst, arith}
 use Rattle.std.specs.declared.cmp.Ordering.{Ordering}
 use Rattle.std.specs.declared.cmp.Ordering.TheVariants.{Less, Equal, Greater}
 use Rattle.std.specs.Ordering.{nat_cmp, ordering_then, ordering_reverse, match_ordering}
@@ -11,7 +11,7 @@ use Rattle.std.specs.BTreeSet.{insert_key}
 use Rattle.std.proofs.lemmas.Cmp.{then_total}
 use Rattle.std.proofs.lemmas.Map.Lookups.{exact_bytes}
 use Rattle.std.proofs.lemmas.Map.Keys.{sorted_head, sorted_tail}
-use Rattle.std.proofs.lemmas.List.Elements.{Contains-append_right, Contains-append_cases, Contains-push, Contains-push_cases}
+use Rattle.std.proofs.lemmas.List.Elements.{Contains-append_right, Contains-append_cases, Contains-push_cases}
 use Rattle.fwd_backlog.specs.declared.listed.Listed.{Listed}
 use Rattle.fwd_backlog.specs.Listing.{by_name, in_order}
 
@@ -139,7 +139,7 @@ exact x y is =
     let streams = exact_bytes x.stream y.stream both.1 in
     (λ i. record { name = names i; stream = streams i })
 
-total : IsTotalOrder by_name
+pub total : IsTotalOrder by_name
 total = then_total (on_texts (λ (x : Listed). x.name)) (on_texts (λ (x : Listed). x.stream))
 
 pub sorted : (files : List Listed) → IsStrictlySortedBy by_name (in_order files)

@@ -1,5 +1,5 @@
 -- What loading promises of a disk that tells its calls.
-use Rattle.std.proofs.Common.{◌≡◌, List, ℕ, ◌++◌, Option, Some, None, Result, Ok, Err, IfOk, refl}
+use Rattle.std.proofs.Common.{List, ℕ, Option, Some, Result, Ok, Err, IfOk}
 use Rattle.fwd_program.proofs.Promised.{since_makes, after_did}
 use Rattle.fwd_outside.specs.Disk.{DiskTold}
 use Rattle.fwd_image.specs.Disk.{Files, Steps, stood}
@@ -8,7 +8,8 @@ use Rattle.fwd_image.proofs.Sound.{AllSound, sound_stood, sound_ends}
 use Rattle.fwd_backlog.specs.declared.errors.LoadErr.{LoadErr}
 use Rattle.fwd_backlog.specs.declared.loading.Backlog.{Backlog}
 use Rattle.fwd_backlog.specs.Answer.{Loads}
-use Rattle.fwd_backlog.specs.Loading.{FileRead, loads, IsBacklog}
+use Rattle.fwd_backlog.specs.declared.file_read.FileRead.{FileRead}
+use Rattle.fwd_backlog.specs.Loading.{loads, IsBacklog}
 use Rattle.fwd_backlog.specs.Found.{AreFoundIn, LeavesNoMore}
 use Rattle.fwd_backlog.proofs.Calling.{made_of}
 use Rattle.fwd_backlog.proofs.Keeping.{AllKept, kept_first, With}

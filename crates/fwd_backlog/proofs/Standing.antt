@@ -1,10 +1,10 @@
 -- What was loaded is what stands there.
-use Rattle.std.proofs.Common.{◌≡◌, ◌⊎◌, inl, inr, ℕ, Bool, true, false, IsTrue, if◌then◌else◌, List, [], ◌∷◌, ◌++◌, append_assoc, take, drop, map, All, Contains, Option, Some, None, refl, sym, ◌∙◌, ap, subst}
+use Rattle.std.proofs.Common.{◌≡◌, ◌⊎◌, inl, inr, ℕ, Bool, true, false, IsTrue, if◌then◌else◌, List, [], ◌∷◌, ◌++◌, append_assoc, map, All, Contains, Option, Some, refl, sym, ◌∙◌, ap, subst}
 use Rattle.std.specs.List.{AllByRecursion, AllZip}
 use Rattle.std.specs.List.Sorted.{IsStrictlySortedBy}
 use Rattle.std.proofs.lemmas.List.{append-nil}
 use Rattle.std.proofs.lemmas.List.Elements.{All-nil, All-cons, Contains-append_left, Contains-append_right, Contains-push_cases}
-use Rattle.fwd_program.specs.Program.{Return, Way, and_then}
+use Rattle.fwd_program.specs.Program.{Return, Way}
 use Rattle.fwd_program.specs.Moments.{Ends, Moments, Holds}
 use Rattle.fwd_program.proofs.Holding.{holds_weaker, holds_moments, holds_end}
 use Rattle.fwd_outside.specs.Disk.{DiskEntry, DiskProgram, IsFileName, syncs, reads, lists}
@@ -17,10 +17,11 @@ use Rattle.fwd_found.proofs.Enough.{part_is_seen}
 use Rattle.fwd_backlog.specs.declared.listed.Listed.{Listed}
 use Rattle.fwd_backlog.specs.Serial.{is_chunk_name}
 use Rattle.fwd_backlog.specs.Listing.{folder_of, path_of, chunks_in, lists_folders, lists_files, by_name, in_order}
-use Rattle.fwd_backlog.specs.Loading.{FileRead, file_read, reads_synced, reads_files, loads, IsFoundOf}
+use Rattle.fwd_backlog.specs.declared.file_read.FileRead.{FileRead}
+use Rattle.fwd_backlog.specs.Loading.{file_read, reads_synced, reads_files, loads, IsFoundOf}
 use Rattle.fwd_backlog.specs.Found.{place_of, AreFoundIn, LeavesNoMore}
 use Rattle.fwd_backlog.proofs.Names.{Among, contains_of, among_of, sorted, same_files}
-use Rattle.fwd_backlog.proofs.Keeping.{Kept, AllKept, kept_first, no_more, With, Goes, goes_more, goes_then, goes_syncs, ReadFrom, goes_reads, ListedFrom, goes_lists, there_too}
+use Rattle.fwd_backlog.proofs.Keeping.{AllKept, kept_first, no_more, With, Goes, goes_more, goes_then, goes_syncs, ReadFrom, goes_reads, ListedFrom, goes_lists, there_too}
 
 abbrev file_in : List ℕ → List ℕ → Listed
 file_in stream name = record { name = name; stream = stream }

@@ -1,5 +1,5 @@
 -- What loading came to.
-use Rattle.std.specs.Prelude.{◌≡◌, Option, Some, None, Result, Ok, Err}
+use Rattle.std.specs.Prelude.{Option, Some, None, Result, Ok, Err}
 use Rattle.fwd_program.specs.Told.{Makes}
 use Rattle.fwd_outside.specs.Disk.{DiskTold, DiskProgram}
 use Rattle.fwd_outside.specs.declared.errors.DiskErr.{DiskErr}

@@ -5,16 +5,13 @@ use Rattle.fwd_program.specs.Program.{Return, and_then}
 use Rattle.fwd_outside.specs.Disk.{DiskProgram, syncs, reads}
 use Rattle.fwd_found.specs.declared.chunk.Found.{Found}
 use Rattle.fwd_found.specs.Seen.{IsSeen, enough}
+use Rattle.fwd_backlog.specs.declared.file_read.FileRead.{FileRead}
 use Rattle.fwd_backlog.specs.declared.listed.Listed.{Listed}
 use Rattle.fwd_backlog.specs.declared.loading.Backlog.{Backlog}
 use Rattle.fwd_backlog.specs.Listing.{path_of, lists_files, in_order}
 use Rattle.fwd_backlog.specs.Serial.{next_number}
 
 -- a file with the bytes that were read of it
-pub record FileRead : Type 0 where
-  pub file : Listed
-  pub bytes : List ℕ
-
 abbrev pub file_read : Listed → List ℕ → FileRead
 file_read file bytes = record { file = file; bytes = bytes }
 

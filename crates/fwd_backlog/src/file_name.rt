@@ -1,13 +1,14 @@
 //! Names, by the order of their bytes.
 
-ghost use Rattle.std.specs.Prelude.{◌≡◌, Some};
+ghost use Rattle.std.specs.Prelude.{◌≡◌, Some, IfOk};
 ghost use Rattle.std.specs.Cmp.{partial_equiv_from_equiv};
 ghost use Rattle.std.specs.Cmp.Lexicographic.{slice_cmp, nat_list_eq_equiv, nat_list_cmp_total, texts_ties, texts_po};
 ghost use Rattle.std.specs.Ordering.{nat_cmp};
 ghost use Rattle.std.specs.Str.{bytes_eq};
 ghost use Rattle.std.proofs.Common.{refl};
 
-use fwd_base::Bytes;
+use fwd_base::{Bytes, Memory};
+use std::alloc::Global;
 use std::cmp::Ordering;
 use std::marker::Model;
 
@@ -36,6 +37,14 @@ impl FileName {
         ensures { result.now ≡ self.now }
     {
         self.bytes.as_slice()
+    }
+
+    pub fn try_clone(&self, alloc: Global) -> Result<Self, Memory>
+        ensures { IfOk result (λ copy. copy ≡ self.now) }
+    {
+        Ok(FileName {
+            bytes: self.bytes.try_clone(alloc)?,
+        })
     }
 }
 

@@ -1,6 +1,6 @@
 //! What holds of the calls of loading, whatever the disk answers.
 
-ghost use Rattle.std.specs.Prelude.{◌≡◌, ◌↔◌, ◌≤◌, List, ℕ, Option, Some, IsTrue, false, Contains};
+ghost use Rattle.std.specs.Prelude.{◌≡◌, ◌≢◌, ◌↔◌, ◌≤◌, List, ℕ, Option, Some, IsTrue, false, Contains, All, AllPairs};
 ghost use Rattle.std.specs.List.{AllZip};
 ghost use Rattle.std.specs.List.Sorted.{IsStrictlySortedBy};
 ghost use Rattle.fwd_program.specs.Program.{Return, Way};
@@ -11,8 +11,10 @@ ghost use Rattle.fwd_found.specs.declared.chunk.Found.{Found};
 ghost use Rattle.fwd_backlog.specs.declared.listed.Listed.{Listed};
 ghost use Rattle.fwd_backlog.specs.Serial.{is_chunk_name, serial_number, next_number};
 ghost use Rattle.fwd_backlog.specs.Listing.{path_of, by_name, in_order};
-ghost use Rattle.fwd_backlog.specs.Loading.{FileRead, loads, IsFoundOf};
-ghost use Rattle.fwd_backlog.specs.Found.{AreFoundIn, IsFresh, LeavesNoMore};
+ghost use Rattle.fwd_backlog.specs.declared.file_read.FileRead.{FileRead};
+ghost use Rattle.fwd_backlog.specs.declared.loading.Backlog.{Backlog};
+ghost use Rattle.fwd_backlog.specs.Loading.{loads, IsFoundOf, IsBacklog};
+ghost use Rattle.fwd_backlog.specs.Found.{place_of, AreFoundIn, IsFresh, LeavesNoMore};
 
 /// The order of files has each of them once, by name, then by stream.
 pub fn files_stand_in_order()
@@ -44,6 +46,18 @@ pub fn later_numbers_are_free()
     ensures { (root stream name : List ℕ) (files : Files) (found : List Found)
         → AreFoundIn root files found → IsFileName stream → IsFileName name → IsTrue (is_chunk_name name) → next_number found ≤ serial_number name
         → (files (path_of root (record { name = name; stream = stream }))).there ≡ false }
+{}
+
+/// Files that were read have one backlog, so it doesn't depend on the threads that check them, on their number or on how
+/// the files are grouped.
+pub fn one_backlog()
+    ensures { (files : List FileRead) (one two : Backlog) → IsBacklog files one → IsBacklog files two → one ≡ two }
+{}
+
+/// Files that were found under names of files have different paths.
+pub fn found_paths_differ()
+    ensures { (root : List ℕ) (files : Files) (found : List Found) → AreFoundIn root files found → All (λ file. IsFileName file.stream) found
+        → AllPairs (λ one other. path_of root (place_of one) ≢ path_of root (place_of other)) found }
 {}
 
 /// A path tells its file: files of two streams, or of two names, have two paths.

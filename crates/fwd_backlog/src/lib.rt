@@ -5,8 +5,10 @@
 //! file is a description. New chunks get numbers above all that were found.
 #![tactic(auto)]
 
+mod checking;
 mod errors;
 mod file_name;
+mod file_read;
 mod in_order;
 mod laws;
 mod listed;
@@ -19,7 +21,8 @@ mod serial;
 pub use errors::LoadErr;
 pub use fwd_found::{Brief, ChunkKind, Found, Seen};
 pub use laws::{
-    files_stand_in_order, later_numbers_are_free, loading_changes_no_fresh_file,
-    loading_leaves_no_more, paths_tell_files, what_is_loaded_stands,
+    files_stand_in_order, found_paths_differ, later_numbers_are_free,
+    loading_changes_no_fresh_file, loading_leaves_no_more, one_backlog, paths_tell_files,
+    what_is_loaded_stands,
 };
-pub use loading::{Backlog, FoundList, load_all};
+pub use loading::{Backlog, FoundList, load_all, load_gated};

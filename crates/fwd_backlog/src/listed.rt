@@ -1,6 +1,10 @@
 //! A file that was listed.
 
+ghost use Rattle.std.specs.Prelude.{◌≡◌, IfOk};
+
 use crate::file_name::FileName;
+use fwd_base::Memory;
+use std::alloc::Global;
 
 /// A file that was listed, by its name and by the name of its folder, the stream. Files are ordered by name, then by
 /// stream.
@@ -8,4 +12,15 @@ use crate::file_name::FileName;
 pub struct Listed {
     pub name: FileName,
     pub stream: FileName,
+}
+
+impl Listed {
+    pub fn try_clone(&self, alloc: Global) -> Result<Self, Memory>
+        ensures { IfOk result (λ copy. copy ≡ self.now) }
+    {
+        Ok(Listed {
+            name: self.name.try_clone(alloc)?,
+            stream: self.stream.try_clone(alloc)?,
+        })
+    }
 }

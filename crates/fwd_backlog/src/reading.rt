@@ -1,20 +1,20 @@
-//! Files are read and checked.
+//! Files are read one after another, in groups.
 
-ghost use Rattle.std.specs.Prelude.{◌≡◌, [], IfOk, IsErrOf};
-ghost use Rattle.std.specs.List.{AllZip};
+ghost use Rattle.std.specs.Prelude.{◌≡◌, ◌+◌, ◌≤◌, [], ◌∷◌, ◌++◌, length, IsTrue, IfOk, OnOk, IsErrOf};
 ghost use Rattle.fwd_program.specs.Told.{Makes};
 ghost use Rattle.fwd_program.specs.Cause.{HasCause};
 ghost use Rattle.fwd_backlog.specs.declared.errors.LoadErr.TheVariants.{DiskFailed};
-ghost use Rattle.fwd_backlog.specs.Answer.{outcome, Loads};
+ghost use Rattle.fwd_backlog.specs.Answer.{outcome};
 ghost use Rattle.fwd_backlog.specs.Listing.{path_of};
-ghost use Rattle.fwd_backlog.specs.Loading.{file_read, reads_synced, reads_files, IsFoundOf};
+ghost use Rattle.fwd_backlog.specs.Loading.{file_read, reads_synced};
+ghost use Rattle.fwd_backlog.specs.Groups.{ReadsGroup};
 
 use crate::LoadErr;
+use crate::file_read::FileRead;
 use crate::listed::Listed;
 use crate::paths::path_of;
-use fwd_base::limits::LONGEST_FILE;
+use fwd_base::limits::{GROUP_BYTES, GROUP_FILES, LONGEST_FILE};
 use fwd_base::{Bytes, Items, Memory};
-use fwd_found::{Found, check_file};
 use fwd_outside::Disk;
 use std::alloc::Global;
 
@@ -30,45 +30,59 @@ fn read_synced<D: Disk>(alloc: Global, disk: &mut D, path: &[u8]) -> Result<Byte
     Ok(disk.read(alloc, path, 0, ENOUGH)?)
 }
 
-/// What is kept of a file with these bytes.
-fn found_of(alloc: Global, file: &Listed, bytes: &[u8]) -> Result<Found, Memory>
-    ensures { IfOk result (IsFoundOf (file_read file.now bytes.now)) }
-{
-    Ok(Found {
-        stream: Bytes::from_slice(alloc, file.stream.as_slice())?,
-        name: Bytes::from_slice(alloc, file.name.as_slice())?,
-        seen: check_file(alloc, bytes)?,
-    })
-}
-
-fn read_file<D: Disk>(
+fn read_bytes<D: Disk>(
     alloc: Global,
     disk: &mut D,
     root: &[u8],
     file: &Listed,
-) -> Result<Found, LoadErr>
-    ensures calls { Loads (D.told disk.old) (D.told disk.new) (reads_synced (path_of root.now file.now)) (λ bytes found. IsFoundOf (file_read file.now bytes) found) result }
+) -> Result<Bytes, LoadErr>
+    ensures calls { Makes (D.told disk.old) (D.told disk.new) (reads_synced (path_of root.now file.now)) (outcome result) }
     ensures cause { HasCause (D.faults disk.old) (D.faults disk.new) (IsErrOf result DiskFailed) }
 {
     let path = path_of(alloc, root, file)?;
-    let bytes = read_synced(alloc, disk, path.as_slice())?;
-    Ok(found_of(alloc, file, bytes.as_slice())?)
+    read_synced(alloc, disk, path.as_slice())
 }
 
-/// Syncs, reads and checks each file, in order.
-pub fn read_files<D: Disk>(
+/// Puts a file with its bytes behind those so far.
+fn add_file(
+    alloc: Global,
+    file: &Listed,
+    bytes: Bytes,
+    group: &mut Items<FileRead>,
+) -> Result<(), Memory>
+    ensures { OnOk result (group.new ≡ group.old ++ file_read file.now bytes ∷ []) }
+{
+    let file = file.try_clone(alloc)?;
+    group.push(FileRead { file, bytes })
+}
+
+/// Whether a group of so many files with so many bytes is full.
+fn is_full(files: usize, bytes: u64) -> bool
+    ensures { IsTrue result → 1 ≤ files + bytes }
+{
+    GROUP_FILES <= files || GROUP_BYTES <= bytes
+}
+
+/// Syncs and reads the files one after another, until the group is full: it has 4,096 files, or 268,435,456 bytes.
+pub fn read_group<D: Disk>(
     alloc: Global,
     disk: &mut D,
     root: &[u8],
-    files: &Items<Listed>,
-) -> Result<Items<Found>, LoadErr>
-    ensures calls { Loads (D.told disk.old) (D.told disk.new) (reads_files root.now files.now []) (AllZip IsFoundOf) result }
+    files: &[Listed],
+) -> Result<Items<FileRead>, LoadErr>
+    ensures calls { ReadsGroup (D.told disk.old) (D.told disk.new) root.now files.now result }
+    ensures some { 1 ≤ length files.now → IfOk result (λ group. 1 ≤ length group) }
     ensures cause { HasCause (D.faults disk.old) (D.faults disk.new) (IsErrOf result DiskFailed) }
 {
-    let mut found = Items::new(alloc);
-    for file in files.as_slice() {
-        let next = read_file(alloc, disk, root, file)?;
-        found.push(next)?;
+    let mut group = Items::new(alloc);
+    let mut size = 0u64;
+    for file in files {
+        if is_full(group.len(), size) {
+            return Ok(group);
+        }
+        let bytes = read_bytes(alloc, disk, root, file)?;
+        size = size.saturating_add(bytes.len() as u64);
+        add_file(alloc, file, bytes, &mut group)?;
     }
-    Ok(found)
+    Ok(group)
 }

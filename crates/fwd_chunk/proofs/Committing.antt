@@ -37,16 +37,16 @@ module _ (head : ChunkHead) (meta content batch : List ℕ) (files : Files) (sta
   bounds : (14 ≤ chosen head.selector) × (chosen head.selector ≤ 18) × (14 ≤ other head.selector) × (other head.selector ≤ 18)
   bounds = ⊎_elim (λ s. (omega (arith, s.0), omega (arith, s.0), omega (arith, s.1), omega (arith, s.1))) (λ s. (omega (arith, s.0), omega (arith, s.0), omega (arith, s.1), omega (arith, s.1))) (slots head.selector)
 
-  new_parts : (image : List ℕ) → Agrees 7 8 total longest_file bytes image → chosen (selector_of image) ≡ other head.selector → HasParts image meta (content ++ batch)
+  new_parts : (image : List ℕ) → Agrees 7 8 total longest_file bytes image → chosen (selector_of image) ≡ other head.selector → HasParts head.mark image meta (content ++ batch)
   new_parts image agrees is =
       let by = by_head head meta content files old in
-      parts_as image _ _ meta (content ++ batch) by.0 (sym staged_is.behind)
-      (has_parts_at bytes image head.meta (other head.selector) (head.size + length batch) agrees.short old.parts.id old.parts.id_end old.parts.mark (sym old.meta_is) is staged_is.slot in_all agrees.covers
+      parts_as head.mark image _ _ meta (content ++ batch) by.0 (sym staged_is.behind)
+      (has_parts_at bytes image head.mark head.meta (other head.selector) (head.size + length batch) agrees.short old.parts.id old.parts.id_end old.parts.marked old.parts.mark_is (sym old.meta_is) is staged_is.slot in_all agrees.covers
       (λ i counts. agrees.same i (counted _ _ i bounds.2 bounds.3 (omega arith) counts)))
 
-  either_parts : (image : List ℕ) → Agrees 7 8 total longest_file bytes image → HasParts image meta content ⊎ HasParts image meta (content ++ batch)
-  either_parts image agrees = ⊎_elim (λ is. inl (parts_as image _ _ meta content (by_head head meta content files old).0 (by_head head meta content files old).1
-      (has_parts_at bytes image head.meta (chosen head.selector) head.size agrees.short old.parts.id old.parts.id_end old.parts.mark (sym old.meta_is) is (numbers head meta content files old) (omega (arith, in_all)) (omega (arith, agrees.covers))
+  either_parts : (image : List ℕ) → Agrees 7 8 total longest_file bytes image → HasParts head.mark image meta content ⊎ HasParts head.mark image meta (content ++ batch)
+  either_parts image agrees = ⊎_elim (λ is. inl (parts_as head.mark image _ _ meta content (by_head head meta content files old).0 (by_head head meta content files old).1
+      (has_parts_at bytes image head.mark head.meta (chosen head.selector) head.size agrees.short old.parts.id old.parts.id_end old.parts.marked old.parts.mark_is (sym old.meta_is) is (numbers head meta content files old) (omega (arith, in_all)) (omega (arith, agrees.covers))
       (λ i counts. agrees.same i (counted _ _ i bounds.0 bounds.1 (omega arith) counts)))))
       (λ is. inr (new_parts image agrees is))
       (chosen_or (selector_of image) head.selector)
@@ -57,10 +57,10 @@ module _ (head : ChunkHead) (meta content batch : List ℕ) (files : Files) (sta
   pub either_first : Either (files head.name)
   either_first = subst Either (sym old.state) (keeps_first 7 8 total longest_file bytes in_all old.parts.short)
 
-  pub either_leaves : (s : FileState) (image : Option (List ℕ)) → Either s → IsImage s image → LeavesEither meta content (content ++ batch) image
+  pub either_leaves : (s : FileState) (image : Option (List ℕ)) → Either s → IsImage s image → LeavesEither head.mark meta content (content ++ batch) image
   either_leaves s image either is =
       let agrees = image_agrees 7 8 total longest_file bytes s image either is in
-      subst (LeavesEither meta content (content ++ batch)) (sym agrees.1) (either_parts agrees.0 agrees.2)
+      subst (LeavesEither head.mark meta content (content ++ batch)) (sym agrees.1) (either_parts agrees.0 agrees.2)
 
   settled : (s1 s2 : FileState) → s1 ≡ written (files head.name) 7 1 (next_selector head.selector ∷ []) → s2 ≡ whole s1.bytes → Either s2 → IsSettled (committed_head head (head.size + length batch)) meta (content ++ batch) s2
   settled s1 s2 one two either =

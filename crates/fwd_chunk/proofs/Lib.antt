@@ -4,4 +4,6 @@ pub mod Committing
 pub mod Synced
 pub mod Promised
 pub mod Creating
+pub mod Recording
+pub mod Settled
 pub mod Wrong

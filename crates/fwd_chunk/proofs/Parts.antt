@@ -33,12 +33,12 @@ number_same a b at same =
     let e3 = same (at + 3) (omega arith) (omega arith) in
     cc
 
-pub has_parts_at : (first image : List ℕ) (meta slot size : ℕ) → length image ≤ longest_file → get_or first 0 0 ≡ 193 → get_or first 1 0 ≡ 0 → get_or first 6 0 ≡ 1
+pub has_parts_at : (first image : List ℕ) (mark meta slot size : ℕ) → length image ≤ longest_file → get_or first 0 0 ≡ 193 → get_or first 1 0 ≡ 0 → (mark ≡ 1) ⊎ (mark ≡ 2) → get_or first 6 0 ≡ mark
     → meta_length first ≡ meta → chosen (selector_of image) ≡ slot → number_at first slot ≡ size
     → 24 + meta + size ≤ length first → 24 + meta + size ≤ length image
     → ((i : ℕ) → Counts slot (24 + meta + size) i → get_or image i 0 ≡ get_or first i 0)
-    → HasParts image (part first 24 meta) (part first (24 + meta) size)
-has_parts_at first image meta slot size short id id_end mark meta_is chosen_is size_is in_first in_image same =
+    → HasParts mark image (part first 24 meta) (part first (24 + meta) size)
+has_parts_at first image mark meta slot size short id id_end marked mark_is meta_is chosen_is size_is in_first in_image same =
     let same_meta : meta_length image ≡ meta = (
     let e = same 22 (inl (inr (omega arith, omega arith))) in
     let f = same 23 (inl (inr (omega arith, omega arith))) in
@@ -48,7 +48,8 @@ has_parts_at first image meta slot size short id id_end mark meta_is chosen_is s
       short = short;
       id = same 0 (inl (inl (omega arith))) ∙ id;
       id_end = same 1 (inl (inl (omega arith))) ∙ id_end;
-      mark = same 6 (inl (inl (omega arith))) ∙ mark;
+      marked = marked;
+      mark_is = same 6 (inl (inl (omega arith))) ∙ mark_is;
       fits = omega arith;
       meta_is = part_same first image 24 meta (omega arith) (omega arith) (λ i le lt. sym (same i (inl (inr (omega arith, omega arith))))) ∙ ap (λ (m : ℕ). part image 24 m) (sym same_meta);
       content_is = part_same first image (24 + meta) size in_first in_image (λ i le lt. sym (same i (inl (inr (omega arith, omega arith))))) ∙ cc;
@@ -81,8 +82,8 @@ chosen_next selector = ap choose parity ∙ turned (selector % 2) below
     turned (suc zero) lt = refl
     turned (suc (suc r)) lt = absurd (omega (arith, lt))
 
-pub parts_as : (image a b meta content : List ℕ) → meta ≡ a → content ≡ b → HasParts image a b → HasParts image meta content
-parts_as image a b meta content is_a is_b parts = subst (λ (m : List ℕ). HasParts image m content) (sym is_a) (subst (λ (x : List ℕ). HasParts image a x) (sym is_b) parts)
+pub parts_as : (mark : ℕ) (image a b meta content : List ℕ) → meta ≡ a → content ≡ b → HasParts mark image a b → HasParts mark image meta content
+parts_as mark image a b meta content is_a is_b parts = subst (λ (m : List ℕ). HasParts mark image m content) (sym is_a) (subst (λ (x : List ℕ). HasParts mark image a x) (sym is_b) parts)
 
 -- a number that is written is read again
 pub number_in : (old : List ℕ) (at : ℕ) (bytes : List ℕ) → at ≤ length old → length bytes ≡ 4 → number_at (overwritten old at bytes) at ≡ number_at bytes 0

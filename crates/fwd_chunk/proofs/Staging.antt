@@ -54,11 +54,11 @@ module _ (head : ChunkHead) (meta content : List ℕ) (files : Files) (settled :
   pub same_selector : (image : List ℕ) → Agrees zone (zone + 4) end longest_file first image → selector_of image ≡ head.selector
   same_selector image agrees = agrees.same 7 (record { below = omega arith; beside = ⊎_elim (λ s. inl (omega (arith, s.1))) (λ s. inl (omega (arith, s.1))) (slots head.selector) }) ∙ sym settled.selector
 
-  pub has_parts : (image : List ℕ) → Agrees zone (zone + 4) end longest_file first image → HasParts image meta content
+  pub has_parts : (image : List ℕ) → Agrees zone (zone + 4) end longest_file first image → HasParts head.mark image meta content
   has_parts image agrees =
-      let at_head = has_parts_at first image head.meta (chosen head.selector) head.size agrees.short settled.parts.id settled.parts.id_end settled.parts.mark (sym settled.meta_is)
+      let at_head = has_parts_at first image head.mark head.meta (chosen head.selector) head.size agrees.short settled.parts.id settled.parts.id_end settled.parts.marked settled.parts.mark_is (sym settled.meta_is)
       (ap chosen (same_selector image agrees)) numbers fits agrees.covers (λ i counts. agrees.same i (kept i counts)) in
-      parts_as image _ _ meta content by_head.0 by_head.1 at_head
+      parts_as head.mark image _ _ meta content by_head.0 by_head.1 at_head
 
   -- how the file stands meanwhile
   abbrev pub Good : FileState → Type 0
@@ -67,10 +67,10 @@ module _ (head : ChunkHead) (meta content : List ℕ) (files : Files) (settled :
   pub good_first : Good (files head.name)
   good_first = subst Good (sym settled.state) (keeps_first zone (zone + 4) end longest_file first fits settled.parts.short)
 
-  pub good_leaves : (s : FileState) (image : Option (List ℕ)) → Good s → IsImage s image → Leaves meta content image
+  pub good_leaves : (s : FileState) (image : Option (List ℕ)) → Good s → IsImage s image → Leaves head.mark meta content image
   good_leaves s image good is =
       let agrees = image_agrees zone (zone + 4) end longest_file first s image good is in
-      subst (Leaves meta content) (sym agrees.1) (has_parts agrees.0 agrees.2)
+      subst (Leaves head.mark meta content) (sym agrees.1) (has_parts agrees.0 agrees.2)
 
   -- another file with the same bytes in front
   pub settled_as : (bytes : List ℕ) (s : FileState) → s ≡ whole bytes → Agrees zone (zone + 4) end longest_file first bytes → IsSettled head meta content s

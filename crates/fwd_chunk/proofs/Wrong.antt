@@ -3,7 +3,7 @@ use Rattle.std.proofs.Common.{◌≡◌, ◌⊎◌, inl, inr, ℕ, ◌<◌, ◌�
 use Rattle.std.proofs.lemmas.Bool.{cases_lt}
 use Rattle.fwd_image.specs.File.{FileState, IsImage, whole, gone, overwritten, written}
 use Rattle.fwd_image.proofs.Keeps.{get_or-overwritten}
-use Rattle.fwd_chunk.specs.Layout.{HasParts}
+use Rattle.fwd_chunk.specs.Layout.{HasParts, named_meta, new_file}
 
 -- a file with the content 5
 abbrev first : List ℕ
@@ -16,10 +16,10 @@ unsynced = written (written (written (whole first) 25 1 (7 ∷ [])) 18 4 (0 ∷ 
 abbrev other_batch : List ℕ
 other_batch = overwritten unsynced.bytes 25 (9 ∷ [])
 
-pub selector_before_sync : IsImage unsynced (Some other_batch) × HasParts other_batch [] (5 ∷ 9 ∷ [])
+pub selector_before_sync : IsImage unsynced (Some other_batch) × HasParts 1 other_batch [] (5 ∷ 9 ∷ [])
 selector_before_sync = (
   (refl, record { no_shorter = lit≤ tt; no_longer = lit≤ tt; same = λ i lt none. get_or-overwritten unsynced.bytes 25 (9 ∷ []) i (lit≤ tt) (inl lt) }),
-  record { short = lit≤ tt; id = refl; id_end = refl; mark = refl; fits = lit≤ tt; meta_is = refl; content_is = refl },
+  record { short = lit≤ tt; id = refl; id_end = refl; marked = inl refl; mark_is = refl; fits = lit≤ tt; meta_is = refl; content_is = refl },
 )
 
 -- There is one slot, which is written over: its bytes are in doubt, and with them the length of the old content.
@@ -40,10 +40,10 @@ in_slot i out = by (cases_lt i 17) (cases_lt i 18)
 agree_outside : (i : ℕ) → i < 25 → (i < 17) ⊎ (18 ≤ i) → get_or other_length i 0 ≡ get_or over_the_slot.bytes i 0
 agree_outside i lt out = get_or-overwritten over_the_slot.bytes 17 (0 ∷ []) i (lit≤ tt) out
 
-pub one_slot : IsImage over_the_slot (Some other_length) × HasParts other_length [] []
+pub one_slot : IsImage over_the_slot (Some other_length) × HasParts 1 other_length [] []
 one_slot = (
   (refl, record { no_shorter = lit≤ tt; no_longer = lit≤ tt; same = λ i lt none. agree_outside i lt (in_slot i (λ range. none (inl range))) }),
-  record { short = lit≤ tt; id = refl; id_end = refl; mark = refl; fits = lit≤ tt; meta_is = refl; content_is = refl },
+  record { short = lit≤ tt; id = refl; id_end = refl; marked = inl refl; mark_is = refl; fits = lit≤ tt; meta_is = refl; content_is = refl },
 )
 
 -- A batch was staged and not committed. Whoever keeps what stands behind the committed length reads 5 and 9.
@@ -53,13 +53,37 @@ staged = written (whole first) 25 1 (7 ∷ [])
 abbrev torn : List ℕ
 torn = overwritten staged.bytes 25 (9 ∷ [])
 
-pub torn_tail : IsImage staged (Some torn) × HasParts torn [] (5 ∷ []) × (drop 24 torn ≡ 5 ∷ 9 ∷ [])
+pub torn_tail : IsImage staged (Some torn) × HasParts 1 torn [] (5 ∷ []) × (drop 24 torn ≡ 5 ∷ 9 ∷ [])
 torn_tail = (
   (refl, record { no_shorter = lit≤ tt; no_longer = lit≤ tt; same = λ i lt none. get_or-overwritten staged.bytes 25 (9 ∷ []) i (lit≤ tt) (inl lt) }),
-  record { short = lit≤ tt; id = refl; id_end = refl; mark = refl; fits = lit≤ tt; meta_is = refl; content_is = refl },
+  record { short = lit≤ tt; id = refl; id_end = refl; marked = inl refl; mark_is = refl; fits = lit≤ tt; meta_is = refl; content_is = refl },
   refl,
 )
 
 -- The file of an accepted chunk isn't placed before the end of the run: a crash leaves none.
 pub placed_at_the_end : IsImage gone None
 placed_at_the_end = refl
+
+-- An outcome is recorded by writing the metadata anew: all of them are in doubt, and the tag `t` may be `z`.
+abbrev new_one : List ℕ
+new_one = new_file (116 ∷ []) (5 ∷ []) ((111 ∷ []) ∷ [])
+
+abbrev metadata_anew : FileState
+metadata_anew = written (whole new_one) 24 11 (named_meta (116 ∷ []) (record { name = 111 ∷ []; outcome = 68 } ∷ []))
+
+abbrev other_tag : List ℕ
+other_tag = overwritten metadata_anew.bytes 30 (122 ∷ [])
+
+in_tag : (i : ℕ) → ((24 ≤ i) × (i < 35) → ⊥) → (i < 30) ⊎ (31 ≤ i)
+in_tag i out = by (cases_lt i 30) (cases_lt i 31)
+  where
+    by : (i < 30) ⊎ (30 ≤ i) → (i < 31) ⊎ (31 ≤ i) → (i < 30) ⊎ (31 ≤ i)
+    by (inl lt) b = inl lt
+    by (inr le) (inl lt) = absurd (out (omega (arith, le), omega (arith, lt)))
+    by (inr le) (inr le2) = inr le2
+
+pub whole_metadata : IsImage metadata_anew (Some other_tag) × HasParts 2 other_tag (named_meta (122 ∷ []) (record { name = 111 ∷ []; outcome = 68 } ∷ [])) (5 ∷ [])
+whole_metadata = (
+  (refl, record { no_shorter = lit≤ tt; no_longer = lit≤ tt; same = λ i lt none. get_or-overwritten metadata_anew.bytes 30 (122 ∷ []) i (lit≤ tt) (in_tag i (λ range. none (inl range))) }),
+  record { short = lit≤ tt; id = refl; id_end = refl; marked = inr refl; mark_is = refl; fits = lit≤ tt; meta_is = refl; content_is = refl },
+)

@@ -7,15 +7,15 @@ use Rattle.fwd_image.specs.File.{FileState, whole}
 use Rattle.fwd_image.specs.Disk.{Files}
 use Rattle.fwd_image.specs.Crash.{Images, SameBut, WholeOrGone}
 use Rattle.fwd_chunk.specs.declared.append.ChunkHead.{ChunkHead}
-use Rattle.fwd_chunk.specs.Layout.{part, number_at, other, meta_length, selector_of, committed, HasParts, new_file}
+use Rattle.fwd_chunk.specs.Layout.{part, number_at, other, meta_length, selector_of, committed, HasParts, new_meta, new_file}
 
 -- the head of a new file
-abbrev pub new_head : List ℕ → List ℕ → List ℕ → ChunkHead
-new_head name tag content = record { name = name; meta = 4 + length tag; size = length content; selector = 0 }
+abbrev pub new_head : List ℕ → List ℕ → List ℕ → List (List ℕ) → ChunkHead
+new_head name tag content outputs = record { name = name; meta = length (new_meta tag outputs); size = length content; selector = 0; mark = 2; outputs = outputs }
 
 -- a new file is placed whole
-abbrev pub creates : List ℕ → List ℕ → List ℕ → DiskProgram (Option ChunkHead)
-creates name tag batch = and_then (places name (new_file tag batch)) (λ _. Return (Some (new_head name tag batch)))
+abbrev pub creates : List ℕ → List ℕ → List ℕ → List (List ℕ) → DiskProgram (Option ChunkHead)
+creates name tag batch outputs = and_then (places name (new_file tag batch outputs)) (λ _. Return (Some (new_head name tag batch outputs)))
 
 abbrev pub syncs_if : Bool → List ℕ → DiskProgram (Option (Unit {0}))
 syncs_if full name = if full then syncs name else Return (Some tt)
@@ -36,22 +36,22 @@ commits head full = and_then (writes head.name 7 (next_selector head.selector �
 
 -- the head after a commit
 abbrev pub committed_head : ChunkHead → ℕ → ChunkHead
-committed_head head size = record { name = head.name; meta = head.meta; size = size; selector = next_selector head.selector }
+committed_head head size = record head { size = size; selector = next_selector head.selector }
 
 -- an image has these parts, or one of two contents
-abbrev pub Leaves : List ℕ → List ℕ → Option (List ℕ) → Type 0
-Leaves meta content None = ⊥
-Leaves meta content (Some image) = HasParts image meta content
+abbrev pub Leaves : ℕ → List ℕ → List ℕ → Option (List ℕ) → Type 0
+Leaves mark meta content None = ⊥
+Leaves mark meta content (Some image) = HasParts mark image meta content
 
-abbrev pub LeavesEither : List ℕ → List ℕ → List ℕ → Option (List ℕ) → Type 0
-LeavesEither meta old new None = ⊥
-LeavesEither meta old new (Some image) = HasParts image meta old ⊎ HasParts image meta new
+abbrev pub LeavesEither : ℕ → List ℕ → List ℕ → List ℕ → Option (List ℕ) → Type 0
+LeavesEither mark meta old new None = ⊥
+LeavesEither mark meta old new (Some image) = HasParts mark image meta old ⊎ HasParts mark image meta new
 
--- the file has no doubt, and stands for the head's length and selector
+-- the file has no doubt, and stands for the head's mark, lengths and selector
 pub record IsSettled (head : ChunkHead) (meta content : List ℕ) (s : FileState) : Type 0 where
   pub bytes : List ℕ
   pub state : s ≡ whole bytes
-  pub parts : HasParts bytes meta content
+  pub parts : HasParts head.mark bytes meta content
   pub meta_is : head.meta ≡ meta_length bytes
   pub size : head.size ≡ committed bytes
   pub selector : head.selector ≡ selector_of bytes
@@ -74,7 +74,7 @@ abbrev pub ComesWhole : List ℕ → List ℕ → Files → Files → Type 0
 ComesWhole name bytes first now = Images name (WholeOrGone bytes) now × SameBut name first now
 
 abbrev pub KeepsOld : ChunkHead → List ℕ → List ℕ → Files → Files → Type 0
-KeepsOld head meta content first now = Images head.name (Leaves meta content) now × SameBut head.name first now
+KeepsOld head meta content first now = Images head.name (Leaves head.mark meta content) now × SameBut head.name first now
 
 abbrev pub KeepsEither : ChunkHead → List ℕ → List ℕ → List ℕ → Files → Files → Type 0
-KeepsEither head meta old new first now = Images head.name (LeavesEither meta old new) now × SameBut head.name first now
+KeepsEither head meta old new first now = Images head.name (LeavesEither head.mark meta old new) now × SameBut head.name first now

@@ -1,10 +1,9 @@
 -- The bytes of a chunk's file, by chunkio's header: an id, a checksum that isn't read, padding, the length of the metadata,
 -- the metadata, the content. The padding of a marked file has a selector, and two slots for the committed length of the
 -- content.
-use Rattle.std.specs.Prelude.{◌≡◌, ℕ, ◌+◌, ◌*◌, ◌%◌, ◌≤◌, ◌==◌, if◌then◌else◌, List, ◌∷◌, ◌++◌, length, take, drop}
-use Rattle.std.specs.Prelude.{slice_index}
+use Rattle.std.specs.Prelude.{◌≡◌, ◌≢◌, ◌⊎◌, ℕ, ◌+◌, ◌*◌, ◌%◌, ◌≤◌, ◌==◌, if◌then◌else◌, List, ◌∷◌, ◌++◌, length, map, flat_map, take, drop, slice_index, All, AllPairs, IsUtf8}
 use Rattle.std.specs.Int.{to_be_bytes, w16, w32}
-use Rattle.fwd_base.specs.Limits.{longest_file}
+use Rattle.fwd_base.specs.Limits.{longest_file, longest_name, most_outputs}
 
 -- so many bytes from an offset on
 abbrev pub part : List ℕ → ℕ → ℕ → List ℕ
@@ -32,24 +31,48 @@ selector_of bytes = slice_index bytes 7
 abbrev pub committed : List ℕ → ℕ
 committed bytes = number_at bytes (chosen (selector_of bytes))
 
--- the file is a marked one with these metadata, and this is its content; what stands behind it is torn
-pub record HasParts (bytes meta content : List ℕ) : Type 0 where
+-- The file is a marked one, with this mark, these metadata and this content; what stands behind it is torn.
+pub record HasParts (mark : ℕ) (bytes meta content : List ℕ) : Type 0 where
   pub short : length bytes ≤ longest_file
   pub id : slice_index bytes 0 ≡ 193
   pub id_end : slice_index bytes 1 ≡ 0
-  pub mark : slice_index bytes 6 ≡ 1
+  pub marked : (mark ≡ 1) ⊎ (mark ≡ 2)
+  pub mark_is : slice_index bytes 6 ≡ mark
   pub fits : 24 + meta_length bytes + committed bytes ≤ length bytes
   pub meta_is : meta ≡ part bytes 24 (meta_length bytes)
   pub content_is : content ≡ part bytes (24 + meta_length bytes) (committed bytes)
 
--- the metadata of a new file: four bytes, then the tag
-abbrev pub new_meta : List ℕ → List ℕ
-new_meta tag = 241 ∷ 119 ∷ 0 ∷ 0 ∷ tag
+-- An output that a file of mark 2 names, with its outcome byte: 68 where its outcome is recorded, else another value.
+pub record Named : Type 0 where
+  pub name : List ℕ
+  pub outcome : ℕ
 
--- The first 24 bytes of a new file. Its selector is 0, which chooses the first slot.
+-- the outcome, the length of the name, the name
+abbrev pub named_bytes : Named → List ℕ
+named_bytes output = output.outcome ∷ length output.name ∷ output.name
+
+-- The metadata of a file of mark 2: four bytes, the tag behind its length, and the outputs behind how many there are.
+abbrev pub named_meta : List ℕ → List Named → List ℕ
+named_meta tag outputs = 241 ∷ 119 ∷ 0 ∷ 2 ∷ to_be_bytes w16 (length tag) ++ tag ++ length outputs ∷ flat_map named_bytes outputs
+
+-- at most 64 different names of 1 to 255 bytes of UTF-8
+pub record AreOutputs (names : List (List ℕ)) : Type 0 where
+  pub few : length names ≤ most_outputs
+  pub each : All (λ name. (1 ≤ length name) × (length name ≤ longest_name) × IsUtf8 name) names
+  pub differ : AllPairs (λ one other. one ≢ other) names
+
+-- outputs of these names, of which no outcome is recorded
+abbrev pub unrecorded : List (List ℕ) → List Named
+unrecorded names = map (λ name. record { name = name; outcome = 0 }) names
+
+-- the metadata of a new file
+abbrev pub new_meta : List ℕ → List (List ℕ) → List ℕ
+new_meta tag outputs = named_meta tag (unrecorded outputs)
+
+-- The first 24 bytes of a new file. Its mark is 2, and its selector 0, which chooses the first slot.
 abbrev pub new_header : ℕ → ℕ → List ℕ
-new_header meta size = 193 ∷ 0 ∷ 0 ∷ 0 ∷ 0 ∷ 0 ∷ 1 ∷ 0 ∷ 0 ∷ 0 ∷ 0 ∷ 0 ∷ 0 ∷ 0 ∷ to_be_bytes w32 size ++ 0 ∷ 0 ∷ 0 ∷ 0 ∷ to_be_bytes w16 meta
+new_header meta size = 193 ∷ 0 ∷ 0 ∷ 0 ∷ 0 ∷ 0 ∷ 2 ∷ 0 ∷ 0 ∷ 0 ∷ 0 ∷ 0 ∷ 0 ∷ 0 ∷ to_be_bytes w32 size ++ 0 ∷ 0 ∷ 0 ∷ 0 ∷ to_be_bytes w16 meta
 
--- the bytes of a new file with this tag and content
-abbrev pub new_file : List ℕ → List ℕ → List ℕ
-new_file tag content = new_header (4 + length tag) (length content) ++ new_meta tag ++ content
+-- the bytes of a new file with this tag and content, which names these outputs
+abbrev pub new_file : List ℕ → List ℕ → List (List ℕ) → List ℕ
+new_file tag content outputs = new_header (length (new_meta tag outputs)) (length content) ++ new_meta tag outputs ++ content

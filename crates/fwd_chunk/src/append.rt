@@ -10,16 +10,18 @@ ghost use Rattle.fwd_image.specs.Crash.{DiskSince, DiskAfter};
 ghost use Rattle.fwd_chunk.specs.Layout.{other};
 ghost use Rattle.fwd_chunk.specs.Append.{SettledIn, StagedIn, KeepsOld, KeepsEither, stages, commits, syncs_if, next_selector, committed_head};
 
-use fwd_outside::{Bytes, Disk, DiskErr};
+use fwd_outside::{Bytes, Disk, DiskErr, Names};
 
-/// What is known of the file of a chunk: its name, the length of its metadata and of its content in bytes, and its
-/// selector.
+/// What is known of the file of a chunk: its name, the length of its metadata and of its content in bytes, its selector
+/// and its mark, and the outputs that it names, in order. A file with a mark below 2 names none.
 #[derive(Debug, Drop)]
 pub struct ChunkHead {
     pub name: Bytes,
     pub meta: u64,
     pub size: u64,
     pub selector: u8,
+    pub mark: u8,
+    pub outputs: Names,
 }
 
 /// The offset of the slot that a selector doesn't choose.
@@ -35,7 +37,7 @@ fn selector_after(selector: u8) -> u8
     if selector < 255 { selector + 1 } else { 0 }
 }
 
-fn sync_if<D: Disk>(disk: &mut D, name: &[u8], full: bool) -> Result<(), DiskErr>
+pub(crate) fn sync_if<D: Disk>(disk: &mut D, name: &[u8], full: bool) -> Result<(), DiskErr>
     ensures calls { Makes (D.told disk.old) (D.told disk.new) (syncs_if full name.now) (disk_outcome result) }
     ensures cause { HasCause (D.faults disk.old) (D.faults disk.new) (IsErrOf result Failed) }
 {

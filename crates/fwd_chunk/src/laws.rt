@@ -13,8 +13,8 @@ ghost use Rattle.fwd_chunk.specs.Append.{creates, stages, commits, SettledIn, St
 
 /// A new file is there whole, or not at all.
 pub fn create_comes_whole()
-    ensures { (name tag batch : List ℕ) (files : Files) (entries : List DiskEntry) (left : DiskProgram (Option ChunkHead))
-        → files name ≡ gone → Way (creates name tag batch) entries left → Moments Steps (ComesWhole name (new_file tag batch) files) files entries }
+    ensures { (name tag batch : List ℕ) (outputs : List (List ℕ)) (files : Files) (entries : List DiskEntry) (left : DiskProgram (Option ChunkHead))
+        → files name ≡ gone → Way (creates name tag batch outputs) entries left → Moments Steps (ComesWhole name (new_file tag batch outputs) files) files entries }
 {}
 
 /// Until the selector is written each image stands for the old content.

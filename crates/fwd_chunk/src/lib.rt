@@ -4,12 +4,16 @@
 //! has two slots for the length of its content, and one byte that chooses a slot. An append writes the batch behind the
 //! content and the new length into the slot that isn't chosen, syncs both, and only then writes the byte that chooses it:
 //! a crash at any moment leaves the old content or the new.
+//!
+//! The metadata name the outputs that the chunk is for. What becomes of one is recorded in one byte of its own.
 #![tactic(auto)]
 
 mod append;
 mod laws;
 mod new_file;
+mod outcome;
 
 pub use append::{ChunkHead, commit, stage};
 pub use laws::{commit_keeps_either, create_comes_whole, stage_keeps_the_old};
-pub use new_file::create;
+pub use new_file::{copied_names, create};
+pub use outcome::settle;

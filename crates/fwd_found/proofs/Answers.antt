@@ -4,8 +4,9 @@ use Rattle.fwd_event.specs.declared.event.Event.{Event}
 use Rattle.fwd_event.specs.Event.{AreEvents, IsWholePrefix}
 use Rattle.fwd_event.proofs.Lists.{events_same}
 use Rattle.fwd_found.specs.declared.chunk.Chunk.{Chunk}
+use Rattle.fwd_found.specs.declared.metadata.Metadata.{Metadata}
 use Rattle.fwd_found.specs.declared.refusal.NotAChunk.{NotAChunk}
-use Rattle.fwd_found.specs.declared.refusal.NotAChunk.TheVariants.{TooShort, BadId, BadLength, NotLogs, NotUtf8Tag, BadEvents, Memory, TooLong}
+use Rattle.fwd_found.specs.declared.refusal.NotAChunk.TheVariants.{TooShort, BadId, BadLength, NotLogs, BadOutputs, NotUtf8Tag, BadEvents, Memory, TooLong}
 use Rattle.fwd_found.specs.Standing.{is_marked, body_of, headed, HasContent, HasBadEvents, chunk_of, ChunkRead, StandsFor, IsMemory}
 
 not_both : (b : Bool) → IsTrue b → IsTrue (not b) → ⊥
@@ -29,25 +30,26 @@ one_content bytes es fs n m (inr x) (inr y) =
     let same = one_length es fs n m (body_of bytes) x.1 y.1 in
     (one_list es fs n m (body_of bytes) same x.1.are y.1.are, same)
 
-same_tag : (t u : List ℕ) → ◌≡◌ {A = Result (List ℕ) NotAChunk} (Ok t) (Ok u) → t ≡ u
-same_tag t u h = cc
+same_metadata : (t u : Metadata) → ◌≡◌ {A = Result Metadata NotAChunk} (Ok t) (Ok u) → t ≡ u
+same_metadata t u h = cc
 
 one_chunk : (bytes : List ℕ) (a b : Chunk) → StandsFor bytes (Ok a) → StandsFor bytes (Ok b) → a ≡ b
 one_chunk bytes a b x y =
-    let tags = same_tag x.0 y.0 (sym x.3 ∙ y.3) in
+    let heads = same_metadata x.0 y.0 (sym x.3 ∙ y.3) in
     let same = one_content bytes x.1 y.1 x.2 y.2 x.4 y.4 in
-    let chunks : chunk_of bytes x.0 x.1 x.2 ≡ chunk_of bytes y.0 y.1 y.2 = (λ i. chunk_of bytes (tags i) (same.0 i) (same.1 i)) in
+    let chunks : chunk_of bytes x.0 x.1 x.2 ≡ chunk_of bytes y.0 y.1 y.2 = (λ i. chunk_of bytes (heads i) (same.0 i) (same.1 i)) in
     x.5 ∙ chunks ∙ sym y.5
 
 -- a refusal is the header's, or the committed content isn't events
 abbrev pub Refused : List ℕ → NotAChunk → Type 0
-Refused bytes e = (headed bytes ≡ Err e) ⊎ ((e ≡ BadEvents) × (tag : List ℕ) × (headed bytes ≡ Ok tag) × HasBadEvents bytes)
+Refused bytes e = (headed bytes ≡ Err e) ⊎ ((e ≡ BadEvents) × (metadata : Metadata) × (headed bytes ≡ Ok metadata) × HasBadEvents bytes)
 
 pub refused : (bytes : List ℕ) (e : NotAChunk) → StandsFor bytes (Err e) → Refused bytes e
 refused bytes TooShort h = inl h
 refused bytes BadId h = inl h
 refused bytes BadLength h = inl h
 refused bytes NotLogs h = inl h
+refused bytes BadOutputs h = inl h
 refused bytes NotUtf8Tag h = inl h
 refused bytes BadEvents h = inr (refl, h.0, h.1, h.2)
 refused bytes Memory h = inl h
@@ -59,15 +61,16 @@ refused_by_header bytes TooShort never h = h
 refused_by_header bytes BadId never h = h
 refused_by_header bytes BadLength never h = h
 refused_by_header bytes NotLogs never h = h
+refused_by_header bytes BadOutputs never h = h
 refused_by_header bytes NotUtf8Tag never h = h
 refused_by_header bytes BadEvents never h = absurd (never refl)
 refused_by_header bytes Memory never h = h
 refused_by_header bytes TooLong never h = h
 
 -- where the header isn't refused
-pub bad_content : (bytes tag : List ℕ) (e : NotAChunk) → headed bytes ≡ Ok tag → (e ≡ Memory) ⊎ ((e ≡ BadEvents) × HasBadEvents bytes) → IsMemory (Err e) ⊎ StandsFor bytes (Err e)
-bad_content bytes tag e h (inl is) = inl (subst (λ (x : NotAChunk). IsMemory (Err x)) (sym is) tt)
-bad_content bytes tag e h (inr bad) = inr (subst (λ (x : NotAChunk). StandsFor bytes (Err x)) (sym bad.0) (tag, h, bad.1))
+pub bad_content : (bytes : List ℕ) (metadata : Metadata) (e : NotAChunk) → headed bytes ≡ Ok metadata → (e ≡ Memory) ⊎ ((e ≡ BadEvents) × HasBadEvents bytes) → IsMemory (Err e) ⊎ StandsFor bytes (Err e)
+bad_content bytes metadata e h (inl is) = inl (subst (λ (x : NotAChunk). IsMemory (Err x)) (sym is) tt)
+bad_content bytes metadata e h (inr bad) = inr (subst (λ (x : NotAChunk). StandsFor bytes (Err x)) (sym bad.0) (metadata, h, bad.1))
 
 has_no_fault : (bytes : List ℕ) (a : Chunk) (e : NotAChunk) → StandsFor bytes (Ok a) → Refused bytes e → ⊥
 has_no_fault bytes a e x (inl h) = let no : Ok x.0 ≡ Err e = sym x.3 ∙ h in cc no
@@ -78,7 +81,7 @@ has_no_fault bytes a e x (inr h) = by_content x.4
     by_content (inr c) = not_both (is_marked bytes) h.3.0 c.0
 
 one_refusal : (bytes : List ℕ) (e f : NotAChunk) → Refused bytes e → Refused bytes f → e ≡ f
-one_refusal bytes e f (inl x) (inl y) = let same : ◌≡◌ {A = Result (List ℕ) NotAChunk} (Err e) (Err f) = sym x ∙ y in cc same
+one_refusal bytes e f (inl x) (inl y) = let same : ◌≡◌ {A = Result Metadata NotAChunk} (Err e) (Err f) = sym x ∙ y in cc same
 one_refusal bytes e f (inl x) (inr y) = let no : Err e ≡ Ok y.1 = sym x ∙ y.2 in absurd (cc no)
 one_refusal bytes e f (inr x) (inl y) = let no : Ok x.1 ≡ Err f = sym x.2 ∙ y in absurd (cc no)
 one_refusal bytes e f (inr x) (inr y) = x.0 ∙ sym y.0

@@ -1,8 +1,8 @@
 -- From the answer of the reading to what is kept of it.
-use Rattle.std.proofs.Common.{◌≡◌, ◌⊎◌, ◌↔◌, inl, inr, ℕ, List, Ok, Err, refl, subst}
+use Rattle.std.proofs.Common.{◌≡◌, ◌⊎◌, ◌↔◌, inl, inr, ℕ, List, Err, refl, subst}
 use Rattle.fwd_found.specs.declared.refusal.NotAChunk.{NotAChunk}
 use Rattle.fwd_found.specs.declared.refusal.ChunkKind.{ChunkKind}
-use Rattle.fwd_found.specs.declared.refusal.ChunkKind.TheVariants.{TooShort, BadId, BadLength, NotLogs, NotUtf8Tag, BadEvents, TooLong}
+use Rattle.fwd_found.specs.declared.refusal.ChunkKind.TheVariants.{TooShort, BadId, BadLength, NotLogs, BadOutputs, NotUtf8Tag, BadEvents, TooLong}
 use Rattle.fwd_found.specs.Standing.{ChunkRead, StandsFor, IsMemory}
 use Rattle.fwd_found.specs.Seen.{refusal_of}
 
@@ -18,6 +18,7 @@ not_memory TooShort m = m
 not_memory BadId m = m
 not_memory BadLength m = m
 not_memory NotLogs m = m
+not_memory BadOutputs m = m
 not_memory NotUtf8Tag m = m
 not_memory BadEvents m = m
 not_memory TooLong m = m

@@ -1,15 +1,16 @@
 -- A byte more than the longest file has is enough to tell what bytes stand for.
-use Rattle.std.proofs.Common.{◌≡◌, ◌⊎◌, inl, inr, ℕ, ◌+◌, ◌<◌, ◌≤◌, true, false, nat_lt, List, length, take, length-take, Result, Ok, Err, refl, sym, ◌∙◌, subst, arith}
+use Rattle.std.proofs.Common.{◌≡◌, ◌⊎◌, inl, inr, ℕ, ◌<◌, ◌≤◌, List, length, take, length-take, Result, Ok, Err, refl, sym, ◌∙◌, subst, arith}
 use Rattle.std.proofs.lemmas.Bool.{lt-ltb}
 use Rattle.std.proofs.lemmas.List.{take_all}
 use Rattle.fwd_base.specs.Limits.{longest_file}
 use Rattle.fwd_found.specs.declared.chunk.Seen.{Seen}
+use Rattle.fwd_found.specs.declared.metadata.Metadata.{Metadata}
 use Rattle.fwd_found.specs.declared.chunk.Seen.TheVariants.{Whole, Empty, Refused}
 use Rattle.fwd_found.specs.declared.refusal.NotAChunk.{NotAChunk}
-use Rattle.fwd_found.specs.declared.refusal.NotAChunk.TheVariants.{TooLong, BadEvents}
+use Rattle.fwd_found.specs.declared.refusal.NotAChunk.TheVariants.{TooLong}
 use Rattle.fwd_found.specs.Standing.{headed, ChunkRead, StandsFor}
 use Rattle.fwd_found.specs.Seen.{refusal_of, IsSeen, enough}
-use Rattle.fwd_found.proofs.Answers.{refused, refused_by_header}
+use Rattle.fwd_found.proofs.Answers.{refused}
 
 pub too_long : (bytes : List ℕ) → longest_file < length bytes → headed bytes ≡ Err TooLong
 too_long bytes long = let is = lt-ltb longest_file (length bytes) long in rw is refl
@@ -19,7 +20,7 @@ stands_too_long : (bytes part : List ℕ) → headed bytes ≡ Err TooLong → h
 stands_too_long bytes part long is (Ok chunk) stands = let no : Err TooLong ≡ Ok stands.0 = sym is ∙ stands.3 in absurd (cc no)
 stands_too_long bytes part long is (Err e) stands = elim (refused part e stands) [
   | inl by ↦
-      let same : ◌≡◌ {A = Result (List ℕ) NotAChunk} (Err TooLong) (Err e) = sym is ∙ by in
+      let same : ◌≡◌ {A = Result Metadata NotAChunk} (Err TooLong) (Err e) = sym is ∙ by in
       let kind : TooLong ≡ e = cc same in
       subst (λ (x : NotAChunk). StandsFor bytes (Err x)) kind long
   | inr bad ↦ let no : Err TooLong ≡ Ok bad.1 = sym is ∙ bad.2 in absurd (cc no)

@@ -1,45 +1,72 @@
--- The header of a file that isn't refused, its tag, and how long it is.
-use Rattle.std.proofs.Common.{◌≡◌, ℕ, ◌+◌, ◌-◌, ◌≤◌, min, Bool, true, false, not, nat_lt, if◌then◌else◌, List, length, length-take, length-drop, take, drop, Result, Ok, Err, MatchResult, refl, sym, ap, subst, ◌∙◌, arith}
-use Rattle.std.specs.Borrow.{Bor}
+-- The header of a file that isn't refused, what its metadata say, and how long it is.
+use Rattle.std.proofs.Common.{◌≡◌, ℕ, ◌+◌, ◌-◌, ◌≤◌, min, Bool, true, false, IsTrue, not, ◌&&◌, nat_lt, if◌then◌else◌, List, length, length-take, length-drop, Result, Ok, Err, refl, ap, ◌∙◌, arith}
+use Rattle.std.specs.Str.{is_utf8}
 use Rattle.std.proofs.lemmas.Bool.{le-ltb, ltb-false}
 use Rattle.fwd_base.specs.Limits.{longest_file}
-use Rattle.fwd_chunk.specs.Layout.{part, meta_length}
+use Rattle.fwd_chunk.specs.Layout.{part, meta_length, committed}
 use Rattle.fwd_found.specs.declared.chunk.Chunk.{Chunk}
+use Rattle.fwd_found.specs.declared.metadata.Metadata.{Metadata}
 use Rattle.fwd_found.specs.declared.refusal.NotAChunk.{NotAChunk}
-use Rattle.fwd_found.specs.declared.refusal.NotAChunk.TheVariants.{TooLong, TooShort, BadId}
-use Rattle.fwd_found.specs.Standing.{has_id, tag_of, tagged, headed, body_of, StandsFor}
+use Rattle.fwd_found.specs.declared.refusal.NotAChunk.TheVariants.{TooLong, TooShort, BadId, BadLength, NotUtf8Tag}
+use Rattle.fwd_found.specs.Outputs.{said}
+use Rattle.fwd_found.specs.Standing.{mark_of, is_marked, has_id, metadata_of, sized, tagged, headed_by, headed, body_of, StandsFor}
 
-pub headed_by : (bytes : List ℕ) → length bytes ≤ longest_file → 24 ≤ length bytes → has_id bytes ≡ true → 24 + meta_length bytes ≤ length bytes
-    → headed bytes ≡ tagged bytes (tag_of (part bytes 24 (meta_length bytes)))
-headed_by bytes short header id whole =
+abbrev Head : Type 0
+Head = Result Metadata NotAChunk
+
+abbrev Meta : Type 0
+Meta = Result (List ℕ) NotAChunk
+
+pub metadata_is : (bytes : List ℕ) → length bytes ≤ longest_file → 24 ≤ length bytes → has_id bytes ≡ true → 24 + meta_length bytes ≤ length bytes
+    → metadata_of bytes ≡ Ok (part bytes 24 (meta_length bytes))
+metadata_is bytes short header id whole =
     let a : nat_lt longest_file (length bytes) ≡ false = le-ltb longest_file (length bytes) short in
     let b : nat_lt (length bytes) 24 ≡ false = le-ltb (length bytes) 24 header in
     let c : not (has_id bytes) ≡ false = ap not id in
     let d : nat_lt (length bytes) (24 + meta_length bytes) ≡ false = le-ltb (length bytes) (24 + meta_length bytes) whole in
     rw (a, b, c, d) refl
 
--- the tag of the metadata that were found to have n bytes
-pub headed_as : (bytes : List ℕ) (r : Result (Bor (List ℕ)) NotAChunk) (n : ℕ) → n ≡ meta_length bytes → length bytes ≤ longest_file → 24 ≤ length bytes → has_id bytes ≡ true → 24 + n ≤ length bytes
-    → MatchResult r (λ tag. tagged bytes (tag_of (take (24 + n - 24) (drop 24 bytes))) ≡ Ok tag.now) (λ e. tagged bytes (tag_of (take (24 + n - 24) (drop 24 bytes))) ≡ Err e)
-    → MatchResult r (λ tag. headed bytes ≡ Ok tag.now) (λ e. headed bytes ≡ Err e)
-headed_as bytes r n is short header id whole h =
-    let by = headed_by bytes short header id (omega arith) in
-    let count : meta_length bytes ≡ 24 + n - 24 = omega arith in
-    let all : headed bytes ≡ tagged bytes (tag_of (take (24 + n - 24) (drop 24 bytes))) = by ∙ ap (λ (k : ℕ). tagged bytes (tag_of (take k (drop 24 bytes)))) count in
-    subst (λ (x : Result (List ℕ) NotAChunk). MatchResult r (λ tag. x ≡ Ok tag.now) (λ e. x ≡ Err e)) (sym all) h
-
--- the header and the metadata of a file that stands for a chunk are whole
-pub whole_header : (bytes tag : List ℕ) → headed bytes ≡ Ok tag → (length bytes ≤ longest_file) × (24 + meta_length bytes ≤ length bytes)
-whole_header bytes tag is = by (nat_lt longest_file (length bytes)) (nat_lt (length bytes) 24) (has_id bytes) (nat_lt (length bytes) (24 + meta_length bytes)) refl refl is
+-- the metadata that are read are whole
+pub whole_metadata : (bytes meta : List ℕ) → metadata_of bytes ≡ Ok meta → (length bytes ≤ longest_file) × (24 + meta_length bytes ≤ length bytes)
+whole_metadata bytes meta is = by (nat_lt longest_file (length bytes)) (nat_lt (length bytes) 24) (has_id bytes) (nat_lt (length bytes) (24 + meta_length bytes)) refl refl is
   where
     by : (long short known cut : Bool) → nat_lt longest_file (length bytes) ≡ long → nat_lt (length bytes) (24 + meta_length bytes) ≡ cut
-        → ◌≡◌ {A = Result (List ℕ) NotAChunk} (if long then Err TooLong else if short then Err TooShort else if not known then Err BadId else if cut then Err TooShort else tagged bytes (tag_of (part bytes 24 (meta_length bytes)))) (Ok tag)
+        → ◌≡◌ {A = Meta} (if long then Err TooLong else if short then Err TooShort else if not known then Err BadId else if cut then Err TooShort else Ok (part bytes 24 (meta_length bytes))) (Ok meta)
         → (length bytes ≤ longest_file) × (24 + meta_length bytes ≤ length bytes)
     by true b known cut l c is = absurd (cc is)
     by false true known cut l c is = absurd (cc is)
     by false false false cut l c is = absurd (cc is)
     by false false true true l c is = absurd (cc is)
     by false false true false l c is = (ltb-false longest_file (length bytes) l, ltb-false (length bytes) (24 + meta_length bytes) c)
+
+no_metadata : (e : NotAChunk) (m : Metadata) → ◌≡◌ {A = Head} (Err e) (Ok m) → ⊥
+no_metadata e m is = cc is
+
+-- a head that was given has metadata
+head_parts : (bytes : List ℕ) (r : Meta) (m : Metadata) → headed_by bytes r ≡ Ok m → (meta : List ℕ) × (r ≡ Ok meta) × (tagged bytes (said (mark_of bytes) meta) ≡ Ok m)
+head_parts bytes (Err e) m is = absurd (no_metadata e m is)
+head_parts bytes (Ok meta) m is = (meta, refl, is)
+
+-- the header and the metadata of a file that stands for a chunk are whole
+pub whole_header : (bytes : List ℕ) (m : Metadata) → headed bytes ≡ Ok m → (length bytes ≤ longest_file) × (24 + meta_length bytes ≤ length bytes)
+whole_header bytes m is = let parts = head_parts bytes (metadata_of bytes) m is in whole_metadata bytes parts.0 parts.1
+
+-- and a marked one has all of its committed bytes
+pub long_enough : (bytes : List ℕ) (m : Metadata) → headed bytes ≡ Ok m → IsTrue (is_marked bytes) → committed bytes ≤ length (body_of bytes)
+long_enough bytes m is marked = let parts = head_parts bytes (metadata_of bytes) m is in by_tag (said (mark_of bytes) parts.0) parts.2
+  where
+    by_size : (known cut : Bool) (other : Metadata) → known ≡ true → nat_lt (length (body_of bytes)) (committed bytes) ≡ cut → ◌≡◌ {A = Head} (if known && cut then Err BadLength else Ok other) (Ok m) → committed bytes ≤ length (body_of bytes)
+    by_size false cut other k c is = absurd (cc k)
+    by_size true true other k c is = absurd (no_metadata BadLength m is)
+    by_size true false other k c is = ltb-false (length (body_of bytes)) (committed bytes) c
+
+    by_text : (text : Bool) (other : Metadata) → ◌≡◌ {A = Head} (if text then sized bytes other else Err NotUtf8Tag) (Ok m) → committed bytes ≤ length (body_of bytes)
+    by_text false other is = absurd (no_metadata NotUtf8Tag m is)
+    by_text true other is = by_size (is_marked bytes) (nat_lt (length (body_of bytes)) (committed bytes)) other marked refl is
+
+    by_tag : (r : Head) → tagged bytes r ≡ Ok m → committed bytes ≤ length (body_of bytes)
+    by_tag (Err e) is = absurd (no_metadata e m is)
+    by_tag (Ok other) is = by_text (is_utf8 other.tag) other is
 
 -- a chunk that was read ends within the longest file that is read
 pub read_fits : (bytes : List ℕ) (chunk : Chunk) → StandsFor bytes (Ok chunk) → 24 + chunk.meta + length chunk.content ≤ longest_file

@@ -1,6 +1,10 @@
+pub mod Tests
+pub mod Naming
+pub mod Passing
 pub mod Heading
 pub mod Events
 pub mod Answers
 pub mod Standing
+pub mod Function
 pub mod Enough
 pub mod Checked

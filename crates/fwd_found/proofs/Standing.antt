@@ -1,42 +1,55 @@
 -- A marked file stands for its parts.
-use Rattle.std.proofs.Common.{◌≡◌, ℕ, ◌+◌, true, false, nat_lt, IsTrue, List, length, Some, Ok, refl, sym, ap, subst, ◌∙◌, inl, arith, length-drop}
+use Rattle.std.proofs.Common.{◌≡◌, ◌⊎◌, inl, inr, ℕ, ◌+◌, true, false, ◌==◌, ◌||◌, nat_lt, IsTrue, List, length, Ok, refl, sym, ap, subst, ◌∙◌, arith, length-drop}
 use Rattle.std.specs.Str.{is_utf8}
 use Rattle.std.proofs.lemmas.Bool.{le-ltb}
 use Rattle.fwd_event.specs.declared.event.Event.{Event}
 use Rattle.fwd_event.specs.Event.{AreEvents}
-use Rattle.fwd_chunk.specs.Layout.{meta_length, committed, HasParts, new_meta}
+use Rattle.fwd_chunk.specs.Layout.{meta_length, committed, HasParts}
 use Rattle.fwd_found.specs.declared.chunk.Chunk.{Chunk}
-use Rattle.fwd_found.specs.Standing.{has_id, is_marked, body_of, tag_of, sized, tagged, headed, chunk_of, StandsFor}
-use Rattle.fwd_found.proofs.Heading.{headed_by}
+use Rattle.fwd_found.specs.declared.metadata.Metadata.{Metadata}
+use Rattle.fwd_found.specs.Outputs.{said}
+use Rattle.fwd_found.specs.Standing.{mark_of, has_id, is_marked, body_of, sized, tagged, headed_by, headed, chunk_of, StandsFor}
+use Rattle.fwd_found.proofs.Heading.{metadata_is}
 
-module _ (bytes meta content tag : List ℕ) (events : List Event) (parts : HasParts bytes meta content) (says : tag_of meta ≡ Some tag) (utf8 : IsTrue (is_utf8 tag)) where
+marks : (mark : ℕ) → (mark ≡ 1) ⊎ (mark ≡ 2) → (((mark == 1) || (mark == 2)) ≡ true) × (nat_lt mark 3 ≡ true)
+marks mark (inl is) = rw is (refl, refl)
+marks mark (inr is) = rw is (refl, refl)
+
+module _ (mark : ℕ) (bytes meta content : List ℕ) (metadata : Metadata) (events : List Event) (parts : HasParts mark bytes meta content) (says : said mark meta ≡ Ok metadata) (utf8 : IsTrue (is_utf8 metadata.tag)) where
   marked : is_marked bytes ≡ true
-  marked = rw parts.mark refl
+  marked = rw parts.mark_is (marks mark parts.marked).0
 
   id : has_id bytes ≡ true
-  id = rw (parts.id, parts.id_end, parts.mark) refl
+  id = rw (parts.id, parts.id_end, parts.mark_is) (marks mark parts.marked).1
 
   enough : nat_lt (length (body_of bytes)) (committed bytes) ≡ false
   enough = le-ltb (length (body_of bytes)) (committed bytes) (omega (arith, parts.fits, length-drop (24 + meta_length bytes) bytes))
 
-  has_size : sized bytes tag ≡ Ok tag
+  has_size : sized bytes metadata ≡ Ok metadata
   has_size = rw (marked, enough) refl
 
-  has_tag : tagged bytes (Some tag) ≡ Ok tag
+  has_tag : tagged bytes (Ok metadata) ≡ Ok metadata
   has_tag = rw utf8 has_size
 
-  is_headed : headed bytes ≡ Ok tag
+  is_headed : headed bytes ≡ Ok metadata
   is_headed =
-      headed_by bytes parts.short (omega (arith, parts.fits)) id (omega (arith, parts.fits))
-      ∙ ap (λ (m : List ℕ). tagged bytes (tag_of m)) (sym parts.meta_is)
+      ap (headed_by bytes) (metadata_is bytes parts.short (omega (arith, parts.fits)) id (omega (arith, parts.fits)))
+      ∙ ap (λ (m : List ℕ). tagged bytes (said (mark_of bytes) m)) (sym parts.meta_is)
+      ∙ ap (λ (k : ℕ). tagged bytes (said k meta)) parts.mark_is
       ∙ ap (tagged bytes) says
       ∙ has_tag
 
-  pub stands : AreEvents events content → (chunk : Chunk) × StandsFor bytes (Ok chunk) × (chunk.tag ≡ tag) × (chunk.content ≡ content) × (chunk.events ≡ length events)
-  stands are =
-      (chunk_of bytes tag events (committed bytes), (tag, events, committed bytes, is_headed, inl (marked, refl, subst (AreEvents events) parts.content_is are), refl), refl, sym parts.content_is, refl)
-
-pub new_tag : (tag : List ℕ) → tag_of (new_meta tag) ≡ Some tag
-new_tag tag =
-    let long : nat_lt (length (new_meta tag)) 4 ≡ false = le-ltb (length (new_meta tag)) 4 (omega arith) in
-    rw long refl
+  pub stands : AreEvents events content
+      → (chunk : Chunk) × StandsFor bytes (Ok chunk) × (chunk.meta ≡ meta_length bytes) × (chunk.mark ≡ mark) × (chunk.tag ≡ metadata.tag)
+      × (chunk.outputs ≡ metadata.outputs) × (chunk.done ≡ metadata.done) × (chunk.content ≡ content) × (chunk.events ≡ length events)
+  stands are = (
+    chunk_of bytes metadata events (committed bytes),
+    (metadata, events, committed bytes, is_headed, inl (marked, refl, subst (AreEvents events) parts.content_is are), refl),
+    refl,
+    parts.mark_is,
+    refl,
+    refl,
+    refl,
+    sym parts.content_is,
+    refl,
+  )

@@ -1,2 +1,4 @@
+pub mod Outputs
 pub mod Standing
+pub mod Stands
 pub mod Seen

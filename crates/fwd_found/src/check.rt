@@ -1,8 +1,8 @@
 //! A file that is found is checked, and its content is let go.
 
-ghost use Rattle.std.specs.Prelude.{◌≡◌, ◌≤◌, IfOk, MatchOption};
+ghost use Rattle.std.specs.Prelude.{◌≡◌, ◌≤◌, ◌<◌, ◌^◌, IfOk, MatchOption};
 ghost use Rattle.fwd_found.specs.declared.refusal.NotAChunk.TheVariants as not_a_chunk;
-ghost use Rattle.fwd_found.specs.Seen.{brief_of, refusal_of, IsSeen};
+ghost use Rattle.fwd_found.specs.Seen.{brief_of, refusal_of, IsSeen, IfWhole};
 
 use crate::{Brief, Chunk, ChunkKind, NotAChunk, Seen, read_chunk};
 use fwd_base::Memory;
@@ -19,6 +19,8 @@ fn brief_of(chunk: Chunk) -> Brief
         torn: chunk.torn,
         mark: chunk.mark,
         tag: chunk.tag,
+        outputs: chunk.outputs,
+        done: chunk.done,
     }
 }
 
@@ -31,6 +33,7 @@ fn kind_of(refusal: NotAChunk) -> Option<ChunkKind>
         NotAChunk::BadId => Some(ChunkKind::BadId),
         NotAChunk::BadLength => Some(ChunkKind::BadLength),
         NotAChunk::NotLogs => Some(ChunkKind::NotLogs),
+        NotAChunk::BadOutputs => Some(ChunkKind::BadOutputs),
         NotAChunk::NotUtf8Tag => Some(ChunkKind::NotUtf8Tag),
         NotAChunk::BadEvents => Some(ChunkKind::BadEvents),
         NotAChunk::TooLong => Some(ChunkKind::TooLong),
@@ -40,7 +43,9 @@ fn kind_of(refusal: NotAChunk) -> Option<ChunkKind>
 
 /// Checks the bytes of a file that was found. What is kept is a description; the content is let go.
 pub fn check_file(alloc: Global, bytes: &[u8]) -> Result<Seen, Memory>
-    ensures { IfOk result (IsSeen bytes.now) }
+    ensures seen { IfOk result (IsSeen bytes.now) }
+    // The length of metadata has two bytes.
+    ensures meta { IfOk result (IfWhole (λ brief. brief.meta < 2 ^ 16)) }
 {
     match read_chunk(alloc, bytes) {
         Ok(chunk) => {

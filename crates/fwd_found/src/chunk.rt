@@ -1,7 +1,7 @@
 //! A chunk that was read, and what is kept of it.
 
 use crate::ChunkKind;
-use fwd_base::{Bytes, crosses};
+use fwd_base::{Bytes, Names, crosses};
 
 /// A chunk as its file has it. Lengths are counted in bytes.
 #[derive(Debug, Drop)]
@@ -15,8 +15,12 @@ pub struct Chunk {
     pub events: u64,
     /// How many bytes stand behind the content.
     pub torn: u64,
-    /// 0 for a plain file, 1 for one with a committed length.
+    /// 0 for a plain file, 1 and 2 for one with a committed length.
     pub mark: u8,
+    /// The outputs that a file of mark 2 names, in order.
+    pub outputs: Names,
+    /// Those of them whose outcome is recorded, in order.
+    pub done: Names,
 }
 
 /// A chunk with the length of its content in place of the content.
@@ -28,6 +32,8 @@ pub struct Brief {
     pub events: u64,
     pub torn: u64,
     pub mark: u8,
+    pub outputs: Names,
+    pub done: Names,
 }
 
 /// What the check of a file saw: a chunk with events, one without, or why it is none.

@@ -1,12 +1,15 @@
 //! The header and the metadata.
 
-ghost use Rattle.std.specs.Prelude.{◌≡◌, ◌+◌, ◌≤◌, length, Some, None, Ok, Err, MatchOption, MatchResult};
+ghost use Rattle.std.specs.Prelude.{◌≡◌, ◌⊎◌, ◌+◌, ◌^◌, ◌<◌, ◌≤◌, ◌&&◌, nat_lt, not, length, Ok, Err, OnOk, MatchResult};
 ghost use Rattle.fwd_chunk.specs.Layout.{meta_length, committed};
-ghost use Rattle.fwd_found.specs.Standing.{has_id, is_marked, tag_of, tagged, sized, headed};
+ghost use Rattle.fwd_found.specs.declared.refusal.NotAChunk.TheVariants as not_a_chunk;
+ghost use Rattle.fwd_found.specs.Standing.{has_id, is_marked, body_of, metadata_of, tagged, headed};
 
 use crate::NotAChunk;
+use crate::metadata::{Metadata, said};
 use fwd_base::is_utf8;
 use fwd_base::limits::LONGEST_FILE;
+use std::alloc::Global;
 
 /// The length of what stands before the metadata.
 pub const HEADER: usize = 24;
@@ -14,7 +17,8 @@ pub const HEADER: usize = 24;
 /// The length of the metadata.
 pub fn meta_length(bytes: &[u8]) -> usize
     requires { 24 ≤ length bytes.now }
-    ensures { result ≡ meta_length bytes.now }
+    ensures length { result ≡ meta_length bytes.now }
+    ensures short { result < 2 ^ 16 }
 {
     usize::from(u16::from_be_bytes([bytes[22], bytes[23]]))
 }
@@ -37,59 +41,41 @@ pub fn is_marked(bytes: &[u8]) -> bool
     requires { 24 ≤ length bytes.now }
     ensures { result ≡ is_marked bytes.now }
 {
-    bytes[6] == 1
+    bytes[6] == 1 || bytes[6] == 2
 }
 
 fn has_id(bytes: &[u8]) -> bool
     requires { 24 ≤ length bytes.now }
     ensures { result ≡ has_id bytes.now }
 {
-    bytes[0] == 0xc1 && bytes[1] == 0 && bytes[6] < 2
+    bytes[0] == 0xc1 && bytes[1] == 0 && bytes[6] < 3
 }
 
-/// The tag in metadata, unless they say that the chunk isn't one of logs.
-fn tag_of(meta: &[u8]) -> Option<&[u8]>
-    ensures { MatchOption result (tag_of meta.now ≡ None) (λ tag. tag_of meta.now ≡ Some tag.now) }
-{
-    match meta {
-        [0xf1, 0x77, 0, _, tag @ ..] => Some(tag),
-        [0xf1, 0x77, 0] => Some(meta),
-        [0xf1, 0x77, _, ..] => None,
-        _ => Some(meta),
-    }
-}
-
-/// The tag, where a marked file has all of its committed bytes.
-fn sized<'a>(bytes: &[u8], tag: &'a [u8]) -> Result<&'a [u8], NotAChunk>
+/// Whether a marked file has all of its committed bytes; of a plain one there are none.
+fn is_long_enough(bytes: &[u8]) -> bool
     requires { 24 + meta_length bytes.now ≤ length bytes.now }
-    ensures { MatchResult result (λ t. sized bytes.now tag.now ≡ Ok t.now) (λ e. sized bytes.now tag.now ≡ Err e) }
+    ensures { result ≡ not (is_marked bytes.now && nat_lt (length (body_of bytes.now)) (committed bytes.now)) }
 {
-    if is_marked(bytes) && bytes.len() - HEADER - meta_length(bytes) < committed(bytes) {
-        Err(NotAChunk::BadLength)
+    !(is_marked(bytes) && bytes.len() - HEADER - meta_length(bytes) < committed(bytes))
+}
+
+/// Whether what the metadata say and the length of the file are right.
+fn judged(bytes: &[u8], metadata: &Metadata) -> Result<(), NotAChunk>
+    requires { 24 + meta_length bytes.now ≤ length bytes.now }
+    ensures { MatchResult result (λ _. tagged bytes.now (Ok metadata.now) ≡ Ok metadata.now) (λ e. tagged bytes.now (Ok metadata.now) ≡ Err e) }
+{
+    if !is_utf8(metadata.tag.as_slice()) {
+        Err(NotAChunk::NotUtf8Tag)
+    } else if is_long_enough(bytes) {
+        Ok(())
     } else {
-        Ok(tag)
+        Err(NotAChunk::BadLength)
     }
 }
 
-fn tagged<'a>(bytes: &[u8], meta: &'a [u8]) -> Result<&'a [u8], NotAChunk>
-    requires { 24 + meta_length bytes.now ≤ length bytes.now }
-    ensures { MatchResult result (λ t. tagged bytes.now (tag_of meta.now) ≡ Ok t.now) (λ e. tagged bytes.now (tag_of meta.now) ≡ Err e) }
-{
-    match tag_of(meta) {
-        Some(tag) => {
-            if is_utf8(tag) {
-                sized(bytes, tag)
-            } else {
-                Err(NotAChunk::NotUtf8Tag)
-            }
-        }
-        None => Err(NotAChunk::NotLogs),
-    }
-}
-
-/// The tag that the header and the metadata give, or the first of their refusals.
-pub fn headed(bytes: &[u8]) -> Result<&[u8], NotAChunk>
-    ensures { MatchResult result (λ tag. headed bytes.now ≡ Ok tag.now) (λ e. headed bytes.now ≡ Err e) }
+/// The metadata, where the header lets them be read.
+fn metadata_of(bytes: &[u8]) -> Result<&[u8], NotAChunk>
+    ensures { MatchResult result (λ meta. metadata_of bytes.now ≡ Ok meta.now) (λ e. metadata_of bytes.now ≡ Err e) }
 {
     if bytes.len() > LONGEST_FILE {
         return Err(NotAChunk::TooLong);
@@ -104,5 +90,16 @@ pub fn headed(bytes: &[u8]) -> Result<&[u8], NotAChunk>
     if bytes.len() < end {
         return Err(NotAChunk::TooShort);
     }
-    tagged(bytes, &bytes[HEADER..end])
+    Ok(&bytes[HEADER..end])
+}
+
+/// What the header and the metadata give, or the first of their refusals.
+pub fn headed(alloc: Global, bytes: &[u8]) -> Result<Metadata, NotAChunk>
+    ensures answer { MatchResult result (λ metadata. headed bytes.now ≡ Ok metadata) (λ e. (e ≡ not_a_chunk.Memory) ⊎ (headed bytes.now ≡ Err e)) }
+    ensures whole { OnOk result (24 + meta_length bytes.now ≤ length bytes.now) }
+{
+    let meta = metadata_of(bytes)?;
+    let metadata = said(alloc, bytes[6], meta)?;
+    judged(bytes, &metadata)?;
+    Ok(metadata)
 }

@@ -9,12 +9,17 @@ mod check;
 mod chunk;
 mod header;
 mod laws;
+mod metadata;
+mod outputs;
 mod reading;
 mod refusal;
 
 pub use check::check_file;
 pub use chunk::{Brief, Chunk, Found, Seen, briefs_cross, chunks_cross, found_cross};
 pub use fwd_base::{Bytes, Memory};
-pub use laws::{enough_tells, new_metadata_say_the_tag, parts_stand};
+pub use laws::{
+    bytes_stand_for_one_answer, enough_tells, metadata_say_what_was_written,
+    named_metadata_are_read, parts_stand,
+};
 pub use reading::read_chunk;
 pub use refusal::{ChunkKind, NotAChunk};

@@ -21,6 +21,9 @@ pub enum NotAChunk {
     /// The metadata say that the chunk isn't one of logs.
     #[error("the chunk isn't one of logs")]
     NotLogs,
+    /// The metadata of a file of mark 2 don't have its form.
+    #[error("the metadata don't name outputs")]
+    BadOutputs,
     #[error("the tag isn't UTF-8")]
     NotUtf8Tag,
     /// The committed content isn't a list of whole events.
@@ -48,6 +51,7 @@ pub enum ChunkKind {
     BadId,
     BadLength,
     NotLogs,
+    BadOutputs,
     NotUtf8Tag,
     BadEvents,
     TooLong,

@@ -4,3 +4,4 @@ pub mod Sound
 pub mod Untouched
 pub mod Whole
 pub mod Making
+pub mod OneByte

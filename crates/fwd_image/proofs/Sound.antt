@@ -20,7 +20,7 @@ sound_maybe bytes there = record { long = omega arith; reached = omega arith; st
 sound_or_gone : (s : FileState) (there : Bool) → s.there ≡ true → IsSound s → IsSound (or_gone s there)
 sound_or_gone s there is sound = record { long = sound.long; reached = sound.reached; stays = λ _. sound.stays is; goes = λ _. refl }
 
-sound_written : (s : FileState) (at count : ℕ) (left : List ℕ) → CanWrite s at → length left ≤ count → IsSound s → IsSound (written s at count left)
+pub sound_written : (s : FileState) (at count : ℕ) (left : List ℕ) → CanWrite s at → length left ≤ count → IsSound s → IsSound (written s at count left)
 sound_written s at count left can le sound = record {
   long = omega (arith, sound.long, length-overwritten s.bytes at left can.within);
   reached = omega (arith, sound.reached, length-overwritten s.bytes at left can.within);

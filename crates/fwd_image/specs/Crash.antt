@@ -1,5 +1,5 @@
 -- What is so of each image of a file, and of a disk by the calls that it told.
-use Rattle.std.specs.Prelude.{◌≡◌, ◌≢◌, ◌⊎◌, ℕ, Option, Some, None, List}
+use Rattle.std.specs.Prelude.{◌≡◌, ◌≢◌, ◌⊎◌, ℕ, Option, Some, None, List, length, get_or}
 use Rattle.fwd_program.specs.Since.{Since, After}
 use Rattle.fwd_outside.specs.Disk.{DiskCall, DiskTold, Place, WriteAt, Sync, Remove, Read, ListNames, Preset, FailAt}
 use Rattle.fwd_image.specs.File.{FileState, IsImage}
@@ -20,6 +20,11 @@ WholeOrGone bytes image = (image ≡ Some bytes) ⊎ (image ≡ None)
 -- the file is not there, or as a crash could have left it before
 abbrev pub GoneOrBefore : FileState → Option (List ℕ) → Type 0
 GoneOrBefore before image = (image ≡ None) ⊎ IsImage before image
+
+-- two lists of bytes are as long, and the same but for the byte at one offset
+pub record IsSameBut (at : ℕ) (one other : List ℕ) : Type 0 where
+  pub long : length one ≡ length other
+  pub same : (i : ℕ) → i ≢ at → get_or one i 0 ≡ get_or other i 0
 
 -- From each disk with `Before` that the earlier calls may have left, P holds of it and of the disk at each moment since.
 abbrev pub DiskSince : DiskTold → DiskTold → (Files → Type 0) → (Files → Files → Type 0) → Type 0

@@ -8,4 +8,6 @@
 
 mod laws;
 
-pub use laws::{changed_by_its_calls, comes_and_goes_whole, reads_an_image, sync_ends_doubt};
+pub use laws::{
+    changed_by_its_calls, comes_and_goes_whole, one_byte_in_doubt, reads_an_image, sync_ends_doubt,
+};

@@ -9,7 +9,7 @@ use Rattle.std.specs.declared.cmp.Ordering.TheVariants.{Less, Equal, Greater}
 use Rattle.std.specs.FinMap as map
 use Rattle.std.specs.FinMap.Entries.{find}
 use Rattle.std.specs.Map.{lookup}
-use Rattle.fwd_store.specs.declared.kept.Kept.{Kept}
+use Rattle.fwd_kept.specs.declared.kept.Kept.{Kept}
 use Rattle.fwd_store.specs.Stored.{Held}
 
 same_bool : (a b : Bool) → (a ≡ true → b ≡ true) → (b ≡ true → a ≡ true) → a ≡ b

@@ -1,14 +1,10 @@
 mod Making
-mod Digits
 mod Results
 mod Opening
 mod Holding
 mod Sound
 mod Moments
-mod Reading
-mod Contents
 mod Standing
-mod Sealed
 mod Own
 mod Others
 mod Crashes

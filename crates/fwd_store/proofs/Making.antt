@@ -9,7 +9,7 @@ use Rattle.fwd_outside.specs.Disk.{DiskTold, DiskProgram, disk_outcome}
 use Rattle.fwd_image.proofs.Making.{Made, went, stopped, no_call}
 use Rattle.fwd_chunk.specs.declared.append.ChunkHead.{ChunkHead}
 use Rattle.fwd_chunk.specs.Append.{creates}
-use Rattle.fwd_store.specs.declared.kept.Kept.{Kept}
+use Rattle.fwd_kept.specs.declared.kept.Kept.{Kept}
 use Rattle.fwd_store.specs.declared.answers.Accepted.{Accepted}
 use Rattle.fwd_store.specs.declared.answers.StoreRefusal.{StoreRefusal}
 use Rattle.fwd_store.specs.declared.answers.StoreRefusal.TheVariants.{DiskFailed, BatchTooLarge, Memory, NoNumber}
@@ -27,19 +27,19 @@ nothing_made a p (Err BatchTooLarge) is = absurd (cc is)
 nothing_made a p (Err NoNumber) is = absurd (cc is)
 nothing_made a p (Err (DiskFailed chunk)) is = absurd (cc is)
 
-module _ (a b : DiskTold) (n m tag batch : List ℕ) (named : n ≡ m) where
-  placed : (r : Result ChunkHead DiskErr) → Makes a b (creates n tag batch) (disk_outcome r) → Made a b (creates m tag batch) r
-  placed r calls = record { makes = subst (λ (k : List ℕ). Makes a b (creates k tag batch) (disk_outcome r)) named calls }
+module _ (a b : DiskTold) (n m tag batch : List ℕ) (outputs : List (List ℕ)) (named : n ≡ m) where
+  placed : (r : Result ChunkHead DiskErr) → Makes a b (creates n tag batch outputs) (disk_outcome r) → Made a b (creates m tag batch outputs) r
+  placed r calls = record { makes = subst (λ (k : List ℕ). Makes a b (creates k tag batch outputs) (disk_outcome r)) named calls }
 
-  pub placed_ok : (kept : Kept) (head : ChunkHead) → Makes a b (creates n tag batch) (disk_outcome (Ok head)) → Makes a b (and_then (creates m tag batch) (λ _. Return (Some tt))) (kept_outcome (Ok kept))
+  pub placed_ok : (kept : Kept) (head : ChunkHead) → Makes a b (creates n tag batch outputs) (disk_outcome (Ok head)) → Makes a b (and_then (creates m tag batch outputs) (λ _. Return (Some tt))) (kept_outcome (Ok kept))
   placed_ok kept head calls = (went (λ _. Return (Some tt)) {r = Ok (tt {0})} (placed (Ok head) calls) (no_call b (tt {0}))).makes
 
-  failed_so : (e : DiskErr) → Makes a b (creates n tag batch) (disk_outcome {T = ChunkHead} (Err e)) → Makes a b (and_then (creates m tag batch) (λ _. Return (Some tt))) (disk_outcome {T = Unit {0}} (Err e))
+  failed_so : (e : DiskErr) → Makes a b (creates n tag batch outputs) (disk_outcome {T = ChunkHead} (Err e)) → Makes a b (and_then (creates m tag batch outputs) (λ _. Return (Some tt))) (disk_outcome {T = Unit {0}} (Err e))
   failed_so e calls = (stopped {S = Unit {0}} (λ _. Return (Some tt)) (placed (Err e) calls)).makes
 
-  pub placed_err : (e : DiskErr) (r : StoreRefusal) → IsRefusalOf e None r → Makes a b (creates n tag batch) (disk_outcome {T = ChunkHead} (Err e)) → Makes a b (and_then (creates m tag batch) (λ _. Return (Some tt))) (kept_outcome (Err r))
-  placed_err Failed r is calls = subst (λ (x : StoreRefusal). Makes a b (and_then (creates m tag batch) (λ _. Return (Some tt))) (kept_outcome (Err x))) (sym is) (failed_so Failed calls)
-  placed_err NoRoom r is calls = subst (λ (x : StoreRefusal). Makes a b (and_then (creates m tag batch) (λ _. Return (Some tt))) (kept_outcome (Err x))) (sym is) (failed_so NoRoom calls)
+  pub placed_err : (e : DiskErr) (r : StoreRefusal) → IsRefusalOf e None r → Makes a b (creates n tag batch outputs) (disk_outcome {T = ChunkHead} (Err e)) → Makes a b (and_then (creates m tag batch outputs) (λ _. Return (Some tt))) (kept_outcome (Err r))
+  placed_err Failed r is calls = subst (λ (x : StoreRefusal). Makes a b (and_then (creates m tag batch outputs) (λ _. Return (Some tt))) (kept_outcome (Err x))) (sym is) (failed_so Failed calls)
+  placed_err NoRoom r is calls = subst (λ (x : StoreRefusal). Makes a b (and_then (creates m tag batch outputs) (λ _. Return (Some tt))) (kept_outcome (Err x))) (sym is) (failed_so NoRoom calls)
 
 -- the same of an acceptance
 pub nothing_accepted : (a : DiskTold) (p : DiskProgram (Option (Unit {0}))) (r : Result Accepted StoreRefusal) → IsErrAnd r (λ e. e ≡ Memory) → Makes a a p (accept_outcome r)

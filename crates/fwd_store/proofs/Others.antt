@@ -10,8 +10,8 @@ use Rattle.fwd_image.proofs.Untouched.{untouched_step}
 use Rattle.fwd_chunk.specs.declared.append.ChunkHead.{ChunkHead}
 use Rattle.fwd_chunk.specs.Layout.{other, new_file}
 use Rattle.fwd_chunk.specs.Append.{creates, new_head, stages, commits, syncs_if, next_selector}
-use Rattle.fwd_store.specs.declared.kept.Kept.TheVariants.{InFile}
-use Rattle.fwd_store.specs.Kept.{appends}
+use Rattle.fwd_kept.specs.declared.kept.Kept.TheVariants.{InFile}
+use Rattle.fwd_kept.specs.Kept.{appends}
 
 -- each call of the program is about this file
 abbrev pub IsAbout : {R : Type 0} → List ℕ → DiskProgram R → Type 0
@@ -60,7 +60,7 @@ about_appends head batch full = about_then head.name (stages head batch full) (�
 pub about_places : (name bytes : List ℕ) → IsAbout name (places name bytes)
 about_places name bytes = (λ n ne is. ne (sym is), λ answer. tt)
 
-pub about_creates : (name tag batch : List ℕ) → IsAbout name (and_then (creates name tag batch) (λ _. Return (Some (tt {0}))))
-about_creates name tag batch =
-    about_then name (creates name tag batch) (λ _. Return (Some tt))
-    (about_then name (places name (new_file tag batch)) (λ _. Return (Some (new_head name tag batch))) (about_places name (new_file tag batch)) (λ _. tt)) (λ _. tt)
+pub about_creates : (name tag batch : List ℕ) (outputs : List (List ℕ)) → IsAbout name (and_then (creates name tag batch outputs) (λ _. Return (Some (tt {0}))))
+about_creates name tag batch outputs =
+    about_then name (creates name tag batch outputs) (λ _. Return (Some tt))
+    (about_then name (places name (new_file tag batch outputs)) (λ _. Return (Some (new_head name tag batch outputs))) (about_places name (new_file tag batch outputs)) (λ _. tt)) (λ _. tt)

@@ -19,10 +19,10 @@ pub settled_stays : (head : ChunkHead) (meta content : List ℕ) (entries : List
 settled_stays head meta content entries files settled off =
     moments_weaker (λ now. now head.name ≡ files head.name) (SettledIn head meta content) files entries (λ now same. subst (IsSettled head meta content) (sym same) settled) (untouched head.name entries files off)
 
-pub either_stays : (name meta old new : List ℕ) (entries : List DiskEntry) (files : Files) → Images name (LeavesEither meta old new) files → All (λ (e : DiskEntry). IsOn e.call name → ⊥) entries → Moments Steps (Images name (LeavesEither meta old new)) files entries
-either_stays name meta old new entries files leaves off =
-    moments_weaker (λ now. now name ≡ files name) (Images name (LeavesEither meta old new)) files entries (λ now same image is. leaves image (subst (λ (s : FileState). IsImage s image) same is)) (untouched name entries files off)
+pub either_stays : (name : List ℕ) (mark : ℕ) (meta old new : List ℕ) (entries : List DiskEntry) (files : Files) → Images name (LeavesEither mark meta old new) files → All (λ (e : DiskEntry). IsOn e.call name → ⊥) entries → Moments Steps (Images name (LeavesEither mark meta old new)) files entries
+either_stays name mark meta old new entries files leaves off =
+    moments_weaker (λ now. now name ≡ files name) (Images name (LeavesEither mark meta old new)) files entries (λ now same image is. leaves image (subst (λ (s : FileState). IsImage s image) same is)) (untouched name entries files off)
 
-pub settled_leaves : (head : ChunkHead) (meta content : List ℕ) (files : Files) → SettledIn head meta content files → Images head.name (Leaves meta content) files
+pub settled_leaves : (head : ChunkHead) (meta content : List ℕ) (files : Files) → SettledIn head meta content files → Images head.name (Leaves head.mark meta content) files
 settled_leaves head meta content files settled image is =
-    subst (Leaves meta content) (sym (whole_image settled.bytes image (subst (λ (s : FileState). IsImage s image) settled.state is))) settled.parts
+    subst (Leaves head.mark meta content) (sym (whole_image settled.bytes image (subst (λ (s : FileState). IsImage s image) settled.state is))) settled.parts

@@ -3,34 +3,42 @@ use Rattle.std.specs.Prelude.{◌≡◌, ◌⊎◌, ℕ, Bool, List, Option, ref
 use Rattle.std.proofs.Common.{inl, inr}
 use Rattle.std.specs.FinMap as map
 use Rattle.std.specs.Coded.{Coded, code_by, coded×, coded⊎, coded_ℕ, coded_bool, coded_list, coded_option}
-use Rattle.fwd_store.specs.declared.kept.Kept.{Kept}
-use Rattle.fwd_store.specs.declared.kept.Kept.TheVariants.{InFile, Adopted, InMemory}
+use Rattle.fwd_chunk.specs.declared.append.ChunkHead.{ChunkHead}
+use Rattle.fwd_kept.specs.declared.kept.Kept.{Kept}
+use Rattle.fwd_kept.specs.declared.kept.Kept.TheVariants.{InFile, Adopted, InMemory}
 use Rattle.fwd_store.specs.Opened.{Opened}
 use Rattle.fwd_store.specs.Stored.{Held, HeldList, Stored}
 
--- a name, three numbers; a name, two numbers; bytes
+-- a name, four numbers, names
+abbrev pub HeadParts : Type 0
+HeadParts = List ℕ × (ℕ × (ℕ × (ℕ × (ℕ × List (List ℕ)))))
+
+abbrev pub head_code : Coded ChunkHead
+head_code =
+    code_by HeadParts (coded× (coded_list coded_ℕ) (coded× coded_ℕ (coded× coded_ℕ (coded× coded_ℕ (coded× coded_ℕ (coded_list (coded_list coded_ℕ)))))))
+    (λ h. (h.name, (h.meta, (h.size, (h.selector, (h.mark, h.outputs))))))
+    (λ p. record { name = p.0; meta = p.1.0; size = p.1.1.0; selector = p.1.1.1.0; mark = p.1.1.1.1.0; outputs = p.1.1.1.1.1 }) (λ _. refl)
+
 abbrev pub Parts : Type 0
-Parts = (List ℕ × (ℕ × (ℕ × ℕ))) ⊎ ((List ℕ × (ℕ × ℕ)) ⊎ List ℕ)
+Parts = ChunkHead ⊎ (ChunkHead ⊎ List ℕ)
 
 abbrev pub parts_of : Kept → Parts
-parts_of (InFile head) = inl (head.name, (head.meta, (head.size, head.selector)))
-parts_of (Adopted file) = inr (inl (file.name, (file.meta, file.size)))
+parts_of (InFile head) = inl head
+parts_of (Adopted head) = inr (inl head)
 parts_of (InMemory content) = inr (inr content)
 
 abbrev pub kept_of : Parts → Kept
-kept_of (inl p) = InFile (record { name = p.0; meta = p.1.0; size = p.1.1.0; selector = p.1.1.1 })
-kept_of (inr (inl p)) = Adopted (record { name = p.0; meta = p.1.0; size = p.1.1 })
+kept_of (inl head) = InFile head
+kept_of (inr (inl head)) = Adopted head
 kept_of (inr (inr content)) = InMemory content
 
 abbrev pub back : (kept : Kept) → kept_of (parts_of kept) ≡ kept
 back (InFile head) = refl
-back (Adopted file) = refl
+back (Adopted head) = refl
 back (InMemory content) = refl
 
 abbrev pub kept_code : Coded Kept
-kept_code =
-    code_by Parts (coded⊎ (coded× (coded_list coded_ℕ) (coded× coded_ℕ (coded× coded_ℕ coded_ℕ))) (coded⊎ (coded× (coded_list coded_ℕ) (coded× coded_ℕ coded_ℕ)) (coded_list coded_ℕ)))
-    parts_of kept_of back
+kept_code = code_by Parts (coded⊎ head_code (coded⊎ head_code (coded_list coded_ℕ))) parts_of kept_of back
 
 abbrev pub held_list_code : Coded HeldList
 held_list_code = code_by (Held × ℕ) (coded× (map.code coded_ℕ kept_code) coded_ℕ) (λ h. (h.list, h.spare)) (λ p. record { list = p.0; spare = p.1 }) (λ _. refl)

@@ -8,16 +8,11 @@ use Rattle.fwd_image.specs.Disk.{Files}
 use Rattle.fwd_image.specs.Crash.{Images, SameBut, GoneOrBefore}
 use Rattle.fwd_chunk.specs.Layout.{new_meta, new_file}
 use Rattle.fwd_chunk.specs.Append.{SettledIn, ComesWhole, KeepsEither}
-use Rattle.fwd_store.specs.declared.kept.Kept.{Kept}
-use Rattle.fwd_store.specs.declared.kept.Kept.TheVariants.{InFile}
-use Rattle.fwd_store.specs.Kept.{file_of}
+use Rattle.fwd_kept.specs.declared.kept.Kept.{Kept}
+use Rattle.fwd_kept.specs.declared.kept.Kept.TheVariants.{InFile, Adopted, InMemory}
+use Rattle.fwd_kept.specs.Kept.{file_held, ItsNamesIn, KeepsItsOutcomes, HasRecorded}
 use Rattle.fwd_store.specs.Stored.{Stored}
 use Rattle.fwd_store.specs.Store.{new_name}
-
--- the name of a chunk's file, where it has one
-abbrev pub file_held : Option Kept → Option (List ℕ)
-file_held (Some kept) = file_of kept
-file_held None = None
 
 -- the file that an acceptance is about, where this chunk is open: that of the chunk, or the new one
 abbrev pub file_for : Stored → Option ℕ → List ℕ → Home → Option (List ℕ)
@@ -33,7 +28,9 @@ KeepsOthers None first now = now ≡ first
 -- the file that was made for a chunk stands for these metadata and this content, and nothing of it is in doubt
 abbrev pub Stands : Option Kept → List ℕ → List ℕ → Files → Type 0
 Stands (Some (InFile head)) meta content files = SettledIn head meta content files
-Stands _ meta content files = Unit {0}
+Stands (Some (Adopted head)) meta content files = Unit {0}
+Stands (Some (InMemory bytes)) meta content files = Unit {0}
+Stands None meta content files = Unit {0}
 
 -- How the files stand as an acceptance begins: that of the open chunk stands for its content; there is none of a new name.
 abbrev pub IsReady : Stored → Option ℕ → List ℕ → Home → List ℕ → List ℕ → Files → Type 0
@@ -47,15 +44,15 @@ GrowsFrom (Some (InFile head)) meta content batch first now = KeepsEither head m
 GrowsFrom _ meta content batch first now = now ≡ first
 
 -- at each moment of an acceptance; the file of a new chunk is whole or not there
-abbrev pub TakesBatch : Stored → Option ℕ → List ℕ → List ℕ → Home → List ℕ → List ℕ → List ℕ → Files → Files → Type 0
-TakesBatch s (Some n) stream tag home batch meta content first now = GrowsFrom (map.get s.chunks n) meta content batch first now
-TakesBatch s None stream tag Disk batch meta content first now = ComesWhole (new_name s stream) (new_file tag batch) first now
-TakesBatch s None stream tag Ram batch meta content first now = now ≡ first
+abbrev pub TakesBatch : Stored → Option ℕ → List ℕ → List ℕ → Home → List ℕ → List (List ℕ) → List ℕ → List ℕ → Files → Files → Type 0
+TakesBatch s (Some n) stream tag home batch outputs meta content first now = GrowsFrom (map.get s.chunks n) meta content batch first now
+TakesBatch s None stream tag Disk batch outputs meta content first now = ComesWhole (new_name s stream) (new_file tag batch outputs) first now
+TakesBatch s None stream tag Ram batch outputs meta content first now = now ≡ first
 
 -- After it the chunk's file stands for the content and the batch, or for the batch alone where it is new.
-abbrev pub HasTaken : Option ℕ → Option Kept → List ℕ → List ℕ → List ℕ → List ℕ → Files → Type 0
-HasTaken (Some n) kept tag batch meta content files = Stands kept meta (content ++ batch) files
-HasTaken None kept tag batch meta content files = Stands kept (new_meta tag) batch files
+abbrev pub HasTaken : Option ℕ → Option Kept → List ℕ → List ℕ → List (List ℕ) → List ℕ → List ℕ → Files → Type 0
+HasTaken (Some n) kept tag batch outputs meta content files = Stands kept meta (content ++ batch) files
+HasTaken None kept tag batch outputs meta content files = Stands kept (new_meta tag outputs) batch files
 
 -- at each moment of a removal each image of the file is as before, or it is not there, and no other file changes
 abbrev pub Goes : Option (List ℕ) → Files → Files → Type 0
@@ -66,3 +63,16 @@ Goes None first now = now ≡ first
 abbrev pub IsGone : Option (List ℕ) → Files → Type 0
 IsGone (Some name) files = files name ≡ gone
 IsGone None files = Unit {0}
+
+-- how a chunk's file stands as an outcome is recorded in it, at each moment of it, and after it
+abbrev pub NamesOutputs : Option Kept → Files → Type 0
+NamesOutputs (Some kept) files = ItsNamesIn kept files
+NamesOutputs None files = Unit {0}
+
+abbrev pub KeepsOutcomes : Option Kept → List ℕ → Files → Files → Type 0
+KeepsOutcomes (Some kept) output first now = KeepsItsOutcomes kept output first now
+KeepsOutcomes None output first now = now ≡ first
+
+abbrev pub Recorded : Option Kept → List ℕ → Files → Files → Type 0
+Recorded (Some kept) output first last = HasRecorded kept output first last
+Recorded None output first last = ⊥

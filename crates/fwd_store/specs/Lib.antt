@@ -1,8 +1,5 @@
-pub mod Name
 pub mod Opened
 pub mod Source
-pub mod Kept
-pub mod Content
 pub mod Stored
 pub mod Codes
 pub mod Store

@@ -2,7 +2,7 @@
 use Rattle.std.specs.Prelude.{ℕ, Bool, List, Option}
 use Rattle.std.specs.Ordering.{nat_cmp}
 use Rattle.std.specs.FinMap as map
-use Rattle.fwd_store.specs.declared.kept.Kept.{Kept}
+use Rattle.fwd_kept.specs.declared.kept.Kept.{Kept}
 use Rattle.fwd_store.specs.Opened.{Opened}
 
 -- chunks by number

@@ -7,10 +7,10 @@ ghost use Rattle.fwd_program.specs.Told.{Makes};
 ghost use Rattle.fwd_program.specs.Cause.{HasCause};
 ghost use Rattle.fwd_outside.specs.Disk.{disk_outcome};
 ghost use Rattle.fwd_outside.specs.declared.errors.DiskErr.TheVariants.{Failed};
-ghost use Rattle.fwd_store.specs.declared.kept.Kept.{Kept};
-ghost use Rattle.fwd_store.specs.Kept.{appends, grown, HasRoom};
+ghost use Rattle.fwd_kept.specs.declared.kept.Kept.{Kept};
+ghost use Rattle.fwd_kept.specs.Kept.{appends, grown, HasRoom};
 
-use crate::kept::Kept;
+use fwd_kept::Kept;
 use fwd_outside::{Disk, DiskErr, Memory};
 use std::alloc::Global;
 use std::collections::HashMap;

@@ -6,23 +6,19 @@
 #![tactic(auto)]
 
 mod answers;
-mod content;
 mod held;
-mod kept;
 mod laws;
-mod name;
 mod opened;
 mod store;
 
 pub use answers::{Accepted, StoreRefusal};
-pub use content::PartErr;
+pub use fwd_kept::{Kept, PartErr};
 pub use fwd_outside::{ChunkId, Home, InputId, Memory};
 #[doc(hidden)]
 pub use held::Chunks;
-pub use kept::{FoundFile, Kept};
 pub use laws::{
     append_keeps_either, content_stays, first_batch_comes_whole, found_content_stands,
-    names_tell_numbers, sealed_content_stands, settled_content_stands,
+    names_tell_numbers,
 };
 #[doc(hidden)]
 pub use opened::{OpenChunks, Source};

@@ -9,31 +9,32 @@ ghost use Rattle.fwd_program.specs.Cause.{HasCause};
 ghost use Rattle.fwd_outside.specs.Disk.{disk_outcome};
 ghost use Rattle.fwd_outside.specs.declared.errors.DiskErr.TheVariants.{Failed};
 ghost use Rattle.fwd_outside.specs.declared.home.Home.TheVariants as home_of;
+ghost use Rattle.fwd_chunk.specs.Layout.{AreOutputs};
 ghost use Rattle.fwd_chunk.specs.Append.{creates, new_head};
-ghost use Rattle.fwd_store.specs.declared.kept.Kept.{Kept};
-ghost use Rattle.fwd_store.specs.declared.kept.Kept.TheVariants.{InFile, InMemory};
+ghost use Rattle.fwd_chunk.specs.Settle.{HoldsNames};
+ghost use Rattle.fwd_kept.specs.declared.kept.Kept.{Kept};
+ghost use Rattle.fwd_kept.specs.declared.kept.Kept.TheVariants.{InFile, InMemory};
 ghost use Rattle.fwd_store.specs.declared.answers.StoreRefusal.TheVariants as refusal;
 ghost use Rattle.fwd_found.specs.declared.chunk.Brief.{Brief};
 ghost use Rattle.fwd_found.specs.declared.chunk.Seen.TheVariants.{Whole};
 ghost use Rattle.fwd_image.specs.Crash.{DiskSince, DiskAfter};
-ghost use Rattle.fwd_store.specs.declared.content.PartErr.TheVariants as part_err;
-ghost use Rattle.fwd_store.specs.Name.{file_name};
-ghost use Rattle.fwd_store.specs.Crash.{file_held, file_for, KeepsOthers, IsReady, TakesBatch, HasTaken, Goes, IsGone};
-ghost use Rattle.fwd_store.specs.Content.{Gives, reads_content, IsContentOf, AreKept, StandsIn, IsGiven};
-ghost use Rattle.fwd_store.specs.Kept.{size_held};
+ghost use Rattle.fwd_kept.specs.declared.content.PartErr.TheVariants as part_err;
+ghost use Rattle.fwd_kept.specs.Name.{file_name};
+ghost use Rattle.fwd_store.specs.Crash.{file_for, KeepsOthers, IsReady, TakesBatch, HasTaken, Goes, IsGone, NamesOutputs, KeepsOutcomes, Recorded};
+ghost use Rattle.fwd_kept.specs.Content.{Gives, reads_content, IsContentOf, AreRead, AreKept, StandsIn, IsGiven, AreGiven};
+ghost use Rattle.fwd_kept.specs.Kept.{size_of, size_held, file_held};
 ghost use Rattle.fwd_store.specs.Opened.{first_of};
-ghost use Rattle.fwd_store.specs.Store.{has_room, kept_outcome, IsRefusalOf, begins_as, kept_as, sealed, named, after_failed_append, has_file, IsSound, chunk_for, new_name, accept_outcome, BeganChunk, GrewChunk, Took, GivesUp, Refused, HasFailed, CanGrow, appends_to, goes_to, accepts, has_no_number, drops, dropped, with_kept, IsWhole, adopted};
+ghost use Rattle.fwd_store.specs.Store.{has_room, kept_outcome, IsRefusalOf, begins_as, kept_as, sealed, named, after_failed_append, has_file, IsSound, chunk_for, new_name, accept_outcome, BeganChunk, GrewChunk, Took, GivesUp, Refused, HasFailed, CanGrow, appends_to, goes_to, accepts, has_no_number, drops, dropped, with_kept, head_of, IsWhole, name_found, adopted, IsNew, IsNoLater, settles_for};
 
 use crate::answers::{Accepted, StoreRefusal};
-use crate::content::PartErr;
 use crate::held::Chunks;
-use crate::kept::{FoundFile, Kept};
-use crate::name::{file_name, found_name};
 use crate::opened::{OpenChunks, Source};
 use fwd_base::limits::{FULL_CHUNK, LARGEST_BATCH, PAST_NUMBERS};
-use fwd_chunk::create;
+use fwd_chunk::{ChunkHead, copied_names, create};
+use fwd_event::Events;
 use fwd_found::{Brief, Found, Seen};
-use fwd_outside::{Bytes, ChunkId, Disk, DiskErr, Home, InputId, Memory};
+use fwd_kept::{Kept, PartErr, file_name, found_name};
+use fwd_outside::{Bytes, ChunkId, Disk, DiskErr, Home, InputId, Memory, Names};
 use std::alloc::Global;
 use std::marker::Model;
 
@@ -80,18 +81,20 @@ fn place<D: Disk>(
     next: &mut u64,
     tag: &[u8],
     batch: &[u8],
+    outputs: &Names,
 ) -> Result<Kept, StoreRefusal>
     requires tag { length tag.now ≤ longest_tag }
+    requires outputs { AreOutputs outputs.now }
     requires batch { length batch.now ≤ largest_batch }
     requires number { next.old < past_numbers }
-    ensures calls { Makes (D.told disk.old) (D.told disk.new) (and_then (creates (file_name root.now stream.now next.old) tag.now batch.now) (λ _. Return (Some tt))) (kept_outcome result) }
-    ensures ok { IfOk result (λ kept. (kept ≡ InFile (new_head (file_name root.now stream.now next.old) tag.now batch.now)) × (next.new ≡ next.old + 1)) }
+    ensures calls { Makes (D.told disk.old) (D.told disk.new) (and_then (creates (file_name root.now stream.now next.old) tag.now batch.now outputs.now) (λ _. Return (Some tt))) (kept_outcome result) }
+    ensures ok { IfOk result (λ kept. (kept ≡ InFile (new_head (file_name root.now stream.now next.old) tag.now batch.now outputs.now)) × (next.new ≡ next.old + 1)) }
     ensures err { IfErr result (λ e. ((e ≡ refusal.Memory) × Grew (D.told disk.old) (D.told disk.new) [] × (next.new ≡ next.old)) ⊎ (((e ≡ refusal.Memory) ⊎ (e ≡ refusal.DiskFailed None)) × (next.new ≡ next.old + 1))) }
     ensures cause { HasCause (D.faults disk.old) (D.faults disk.new) (result ≡ Err (refusal.DiskFailed None)) }
 {
     let name = file_name(alloc, root, stream, *next)?;
     *next += 1;
-    match create(alloc, disk, name.as_slice(), tag, batch) {
+    match create(alloc, disk, name.as_slice(), tag, batch, outputs) {
         Ok(head) => Ok(Kept::InFile(head)),
         Err(error) => Err(refusal_of(error, None)),
     }
@@ -108,23 +111,40 @@ fn begin<D: Disk>(
     tag: &[u8],
     home: Home,
     batch: &[u8],
+    outputs: &Names,
 ) -> Result<Kept, StoreRefusal>
     requires tag { length tag.now ≤ longest_tag }
+    requires outputs { AreOutputs outputs.now }
     requires batch { length batch.now ≤ largest_batch }
     requires number { next.old < past_numbers }
-    ensures calls { Makes (D.told disk.old) (D.told disk.new) (begins_as (file_name root.now stream.now next.old) tag.now home batch.now) (kept_outcome result) }
-    ensures ok { IfOk result (λ kept. (kept ≡ kept_as (file_name root.now stream.now next.old) tag.now home batch.now) × (next.new ≡ next.old + 1)) }
+    ensures calls { Makes (D.told disk.old) (D.told disk.new) (begins_as (file_name root.now stream.now next.old) tag.now home batch.now outputs.now) (kept_outcome result) }
+    ensures ok { IfOk result (λ kept. (kept ≡ kept_as (file_name root.now stream.now next.old) tag.now home batch.now outputs.now) × (next.new ≡ next.old + 1)) }
     ensures err { IfErr result (λ e. ((e ≡ refusal.Memory) × Grew (D.told disk.old) (D.told disk.new) [] × (next.new ≡ next.old)) ⊎ (((e ≡ refusal.Memory) ⊎ (e ≡ refusal.DiskFailed None)) × (next.new ≡ next.old + 1))) }
     ensures cause { HasCause (D.faults disk.old) (D.faults disk.new) (result ≡ Err (refusal.DiskFailed None)) }
 {
     match home {
-        Home::Disk => place(alloc, disk, root, stream, next, tag, batch),
+        Home::Disk => place(alloc, disk, root, stream, next, tag, batch, outputs),
         Home::Ram => {
             let content = Bytes::from_slice(alloc, batch)?;
             *next += 1;
             Ok(Kept::InMemory(content))
         }
     }
+}
+
+// The head of a file that was found under this name.
+fn found_head(alloc: Global, name: Bytes, brief: &Brief) -> Result<ChunkHead, Memory>
+    ensures { IfOk result (λ head. head ≡ head_of name brief.now) }
+{
+    let outputs = copied_names(alloc, &brief.outputs)?;
+    Ok(ChunkHead {
+        name,
+        meta: brief.meta,
+        size: brief.size,
+        selector: 0,
+        mark: brief.mark,
+        outputs,
+    })
 }
 
 // The bytes of a name, where there is one.
@@ -206,7 +226,7 @@ impl Store {
     /// or begins a new one, with the next number, in a file below the root and `stream` or in memory. The tag is a text of
     /// 1 to 1,024 bytes. A store without a root has no chunk in a file (`has_root`), and an open chunk has less than
     /// 2,048,000 bytes of content (`has_room`): whoever lets one grow to this shuts it. A number whose placing failed isn't
-    /// used again.
+    /// used again. A new file names these outputs; those of a chunk that is open stay as they are.
     pub fn accept<D: Disk>(
         &mut self,
         alloc: Global,
@@ -216,14 +236,16 @@ impl Store {
         tag: &[u8],
         home: Home,
         batch: &[u8],
+        outputs: &Names,
     ) -> Result<Accepted, StoreRefusal>
         requires tag { length tag.now ≤ longest_tag }
+        requires outputs { AreOutputs outputs.now }
         requires root { home ≡ home_of.Disk → IsSome self.old.root }
         requires room { IsTrue (has_room self.old (chunk_for self.old input.0 tag.now)) }
-        ensures calls { Makes (D.told disk.old) (D.told disk.new) (accepts self.old input.0 stream.now tag.now home batch.now) (accept_outcome result) }
+        ensures calls { Makes (D.told disk.old) (D.told disk.new) (accepts self.old input.0 stream.now tag.now home batch.now outputs.now) (accept_outcome result) }
 
         // The store after each answer.
-        ensures ok { IfOk result (Took self.old self.new (chunk_for self.old input.0 tag.now) input.0 stream.now tag.now home batch.now) }
+        ensures ok { IfOk result (Took self.old self.new (chunk_for self.old input.0 tag.now) input.0 stream.now tag.now home batch.now outputs.now) }
         ensures err { IfErr result (Refused (D.told disk.old) (D.told disk.new) self.old self.new (chunk_for self.old input.0 tag.now)) }
 
         // A batch that is too large comes first, a number that isn't there second.
@@ -233,14 +255,14 @@ impl Store {
         // Under full sync a crash at any moment of the call leaves the open chunk's file with its content of before, or with
         // that and the batch, and a new file whole or not there. After Ok the file has the batch.
         ensures any_moment { IsTrue self.old.full → (meta content : List ℕ) → DiskSince (D.told disk.old) (D.told disk.new)
-            (IsReady self.old (chunk_for self.old input.0 tag.now) stream.now home meta content) (TakesBatch self.old (chunk_for self.old input.0 tag.now) stream.now tag.now home batch.now meta content) }
+            (IsReady self.old (chunk_for self.old input.0 tag.now) stream.now home meta content) (TakesBatch self.old (chunk_for self.old input.0 tag.now) stream.now tag.now home batch.now outputs.now meta content) }
         ensures settled { (meta content : List ℕ) → IfOk result (λ accepted. IsTrue self.old.full → DiskAfter (D.told disk.old) (D.told disk.new)
-            (IsReady self.old (chunk_for self.old input.0 tag.now) stream.now home meta content) (λ _ last. HasTaken (chunk_for self.old input.0 tag.now) (map.get self.new.chunks accepted.chunk.0) tag.now batch.now meta content last)) }
+            (IsReady self.old (chunk_for self.old input.0 tag.now) stream.now home meta content) (λ _ last. HasTaken (chunk_for self.old input.0 tag.now) (map.get self.new.chunks accepted.chunk.0) tag.now batch.now outputs.now meta content last)) }
         ensures others { DiskSince (D.told disk.old) (D.told disk.new) (λ _. Unit {0}) (KeepsOthers (file_for self.old (chunk_for self.old input.0 tag.now) stream.now home)) }
         ensures cause { HasCause (D.faults disk.old) (D.faults disk.new) (HasFailed result) }
     {
         self.is_sound();
-        self.accept_batch(alloc, disk, input, stream, tag, home, batch)
+        self.accept_batch(alloc, disk, input, stream, tag, home, batch, outputs)
     }
 
     /// The content of a chunk that is held, whole events. That of a chunk in a file is read from it, in pieces. What was
@@ -264,6 +286,45 @@ impl Store {
         self.read_content(alloc, disk, chunk.0)
     }
 
+    /// The events of the content of a chunk that is held: what `content` gives, read as it is.
+    pub fn events<D: Disk>(
+        &self,
+        alloc: Global,
+        disk: &mut D,
+        chunk: ChunkId,
+    ) -> Result<Events, PartErr>
+        requires { IsSome (map.get self.now.chunks chunk.0) }
+        ensures calls { (kept : Kept) → map.get self.now.chunks chunk.0 ≡ Some kept → Gives (D.told disk.old) (D.told disk.new) (reads_content kept) (AreRead (size_of kept)) result }
+
+        // Where the content stands, its events are given.
+        ensures stands { (kept : Kept) (content : List ℕ) → map.get self.now.chunks chunk.0 ≡ Some kept → AreKept kept content
+            → DiskAfter (D.told disk.old) (D.told disk.new) (StandsIn kept content) (λ _ _. AreGiven content result) }
+        ensures any_moment { DiskSince (D.told disk.old) (D.told disk.new) (λ _. Unit {0}) (λ first now. now ≡ first) }
+        ensures cause { HasCause (D.faults disk.old) (D.faults disk.new) (IsErrOf result part_err.DiskFailed) }
+    {
+        self.read_events(alloc, disk, chunk.0)
+    }
+
+    /// Records in the file of a chunk that is held that an output has its outcome. False, and no call, where the chunk is in
+    /// memory or its file doesn't name the output. It takes no memory.
+    pub fn settle<D: Disk>(
+        &self,
+        disk: &mut D,
+        chunk: ChunkId,
+        output: &[u8],
+    ) -> Result<bool, DiskErr>
+        requires { IsSome (map.get self.now.chunks chunk.0) }
+        ensures calls { Makes (D.told disk.old) (D.told disk.new) (settles_for (map.get self.now.chunks chunk.0) output.now self.now.full) (disk_outcome result) }
+
+        // A crash at any moment of the call leaves the file with the tag, the content and the outcomes of some image of
+        // before, but for the outcome of this output, and no other file changes. After true under full sync it is recorded.
+        ensures any_moment { DiskSince (D.told disk.old) (D.told disk.new) (NamesOutputs (map.get self.now.chunks chunk.0)) (KeepsOutcomes (map.get self.now.chunks chunk.0) output.now) }
+        ensures recorded { IfOk result (λ done. IsTrue done → IsTrue self.now.full → DiskAfter (D.told disk.old) (D.told disk.new) (NamesOutputs (map.get self.now.chunks chunk.0)) (Recorded (map.get self.now.chunks chunk.0) output.now)) }
+        ensures cause { HasCause (D.faults disk.old) (D.faults disk.new) (IsErrOf result Failed) }
+    {
+        self.settle_calls(disk, chunk.0, output)
+    }
+
     /// Removes a chunk that is held: its file, where it has one, in one call. It isn't held afterwards, whatever the call
     /// answers.
     pub fn drop_chunk<D: Disk>(&mut self, disk: &mut D, chunk: ChunkId) -> Result<(), DiskErr>
@@ -283,19 +344,22 @@ impl Store {
     }
 
     /// From now on a file that was found is the file of this chunk, which takes no batches. The store has a root, the file
-    /// is that of no other chunk, and the number is below the next one and new to the store. After `Memory` the store is
-    /// as before.
+    /// is that of no other chunk and of none to come, and the number is below the next one and new to the store. After
+    /// `Memory` the store is as before.
     pub fn adopt(&mut self, alloc: Global, chunk: ChunkId, found: &Found) -> Result<(), Memory>
         requires root { IsSome self.old.root }
         requires whole { IsWhole found.now }
         requires number { chunk.0 < self.old.next }
         requires new { map.get self.old.chunks chunk.0 ≡ None }
+        requires own { IsNew self.old (name_found self.old found.now) }
+        requires free { IsNoLater self.old.root self.old.next (name_found self.old found.now) }
         ensures ok { OnOk result ((brief : Brief) → found.now.seen ≡ Whole brief → self.new ≡ with_kept self.old chunk.0 (adopted self.old found.now brief)) }
         ensures err { OnErr result (self.new ≡ self.old) }
     {
         match &found.seen {
             Seen::Whole(brief) => self.adopt_file(alloc, chunk.0, found, brief),
-            _ => Err(Memory),
+            Seen::Empty(_) => Err(Memory),
+            Seen::Refused(_) => Err(Memory),
         }
     }
 
@@ -310,18 +374,17 @@ impl Store {
         requires number { number < self.old.next }
         requires new { map.get self.old.chunks number ≡ None }
         requires offsets { 24 + brief.now.meta + brief.now.size < 2 ^ 64 }
+        requires names { HoldsNames (head_of [] brief.now) }
+        requires own { IsNew self.old (name_found self.old found.now) }
+        requires free { IsNoLater self.old.root self.old.next (name_found self.old found.now) }
         ensures ok { OnOk result (self.new ≡ with_kept self.old number (adopted self.old found.now brief.now)) }
         ensures err { OnErr result (self.new ≡ self.old) }
     {
         self.chunks.reserve()?;
         let root = bytes_of(&self.root);
         let name = found_name(alloc, root, found.stream.as_slice(), found.name.as_slice())?;
-        let file = FoundFile {
-            name,
-            meta: brief.meta,
-            size: brief.size,
-        };
-        self.chunks.insert(number, Kept::Adopted(file));
+        let head = found_head(alloc, name, brief)?;
+        self.chunks.insert(number, Kept::Adopted(head));
         Ok(())
     }
 
@@ -352,6 +415,38 @@ impl Store {
         }
     }
 
+    // Reads the events of a chunk.
+    fn read_events<D: Disk>(
+        &self,
+        alloc: Global,
+        disk: &mut D,
+        number: u64,
+    ) -> Result<Events, PartErr>
+        ensures calls { (kept : Kept) → map.get self.now.chunks number ≡ Some kept → Gives (D.told disk.old) (D.told disk.new) (reads_content kept) (AreRead (size_of kept)) result }
+        ensures cause { HasCause (D.faults disk.old) (D.faults disk.new) (IsErrOf result part_err.DiskFailed) }
+    {
+        match self.chunks.get(number) {
+            Some(kept) => kept.events(alloc, disk),
+            None => Err(PartErr::Memory),
+        }
+    }
+
+    // The calls of `settle`.
+    fn settle_calls<D: Disk>(
+        &self,
+        disk: &mut D,
+        number: u64,
+        output: &[u8],
+    ) -> Result<bool, DiskErr>
+        ensures calls { Makes (D.told disk.old) (D.told disk.new) (settles_for (map.get self.now.chunks number) output.now self.now.full) (disk_outcome result) }
+        ensures cause { HasCause (D.faults disk.old) (D.faults disk.new) (IsErrOf result Failed) }
+    {
+        match self.chunks.get(number) {
+            Some(kept) => kept.settle(disk, output, self.full),
+            None => Ok(false),
+        }
+    }
+
     // Whether a new chunk is wanted, and no number is left for it.
     fn has_no_number(&self, input: InputId, tag: &[u8]) -> bool
         ensures { result ≡ has_no_number self.now input.0 tag.now }
@@ -369,14 +464,16 @@ impl Store {
         tag: &[u8],
         home: Home,
         batch: &[u8],
+        outputs: &Names,
     ) -> Result<Accepted, StoreRefusal>
         requires tag { length tag.now ≤ longest_tag }
+        requires outputs { AreOutputs outputs.now }
         requires root { home ≡ home_of.Disk → IsSome self.old.root }
         requires room { IsTrue (has_room self.old (chunk_for self.old input.0 tag.now)) }
-        ensures calls { Makes (D.told disk.old) (D.told disk.new) (accepts self.old input.0 stream.now tag.now home batch.now) (accept_outcome result) }
+        ensures calls { Makes (D.told disk.old) (D.told disk.new) (accepts self.old input.0 stream.now tag.now home batch.now outputs.now) (accept_outcome result) }
 
         // The store after each answer.
-        ensures ok { IfOk result (Took self.old self.new (chunk_for self.old input.0 tag.now) input.0 stream.now tag.now home batch.now) }
+        ensures ok { IfOk result (Took self.old self.new (chunk_for self.old input.0 tag.now) input.0 stream.now tag.now home batch.now outputs.now) }
         ensures err { IfErr result (Refused (D.told disk.old) (D.told disk.new) self.old self.new (chunk_for self.old input.0 tag.now)) }
 
         // A batch that is too large comes first, a number that isn't there second.
@@ -390,7 +487,7 @@ impl Store {
         if self.has_no_number(input, tag) {
             return Err(StoreRefusal::NoNumber);
         }
-        self.take(alloc, disk, input, stream, tag, home, batch)
+        self.take(alloc, disk, input, stream, tag, home, batch, outputs)
     }
 
     // Takes a batch that isn't too large, where a number is left.
@@ -403,13 +500,15 @@ impl Store {
         tag: &[u8],
         home: Home,
         batch: &[u8],
+        outputs: &Names,
     ) -> Result<Accepted, StoreRefusal>
         requires tag { length tag.now ≤ longest_tag }
+        requires outputs { AreOutputs outputs.now }
         requires batch { length batch.now ≤ largest_batch }
         requires number { has_no_number self.old input.0 tag.now ≡ false }
         requires room { IsTrue (has_room self.old (chunk_for self.old input.0 tag.now)) }
-        ensures calls { Makes (D.told disk.old) (D.told disk.new) (goes_to self.old (chunk_for self.old input.0 tag.now) stream.now tag.now home batch.now) (accept_outcome result) }
-        ensures ok { IfOk result (Took self.old self.new (chunk_for self.old input.0 tag.now) input.0 stream.now tag.now home batch.now) }
+        ensures calls { Makes (D.told disk.old) (D.told disk.new) (goes_to self.old (chunk_for self.old input.0 tag.now) stream.now tag.now home batch.now outputs.now) (accept_outcome result) }
+        ensures ok { IfOk result (Took self.old self.new (chunk_for self.old input.0 tag.now) input.0 stream.now tag.now home batch.now outputs.now) }
         ensures err { IfErr result (GivesUp (D.told disk.old) (D.told disk.new) self.old self.new (chunk_for self.old input.0 tag.now)) }
         ensures cause { HasCause (D.faults disk.old) (D.faults disk.new) (HasFailed result) }
     {
@@ -420,7 +519,7 @@ impl Store {
         };
         match self.opened.get(&source) {
             Some(number) => self.append(disk, number, batch),
-            None => self.begin_chunk(alloc, disk, source, stream, tag, home, batch),
+            None => self.begin_chunk(alloc, disk, source, stream, tag, home, batch, outputs),
         }
     }
 
@@ -462,14 +561,16 @@ impl Store {
         tag: &[u8],
         home: Home,
         batch: &[u8],
+        outputs: &Names,
     ) -> Result<Accepted, StoreRefusal>
         requires tag { length tag.now ≤ longest_tag }
+        requires outputs { AreOutputs outputs.now }
         requires batch { length batch.now ≤ largest_batch }
         requires source { source.tag.items ≡ tag.now }
         requires none { chunk_for self.old source.input.0 tag.now ≡ None }
         requires number { self.old.next < past_numbers }
-        ensures calls { Makes (D.told disk.old) (D.told disk.new) (begins_as (new_name self.old stream.now) tag.now home batch.now) (accept_outcome result) }
-        ensures ok { IfOk result (BeganChunk self.old self.new source.input.0 stream.now tag.now home batch.now) }
+        ensures calls { Makes (D.told disk.old) (D.told disk.new) (begins_as (new_name self.old stream.now) tag.now home batch.now outputs.now) (accept_outcome result) }
+        ensures ok { IfOk result (BeganChunk self.old self.new source.input.0 stream.now tag.now home batch.now outputs.now) }
         ensures err { IfErr result (GivesUp (D.told disk.old) (D.told disk.new) self.old self.new None) }
         ensures cause { HasCause (D.faults disk.old) (D.faults disk.new) (HasFailed result) }
     {
@@ -477,7 +578,17 @@ impl Store {
         self.opened.reserve()?;
         let number = self.next;
         let root = bytes_of(&self.root);
-        match begin(alloc, disk, root, stream, &mut self.next, tag, home, batch) {
+        match begin(
+            alloc,
+            disk,
+            root,
+            stream,
+            &mut self.next,
+            tag,
+            home,
+            batch,
+            outputs,
+        ) {
             Ok(kept) => {
                 self.chunks.insert(number, kept);
                 self.opened.push(source, number);

@@ -1,4 +1,4 @@
-use Rattle.std.proofs.Common.{true, false}
+use Rattle.std.proofs.Common.{false}
 use Rattle.fwd_backlog.proofs.Serials.{end_is, serial_is, too_great, no_number}
 use Rattle.fwd_backlog.proofs.serial.serial_number.Goals as goal
 

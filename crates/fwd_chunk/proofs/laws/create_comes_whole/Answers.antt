@@ -6,5 +6,5 @@ use Rattle.fwd_chunk.proofs.Creating.{Created, create_keeps}
 use Rattle.fwd_chunk.proofs.laws.create_comes_whole.Goals as goal
 
 pub returns : goal.returns
-returns c name tag batch files entries left is way =
-    holds_moments Steps (ComesWhole name (new_file tag batch) files) (Created name tag batch files is) files (creates name tag batch) (create_keeps name tag batch files is) entries left way
+returns c name tag batch outputs files entries left is way =
+    holds_moments Steps (ComesWhole name (new_file tag batch outputs) files) (Created name tag batch outputs files is) files (creates name tag batch outputs) (create_keeps name tag batch outputs files is) entries left way

@@ -1,8 +1,8 @@
 use Rattle.std.proofs.Common.{Some, refl, true}
 use Rattle.fwd_program.proofs.Holding.{holds_moments, holds_end}
 use Rattle.fwd_image.specs.Disk.{Steps}
-use Rattle.fwd_store.specs.declared.kept.Kept.TheVariants.{InFile}
-use Rattle.fwd_store.specs.Kept.{appends}
+use Rattle.fwd_kept.specs.declared.kept.Kept.TheVariants.{InFile}
+use Rattle.fwd_kept.specs.Kept.{appends}
 use Rattle.fwd_store.proofs.Moments.{Either, Done, holds_appends}
 use Rattle.fwd_store.proofs.laws.append_keeps_either.Goals as goal
 

@@ -1,5 +1,5 @@
 use Rattle.std.proofs.Common.{[], unwrap_or}
-use Rattle.fwd_store.specs.Name.{found_name}
+use Rattle.fwd_kept.specs.Name.{found_name}
 use Rattle.fwd_store.proofs.Standing.{found_stands, found_is_kept, seen_is_whole}
 use Rattle.fwd_store.proofs.laws.found_content_stands.Goals as goal
 

@@ -1,4 +1,4 @@
-use Rattle.fwd_store.proofs.Digits.{same_name}
+use Rattle.fwd_kept.proofs.Digits.{same_name}
 use Rattle.fwd_store.proofs.Own.{own_file, next_is_new}
 use Rattle.fwd_store.proofs.laws.names_tell_numbers.Goals as goal
 

@@ -3,8 +3,8 @@ use Rattle.std.specs.Map.{lookup}
 use Rattle.std.specs.FinMap as map
 use Rattle.fwd_program.specs.Told.{Makes}
 use Rattle.fwd_outside.specs.Disk.{disk_outcome}
-use Rattle.fwd_store.specs.declared.kept.Kept.{Kept}
-use Rattle.fwd_store.specs.Kept.{appends, grown}
+use Rattle.fwd_kept.specs.declared.kept.Kept.{Kept}
+use Rattle.fwd_kept.specs.Kept.{appends, grown}
 use Rattle.fwd_store.specs.Stored.{HeldList}
 use Rattle.fwd_store.proofs.Holding.{get_held, put_in, put_again}
 use Rattle.fwd_store.proofs.Results.{same_some, on_ok, on_err}

@@ -1,10 +1,10 @@
 use Rattle.std.proofs.Common.{◌≡◌, ℕ, false, Some, ap, ◌∙◌, sym}
 use Rattle.std.specs.FinMap as map
 use Rattle.fwd_store.specs.Stored.{Held, Stored}
-use Rattle.fwd_store.specs.Kept.{size_held, grown}
+use Rattle.fwd_kept.specs.Kept.{size_held, grown}
 use Rattle.fwd_store.specs.Store.{with_kept}
 use Rattle.fwd_store.proofs.Holding.{get_here}
-use Rattle.fwd_store.proofs.Sound.{sound_as_kept, can_go_on, goes_on_held, grows_some, room_for}
+use Rattle.fwd_store.proofs.Sound.{sound_as_kept, can_go_on, goes_on_held, grows_some, room_for, same_file}
 use Rattle.fwd_store.proofs.store.Store.append.Goals as goal
 
 pub append-requires-clause-room : goal.append-requires-clause-room
@@ -16,7 +16,7 @@ pub invariant_of-self : goal.invariant_of-self
 invariant_of-self g c =
     let some = grows_some (map.get c.args.self.now.chunks c.args.number) c.requires.grows in
     let here : map.get c.self.inside.chunks.list c.args.number ≡ Some some.0 = ap (λ (s : Stored). map.get s.chunks c.args.number) c.self.view_is ∙ some.1 in
-    sound_as_kept _ c.args.number some.0 (grown some.0 c.args.batch.now) _ here (c.in-Ok.ensures.ok some.0 here) (can_go_on some.0 c.args.batch.now)
+    sound_as_kept _ c.args.number some.0 (grown some.0 c.args.batch.now) _ here (same_file some.0 c.args.batch.now) (c.in-Ok.ensures.ok some.0 here) (can_go_on some.0 c.args.batch.now)
     (goes_on_held c.self.inside.root c.args.number some.0 c.args.batch.now (room_for c.args.self.now c.args.number some.0 c.args.batch.now some.1 c.requires.grows c.requires.room c.requires.batch)) c.self.invariant
 
 pub returns-in-Ok-clause-ok : goal.returns-in-Ok-clause-ok

@@ -1,0 +1,25 @@
+-- What the bytes of a chunk's file stand for, as a function of the bytes.
+use Rattle.std.specs.Prelude.{ℕ, ◌==◌, if◌then◌else◌, List, length, take, Ok, Err, Result}
+use Rattle.fwd_event.specs.declared.event.Event.{Event}
+use Rattle.fwd_event.specs.Whole.{events_in}
+use Rattle.fwd_chunk.specs.Layout.{committed}
+use Rattle.fwd_found.specs.declared.metadata.Metadata.{Metadata}
+use Rattle.fwd_found.specs.declared.refusal.NotAChunk.{NotAChunk}
+use Rattle.fwd_found.specs.declared.refusal.NotAChunk.TheVariants.{BadEvents}
+use Rattle.fwd_found.specs.Standing.{is_marked, body_of, headed, chunk_of, ChunkRead}
+
+-- of a marked file the committed bytes are all events
+abbrev pub marked : List ℕ → Metadata → List Event × ℕ → ChunkRead
+marked bytes metadata found = if found.1 == length (take (committed bytes) (body_of bytes)) then Ok (chunk_of bytes metadata found.0 (committed bytes)) else Err BadEvents
+
+-- of a plain file the events at the front of the body count
+abbrev pub unmarked : List ℕ → Metadata → List Event × ℕ → ChunkRead
+unmarked bytes metadata found = Ok (chunk_of bytes metadata found.0 found.1)
+
+abbrev pub stands_by : List ℕ → Result Metadata NotAChunk → ChunkRead
+stands_by bytes (Err refusal) = Err refusal
+stands_by bytes (Ok metadata) = if is_marked bytes then marked bytes metadata (events_in (take (committed bytes) (body_of bytes))) else unmarked bytes metadata (events_in (body_of bytes))
+
+-- the chunk that the bytes stand for, or their first refusal
+unfoldable pub stands : List ℕ → ChunkRead
+stands bytes = stands_by bytes (headed bytes)
