@@ -1,26 +1,42 @@
-//! The program `fwd`: it makes the files of the machine and standard output, and hands them to `log_forwarder`. What it
-//! answers ends the program, with its line on standard error.
+//! The program `fwd`: it makes the devices of the machine, and hands them to `log_forwarder`. What it answers ends the
+//! program, with its line on standard error.
 #![tactic(auto)]
 
-mod folder_files;
 mod started;
-mod std_sink;
 
-use folder_files::FolderFiles;
+ghost use Rattle.fwd_outside.specs.Files.{FilesGiven};
+ghost use Rattle.fwd_outside.specs.Loop.{LoopGiven};
+
+use fwd_live::{FolderFiles, LiveLoop, StdSink};
 use fwd_top::{Status, log_forwarder, status_line};
 use started::{environment, words};
-use std::io::{self, Write};
+use std::io::{self, ErrorKind, Write};
 use std::process::ExitCode;
 use std::thread::Threads;
-use std_sink::StdSink;
 
-fn run(rt: &HostRuntime, threads: &(impl Threads + Sync)) -> Status {
+/// How the program ends where there is no loop over the machine.
+fn status_without_loop(error: &io::Error) -> Status {
+    match error.kind() {
+        ErrorKind::OutOfMemory => Status::Memory,
+        _ => Status::LoopFault,
+    }
+}
+
+/// Who calls this picks the files that stand there, and what the loop is to bring.
+fn run(rt: &HostRuntime, threads: &(impl Threads + Sync)) -> Status
+    ghost given: { FilesGiven }
+    ghost brought: { LoopGiven }
+{
     let words = match words(rt) {
         Ok(words) => words,
         Err(status) => return status,
     };
     let Ok(env) = environment(rt) else {
         return Status::Memory;
+    };
+    let mut outside = match LiveLoop::new(*rt) {
+        Ok(outside) => outside,
+        Err(error) => return status_without_loop(&error),
     };
     let mut files = FolderFiles::new(*rt);
     let mut out = StdSink::new(*rt);
@@ -30,6 +46,7 @@ fn run(rt: &HostRuntime, threads: &(impl Threads + Sync)) -> Status {
         &words,
         &env,
         &mut files,
+        &mut outside,
         &mut out,
         u64::MAX,
     )

@@ -5,3 +5,4 @@ pub mod Coming
 pub mod Turning
 pub mod Ending
 pub mod Waiting
+mod Heard

@@ -1,16 +1,19 @@
 //! The engine.
 
-ghost use Rattle.std.specs.Prelude.{◌≡◌, ◌≤◌, [], length, IfOk};
+ghost use Rattle.std.specs.Prelude.{◌≡◌, ◌≤◌, [], length, Err, IfOk};
+ghost use Rattle.fwd_program.specs.Cause.{HasCause};
 ghost use Rattle.fwd_base.specs.Limits.{most_inputs, most_outputs};
 ghost use Rattle.fwd_settings.specs.declared.chosen.AllSettings.{AllSettings};
 ghost use Rattle.fwd_trace.specs.Fact.{History};
 ghost use Rattle.fwd_trace.specs.World.{World};
-ghost use Rattle.fwd_history.specs.Clock.{ticked};
+ghost use Rattle.fwd_history.specs.Clock.{stopped, ticked};
 ghost use Rattle.fwd_history.specs.Routes.{rows_of};
 ghost use Rattle.fwd_history.specs.Tallies.{tally_of};
 ghost use Rattle.fwd_run.specs.Run.{paused};
+ghost use Rattle.fwd_engine.specs.Heard.{FailsSo, HasHeard, IsUnheard, heard_by};
 ghost use Rattle.fwd_engine.specs.Meets.{telling};
 ghost use Rattle.fwd_engine.specs.Steps.{IsAt, Knows, Steps, Turns, is_failed, as_turn};
+ghost use Rattle.fwd_engine.specs.declared.engine.EngineStop.TheVariants as stop;
 
 use crate::stepping::{is_finished, step};
 use fwd_book::Book;
@@ -88,18 +91,23 @@ impl Engine {
         happening: Happening,
         outside: &mut L,
     ) -> Result<Turn, EngineStop>
-        ensures { (others : World) (s : AllSettings) (h : History) → IsAt self.old s h → Steps (telling others (L.told outside.old)) (telling others (L.told outside.new)) s h happening self.new result }
+        ensures steps { (others : World) (s : AllSettings) (h : History) → IsAt self.old s h → Steps (telling others (L.told outside.old)) (telling others (L.told outside.new)) s h happening self.new result }
+        ensures fails { FailsSo happening result }
+        ensures unheard { IsUnheard (L.counts outside.old) (L.counts outside.new) }
+        ensures later { L.faults outside.old ≤ L.faults outside.new }
     {
         self.take(rt, &happening, outside)
     }
 
-    /// Waits for a happening, and takes it.
+    /// Waits for a happening, and takes it. `LoopFault` comes only where a failure of the loop was counted.
     pub fn turn<L: Loop>(
         &mut self,
         rt: &(impl Threads + Sync),
         outside: &mut L,
     ) -> Result<Turn, EngineStop>
-        ensures { (others : World) (s : AllSettings) (h : History) → IsAt self.old s h → Turns (telling others (L.told outside.old)) (telling others (L.told outside.new)) s h self.new result }
+        ensures turns { (others : World) (s : AllSettings) (h : History) → IsAt self.old s h → Turns (telling others (L.told outside.old)) (telling others (L.told outside.new)) s h self.new result }
+        ensures heard { HasHeard (heard_by result) (L.counts outside.old) (L.counts outside.new) }
+        ensures cause { HasCause (L.faults outside.old) (L.faults outside.new) (result ≡ Err stop.LoopFault) }
     {
         let until = self.book.clock().saturating_add(250);
         match outside.wait(self.book.alloc(), until, self.paused()) {
@@ -114,7 +122,10 @@ impl Engine {
         happening: &Happening,
         outside: &mut L,
     ) -> Result<Turn, EngineStop>
-        ensures { (others : World) (s : AllSettings) (h : History) → IsAt self.old s h → Steps (telling others (L.told outside.old)) (telling others (L.told outside.new)) s h happening.now self.new result }
+        ensures steps { (others : World) (s : AllSettings) (h : History) → IsAt self.old s h → Steps (telling others (L.told outside.old)) (telling others (L.told outside.new)) s h happening.now self.new result }
+        ensures fails { FailsSo happening.now result }
+        ensures unheard { IsUnheard (L.counts outside.old) (L.counts outside.new) }
+        ensures later { L.faults outside.old ≤ L.faults outside.new }
     {
         if is_failure(happening) {
             return Err(EngineStop::LoopFault);
@@ -147,6 +158,13 @@ impl Engine {
         ensures { Knows self.now (λ s h. result.now ≡ tally_of s h) }
     {
         self.book.tally()
+    }
+
+    /// The clock at Stop, where it came.
+    pub fn stopped(&self) -> Option<u64>
+        ensures { Knows self.now (λ s h. result ≡ stopped h) }
+    {
+        self.book.stopped()
     }
 
     /// How many readings of the clock were taken.

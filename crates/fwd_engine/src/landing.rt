@@ -1,12 +1,13 @@
 //! What flights come to.
 
-ghost use Rattle.std.specs.Prelude.{◌≡◌, ◌-◌, ℕ};
+ghost use Rattle.std.specs.Prelude.{◌≤◌, ◌≡◌, ◌-◌, ℕ};
 ghost use Rattle.fwd_flush.specs.Flight.{poll_in};
 ghost use Rattle.fwd_trace.specs.Fact.{History};
 ghost use Rattle.fwd_history.specs.Routes.{tries as tries_of};
 ghost use Rattle.fwd_run.specs.Acts.{retries, answers_by, stands, lands};
 ghost use Rattle.fwd_book.specs.Sight.{route_of};
 ghost use Rattle.fwd_book.specs.Stands.{IsClosedRoute, IsFlightOf};
+ghost use Rattle.fwd_engine.specs.Heard.{IsUnheard};
 ghost use Rattle.fwd_engine.specs.Meets.{LandsBy};
 
 use fwd_base::Memory;
@@ -25,7 +26,9 @@ fn retry<L: Loop>(
     route: RouteId,
     tries: u64,
 ) -> Result<(), Memory>
-    ensures { LandsBy setup.now (L.told outside.old) (L.told outside.new) book.old book.new (route_of route) (λ h. IsClosedRoute h (route_of route) × (tries ≡ tries_of h (route_of route))) (λ h. retries setup.now (route_of route) h) result }
+    ensures acts { LandsBy setup.now (L.told outside.old) (L.told outside.new) book.old book.new (route_of route) (λ h. IsClosedRoute h (route_of route) × (tries ≡ tries_of h (route_of route))) (λ h. retries setup.now (route_of route) h) result }
+    ensures unheard { IsUnheard (L.counts outside.old) (L.counts outside.new) }
+    ensures later { L.faults outside.old ≤ L.faults outside.new }
 {
     if may_retry(setup.retries(route.output), tries) {
         let word = outside.word()?;
@@ -46,7 +49,9 @@ fn answered<L: Loop>(
     tries: u64,
     answer: Answer,
 ) -> Result<(), Memory>
-    ensures { LandsBy setup.now (L.told outside.old) (L.told outside.new) book.old book.new (route_of route) (λ h. IsClosedRoute h (route_of route) × (tries ≡ tries_of h (route_of route))) (λ h. answers_by setup.now (route_of route) answer h) result }
+    ensures acts { LandsBy setup.now (L.told outside.old) (L.told outside.new) book.old book.new (route_of route) (λ h. IsClosedRoute h (route_of route) × (tries ≡ tries_of h (route_of route))) (λ h. answers_by setup.now (route_of route) answer h) result }
+    ensures unheard { IsUnheard (L.counts outside.old) (L.counts outside.new) }
+    ensures later { L.faults outside.old ≤ L.faults outside.new }
 {
     match answer {
         Answer::Good => {
@@ -69,7 +74,9 @@ fn stand<L: Loop>(
     flight: Flight,
     poll: Poll,
 ) -> Result<(), Memory>
-    ensures { LandsBy setup.now (L.told outside.old) (L.told outside.new) book.old book.new (route_of flight.route) (λ h. IsFlightOf setup.now h flight (route_of flight.route) × (poll ≡ poll_in flight.flush.progress.stage)) (λ h. stands setup.now (route_of flight.route) flight.flush.progress h) result }
+    ensures acts { LandsBy setup.now (L.told outside.old) (L.told outside.new) book.old book.new (route_of flight.route) (λ h. IsFlightOf setup.now h flight (route_of flight.route) × (poll ≡ poll_in flight.flush.progress.stage)) (λ h. stands setup.now (route_of flight.route) flight.flush.progress h) result }
+    ensures unheard { IsUnheard (L.counts outside.old) (L.counts outside.new) }
+    ensures later { L.faults outside.old ≤ L.faults outside.new }
 {
     match poll {
         Poll::Waiting => {
@@ -89,7 +96,9 @@ pub fn land<L: Loop>(
     before: u64,
     poll: Poll,
 ) -> Result<(), Memory>
-    ensures { LandsBy setup.now (L.told outside.old) (L.told outside.new) book.old book.new (route_of flight.route) (λ h. IsFlightOf setup.now h flight (route_of flight.route) × (poll ≡ poll_in flight.flush.progress.stage)) (λ h. lands setup.now (route_of flight.route) before flight.flush.progress h) result }
+    ensures acts { LandsBy setup.now (L.told outside.old) (L.told outside.new) book.old book.new (route_of flight.route) (λ h. IsFlightOf setup.now h flight (route_of flight.route) × (poll ≡ poll_in flight.flush.progress.stage)) (λ h. lands setup.now (route_of flight.route) before flight.flush.progress h) result }
+    ensures unheard { IsUnheard (L.counts outside.old) (L.counts outside.new) }
+    ensures later { L.faults outside.old ≤ L.faults outside.new }
 {
     let more = flight.flush.taken().saturating_sub(before);
     book.hands(flight.route.output, more);

@@ -1,11 +1,12 @@
 //! One happening.
 
-ghost use Rattle.std.specs.Prelude.{◌≡◌, ◌+◌, ◌*◌, ◌&&◌, ◌||◌, nat_le};
+ghost use Rattle.std.specs.Prelude.{◌≤◌, ◌≡◌, ◌+◌, ◌*◌, ◌&&◌, ◌||◌, nat_le};
 ghost use Rattle.fwd_history.specs.Clock.{clock};
 ghost use Rattle.fwd_trace.specs.Fact.{History};
 ghost use Rattle.fwd_run.specs.Acts.{ticks, stops, finishes, step};
 ghost use Rattle.fwd_run.specs.Run.{is_over, is_end, is_tick};
 ghost use Rattle.fwd_book.specs.Stands.{Shows, Tells};
+ghost use Rattle.fwd_engine.specs.Heard.{IsUnheard};
 ghost use Rattle.fwd_engine.specs.Meets.{Acts};
 
 use crate::acceptance::{accept, close_all, close_due};
@@ -19,7 +20,9 @@ use std::thread::Threads;
 
 /// The clock reads; open chunks close where it is time, and due routes are begun.
 fn tick<L: Loop>(setup: &Setup, book: &mut Book, outside: &mut L, now: u64) -> Result<(), Memory>
-    ensures { Acts setup.now (L.told outside.old) (L.told outside.new) book.old book.new (λ h. ticks setup.now now h) result }
+    ensures acts { Acts setup.now (L.told outside.old) (L.told outside.new) book.old book.new (λ h. ticks setup.now now h) result }
+    ensures unheard { IsUnheard (L.counts outside.old) (L.counts outside.new) }
+    ensures later { L.faults outside.old ≤ L.faults outside.new }
 {
     book.ticks(now);
     close_due(setup, book)?;
@@ -28,7 +31,9 @@ fn tick<L: Loop>(setup: &Setup, book: &mut Book, outside: &mut L, now: u64) -> R
 
 /// The open chunks close and due routes are begun, once.
 fn stop<L: Loop>(setup: &Setup, book: &mut Book, outside: &mut L) -> Result<(), Memory>
-    ensures { Acts setup.now (L.told outside.old) (L.told outside.new) book.old book.new (λ h. stops setup.now h) result }
+    ensures acts { Acts setup.now (L.told outside.old) (L.told outside.new) book.old book.new (λ h. stops setup.now h) result }
+    ensures unheard { IsUnheard (L.counts outside.old) (L.counts outside.new) }
+    ensures later { L.faults outside.old ≤ L.faults outside.new }
 {
     match book.stopped() {
         Some(_) => Ok(()),
@@ -48,7 +53,9 @@ fn finish<L: Loop>(
     outside: &mut L,
     input: InputId,
 ) -> Result<(), Memory>
-    ensures { Acts setup.now (L.told outside.old) (L.told outside.new) book.old book.new (λ h. finishes setup.now input.0 h) result }
+    ensures acts { Acts setup.now (L.told outside.old) (L.told outside.new) book.old book.new (λ h. finishes setup.now input.0 h) result }
+    ensures unheard { IsUnheard (L.counts outside.old) (L.counts outside.new) }
+    ensures later { L.faults outside.old ≤ L.faults outside.new }
 {
     let Some(set) = setup.input(input) else {
         return Ok(());
@@ -73,7 +80,9 @@ pub fn step<L: Loop>(
     outside: &mut L,
     happening: &Happening,
 ) -> Result<(), Memory>
-    ensures { Acts setup.now (L.told outside.old) (L.told outside.new) book.old book.new (λ h. step setup.now happening.now h) result }
+    ensures acts { Acts setup.now (L.told outside.old) (L.told outside.new) book.old book.new (λ h. step setup.now happening.now h) result }
+    ensures unheard { IsUnheard (L.counts outside.old) (L.counts outside.new) }
+    ensures later { L.faults outside.old ≤ L.faults outside.new }
 {
     match happening {
         Happening::Tick { now } => tick(setup, book, outside, *now),

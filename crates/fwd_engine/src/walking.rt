@@ -1,6 +1,6 @@
 //! The walk: due routes are begun; and what happens to their links.
 
-ghost use Rattle.std.specs.Prelude.{◌≡◌, true, IfOk};
+ghost use Rattle.std.specs.Prelude.{◌≤◌, ◌≡◌, true, IfOk};
 ghost use Rattle.fwd_trace.specs.Fact.{History};
 ghost use Rattle.fwd_trace.specs.World.{World};
 ghost use Rattle.fwd_history.specs.Routes.{is_idle};
@@ -8,6 +8,7 @@ ghost use Rattle.fwd_history.specs.Payloads.{payload_for};
 ghost use Rattle.fwd_run.specs.Acts.{begins, turn, walk, has_room, comes_back, has_broken};
 ghost use Rattle.fwd_book.specs.Sight.{route_of};
 ghost use Rattle.fwd_book.specs.Stands.{Shows};
+ghost use Rattle.fwd_engine.specs.Heard.{IsUnheard};
 ghost use Rattle.fwd_engine.specs.Meets.{telling, Meets, Acts};
 
 use crate::landing::land;
@@ -39,8 +40,10 @@ fn begin<L: Loop>(
     outside: &mut L,
     route: RouteId,
 ) -> Result<(), Memory>
-    ensures { (others : World) (h : History) → Shows setup.now book.old h → is_idle setup.now h (route_of route) ≡ true
+    ensures acts { (others : World) (h : History) → Shows setup.now book.old h → is_idle setup.now h (route_of route) ≡ true
         → Meets (telling others (L.told outside.old)) (telling others (L.told outside.new)) setup.now (begins setup.now (route_of route) h) book.new result }
+    ensures unheard { IsUnheard (L.counts outside.old) (L.counts outside.new) }
+    ensures later { L.faults outside.old ≤ L.faults outside.new }
 {
     let alloc = book.alloc();
     let tries = book.tries(route);
@@ -68,7 +71,9 @@ pub fn turn<L: Loop>(
     outside: &mut L,
     route: RouteId,
 ) -> Result<(), Memory>
-    ensures { Acts setup.now (L.told outside.old) (L.told outside.new) book.old book.new (λ h. turn setup.now (route_of route) h) result }
+    ensures acts { Acts setup.now (L.told outside.old) (L.told outside.new) book.old book.new (λ h. turn setup.now (route_of route) h) result }
+    ensures unheard { IsUnheard (L.counts outside.old) (L.counts outside.new) }
+    ensures later { L.faults outside.old ≤ L.faults outside.new }
 {
     let has_place = book.flights_to(route.output) < setup.places(route.output);
     if book.is_idle(route) && has_place {
@@ -80,7 +85,9 @@ pub fn turn<L: Loop>(
 
 /// The routes that are idle and due are begun, in order.
 pub fn walk<L: Loop>(setup: &Setup, book: &mut Book, outside: &mut L) -> Result<(), Memory>
-    ensures { Acts setup.now (L.told outside.old) (L.told outside.new) book.old book.new (λ h. walk setup.now h) result }
+    ensures acts { Acts setup.now (L.told outside.old) (L.told outside.new) book.old book.new (λ h. walk setup.now h) result }
+    ensures unheard { IsUnheard (L.counts outside.old) (L.counts outside.new) }
+    ensures later { L.faults outside.old ≤ L.faults outside.new }
 {
     let routes = book.due_routes()?;
     for route in &routes {
@@ -96,7 +103,9 @@ pub fn room<L: Loop>(
     outside: &mut L,
     link: LinkId,
 ) -> Result<(), Memory>
-    ensures { Acts setup.now (L.told outside.old) (L.told outside.new) book.old book.new (λ h. has_room setup.now link.0 h) result }
+    ensures acts { Acts setup.now (L.told outside.old) (L.told outside.new) book.old book.new (λ h. has_room setup.now link.0 h) result }
+    ensures unheard { IsUnheard (L.counts outside.old) (L.counts outside.new) }
+    ensures later { L.faults outside.old ≤ L.faults outside.new }
 {
     let Some(mut flight) = book.take(link) else {
         return Ok(());
@@ -114,7 +123,9 @@ pub fn back<L: Loop>(
     link: LinkId,
     bytes: &[u8],
 ) -> Result<(), Memory>
-    ensures { Acts setup.now (L.told outside.old) (L.told outside.new) book.old book.new (λ h. comes_back setup.now link.0 bytes.now h) result }
+    ensures acts { Acts setup.now (L.told outside.old) (L.told outside.new) book.old book.new (λ h. comes_back setup.now link.0 bytes.now h) result }
+    ensures unheard { IsUnheard (L.counts outside.old) (L.counts outside.new) }
+    ensures later { L.faults outside.old ≤ L.faults outside.new }
 {
     let Some(mut flight) = book.take(link) else {
         return Ok(());
@@ -131,7 +142,9 @@ pub fn broken<L: Loop>(
     outside: &mut L,
     link: LinkId,
 ) -> Result<(), Memory>
-    ensures { Acts setup.now (L.told outside.old) (L.told outside.new) book.old book.new (λ h. has_broken setup.now link.0 h) result }
+    ensures acts { Acts setup.now (L.told outside.old) (L.told outside.new) book.old book.new (λ h. has_broken setup.now link.0 h) result }
+    ensures unheard { IsUnheard (L.counts outside.old) (L.counts outside.new) }
+    ensures later { L.faults outside.old ≤ L.faults outside.new }
 {
     let Some(mut flight) = book.take(link) else {
         return Ok(());

@@ -30,25 +30,25 @@ use Rattle.fwd_handing.proofs.Keeping.{IsAtLink, IsToldIn, WasTurnedAway, Flown,
 use Rattle.fwd_handing.proofs.Running.{IsLived, lives_life}
 
 -- a life and what it left
-pub whole_at_end : (s : AllSettings) (ends : Ends) (turns : ℕ) (trace : List TraceEntry) (lived : Lived) → Way (life s ends turns) trace (Return lived) → AreNew 0 (loop_part trace)
+pub whole_at_end : (s : AllSettings) (ends : Ends) (ticks : Option ℕ) (turns : ℕ) (trace : List TraceEntry) (lived : Lived) → Way (life s ends ticks turns) trace (Return lived) → AreNew 0 (loop_part trace)
     → (greatest : ℕ) × Whole s (record { greatest = greatest; calls = loop_part trace; history = lived.history })
-whole_at_end s ends turns trace lived way are = (at.last.greatest, subst (λ (h : History). Whole s (record { greatest = at.last.greatest; calls = loop_part trace; history = h })) (sym at.holds.0) with_calls)
+whole_at_end s ends ticks turns trace lived way are = (at.last.greatest, subst (λ (h : History). Whole s (record { greatest = at.last.greatest; calls = loop_part trace; history = h })) (sym at.holds.0) with_calls)
   where
     at : EndsAt (IsLived s) (record { greatest = 0; calls = []; history = [] }) trace lived
-    at = ends_way (IsLived s) (record { greatest = 0; calls = []; history = [] }) (life s ends turns) (lives_life s ends turns) trace lived way are
+    at = ends_way (IsLived s) (record { greatest = 0; calls = []; history = [] }) (life s ends ticks turns) (lives_life s ends ticks turns) trace lived way are
 
     with_calls : Whole s (record { greatest = at.last.greatest; calls = loop_part trace; history = at.last.history })
     with_calls = subst (λ (es : List LoopEntry). Whole s (record { greatest = at.last.greatest; calls = es; history = at.last.history })) at.calls at.holds.1
 
-pub kept_at_end : (s : AllSettings) (ends : Ends) (turns : ℕ) (trace : List TraceEntry) (lived : Lived) → Way (life s ends turns) trace (Return lived) → AreNew 0 (loop_part trace)
+pub kept_at_end : (s : AllSettings) (ends : Ends) (ticks : Option ℕ) (turns : ℕ) (trace : List TraceEntry) (lived : Lived) → Way (life s ends ticks turns) trace (Return lived) → AreNew 0 (loop_part trace)
     → (greatest : ℕ) × Kept s (record { greatest = greatest; calls = loop_part trace; history = lived.history })
-kept_at_end s ends turns trace lived way are = let end = whole_at_end s ends turns trace lived way are in (end.0, end.1.kept)
+kept_at_end s ends ticks turns trace lived way are = let end = whole_at_end s ends ticks turns trace lived way are in (end.0, end.1.kept)
 
 -- what counts as taken
-pub taken_at_end : (s : AllSettings) (ends : Ends) (turns : ℕ) (trace : List TraceEntry) (lived : Lived) (output : ℕ) → Way (life s ends turns) trace (Return lived) → AreNew 0 (loop_part trace)
+pub taken_at_end : (s : AllSettings) (ends : Ends) (ticks : Option ℕ) (turns : ℕ) (trace : List TraceEntry) (lived : Lived) (output : ℕ) → Way (life s ends ticks turns) trace (Return lived) → AreNew 0 (loop_part trace)
     → taken lived.history output ≡ min (taken_over (links_of output (loop_part trace)) (loop_part trace)) (2 ^ 64 - 1)
-taken_at_end s ends turns trace lived output way are =
-    let end = whole_at_end s ends turns trace lived way are in
+taken_at_end s ends ticks turns trace lived output way are =
+    let end = whole_at_end s ends ticks turns trace lived way are in
     stands_still lived.history output ∙ ap (λ (k : ℕ). min k (2 ^ 64 - 1)) (end.1.counted.count output)
 
 module _ (s : AllSettings) (greatest : ℕ) (es : List LoopEntry) (h : History) (kept : Kept s (record { greatest = greatest; calls = es; history = h })) where

@@ -18,7 +18,7 @@ use Rattle.fwd_history.specs.Clock.{clock}
 use Rattle.fwd_history.specs.Chunks.{open_chunks}
 use Rattle.fwd_history.specs.Batches.{tag_of, piece_batch, end_batch}
 use Rattle.fwd_run.specs.Acts.{is_joined, note, noting, accepts, closes, closes_due, walk, ticks, stops, joins_as, joins, goes, says, pieces_as, pieces, finishes_as, finishes, has_room, comes_back, has_broken, step}
-use Rattle.fwd_run.specs.Run.{Lived, Over, lived, goes_on, brought, run, started, life, is_over, paused}
+use Rattle.fwd_run.specs.Run.{Lived, Over, lived, goes_on, steps_on, is_last_reading, unless_last, brought, run, started, life, is_over, paused}
 use Rattle.fwd_program.specs.Program.{bind}
 use Rattle.fwd_handing.specs.Own.{came_on}
 use Rattle.fwd_handing.proofs.Following.{Now, asked, noted, Ends, ends_bind, ends_if}
@@ -140,17 +140,25 @@ module _ (s : AllSettings) where
   lives_on : (next : History → Act Lived) (happens : Happening) (m : Now) → Whole s m → LivesOn next → Lives s m (goes_on s next happens m.history)
   lives_on next happens m whole rest = ends_if (IsLived s) (is_over s happens m.history) m (Return (lived m.history Over)) (next m.history) (refl, whole) (rest m whole)
 
-  lives_brought : (next : History → Act Lived) (n : Now) → Whole s n → (until pauses : ℕ) (happens : Happening) → LivesOn next → Lives s (asked (Wait until pauses) happens n) (brought s next n.history happens)
-  lives_brought next n whole until pauses happening.Failed rest = (refl, waits s n whole until pauses happening.Failed (λ link. refl))
-  lives_brought next n whole until pauses happens rest =
-      ends_bind (Stays s) (IsLived s) (asked (Wait until pauses) happens n) (step s happens n.history) (goes_on s next happens) (safe_step s n whole until pauses happens)
-      (λ h m stays. subst (λ (x : History). Lives s m (goes_on s next happens x)) (sym stays.0) (lives_on next happens m stays.1 rest))
+  lives_unless_last : (ticks : Option ℕ) (next : History → Act Lived) → LivesOn next → LivesOn (unless_last s ticks next)
+  unfolding unless_last step
+  lives_unless_last ticks next rest m whole =
+      ends_if (IsLived s) (is_last_reading ticks m.history) m (steps_on s next happening.Stop m.history) (next m.history)
+      (ends_bind (Stays s) (IsLived s) m (stops s m.history) (goes_on s next happening.Stop) (safe_stops s m whole)
+      (λ h now stays. subst (λ (x : History). Lives s now (goes_on s next happening.Stop x)) (sym stays.0) (lives_on next happening.Stop now stays.1 rest)))
+      (rest m whole)
 
-  lives_run : (turns : ℕ) (n : Now) → Whole s n → Lives s n (run s turns n.history)
+  lives_brought : (ticks : Option ℕ) (next : History → Act Lived) (n : Now) → Whole s n → (until pauses : ℕ) (happens : Happening) → LivesOn next → Lives s (asked (Wait until pauses) happens n) (brought s ticks next n.history happens)
+  lives_brought ticks next n whole until pauses happening.Failed rest = (refl, waits s n whole until pauses happening.Failed (λ link. refl))
+  lives_brought ticks next n whole until pauses happens rest =
+      ends_bind (Stays s) (IsLived s) (asked (Wait until pauses) happens n) (step s happens n.history) (goes_on s (unless_last s ticks next) happens) (safe_step s n whole until pauses happens)
+      (λ h m stays. subst (λ (x : History). Lives s m (goes_on s (unless_last s ticks next) happens x)) (sym stays.0) (lives_on (unless_last s ticks next) happens m stays.1 (lives_unless_last ticks next rest)))
+
+  lives_run : (ticks : Option ℕ) (turns : ℕ) (n : Now) → Whole s n → Lives s n (run s ticks turns n.history)
   unfolding run
-  lives_run zero n whole = (refl, whole)
-  lives_run (suc turns) n whole = λ happens _.
-      lives_brought (run s turns) n whole (plus (clock n.history) 250) (paused s n.history) happens (λ m whole_m. lives_run turns m whole_m)
+  lives_run ticks zero n whole = (refl, whole)
+  lives_run ticks (suc turns) n whole = λ happens _.
+      lives_brought ticks (run s ticks turns) n whole (plus (clock n.history) 250) (paused s n.history) happens (λ m whole_m. lives_run ticks turns m whole_m)
 
   abbrev first : Now
   first = record { greatest = 0; calls = []; history = [] }
@@ -162,10 +170,10 @@ module _ (s : AllSettings) where
       none (inl is) = is
       none (inr is) = is
 
-  lives_started : (ends : AllEnds) (turns : ℕ) (ready : Option (Unit {0})) → Lives s (asked (Start ends) ready first) (started s turns ready)
-  lives_started ends turns None = (refl, whole_started ends None)
-  lives_started ends turns (Some ready) = lives_run turns (asked (Start ends) (Some ready) first) (whole_started ends (Some ready))
+  lives_started : (ends : AllEnds) (ticks : Option ℕ) (turns : ℕ) (ready : Option (Unit {0})) → Lives s (asked (Start ends) ready first) (started s ticks turns ready)
+  lives_started ends ticks turns None = (refl, whole_started ends None)
+  lives_started ends ticks turns (Some ready) = lives_run ticks turns (asked (Start ends) (Some ready) first) (whole_started ends (Some ready))
 
-  pub lives_life : (ends : AllEnds) (turns : ℕ) → Lives s first (life s ends turns)
+  pub lives_life : (ends : AllEnds) (ticks : Option ℕ) (turns : ℕ) → Lives s first (life s ends ticks turns)
   unfolding life
-  lives_life ends turns = λ ready _. lives_started ends turns ready
+  lives_life ends ticks turns = λ ready _. lives_started ends ticks turns ready

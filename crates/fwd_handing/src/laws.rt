@@ -1,7 +1,7 @@
 //! Laws on the flights of a run. They ask of the outside one thing, that each dial which gives a link gives a greater
 //! number than all before, and hold of a run up to any step.
 
-ghost use Rattle.std.specs.Prelude.{ℕ, ◌-◌, ◌^◌, ◌≡◌, min, List, Some};
+ghost use Rattle.std.specs.Prelude.{ℕ, ◌-◌, ◌^◌, ◌≡◌, min, List, Option, Some};
 ghost use Rattle.fwd_program.specs.Program.{Return, Way};
 ghost use Rattle.fwd_outside.specs.declared.ends.Ends.{Ends};
 ghost use Rattle.fwd_flush.specs.Flight.{Progress};
@@ -19,24 +19,24 @@ ghost use Rattle.fwd_handing.specs.Handing.{IsNoted, HandsBeginning, HandsWhole,
 /// whose dial gave the link; the dial said the tag of this chunk. Where nothing is decided by what happened on the link, the
 /// route is under way over it; where an answer is, this is noted of the route, and the link was closed, once.
 pub fn each_link_hands_a_beginning()
-    ensures { (s : AllSettings) (ends : Ends) (turns : ℕ) (trace : List TraceEntry) (lived : Lived) (to : Aim) (link : ℕ)
-        → Way (life s ends turns) trace (Return lived) → AreNew 0 (loop_part trace) → WasGiven to link (loop_part trace)
+    ensures { (s : AllSettings) (ends : Ends) (ticks : Option ℕ) (turns : ℕ) (trace : List TraceEntry) (lived : Lived) (to : Aim) (link : ℕ)
+        → Way (life s ends ticks turns) trace (Return lived) → AreNew 0 (loop_part trace) → WasGiven to link (loop_part trace)
         → HandsBeginning s lived.history (loop_part trace) to link }
 {}
 
 /// A route is delivered only where the pushes on one link of its output took the whole of what its chunk has for it, and
 /// what happened on this link comes to OK.
 pub fn delivered_is_whole()
-    ensures { (s : AllSettings) (ends : Ends) (turns : ℕ) (trace : List TraceEntry) (lived : Lived) (r : Route)
-        → Way (life s ends turns) trace (Return lived) → AreNew 0 (loop_part trace) → IsNoted (OnRoute r Delivered) lived.history
+    ensures { (s : AllSettings) (ends : Ends) (ticks : Option ℕ) (turns : ℕ) (trace : List TraceEntry) (lived : Lived) (r : Route)
+        → Way (life s ends ticks turns) trace (Return lived) → AreNew 0 (loop_part trace) → IsNoted (OnRoute r Delivered) lived.history
         → HandsWhole s lived.history (loop_part trace) r }
 {}
 
 /// A flight that is under way has a link of its output on which nothing is decided yet, and counts as taken what the pushes
 /// on it took.
 pub fn under_way_as_verdict()
-    ensures { (s : AllSettings) (ends : Ends) (turns : ℕ) (trace : List TraceEntry) (lived : Lived) (r : Route) (p : Progress)
-        → Way (life s ends turns) trace (Return lived) → AreNew 0 (loop_part trace) → flight lived.history r ≡ Some p
+    ensures { (s : AllSettings) (ends : Ends) (ticks : Option ℕ) (turns : ℕ) (trace : List TraceEntry) (lived : Lived) (r : Route) (p : Progress)
+        → Way (life s ends ticks turns) trace (Return lived) → AreNew 0 (loop_part trace) → flight lived.history r ≡ Some p
         → IsUnderWay s lived.history (loop_part trace) r p }
 {}
 
@@ -44,22 +44,22 @@ pub fn under_way_as_verdict()
 /// of its output comes to RETRY. A route is given up only where the pushes on one link of its output took the whole of what
 /// its chunk has for it, and what happened on this link comes to ERROR. Of no output is a reply wanted yet, so none is.
 pub fn retried_as_verdict()
-    ensures retried { (s : AllSettings) (ends : Ends) (turns : ℕ) (trace : List TraceEntry) (lived : Lived) (r : Route) (wait_s : ℕ)
-        → Way (life s ends turns) trace (Return lived) → AreNew 0 (loop_part trace) → IsNoted (OnRoute r (Retries wait_s)) lived.history
+    ensures retried { (s : AllSettings) (ends : Ends) (ticks : Option ℕ) (turns : ℕ) (trace : List TraceEntry) (lived : Lived) (r : Route) (wait_s : ℕ)
+        → Way (life s ends ticks turns) trace (Return lived) → AreNew 0 (loop_part trace) → IsNoted (OnRoute r (Retries wait_s)) lived.history
         → HasFailed s lived.history (loop_part trace) r }
-    ensures spent { (s : AllSettings) (ends : Ends) (turns : ℕ) (trace : List TraceEntry) (lived : Lived) (r : Route)
-        → Way (life s ends turns) trace (Return lived) → AreNew 0 (loop_part trace) → IsNoted (OnRoute r Spent) lived.history
+    ensures spent { (s : AllSettings) (ends : Ends) (ticks : Option ℕ) (turns : ℕ) (trace : List TraceEntry) (lived : Lived) (r : Route)
+        → Way (life s ends ticks turns) trace (Return lived) → AreNew 0 (loop_part trace) → IsNoted (OnRoute r Spent) lived.history
         → HasFailed s lived.history (loop_part trace) r }
-    ensures failed { (s : AllSettings) (ends : Ends) (turns : ℕ) (trace : List TraceEntry) (lived : Lived) (r : Route)
-        → Way (life s ends turns) trace (Return lived) → AreNew 0 (loop_part trace) → IsNoted (OnRoute r Failed) lived.history
+    ensures failed { (s : AllSettings) (ends : Ends) (ticks : Option ℕ) (turns : ℕ) (trace : List TraceEntry) (lived : Lived) (r : Route)
+        → Way (life s ends ticks turns) trace (Return lived) → AreNew 0 (loop_part trace) → IsNoted (OnRoute r Failed) lived.history
         → IsRejected s lived.history (loop_part trace) r }
-    ensures no_error { (s : AllSettings) (ends : Ends) (turns : ℕ) (trace : List TraceEntry) (lived : Lived) (r : Route)
-        → Way (life s ends turns) trace (Return lived) → AreNew 0 (loop_part trace) → IsNoted (OnRoute r Failed) lived.history → ⊥ }
+    ensures no_error { (s : AllSettings) (ends : Ends) (ticks : Option ℕ) (turns : ℕ) (trace : List TraceEntry) (lived : Lived) (r : Route)
+        → Way (life s ends ticks turns) trace (Return lived) → AreNew 0 (loop_part trace) → IsNoted (OnRoute r Failed) lived.history → ⊥ }
 {}
 
 /// What the report counts as taken of an output is how many bytes the pushes on all links of this output took.
 pub fn taken_is_what_links_took()
-    ensures { (s : AllSettings) (ends : Ends) (turns : ℕ) (trace : List TraceEntry) (lived : Lived) (output : ℕ)
-        → Way (life s ends turns) trace (Return lived) → AreNew 0 (loop_part trace)
+    ensures { (s : AllSettings) (ends : Ends) (ticks : Option ℕ) (turns : ℕ) (trace : List TraceEntry) (lived : Lived) (output : ℕ)
+        → Way (life s ends ticks turns) trace (Return lived) → AreNew 0 (loop_part trace)
         → taken lived.history output ≡ min (taken_over (links_of output (loop_part trace)) (loop_part trace)) (2 ^ 64 - 1) }
 {}

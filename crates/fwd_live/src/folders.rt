@@ -235,9 +235,17 @@ impl Folders {
         Ok(())
     }
 
+    /// Makes a file in its folder. One that was settled may have been taken away since: then it is made anew.
     fn place_settled(&mut self, name: &[u8], part: &[u8], bytes: &[u8]) -> io::Result<File> {
         self.settle(name)?;
-        place_or_clear(&self.rt, name, part, bytes)
+        match place_or_clear(&self.rt, name, part, bytes) {
+            Err(error) if error.kind() == ErrorKind::NotFound => {
+                self.settled.clear();
+                self.settle(name)?;
+                place_or_clear(&self.rt, name, part, bytes)
+            }
+            outcome => outcome,
+        }
     }
 
     /// Makes a file, and its folder where that is missing. None where the machine refuses.

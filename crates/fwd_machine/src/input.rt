@@ -2,7 +2,9 @@
 
 use crate::names::{addresses_of, text};
 use mio::net::TcpListener;
+use mio::{Interest, Registry, Token};
 use std::io::{self, ErrorKind, Write};
+use std::net::SocketAddr;
 
 /// Where an input takes its bytes from.
 #[derive(Drop)]
@@ -21,11 +23,29 @@ pub struct Input {
     pub queued: bool,
 }
 
+/// Listens at an address, and lets the poll tell of peers.
+fn listen_there(
+    rt: &HostRuntime,
+    registry: &Registry,
+    token: Token,
+    address: SocketAddr,
+) -> io::Result<TcpListener> {
+    let mut listener = TcpListener::bind(rt, address)?;
+    registry.register(&mut listener, token, Interest::READABLE)?;
+    Ok(listener)
+}
+
 /// Listens at the first address of the host that can be had.
-fn listen_at(rt: &HostRuntime, host: &[u8], port: u16) -> io::Result<TcpListener> {
+fn listen_at(
+    rt: &HostRuntime,
+    registry: &Registry,
+    token: Token,
+    host: &[u8],
+    port: u16,
+) -> io::Result<TcpListener> {
     let mut refusal = io::Error::from(ErrorKind::AddrNotAvailable);
     for address in addresses_of(rt, host, port)? {
-        match TcpListener::bind(rt, address) {
+        match listen_there(rt, registry, token, address) {
             Ok(listener) => return Ok(listener),
             Err(error) => refusal = error,
         }
@@ -40,8 +60,14 @@ fn complain(rt: &HostRuntime, host: &[u8], port: u16, reason: &io::Error) -> io:
 }
 
 /// Listens at a host's port. Where that fails, a line on standard error says why.
-pub fn listen(rt: &HostRuntime, host: &[u8], port: u16) -> io::Result<TcpListener> {
-    match listen_at(rt, host, port) {
+pub fn listen(
+    rt: &HostRuntime,
+    registry: &Registry,
+    token: Token,
+    host: &[u8],
+    port: u16,
+) -> io::Result<TcpListener> {
+    match listen_at(rt, registry, token, host, port) {
         Ok(listener) => Ok(listener),
         Err(reason) => {
             let _ = complain(rt, host, port, &reason);

@@ -2,6 +2,7 @@
 //! and random words, and the poll that tells which of them has something. Errors that no answer tells are counted.
 #![tactic(auto)]
 
+mod clock;
 mod conn;
 mod input;
 mod link;

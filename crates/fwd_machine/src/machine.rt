@@ -4,6 +4,7 @@ ghost use Rattle.std.specs.Prelude.{◌≡◌, true, IfOk, IfSome};
 ghost use Rattle.fwd_outside.specs.Loop.{MayCome};
 ghost use Rattle.fwd_machine.specs.Handed.{TakesAtMost};
 
+use crate::clock::Clock;
 use crate::input::{Feed, Input, listen};
 use crate::link::{Handed, Link, Peer};
 use crate::names::{addresses_of, file_of_tag, path_in, text, without_memory};
@@ -19,7 +20,7 @@ use std::io::{self, ErrorKind};
 use std::net::SocketAddr;
 use std::os::fd::AsRawFd;
 use std::random::RandomSource;
-use std::time::{Duration, SystemTime, UNIX_EPOCH};
+use std::time::Duration;
 
 /// So many sources are looked at before the poll is asked again.
 const LOOKS: u32 = 32;
@@ -39,6 +40,7 @@ pub struct Machine {
     outputs: Vec<OutEnd>,
     sources: Sources,
     looks: u32,
+    clock: Clock,
     /// The last reading of the clock that was told.
     told: u64,
 }
@@ -53,6 +55,7 @@ impl Machine {
             outputs: Vec::new(alloc),
             sources: Sources::new(rt).map_err(without_memory)?,
             looks: 0,
+            clock: Clock::new(&rt)?,
             told: 0,
         })
     }
@@ -95,8 +98,7 @@ impl Machine {
         let registry = self.poll.registry();
         let (feed, queued) = match end {
             InEnd::Listen { host, port } => {
-                let mut listener = listen(&self.rt, host.as_slice(), *port)?;
-                registry.register(&mut listener, token, Interest::READABLE)?;
+                let listener = listen(&self.rt, registry, token, host.as_slice(), *port)?;
                 (Feed::Listening(listener), false)
             }
             InEnd::Stdin => {
@@ -110,14 +112,6 @@ impl Machine {
         self.sources
             .add_input(input, feed, queued)
             .map_err(without_memory)
-    }
-
-    /// What the clock reads, in milliseconds.
-    fn now(&self) -> io::Result<u64> {
-        match SystemTime::now(&self.rt)?.duration_since(UNIX_EPOCH) {
-            Ok(time) => Ok(time.as_millis().min(u64::MAX as u128) as u64),
-            Err(_) => Err(io::Error::from(ErrorKind::InvalidData)),
-        }
     }
 
     /// Whether the clock is to be told before anything else.
@@ -165,7 +159,7 @@ impl Machine {
     {
         self.sources.pause(paused)?;
         for _ in 0..u64::MAX {
-            let Ok(now) = self.now() else {
+            let Ok(now) = self.clock.read(&self.rt) else {
                 return Ok(Happening::Failed);
             };
             self.sources.set_now(now)?;

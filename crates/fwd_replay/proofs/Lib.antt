@@ -4,3 +4,5 @@ pub mod Naming
 pub mod Replaying
 pub mod Tracing
 pub mod Linking
+pub mod Heard
+pub mod Living

@@ -6,7 +6,7 @@ use Rattle.fwd_play.specs.Handed.{handed}
 use Rattle.fwd_engine.specs.declared.engine.Engine.{Engine}
 use Rattle.fwd_replay.specs.Naming.{IsNamed, IsNamedUnlessFailed}
 use Rattle.fwd_replay.specs.Runs.{Ran, StandsAt, end_of}
-use Rattle.fwd_replay.specs.declared.life.Replayed.{Replayed}
+use Rattle.fwd_replay.specs.declared.reported.Reported.{Reported}
 use Rattle.fwd_replay.specs.declared.named.Named.{Named}
 use Rattle.fwd_replay.specs.declared.running.RunEnd.{RunEnd}
 use Rattle.fwd_replay.specs.declared.running.RunEnd.TheVariants as run_end
@@ -23,19 +23,16 @@ use Rattle.fwd_trace.specs.Trace.{loop_part}
 use Rattle.fwd_trace.specs.World.{World, Did}
 use Rattle.fwd_run.specs.Run.{Lived, lived, life}
 use Rattle.fwd_engine.specs.Meets.{telling}
+use Rattle.fwd_replay.specs.Live.{quiet}
 use Rattle.fwd_replay.specs.Text.{IsTraceOf, IsReplayed, told_by, with_line_end, stdout_mask, report}
-
--- a disk and files that tell, and weren't asked anything
-abbrev pub quiet : World
-quiet = record { loop = None; disk = Some (record { files = [] }, []); files = Some ([], []) }
 
 -- what a loop in memory was asked is the loop's part of the trace
 pub asked_is : (planned : Life) (now : ScriptHeld) (s : AllSettings) (most : ℕ) (lived : Lived)
-    → (did : Did (telling quiet (told_of (new_held planned))) (telling quiet (told_of now)) (life s (ends_of s) most) lived) → loop_part did.entries ≡ entries_of now.notes
+    → (did : Did (telling quiet (told_of (new_held planned))) (telling quiet (told_of now)) (life s (ends_of s) None most) lived) → loop_part did.entries ≡ entries_of now.notes
 asked_is planned now s most lived did = sym did.asked.loop.1
 
 pub traced : (planned : Life) (now : ScriptHeld) (s : AllSettings) (most : ℕ) (lived : Lived)
-    → (did : Did (telling quiet (told_of (new_held planned))) (telling quiet (told_of now)) (life s (ends_of s) most) lived)
+    → (did : Did (telling quiet (told_of (new_held planned))) (telling quiet (told_of now)) (life s (ends_of s) None most) lived)
     → IsPlayed (given_in now.lines now.answers) (entries_of now.notes) → IsTraceOf s most planned did.entries lived
 traced planned now s most lived did played =
     let given : IsPlayed (given_of planned) (entries_of now.notes) = subst (λ (g : LoopGiven). IsPlayed g (entries_of now.notes)) did.asked.loop.0 played in
@@ -58,7 +55,7 @@ named_unless named engine s h run_end.TurnsSpent is at = record { settings = s; 
 
 -- a run over the loop that a life gives
 abbrev pub RanOver : Life → ScriptHeld → ScriptHeld → AllSettings → Ends → ℕ → Engine → RunEnd → Type 0
-RanOver planned before now s ends most engine end = Ran (telling quiet (told_of before)) (telling quiet (told_of now)) s (life s ends most) engine end
+RanOver planned before now s ends most engine end = Ran (telling quiet (told_of before)) (telling quiet (told_of now)) s (life s ends None most) engine end
 
 pub ran_over : (planned : Life) (before now : ScriptHeld) (s : AllSettings) (ends : Ends) (most : ℕ) (engine : Engine) (end : RunEnd) → before ≡ new_held planned → ends ≡ ends_of s
     → RanOver planned before now s ends most engine end → RanOver planned (new_held planned) now s (ends_of s) most engine end
@@ -67,7 +64,7 @@ ran_over planned before now s ends most engine end new are ran =
 
 -- what came of it
 pub come_of : (planned : Life) (now : ScriptHeld) (s : AllSettings) (most : ℕ) (engine : Engine) (end : RunEnd) (ran : RanOver planned (new_held planned) now s (ends_of s) most engine end)
-    → IsPlayed (given_in now.lines now.answers) (entries_of now.notes) → (r : Replayed)
+    → IsPlayed (given_in now.lines now.answers) (entries_of now.notes) → (r : Reported)
     → r ≡ told_by (with_line_end (handed (stdout_mask s.outputs) [] (entries_of now.notes)) ++ report s ran.history) (end_of end) → IsReplayed s most planned r
 come_of planned now s most engine end ran played r is = record {
   trace = ran.did.entries;

@@ -1,5 +1,5 @@
 -- A life has one trace.
-use Rattle.std.proofs.Common.{◌≡◌, ℕ, List, [], ◌∷◌, refl, sym, subst, ap, ◌∙◌}
+use Rattle.std.proofs.Common.{◌≡◌, ℕ, List, [], ◌∷◌, None, refl, sym, subst, ap, ◌∙◌}
 use Rattle.fwd_program.specs.Program.{entry, Return, Ask, Way}
 use Rattle.fwd_outside.specs.Loop.{LoopAnswer}
 use Rattle.fwd_settings.specs.declared.chosen.AllSettings.{AllSettings}
@@ -10,7 +10,7 @@ use Rattle.fwd_play.specs.Place.{Place, ArePlayed, after, beginning}
 use Rattle.fwd_trace.specs.Trace.{Act, Call, Answer, OnLoop, OnDisk, OnFiles, Note, TraceEntry, loop_part, disk_part, files_part}
 use Rattle.fwd_run.specs.Run.{Lived, life}
 use Rattle.fwd_replay.specs.Text.{IsTraceOf, IsReplayed, life_text, told_by}
-use Rattle.fwd_replay.specs.declared.life.Replayed.{Replayed}
+use Rattle.fwd_replay.specs.declared.reported.Reported.{Reported}
 
 -- the loop answered as its place says, and nothing else was called
 pub record IsAlone (place : Place) (es : List TraceEntry) : Type 0 where
@@ -52,10 +52,10 @@ same_act (Ask call go) place (e ∷ es) (f ∷ fs) x y one way first second =
 pub one_trace : (s : AllSettings) (turns : ℕ) (planned : Life) (one other : List TraceEntry) (lived lived2 : Lived)
     → IsTraceOf s turns planned one lived → IsTraceOf s turns planned other lived2 → (other ≡ one) × (lived2 ≡ lived)
 one_trace s turns planned one other lived lived2 first second =
-    same_act (life s (ends_of s) turns) (beginning (given_of planned)) one other lived lived2 first.way second.way
+    same_act (life s (ends_of s) None turns) (beginning (given_of planned)) one other lived lived2 first.way second.way
     (record { played = first.played; no_disk = first.no_disk; no_files = first.no_files }) (record { played = second.played; no_disk = second.no_disk; no_files = second.no_files })
 
-pub one_text : (s : AllSettings) (turns : ℕ) (planned : Life) (one other : Replayed) → IsReplayed s turns planned one → IsReplayed s turns planned other → other ≡ one
+pub one_text : (s : AllSettings) (turns : ℕ) (planned : Life) (one other : Reported) → IsReplayed s turns planned one → IsReplayed s turns planned other → other ≡ one
 one_text s turns planned one other first second =
     let same = one_trace s turns planned first.trace second.trace first.lived second.lived first.is second.is in
     second.told ∙ ap (λ (l : List TraceEntry). told_by (life_text s l second.lived.history) second.lived.end) same.0

@@ -1,3 +1,4 @@
 pub mod Runs
 pub mod Text
 pub mod Naming
+pub mod Live

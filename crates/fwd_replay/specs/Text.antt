@@ -1,5 +1,5 @@
 -- The text of a life: what its standard outputs took, and its report.
-use Rattle.std.specs.Prelude.{◌≡◌, ℕ, ◌+◌, ◌-◌, ◌*◌, ◌==◌, Bool, true, false, if◌then◌else◌, List, [], ◌∷◌, ◌++◌, length, map, slice_index}
+use Rattle.std.specs.Prelude.{◌≡◌, ℕ, ◌+◌, ◌-◌, ◌*◌, ◌==◌, Bool, true, false, if◌then◌else◌, List, [], ◌∷◌, ◌++◌, length, map, slice_index, None}
 use Rattle.fwd_program.specs.Program.{Return, Way}
 use Rattle.fwd_settings.specs.Ends.{ends_of}
 use Rattle.fwd_settings.specs.declared.chosen.AllSettings.{AllSettings}
@@ -17,8 +17,8 @@ use Rattle.fwd_history.specs.Routes.{rows_of}
 use Rattle.fwd_history.specs.Tallies.{tally_of}
 use Rattle.fwd_run.specs.Run.{End, Over, LoopFailed, TurnsSpent, Lived, life}
 use Rattle.fwd_report.specs.Report.{report_of}
-use Rattle.fwd_replay.specs.declared.life.Replayed.{Replayed}
-use Rattle.fwd_replay.specs.declared.life.Replayed.TheVariants as replayed
+use Rattle.fwd_replay.specs.declared.reported.Reported.{Reported}
+use Rattle.fwd_replay.specs.declared.reported.Reported.TheVariants as replayed
 
 abbrev pub input_names : List InputSet → List (List ℕ)
 input_names inputs = map (λ (set : InputSet). set.name) inputs
@@ -52,19 +52,19 @@ life_text s trace h = with_line_end (handed (stdout_mask s.outputs) [] (loop_par
 -- The joined trace of a life: the calls and facts of the written run with so many turns, where the loop answers what the
 -- life gives, and neither a disk nor files are called.
 pub record IsTraceOf (s : AllSettings) (turns : ℕ) (planned : Life) (trace : List TraceEntry) (lived : Lived) : Type 0 where
-  pub way : Way (life s (ends_of s) turns) trace (Return lived)
+  pub way : Way (life s (ends_of s) None turns) trace (Return lived)
   pub played : IsPlayed (given_of planned) (loop_part trace)
   pub no_disk : disk_part trace ≡ []
   pub no_files : files_part trace ≡ []
 
 -- what comes of a life that ended so
-abbrev pub told_by : List ℕ → End → Replayed
+abbrev pub told_by : List ℕ → End → Reported
 told_by text Over = replayed.Over text
 told_by text TurnsSpent = replayed.TurnsSpent text
 told_by text LoopFailed = replayed.LoopFailed
 
 -- what comes of a life, by its joined trace
-pub record IsReplayed (s : AllSettings) (turns : ℕ) (planned : Life) (replayed : Replayed) : Type 0 where
+pub record IsReplayed (s : AllSettings) (turns : ℕ) (planned : Life) (replayed : Reported) : Type 0 where
   pub trace : List TraceEntry
   pub lived : Lived
   pub is : IsTraceOf s turns planned trace lived

@@ -8,7 +8,7 @@ ghost use Rattle.fwd_trace.specs.Trace.{TraceEntry, loop_part};
 ghost use Rattle.fwd_run.specs.Run.{Lived};
 ghost use Rattle.fwd_handing.specs.Own.{Aim, AreNew, WasGiven};
 ghost use Rattle.fwd_handing.specs.Handing.{IsNoted, HandsBeginning, HandsWhole};
-ghost use Rattle.fwd_replay.specs.declared.life.Replayed.{Replayed};
+ghost use Rattle.fwd_replay.specs.declared.reported.Reported.{Reported};
 ghost use Rattle.fwd_replay.specs.Text.{IsReplayed, IsTraceOf};
 
 use fwd_handing::{delivered_is_whole, each_link_hands_a_beginning};
@@ -17,7 +17,7 @@ use fwd_handing::{delivered_is_whole, each_link_hands_a_beginning};
 pub fn a_life_has_one_text()
     ensures trace { (s : AllSettings) (turns : ℕ) (planned : Life) (one other : List TraceEntry) (lived lived2 : Lived)
         → IsTraceOf s turns planned one lived → IsTraceOf s turns planned other lived2 → (other ≡ one) × (lived2 ≡ lived) }
-    ensures text { (s : AllSettings) (turns : ℕ) (planned : Life) (one other : Replayed)
+    ensures text { (s : AllSettings) (turns : ℕ) (planned : Life) (one other : Reported)
         → IsReplayed s turns planned one → IsReplayed s turns planned other → other ≡ one }
 {}
 

@@ -12,26 +12,15 @@ ghost use Rattle.fwd_replay.specs.Runs.{end_of, StandsAt};
 ghost use Rattle.fwd_replay.specs.Text.{IsReplayed, input_names, line_end, output_names, report, stdout_mask, told_by, with_line_end};
 
 use crate::named::Named;
+use crate::reported::{Reported, report_text};
 use crate::running::{RunEnd, run};
 use fwd_base::{Bytes, Memory};
 use fwd_engine::Engine;
 use fwd_play::Script;
-use fwd_report::report;
 use fwd_script::Life;
 use fwd_settings::{AllSettings, ends};
 use std::alloc::Global;
 use std::thread::Threads;
-
-/// What came of a life.
-#[derive(Debug, Drop, PartialEq, Eq)]
-pub enum Replayed {
-    /// The life is over, and this is its text.
-    Over(Bytes),
-    /// All turns are taken, and this is the text so far.
-    TurnsSpent(Bytes),
-    /// The outside couldn't go on.
-    LoopFailed,
-}
 
 /// A line feed behind a text that isn't empty and doesn't end in one.
 fn end_line(text: &mut Bytes) -> Result<(), Memory>
@@ -51,13 +40,7 @@ fn text_of(alloc: Global, named: &Named, engine: &Engine, script: &Script) -> Re
 {
     let mut text = script.handed(alloc, named.printed)?;
     end_line(&mut text)?;
-    let report = report(
-        alloc,
-        &named.inputs,
-        &named.outputs,
-        engine.table(),
-        engine.tally(),
-    )?;
+    let report = report_text(alloc, named, engine)?;
     text.extend_from_slice(report.as_slice())?;
     Ok(text)
 }
@@ -69,14 +52,14 @@ fn come_to(
     engine: &Engine,
     script: &Script,
     end: RunEnd,
-) -> Result<Replayed, Memory>
+) -> Result<Reported, Memory>
     requires { IsNamedUnlessFailed named.now engine.now end }
     ensures { (s : AllSettings) (h : History) → StandsAt engine.now s h end → IsNamed named.now s → IfOk result (λ replayed. replayed ≡ told_by (with_line_end (handed (stdout_mask s.outputs) [] (entries_of script.now.notes)) ++ report s h) (end_of end)) }
 {
     match end {
-        RunEnd::Over => Ok(Replayed::Over(text_of(alloc, named, engine, script)?)),
-        RunEnd::TurnsSpent => Ok(Replayed::TurnsSpent(text_of(alloc, named, engine, script)?)),
-        RunEnd::LoopFailed => Ok(Replayed::LoopFailed),
+        RunEnd::Over => Ok(Reported::Over(text_of(alloc, named, engine, script)?)),
+        RunEnd::TurnsSpent => Ok(Reported::TurnsSpent(text_of(alloc, named, engine, script)?)),
+        RunEnd::LoopFailed => Ok(Reported::LoopFailed),
     }
 }
 
@@ -88,7 +71,7 @@ pub fn replay(
     settings: AllSettings,
     life: &Life,
     most: u64,
-) -> Result<Replayed, Memory>
+) -> Result<Reported, Memory>
     requires inputs { length settings.inputs ≤ most_inputs }
     requires outputs { length settings.outputs ≤ most_outputs }
     requires base { 1 ≤ settings.service.base }
@@ -100,7 +83,7 @@ pub fn replay(
         return Err(Memory);
     };
     let mut script = Script::new(alloc, life)?;
-    let end = run(rt, &mut engine, &ends, &mut script, most)?;
+    let end = run(rt, &mut engine, &ends, None, &mut script, most)?;
     script.is_played();
     come_to(alloc, &named, &engine, &script, end)
 }

@@ -1,5 +1,5 @@
 -- The written run: what calls a life makes from its start on, and how it ends.
-use Rattle.std.specs.Prelude.{ℕ, zero, suc, ◌+◌, ◌-◌, ◌*◌, ◌^◌, ◌&&◌, ◌||◌, nat_le, Bool, true, false, if◌then◌else◌, [], length, Option, Some, None, is_some}
+use Rattle.std.specs.Prelude.{ℕ, zero, suc, ◌+◌, ◌-◌, ◌*◌, ◌^◌, ◌==◌, ◌&&◌, ◌||◌, nat_le, Bool, true, false, if◌then◌else◌, [], length, Option, Some, None, is_some, is_none}
 use Rattle.fwd_program.specs.Program.{Return, Ask, bind}
 use Rattle.fwd_outside.specs.Loop.{Start, Wait}
 use Rattle.fwd_outside.specs.declared.ends.Ends.{Ends}
@@ -9,7 +9,7 @@ use Rattle.fwd_settings.specs.declared.chosen.AllSettings.{AllSettings}
 use Rattle.fwd_trace.specs.Fact.{History}
 use Rattle.fwd_trace.specs.Trace.{Act, OnLoop}
 use Rattle.fwd_history.specs.Setup.{plus}
-use Rattle.fwd_history.specs.Clock.{clock, stopped}
+use Rattle.fwd_history.specs.Clock.{clock, stopped, ticked}
 use Rattle.fwd_history.specs.Routes.{rows_of}
 use Rattle.fwd_run.specs.Acts.{is_empty, step}
 
@@ -53,20 +53,34 @@ lived h end = record { history = h; end = end }
 abbrev pub goes_on : AllSettings → (History → Act Lived) → Happening → History → Act Lived
 goes_on s next happening h = if is_over s happening h then Return (lived h Over) else next h
 
+-- a step, and then what follows unless the run is over
+abbrev pub steps_on : AllSettings → (History → Act Lived) → Happening → History → Act Lived
+steps_on s next happens h = bind (step s happens h) (goes_on s next happens)
+
+-- so many readings were taken, where their number is given, and the run isn't stopped yet
+abbrev pub is_last_reading : Option ℕ → History → Bool
+is_last_reading None h = false
+is_last_reading (Some ticks) h = ticked h == ticks && is_none (stopped h)
+
+-- behind the last reading the run is stopped, without a wait for it
+unfoldable pub unless_last : AllSettings → Option ℕ → (History → Act Lived) → History → Act Lived
+unless_last s ticks next h = if is_last_reading ticks h then steps_on s next happening.Stop h else next h
+
 -- behind a happening: the step, and then what follows unless the run is over
-abbrev pub brought : AllSettings → (History → Act Lived) → History → Happening → Act Lived
-brought s next h happening.Failed = Return (lived h LoopFailed)
-brought s next h happening = bind (step s happening h) (goes_on s next happening)
+abbrev pub brought : AllSettings → Option ℕ → (History → Act Lived) → History → Happening → Act Lived
+brought s ticks next h happening.Failed = Return (lived h LoopFailed)
+brought s ticks next h happens = steps_on s (unless_last s ticks next) happens h
 
 -- at most so many turns, each of which waits for a happening until 250 ms behind the clock
-unfoldable pub run : AllSettings → ℕ → History → Act Lived
-run s zero h = Return (lived h TurnsSpent)
-run s (suc turns) h = Ask (OnLoop (Wait (plus (clock h) 250) (paused s h))) (brought s (run s turns) h)
+unfoldable pub run : AllSettings → Option ℕ → ℕ → History → Act Lived
+run s ticks zero h = Return (lived h TurnsSpent)
+run s ticks (suc turns) h = Ask (OnLoop (Wait (plus (clock h) 250) (paused s h))) (brought s ticks (run s ticks turns) h)
 
-abbrev pub started : AllSettings → ℕ → Option (Unit {0}) → Act Lived
-started s turns None = Return (lived [] LoopFailed)
-started s turns (Some ready) = run s turns []
+abbrev pub started : AllSettings → Option ℕ → ℕ → Option (Unit {0}) → Act Lived
+started s ticks turns None = Return (lived [] LoopFailed)
+started s ticks turns (Some ready) = run s ticks turns []
 
--- a life from its start on
-unfoldable pub life : AllSettings → Ends → ℕ → Act Lived
-life s ends turns = Ask (OnLoop (Start ends)) (started s turns)
+-- A life from its start on, with at most so many turns. Where a number of readings is given, the run is stopped behind the
+-- last of them, which is a step and no turn.
+unfoldable pub life : AllSettings → Ends → Option ℕ → ℕ → Act Lived
+life s ends ticks turns = Ask (OnLoop (Start ends)) (started s ticks turns)

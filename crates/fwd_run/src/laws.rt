@@ -1,6 +1,6 @@
 //! Laws of the written run.
 
-ghost use Rattle.std.specs.Prelude.{◌≡◌, ℕ, List, [], true};
+ghost use Rattle.std.specs.Prelude.{◌≡◌, ℕ, List, [], Option, true};
 ghost use Rattle.fwd_program.specs.Program.{Return, Way};
 ghost use Rattle.fwd_outside.specs.declared.ends.Ends.{Ends};
 ghost use Rattle.fwd_outside.specs.declared.happening.Happening.{Happening};
@@ -16,8 +16,8 @@ ghost use Rattle.fwd_run.specs.Run.{Lived, is_over, life};
 pub fn histories_are_noted()
     ensures of_steps { (s : AllSettings) (brought : Happening) (h new : History) (entries : List TraceEntry)
         → Way (step s brought h) entries (Return new) → new ≡ behind entries h }
-    ensures of_lives { (s : AllSettings) (ends : Ends) (turns : ℕ) (lived : Lived) (entries : List TraceEntry)
-        → Way (life s ends turns) entries (Return lived) → lived.history ≡ behind entries [] }
+    ensures of_lives { (s : AllSettings) (ends : Ends) (ticks : Option ℕ) (turns : ℕ) (lived : Lived) (entries : List TraceEntry)
+        → Way (life s ends ticks turns) entries (Return lived) → lived.history ≡ behind entries [] }
 {}
 
 /// A run is over where nothing more comes.

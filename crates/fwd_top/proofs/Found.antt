@@ -5,7 +5,6 @@ use Rattle.std.specs.Prelude.{true, false, Bool}
 use Rattle.fwd_program.specs.Program.{Return, Ask, bind, Way}
 use Rattle.fwd_program.specs.Told.{Did}
 use Rattle.fwd_outside.specs.Files.{FilesTold, FilesGiven, FilesEntry, IsHonest, found, files_behind, reads_whole}
-use Rattle.fwd_outside.specs.Sink.{SinkTold}
 use Rattle.fwd_outside.proofs.Honest.{whole_is_found}
 use Rattle.fwd_config.specs.Variables.{Values}
 use Rattle.fwd_config.specs.Reading.{Reading, loads, reads_files, given}
@@ -16,10 +15,10 @@ use Rattle.fwd_config.specs.declared.fault.ConfigKind.TheVariants.{FileFault}
 use Rattle.fwd_config.proofs.Standing.{Ends, ends_loads, way_parts, honest_parts, ended, grown_by}
 use Rattle.fwd_settings.specs.Reading.{Checked}
 use Rattle.fwd_settings.specs.declared.chosen.AllSettings.{AllSettings}
-use Rattle.fwd_top.specs.Words.{Paths, replay_of}
+use Rattle.fwd_top.specs.Words.{Command, Run, Replay, ListFolder, Generate, command_of}
 use Rattle.fwd_top.specs.Built.{is_built}
-use Rattle.fwd_top.specs.Asked.{Case, Refuses, Asked, asked, refused_by, refused_config, with_settings, with_sections, of_paths}
-use Rattle.fwd_top.specs.Answered.{Verdict, Says, Ends as EndsSo, Answers, Comes, IsVerdict, IsVerdictOf, IsOfTheFiles, Wrote}
+use Rattle.fwd_top.specs.Asked.{Case, Refuses, Wanted, ToRun, ToReplay, Asked, asked, refused_by, refused_config, wanted_by, with_settings, with_sections, of_config, of_command}
+use Rattle.fwd_top.specs.Answered.{Verdict, Says, Ends as EndsSo, Devices, Answers, Comes, IsVerdict, IsVerdictOf, IsOfTheFiles, Wrote}
 use Rattle.fwd_top.specs.declared.status.Status.{Status}
 use Rattle.fwd_top.specs.declared.status.Status.TheVariants as status
 
@@ -32,26 +31,36 @@ EndsThere (Ask path go) = ((loaded : Option (List Section)) × (go None ≡ Retu
 fault_is : (fault : ConfigFault) → fault.kind ≡ FileFault → refused_config fault ≡ status.FileFault
 fault_is fault is = ap (λ (k : ConfigKind). refused_by k fault.place) is
 
-module _ (checked : Checked AllSettings) (schedule : List ℕ) where
-  behind : (p : Reading (Result (List Section) ConfigFault)) → Ends p → ((sections : List Section) → EndsThere (with_sections checked schedule (Ok sections))) → EndsThere (bind p (with_sections checked schedule))
+module _ (checked : Checked AllSettings) (wanted : Wanted) where
+  behind : (p : Reading (Result (List Section) ConfigFault)) → Ends p → ((sections : List Section) → EndsThere (with_sections checked wanted (Ok sections))) → EndsThere (bind p (with_sections checked wanted))
   behind (Return (Ok sections)) ends next = next sections
   behind (Return (Err fault)) ends next = tt
   behind (Ask path go) ends next = (
-    (None, ap (λ (q : Reading (Result (List Section) ConfigFault)). bind q (with_sections checked schedule)) ends.0.2 ∙ ap (λ (r : Status). Return (asked None (Refuses r))) (fault_is ends.0.0 ends.0.1)),
+    (None, ap (λ (q : Reading (Result (List Section) ConfigFault)). bind q (with_sections checked wanted)) ends.0.2 ∙ ap (λ (r : Status). Return (asked None (Refuses r))) (fault_is ends.0.0 ends.0.1)),
     λ bytes. behind (go (Some bytes)) (ends.1 bytes) next,
   )
 
-by_settings : (loaded : Option (List Section)) (schedule : List ℕ) (checked : Checked AllSettings) → EndsThere (with_settings loaded schedule checked)
-by_settings loaded schedule (Err fault) = tt
-by_settings loaded schedule (Ok s) = by (is_built s) refl
+by_wanted : (loaded : Option (List Section)) (s : AllSettings) (wanted : Wanted) → EndsThere (wanted_by loaded s wanted)
+by_wanted loaded s (ToRun ticks) = tt
+by_wanted loaded s (ToReplay schedule) = ((loaded, refl), λ bytes. tt)
+
+by_settings : (loaded : Option (List Section)) (wanted : Wanted) (checked : Checked AllSettings) → EndsThere (with_settings loaded wanted checked)
+by_settings loaded wanted (Err fault) = tt
+by_settings loaded wanted (Ok s) = by (is_built s) refl
   where
-    by : (b : Bool) → is_built s ≡ b → EndsThere (with_settings loaded schedule (Ok s))
-    by true is = rw is ((loaded, refl), λ bytes. tt)
+    by : (b : Bool) → is_built s ≡ b → EndsThere (with_settings loaded wanted (Ok s))
+    by true is = rw is (by_wanted loaded s wanted)
     by false is = rw is tt
 
-ends_there : (checked : Checked AllSettings) (paths : Option Paths) (env : Values) → EndsThere (of_paths checked paths env)
+by_config : (checked : Checked AllSettings) (config : List ℕ) (wanted : Wanted) (env : Values) → EndsThere (of_config checked config wanted env)
+by_config checked config wanted env = behind checked wanted (loads env config) (ends_loads env config) (λ sections. by_settings (Some sections) wanted checked)
+
+ends_there : (checked : Checked AllSettings) (command : Option Command) (env : Values) → EndsThere (of_command checked command env)
 ends_there checked None env = tt
-ends_there checked (Some paths) env = behind checked paths.schedule (loads env paths.config) (ends_loads env paths.config) (λ sections. by_settings (Some sections) paths.schedule checked)
+ends_there checked (Some (Run config ticks)) env = by_config checked config (ToRun ticks) env
+ends_there checked (Some (Replay config schedule)) env = by_config checked config (ToReplay schedule) env
+ends_there checked (Some (ListFolder folder)) env = tt
+ends_there checked (Some (Generate count)) env = tt
 
 abbrev IsRead : Asked → Type 0
 IsRead x = x.case ≢ Refuses status.FileFault
@@ -78,32 +87,34 @@ module _ (files : FilesGiven) where
       let both = honest_parts files parts.0 parts.1 (subst (λ (l : List FilesEntry). IsHonest files l) parts.3 honest) in
       read_then path go ends (λ bytes. says (go (Some bytes)) (ends.1 bytes)) parts.0 parts.1 parts.2 x read both.0 both.1 parts.4 parts.5
 
-says_what_stands : (old new : FilesTold) (checked : Checked AllSettings) (paths : Option Paths) (env : Values) (x : Asked) → IsRead x → Did old new (reads_files (of_paths checked paths env)) x
+says_what_stands : (old new : FilesTold) (checked : Checked AllSettings) (command : Option Command) (env : Values) (x : Asked) → IsRead x → Did old new (reads_files (of_command checked command env)) x
     → (standing : FilesGiven) (before made : List FilesEntry) → old ≡ Some (standing, before) → new ≡ Some (standing, before ++ made) → IsHonest (files_behind standing before) made
-    → given (found (files_behind standing before)) (of_paths checked paths env) ≡ x
-says_what_stands old new checked paths env x read did standing before made was is honest =
+    → given (found (files_behind standing before)) (of_command checked command env) ≡ x
+says_what_stands old new checked command env x read did standing before made was is honest =
     let made_is = grown_by old new standing before made did.entries was is did.grew in
-    says (files_behind standing before) (of_paths checked paths env) (ends_there checked paths env) did.entries x read (subst (λ (l : List FilesEntry). IsHonest (files_behind standing before) l) made_is honest) did.way
+    says (files_behind standing before) (of_command checked command env) (ends_there checked command env) did.entries x read (subst (λ (l : List FilesEntry). IsHonest (files_behind standing before) l) made_is honest) did.way
 
-module _ {Y : Type 0} (words : List (String Y)) (env : Values) (turns : ℕ) (files now : FilesTold) (sink out : SinkTold) where
-  unread : (case : Case) (verdict : Verdict) → IsVerdict turns case verdict → verdict ≢ EndsSo status.FileFault → case ≢ Refuses status.FileFault
-  unread case verdict is other same = other (subst (λ (c : Case). IsVerdict turns c verdict) same is)
+module _ {Y : Type 0} (words : List (String Y)) (env : Values) (turns : ℕ) (old new : Devices) where
+  unread : (case : Case) (verdict : Verdict) → IsVerdict turns case old.loop new.loop verdict → verdict ≢ EndsSo status.FileFault → case ≢ Refuses status.FileFault
+  unread case verdict is other same =
+      let refused : IsVerdict turns (Refuses status.FileFault) old.loop new.loop verdict = subst (λ (c : Case). IsVerdict turns c old.loop new.loop verdict) same is in
+      other refused.0
 
-  verdict_of : (verdict : Verdict) → verdict ≢ EndsSo status.FileFault → Comes words env turns files now verdict
-      → (standing : FilesGiven) (before made : List FilesEntry) → files ≡ Some (standing, before) → now ≡ Some (standing, before ++ made) → IsHonest (files_behind standing before) made
-      → IsVerdictOf words env turns (files_behind standing before) verdict
+  verdict_of : (verdict : Verdict) → verdict ≢ EndsSo status.FileFault → Comes words env turns old new verdict
+      → (standing : FilesGiven) (before made : List FilesEntry) → old.files ≡ Some (standing, before) → new.files ≡ Some (standing, before ++ made) → IsHonest (files_behind standing before) made
+      → IsVerdictOf words env turns (files_behind standing before) old.loop new.loop verdict
   verdict_of verdict other comes standing before made was now_is honest = record {
     checked = comes.asks.checked;
     loaded = comes.asks.loaded;
     are = comes.asks.are;
     case = comes.case;
     given =
-        says_what_stands files now comes.asks.checked (replay_of (map string_bytes words)) env (asked comes.asks.loaded comes.case) (unread comes.case verdict comes.is other) comes.asks.makes standing before made was now_is honest;
+        says_what_stands old.files new.files comes.asks.checked (command_of (map string_bytes words)) env (asked comes.asks.loaded comes.case) (unread comes.case verdict comes.is other) comes.asks.makes standing before made was now_is honest;
     is = comes.is;
   }
 
-  by_status : (Holds : Verdict → Type 0) → ((verdict : Verdict) → verdict ≢ EndsSo status.FileFault → Comes words env turns files now verdict → Holds verdict)
-      → (result : Status) → Answers words env turns files now sink out result → result ≢ status.FileFault → Wrote Holds sink out result
+  by_status : (Holds : Verdict → Type 0) → ((verdict : Verdict) → verdict ≢ EndsSo status.FileFault → Comes words env turns old new verdict → Holds verdict)
+      → (result : Status) → Answers words env turns old new result → result ≢ status.FileFault → Wrote Holds old.sink new.sink result
   by_status Holds of status.Done answers read = (answers.0, of (Says answers.0 status.Done) (λ is. cc is) answers.1, answers.2)
   by_status Holds of status.TurnsSpent answers read = (answers.0, of (Says answers.0 status.TurnsSpent) (λ is. cc is) answers.1, answers.2)
   by_status Holds of status.OutFault answers read = (answers.0, answers.1, of (Says answers.0 answers.1) (λ is. cc is) answers.2, answers.3)
@@ -111,6 +122,6 @@ module _ {Y : Type 0} (words : List (String Y)) (env : Values) (turns : ℕ) (fi
   by_status Holds of status.FileFault answers read = absurd (read refl)
   by_status Holds of other answers read = (of (EndsSo other) (λ is. cc is) answers.0, answers.1)
 
-  pub of_the_files : (result : Status) → Answers words env turns files now sink out result → IsOfTheFiles words env turns files now sink out result
+  pub of_the_files : (result : Status) → Answers words env turns old new result → IsOfTheFiles words env turns old new result
   of_the_files result answers standing before made was now_is honest read =
-      by_status (IsVerdictOf words env turns (files_behind standing before)) (λ verdict other comes. verdict_of verdict other comes standing before made was now_is honest) result answers read
+      by_status (IsVerdictOf words env turns (files_behind standing before) old.loop new.loop) (λ verdict other comes. verdict_of verdict other comes standing before made was now_is honest) result answers read

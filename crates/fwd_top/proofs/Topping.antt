@@ -21,10 +21,10 @@ use Rattle.fwd_settings.specs.Settings.{AreOf, settings_of}
 use Rattle.fwd_settings.specs.declared.fault.SettingFault.{SettingFault}
 use Rattle.fwd_settings.specs.declared.chosen.AllSettings.{AllSettings}
 use Rattle.fwd_top.specs.Built.{is_built}
-use Rattle.fwd_top.specs.Asked.{Case, Refuses, Asked, asked, of_file, of_paths, with_settings, with_sections}
+use Rattle.fwd_top.specs.Asked.{Case, Runs, Refuses, Wanted, ToRun, ToReplay, Asked, asked, of_file, wanted_by, of_config, of_command, with_settings, with_sections}
 use Rattle.fwd_top.specs.Answered.{Asks}
-use Rattle.fwd_top.specs.Words.{replay_of}
-use Rattle.fwd_top.specs.Judged.{case_of, unless_memory, IsJudged, AreSettings, AsksBehind, config_status, setting_status}
+use Rattle.fwd_top.specs.Words.{Command, command_of}
+use Rattle.fwd_top.specs.Judged.{case_of, unless_memory, IsJudged, AreSettings, AsksFor, AsksBehind, config_status, setting_status}
 use Rattle.fwd_top.specs.declared.asking.Job.{Job}
 use Rattle.fwd_top.specs.declared.status.Status.{Status}
 use Rattle.fwd_top.specs.declared.status.Status.TheVariants as status
@@ -59,38 +59,47 @@ bind_twice : {X Y Z : Type 0} {C : Type 0} {A : C → Type 0} (p : Program C A X
 bind_twice (Return x) f g = refl
 bind_twice (Ask call go) f g = λ i. Ask call (λ answer. bind_twice (go answer) f g i)
 
-module _ (a b : FilesTold) (sections : List Section) (path : List ℕ) where
+-- they are to be run: nothing more is asked
+pub run_asks_none : (a : FilesTold) (loaded : Option (List Section)) (s : AllSettings) (ticks : Option ℕ) → Makes a a (reads_files (wanted_by loaded s (ToRun ticks))) (Some (asked loaded (Runs s ticks)))
+run_asks_none a loaded s ticks = stays a (Return (asked loaded (Runs s ticks)))
+
+-- a schedule is to be replayed: it is read
+pub schedule_asked : (a b : FilesTold) (loaded : Option (List Section)) (s : AllSettings) (path : List ℕ) (case : Option Case) → Makes a b (bind (reads_whole path) (λ content. Return (of_file s content))) case
+    → Makes a b (reads_files (wanted_by loaded s (ToReplay path))) (option_map (asked loaded) case)
+schedule_asked a b loaded s path case makes =
+    subst (λ (p : FilesProgram Asked). Makes a b p (option_map (asked loaded) case)) (bind_twice (reads_whole path) (of_file s) (asked loaded)) (tagged a b s loaded (reads_whole path) case makes)
+
+module _ (a b : FilesTold) (sections : List Section) (wanted : Wanted) where
   abbrev loaded : Option (List Section)
   loaded = Some sections
 
   -- they are run
-  pub schedule_read : (s : AllSettings) (case : Option Case) → is_built s ≡ true → AreSettings sections (Ok s) case → Makes a b (bind (reads_whole path) (λ content. Return (of_file s content))) case
-      → AsksBehind sections path a b case
-  schedule_read s case built are makes = record {
+  pub settings_run : (s : AllSettings) (case : Option Case) → is_built s ≡ true → AreSettings sections (Ok s) case → Makes a b (reads_files (wanted_by loaded s wanted)) (option_map (asked loaded) case) → AsksBehind sections wanted a b case
+  settings_run s case built are makes = record {
     checked = Ok s;
     are = are;
     makes =
-        let is : reads_files (with_settings loaded path (Ok s)) ≡ bind (reads_whole path) (λ content. Return (asked loaded (of_file s content))) = rw built refl in
-        subst (λ (p : FilesProgram Asked). Makes a b p (option_map (asked loaded) case)) (bind_twice (reads_whole path) (of_file s) (asked loaded) ∙ sym is) (tagged a b s loaded (reads_whole path) case makes);
+        let is : reads_files (with_settings loaded wanted (Ok s)) ≡ reads_files (wanted_by loaded s wanted) = rw built refl in
+        subst (λ (p : FilesProgram Asked). Makes a b p (option_map (asked loaded) case)) (sym is) makes;
   }
 
   -- they aren't
-  pub not_run : (s : AllSettings) → is_built s ≡ false → Comes (settings_of sections) (Ok s) → AsksBehind sections path a a (Some (Refuses status.NotBuilt))
+  pub not_run : (s : AllSettings) → is_built s ≡ false → Comes (settings_of sections) (Ok s) → AsksBehind sections wanted a a (Some (Refuses status.NotBuilt))
   not_run s other comes = record {
     checked = Ok s;
     are = comes;
     makes =
-        let is : reads_files (with_settings loaded path (Ok s)) ≡ Return (asked loaded (Refuses status.NotBuilt)) = rw other refl in
+        let is : reads_files (with_settings loaded wanted (Ok s)) ≡ Return (asked loaded (Refuses status.NotBuilt)) = rw other refl in
         subst (λ (p : FilesProgram Asked). Did a a p (asked loaded (Refuses status.NotBuilt))) (sym is) (stays a (Return (asked loaded (Refuses status.NotBuilt))));
   }
 
   -- there are none
-  refused_so : (kind : SettingKind) (place : Place) → AreOf sections (Err (record { kind = kind; place = place })) → AsksBehind sections path a a (unless_memory (setting_status kind place))
+  refused_so : (kind : SettingKind) (place : Place) → AreOf sections (Err (record { kind = kind; place = place })) → AsksBehind sections wanted a a (unless_memory (setting_status kind place))
   refused_so setting_kind.Memory place are = record { checked = Err (record { kind = setting_kind.Memory; place = place }); are = tt; makes = (_, stays a _) }
   refused_so kind place (inl memory) = absurd (cc memory)
   refused_so kind place (inr comes) = record { checked = Err (record { kind = kind; place = place }); are = comes; makes = stays a _ }
 
-  pub refused_settings_so : (fault : SettingFault) (answer : Status) → answer ≡ setting_status fault.kind fault.place → AreOf sections (Err fault) → AsksBehind sections path a a (unless_memory answer)
+  pub refused_settings_so : (fault : SettingFault) (answer : Status) → answer ≡ setting_status fault.kind fault.place → AreOf sections (Err fault) → AsksBehind sections wanted a a (unless_memory answer)
   refused_settings_so fault answer is are = rw is (refused_so fault.kind fault.place are)
 
 -- settings that were come to are those of the sections
@@ -107,42 +116,52 @@ are_so sections s None comes = tt
 nothing_checked : Checked AllSettings
 nothing_checked = Err (record { kind = setting_kind.Missing; place = record { file = []; line = 0 } })
 
+module _ (config : List ℕ) (wanted : Wanted) (env : Values) (a b : FilesTold) where
+  parts : (checked : Checked AllSettings) → reads_files (of_config checked config wanted env) ≡ bind (reads_files (loads env config)) (λ sections. reads_files (with_sections checked wanted sections))
+  parts checked = reads_bind (loads env config) (with_sections checked wanted)
+
+  -- the sections were loaded
+  pub goes_behind : (c : FilesTold) (sections : List Section) (case : Option Case) → Did a b (reads_files (loads env config)) (Ok sections) → AsksBehind sections wanted b c case → AsksFor config wanted env a c case
+  goes_behind c sections (Some case) did behind = record {
+    checked = behind.checked;
+    loaded = Some sections;
+    are = behind.are;
+    makes = rw (parts behind.checked) (makes_bind a b c (reads_files (loads env config)) (Ok sections) (λ s. reads_files (with_sections behind.checked wanted s)) (Some (asked (Some sections) case)) did behind.makes);
+  }
+  goes_behind c sections None did behind = record {
+    checked = behind.checked;
+    loaded = None;
+    are = tt;
+    makes = rw (parts behind.checked) (makes_bind a b c (reads_files (loads env config)) (Ok sections) (λ s. reads_files (with_sections behind.checked wanted s)) None did behind.makes);
+  }
+
+  config_refused : (kind : ConfigKind) (place : Place) → Makes a b (reads_files (loads env config)) (unless_kind {T = Result (List Section) ConfigFault} kind (Err (record { kind = kind; place = place })))
+      → AsksFor config wanted env a b (unless_memory (config_status kind place))
+  config_refused config_kind.Memory place began = record { checked = nothing_checked; loaded = None; are = tt; makes = rw (parts nothing_checked) (began_inside (λ s. reads_files (with_sections nothing_checked wanted s)) began) }
+  config_refused config_kind.FileFault place did = record { checked = nothing_checked; loaded = None; are = tt; makes = rw (parts nothing_checked) (inside (λ s. reads_files (with_sections nothing_checked wanted s)) did) }
+  config_refused _ place did = record { checked = nothing_checked; loaded = None; are = tt; makes = rw (parts nothing_checked) (inside (λ s. reads_files (with_sections nothing_checked wanted s)) did) }
+
+  -- the configuration is refused, or can't be read, or memory was wanting
+  pub refused_config : (fault : ConfigFault) (answer : Status) → answer ≡ config_status fault.kind fault.place → Makes a b (reads_files (loads env config)) (loaded_by {T = List Section} (Err fault))
+      → AsksFor config wanted env a b (unless_memory answer)
+  refused_config fault answer same makes = rw same (config_refused fault.kind fault.place makes)
+
 module _ {Y : Type 0} (words : List (String Y)) (env : Values) (a b : FilesTold) where
-  -- the words are others
-  pub other_words : replay_of (map string_bytes words) ≡ None → Asks words env a a (Some (Refuses status.Usage))
-  other_words none = record {
+  -- the words ask for nothing, or for what isn't built
+  pub other_words : (command : Option Command) (why : Status) → command_of (map string_bytes words) ≡ command → ((checked : Checked AllSettings) → of_command checked command env ≡ Return (asked None (Refuses why))) → Asks words env a a (Some (Refuses why))
+  other_words command why is none = record {
     checked = nothing_checked;
     loaded = None;
     are = tt;
-    makes = rw none (stays a (Return (asked None (Refuses status.Usage))));
+    makes = rw (is, none nothing_checked) (stays a (Return (asked None (Refuses why))));
   }
 
-  module _ (config schedule : List ℕ) (is : replay_of (map string_bytes words) ≡ Some (record { config = config; schedule = schedule })) where
-    parts : (checked : Checked AllSettings) → reads_files (of_paths checked (replay_of (map string_bytes words)) env) ≡ bind (reads_files (loads env config)) (λ sections. reads_files (with_sections checked schedule sections))
-    parts checked = rw is (reads_bind (loads env config) (with_sections checked schedule))
-
-    -- the sections were loaded
-    pub goes_behind : (c : FilesTold) (sections : List Section) (case : Option Case) → Did a b (reads_files (loads env config)) (Ok sections) → AsksBehind sections schedule b c case → Asks words env a c case
-    goes_behind c sections (Some case) did behind = record {
-      checked = behind.checked;
-      loaded = Some sections;
-      are = behind.are;
-      makes = rw (parts behind.checked) (makes_bind a b c (reads_files (loads env config)) (Ok sections) (λ s. reads_files (with_sections behind.checked schedule s)) (Some (asked (Some sections) case)) did behind.makes);
-    }
-    goes_behind c sections None did behind = record {
-      checked = behind.checked;
-      loaded = None;
-      are = tt;
-      makes = rw (parts behind.checked) (makes_bind a b c (reads_files (loads env config)) (Ok sections) (λ s. reads_files (with_sections behind.checked schedule s)) None did behind.makes);
-    }
-
-    config_refused : (kind : ConfigKind) (place : Place) → Makes a b (reads_files (loads env config)) (unless_kind {T = Result (List Section) ConfigFault} kind (Err (record { kind = kind; place = place })))
-        → Asks words env a b (unless_memory (config_status kind place))
-    config_refused config_kind.Memory place began = record { checked = nothing_checked; loaded = None; are = tt; makes = rw (parts nothing_checked) (began_inside (λ s. reads_files (with_sections nothing_checked schedule s)) began) }
-    config_refused config_kind.FileFault place did = record { checked = nothing_checked; loaded = None; are = tt; makes = rw (parts nothing_checked) (inside (λ s. reads_files (with_sections nothing_checked schedule s)) did) }
-    config_refused _ place did = record { checked = nothing_checked; loaded = None; are = tt; makes = rw (parts nothing_checked) (inside (λ s. reads_files (with_sections nothing_checked schedule s)) did) }
-
-    -- the configuration is refused, or can't be read, or memory was wanting
-    pub refused_config : (fault : ConfigFault) (answer : Status) → answer ≡ config_status fault.kind fault.place → Makes a b (reads_files (loads env config)) (loaded_by {T = List Section} (Err fault))
-        → Asks words env a b (unless_memory answer)
-    refused_config fault answer same makes = rw same (config_refused fault.kind fault.place makes)
+  -- they ask for a configuration
+  pub asks_of : (command : Command) (config : List ℕ) (wanted : Wanted) (case : Option Case) → command_of (map string_bytes words) ≡ Some command
+      → ((checked : Checked AllSettings) → of_command checked (Some command) env ≡ of_config checked config wanted env) → AsksFor config wanted env a b case → Asks words env a b case
+  asks_of command config wanted case is for asks = record {
+    checked = asks.checked;
+    loaded = asks.loaded;
+    are = asks.are;
+    makes = rw (is, for asks.checked) asks.makes;
+  }

@@ -1,4 +1,4 @@
--- What the program is to replay: a function of its words, the environment and the bytes of its files, and of what its
+-- What the program is to run or to replay: a function of its words, the environment and the bytes of its files, and of what its
 -- sections have for settings.
 use Rattle.std.specs.Prelude.{ℕ, if◌then◌else◌, List, map, String, string_bytes, Option, Some, None, Result, Ok, Err}
 use Rattle.fwd_program.specs.Program.{Return, Ask, bind}
@@ -17,16 +17,23 @@ use Rattle.fwd_script.specs.declared.schedule.Schedule.{Schedule}
 use Rattle.fwd_script.specs.declared.schedule.Life.{Life}
 use Rattle.fwd_script.specs.declared.refused.ScheduleRefused.{ScheduleRefused}
 use Rattle.fwd_script.specs.Schedule.{schedule_of}
-use Rattle.fwd_top.specs.Words.{Paths, replay_of}
+use Rattle.fwd_top.specs.Words.{Command, Run, Replay, ListFolder, Generate, command_of}
 use Rattle.fwd_top.specs.Built.{is_built, built_life}
 use Rattle.fwd_top.specs.declared.status.ConfigRefusal.TheVariants.{Load, Setting}
 use Rattle.fwd_top.specs.declared.status.Status.{Status}
 use Rattle.fwd_top.specs.declared.status.Status.TheVariants as status
 
--- a life is to be replayed by settings, or there is none for this reason
+-- A life of a schedule is to be replayed by settings; or they are to be run, stopped behind so many readings where their
+-- number is given; or nothing is, for this reason.
 pub data Case : Type 0 where
   Replays : AllSettings → Life → Case
+  Runs : AllSettings → (ticks : Option ℕ) → Case
   Refuses : Status → Case
+
+-- what is to be done by the settings of a configuration
+pub data Wanted : Type 0 where
+  ToRun : (ticks : Option ℕ) → Wanted
+  ToReplay : (schedule : List ℕ) → Wanted
 
 -- the sections that were loaded, if any were, and the case
 pub record Asked : Type 0 where
@@ -60,24 +67,35 @@ abbrev pub of_file : AllSettings → Option (List ℕ) → Case
 of_file s (Some bytes) = of_schedule s (schedule_of bytes)
 of_file s None = Refuses status.FileFault
 
--- behind settings that are run the schedule is read
-abbrev pub with_settings : Option (List Section) → List ℕ → Checked AllSettings → Reading Asked
-with_settings loaded path (Ok s) = if is_built s then Ask path (λ bytes. Return (asked loaded (of_file s bytes))) else Return (asked loaded (Refuses status.NotBuilt))
-with_settings loaded path (Err fault) = Return (asked loaded (Refuses (refused_settings fault)))
+-- behind settings that are run, the schedule is read where there is to be one
+abbrev pub wanted_by : Option (List Section) → AllSettings → Wanted → Reading Asked
+wanted_by loaded s (ToRun ticks) = Return (asked loaded (Runs s ticks))
+wanted_by loaded s (ToReplay schedule) = Ask schedule (λ bytes. Return (asked loaded (of_file s bytes)))
+
+abbrev pub with_settings : Option (List Section) → Wanted → Checked AllSettings → Reading Asked
+with_settings loaded wanted (Ok s) = if is_built s then wanted_by loaded s wanted else Return (asked loaded (Refuses status.NotBuilt))
+with_settings loaded wanted (Err fault) = Return (asked loaded (Refuses (refused_settings fault)))
 
 -- behind the sections come their settings
-abbrev pub with_sections : Checked AllSettings → List ℕ → Result (List Section) ConfigFault → Reading Asked
-with_sections checked path (Ok sections) = with_settings (Some sections) path checked
-with_sections checked path (Err fault) = Return (asked None (Refuses (refused_config fault)))
+abbrev pub with_sections : Checked AllSettings → Wanted → Result (List Section) ConfigFault → Reading Asked
+with_sections checked wanted (Ok sections) = with_settings (Some sections) wanted checked
+with_sections checked wanted (Err fault) = Return (asked None (Refuses (refused_config fault)))
 
-abbrev pub of_paths : Checked AllSettings → Option Paths → Values → Reading Asked
-of_paths checked (Some paths) env = bind (loads env paths.config) (with_sections checked paths.schedule)
-of_paths checked None env = Return (asked None (Refuses status.Usage))
+abbrev pub of_config : Checked AllSettings → (config : List ℕ) → Wanted → Values → Reading Asked
+of_config checked config wanted env = bind (loads env config) (with_sections checked wanted)
 
--- The program asks for the configuration's files as each is reached, and then for the schedule, where the sections have
--- these settings or this refusal.
+-- a listing and a generated load aren't built yet
+abbrev pub of_command : Checked AllSettings → Option Command → Values → Reading Asked
+of_command checked None env = Return (asked None (Refuses status.Usage))
+of_command checked (Some (Run config ticks)) env = of_config checked config (ToRun ticks) env
+of_command checked (Some (Replay config schedule)) env = of_config checked config (ToReplay schedule) env
+of_command checked (Some (ListFolder folder)) env = Return (asked None (Refuses status.NotBuilt))
+of_command checked (Some (Generate count)) env = Return (asked None (Refuses status.NotBuilt))
+
+-- The program asks for the configuration's files as each is reached, and then for the schedule of a replay, where the
+-- sections have these settings or this refusal.
 abbrev pub asks : {Y : Type 0} → Checked AllSettings → List (String Y) → Values → Reading Asked
-asks checked words env = of_paths checked (replay_of (map string_bytes words)) env
+asks checked words env = of_command checked (command_of (map string_bytes words)) env
 
 -- the sections that were loaded have these settings, or this refusal
 abbrev pub AreSettingsOf : Option (List Section) → Checked AllSettings → Type 0

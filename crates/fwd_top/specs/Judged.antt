@@ -1,8 +1,10 @@
 -- What the steps towards an answer come to.
-use Rattle.std.specs.Prelude.{◌≡◌, ◌⊎◌, ℕ, List, [], Option, Some, None, Result, Ok, Err, IsErrAnd, option_map}
+use Rattle.std.specs.Prelude.{◌≡◌, ◌⊎◌, ℕ, Bool, true, false, List, [], Option, Some, None, Result, Ok, Err, IsErrAnd, option_map}
 use Rattle.fwd_program.specs.Told.{Grew, Makes}
 use Rattle.fwd_outside.specs.Files.{FilesTold}
+use Rattle.fwd_outside.specs.Loop.{LoopTold}
 use Rattle.fwd_outside.specs.Sink.{SinkTold}
+use Rattle.fwd_config.specs.Variables.{Values}
 use Rattle.fwd_config.specs.Reading.{reads_files}
 use Rattle.fwd_config.specs.declared.section.Place.{Place}
 use Rattle.fwd_config.specs.declared.section.Section.{Section}
@@ -15,12 +17,13 @@ use Rattle.fwd_settings.specs.Settings.{settings_of}
 use Rattle.fwd_settings.specs.declared.chosen.AllSettings.{AllSettings}
 use Rattle.fwd_script.specs.declared.refused.ScheduleKind.{ScheduleKind}
 use Rattle.fwd_script.specs.declared.refused.ScheduleKind.TheVariants as schedule_kind
-use Rattle.fwd_replay.specs.Text.{IsReplayed}
-use Rattle.fwd_replay.specs.declared.life.Replayed.{Replayed}
+use Rattle.fwd_replay.specs.Live.{spent_in, IsLoopFailed}
+use Rattle.fwd_replay.specs.declared.reported.Reported.{Reported}
 use Rattle.fwd_top.specs.Built.{built_life}
-use Rattle.fwd_top.specs.Asked.{Case, Replays, Refuses, asked, of_life, refused_by, with_settings}
-use Rattle.fwd_top.specs.Answered.{Verdict, Says, Ends, WroteIt, WroteABeginning}
+use Rattle.fwd_top.specs.Asked.{Case, Runs, Refuses, Wanted, ToRun, ToReplay, AreSettingsOf, asked, of_config, of_life, refused_by, with_settings}
+use Rattle.fwd_top.specs.Answered.{Verdict, Says, Ends, ComesTo, IsBegun, WroteIt, WroteABeginning}
 use Rattle.fwd_top.specs.declared.asking.Job.{Job}
+use Rattle.fwd_top.specs.declared.asking.Job.TheVariants as job
 use Rattle.fwd_top.specs.declared.status.ConfigRefusal.TheVariants.{Setting}
 use Rattle.fwd_top.specs.declared.status.Status.{Status}
 use Rattle.fwd_top.specs.declared.status.Status.TheVariants as status
@@ -29,22 +32,40 @@ abbrev pub unless_memory : Status → Option Case
 unless_memory status.Memory = None
 unless_memory other = Some (Refuses other)
 
+-- the case of a job
+abbrev pub of_job : Job → Case
+of_job (job.Run s ticks) = Runs s ticks
+of_job (job.Replay s schedule) = of_life s (built_life schedule.lives)
+
+abbrev pub settings_in : Job → AllSettings
+settings_in (job.Run s ticks) = s
+settings_in (job.Replay s schedule) = s
+
+abbrev pub is_to_run : Job → Bool
+is_to_run (job.Run s ticks) = true
+is_to_run (job.Replay s schedule) = false
+
+abbrev pub is_run_wanted : Wanted → Bool
+is_run_wanted (ToRun ticks) = true
+is_run_wanted (ToReplay schedule) = false
+
 -- the case that was come to; none for want of memory
 abbrev pub case_of : Result Job Status → Option Case
-case_of (Ok job) = Some (of_life job.settings (built_life job.schedule.lives))
+case_of (Ok job) = Some (of_job job)
 case_of (Err other) = unless_memory other
 
 -- it is this case, unless memory was wanting
 abbrev pub IsJudged : Case → Result Job Status → Type 0
-IsJudged case (Ok job) = case ≡ of_life job.settings (built_life job.schedule.lives)
+IsJudged case (Ok job) = case ≡ of_job job
 IsJudged case (Err status.Memory) = Unit {0}
 IsJudged case (Err other) = case ≡ Refuses other
 
--- what refuses without a text to write
+-- what refuses before anything is run
 abbrev pub IsRefusal : Status → Type 0
 IsRefusal status.Done = ⊥
 IsRefusal status.TurnsSpent = ⊥
 IsRefusal status.OutFault = ⊥
+IsRefusal status.LoopFault = ⊥
 IsRefusal other = Unit {0}
 
 -- a refusal for another cause than a file
@@ -73,22 +94,33 @@ abbrev pub AreSettings : List Section → Checked AllSettings → Option Case �
 AreSettings sections checked (Some case) = Comes (settings_of sections) checked
 AreSettings sections checked None = Unit {0}
 
+-- the calls on the files are those of a configuration and of what is wanted by it
+pub record AsksFor (config : List ℕ) (wanted : Wanted) (env : Values) (old new : FilesTold) (case : Option Case) : Type 0 where
+  pub checked : Checked AllSettings
+  pub loaded : Option (List Section)
+  pub are : AreSettingsOf loaded checked
+  pub makes : Makes old new (reads_files (of_config checked config wanted env)) (option_map (asked loaded) case)
+
 -- behind sections that were loaded, the calls on the files are those that follow
-pub record AsksBehind (sections : List Section) (path : List ℕ) (old new : FilesTold) (case : Option Case) : Type 0 where
+pub record AsksBehind (sections : List Section) (wanted : Wanted) (old new : FilesTold) (case : Option Case) : Type 0 where
   pub checked : Checked AllSettings
   pub are : AreSettings sections checked case
-  pub makes : Makes old new (reads_files (with_settings (Some sections) path checked)) (option_map (asked (Some sections)) case)
+  pub makes : Makes old new (reads_files (with_settings (Some sections) wanted checked)) (option_map (asked (Some sections)) case)
 
--- what came of the life of a case
-abbrev pub IsReplayedIn : ℕ → Case → Replayed → Type 0
-IsReplayedIn turns (Replays s life) replayed = IsReplayed s turns life replayed
-IsReplayedIn turns (Refuses other) replayed = ⊥
+-- what came of a case
+abbrev pub IsDone : ℕ → Case → LoopTold → LoopTold → Result Reported Status → Type 0
+IsDone turns case loop now (Ok text) = ComesTo turns case loop now text
+IsDone turns case loop now (Err status.Memory) = IsBegun turns case loop now
+IsDone turns case loop now (Err other) = (case ≡ Refuses other) × Grew loop now []
 
--- what came of a job
-abbrev pub IsDone : ℕ → Job → Result Replayed Status → Type 0
-IsDone turns job (Ok replayed) = IsReplayedIn turns (of_life job.settings (built_life job.schedule.lives)) replayed
-IsDone turns job (Err status.Memory) = Unit {0}
-IsDone turns job (Err other) = of_life job.settings (built_life job.schedule.lives) ≡ Refuses other
+-- how many happenings the loop gave at least, and that it couldn't go on
+abbrev pub given_by : Job → ℕ → Result Reported Status → ℕ
+given_by (job.Run s ticks) turns result = spent_in turns result
+given_by (job.Replay s schedule) turns result = 0
+
+abbrev pub IsRunFailed : Job → Result Reported Status → Type 0
+IsRunFailed (job.Run s ticks) result = IsLoopFailed result
+IsRunFailed (job.Replay s schedule) result = ⊥
 
 -- what was written of a text
 abbrev pub Writes : {T : Type 0} → SinkTold → SinkTold → List ℕ → Result T Status → Type 0

@@ -1,19 +1,23 @@
-//! From the words of the command to what is to be replayed.
+//! From the words of the command to what is to be done.
 
-ghost use Rattle.std.specs.Prelude.{◌≡◌, Some, IfOk, IfErr};
+ghost use Rattle.std.specs.Prelude.{◌≡◌, false, List, Option, Some, map, string_bytes, option_map, IfOk, IfErr};
 ghost use Rattle.fwd_program.specs.Program.{Return, bind};
 ghost use Rattle.fwd_program.specs.Told.{Makes};
 ghost use Rattle.fwd_program.specs.Cause.{HasCause};
 ghost use Rattle.fwd_outside.specs.Files.{reads_whole};
 ghost use Rattle.fwd_config.specs.Variables.{environment};
+ghost use Rattle.fwd_config.specs.Reading.{reads_files};
+ghost use Rattle.fwd_config.specs.declared.section.Section.{Section};
 ghost use Rattle.fwd_settings.specs.Sound.{IsSound};
-ghost use Rattle.fwd_top.specs.Asked.{of_file};
-ghost use Rattle.fwd_top.specs.Answered.{Asks};
-ghost use Rattle.fwd_top.specs.Judged.{AsksBehind, IsFileFault, IsJudged, IsOwnRefusal, IsRefusal, case_of, config_status, schedule_status, setting_status};
+ghost use Rattle.fwd_top.specs.Words.{command_of};
+ghost use Rattle.fwd_top.specs.Shown.{wanted_of};
+ghost use Rattle.fwd_top.specs.Asked.{asked, of_file, wanted_by};
+ghost use Rattle.fwd_top.specs.Answered.{Asks, is_run};
+ghost use Rattle.fwd_top.specs.Judged.{AsksBehind, AsksFor, IsFileFault, IsJudged, IsOwnRefusal, IsRefusal, case_of, config_status, is_run_wanted, is_to_run, schedule_status, setting_status, settings_in};
 
 use crate::built::is_built;
 use crate::status::{ConfigRefusal, Status};
-use crate::words::read_words;
+use crate::words::{Command, read_words};
 use fwd_choices::SettingKind;
 use fwd_config::{ConfigFault, ConfigKind, Sections, load};
 use fwd_outside::{FileErr, Files, read_whole};
@@ -21,11 +25,26 @@ use fwd_script::{Schedule, ScheduleKind, ScheduleRefused, read_schedule};
 use fwd_settings::{AllSettings, SettingFault, settings};
 use std::alloc::Global;
 
-/// What is to be replayed: a schedule, by settings.
+/// What the program is to do by the settings of a configuration.
 #[derive(Drop)]
-pub struct Job {
-    pub settings: AllSettings,
-    pub schedule: Schedule,
+pub enum Job {
+    /// They are run, and stopped behind so many readings of the clock where their number is given.
+    Run {
+        settings: AllSettings,
+        ticks: Option<u64>,
+    },
+    /// A schedule is replayed.
+    Replay {
+        settings: AllSettings,
+        schedule: Schedule,
+    },
+}
+
+/// What is wanted once there are settings.
+#[derive(Clone, Copy)]
+enum Wanted<'a> {
+    ToRun { ticks: Option<u64> },
+    ToReplay { schedule: &'a [u8] },
 }
 
 /// Why no settings come of a configuration: its text is refused, or can't be read.
@@ -92,12 +111,13 @@ fn refused_schedule(refused: ScheduleRefused) -> Status
 
 /// The schedule of a text, by these settings.
 fn job_of_text(alloc: Global, bytes: &[u8], settings: AllSettings) -> Result<Job, Status>
-    ensures same { IfOk result (λ job. job.settings ≡ settings) }
+    ensures same { IfOk result (λ job. settings_in job ≡ settings) }
+    ensures kind { IfOk result (λ job. is_to_run job ≡ false) }
     ensures judged { IsJudged (of_file settings (Some bytes.now)) result }
     ensures refusal { IfErr result IsOwnRefusal }
 {
     match read_schedule(alloc, bytes) {
-        Ok(schedule) => Ok(Job { settings, schedule }),
+        Ok(schedule) => Ok(Job::Replay { settings, schedule }),
         Err(refused) => Err(refused_schedule(refused)),
     }
 }
@@ -109,7 +129,8 @@ fn job_of_file<F: Files>(
     path: &[u8],
     settings: AllSettings,
 ) -> Result<Job, Status>
-    ensures same { IfOk result (λ job. job.settings ≡ settings) }
+    ensures same { IfOk result (λ job. settings_in job ≡ settings) }
+    ensures kind { IfOk result (λ job. is_to_run job ≡ false) }
     ensures calls { Makes (F.told files.old) (F.told files.new) (bind (reads_whole path.now) (λ bytes. Return (of_file settings bytes))) (case_of result) }
     ensures cause { HasCause (F.faults files.old) (F.faults files.new) (IsFileFault result) }
     ensures refusal { IfErr result IsRefusal }
@@ -121,22 +142,42 @@ fn job_of_file<F: Files>(
     }
 }
 
-/// The schedule in a file, by the settings of these sections.
+/// What is to be done by settings that are run.
+fn job_of_settings<F: Files>(
+    alloc: Global,
+    files: &mut F,
+    wanted: Wanted<'_>,
+    settings: AllSettings,
+) -> Result<Job, Status>
+    ensures same { IfOk result (λ job. settings_in job ≡ settings) }
+    ensures calls { (loaded : Option (List Section)) → Makes (F.told files.old) (F.told files.new) (reads_files (wanted_by loaded settings (wanted_of wanted.entry))) (option_map (asked loaded) (case_of result)) }
+    ensures cause { HasCause (F.faults files.old) (F.faults files.new) (IsFileFault result) }
+    ensures refusal { IfErr result IsRefusal }
+    ensures kind { IfOk result (λ job. is_to_run job ≡ is_run_wanted (wanted_of wanted.entry)) }
+{
+    match wanted {
+        Wanted::ToRun { ticks } => Ok(Job::Run { settings, ticks }),
+        Wanted::ToReplay { schedule } => job_of_file(alloc, files, schedule, settings),
+    }
+}
+
+/// What is to be done by the settings of these sections.
 fn job_of_sections<F: Files>(
     alloc: Global,
     files: &mut F,
-    path: &[u8],
+    wanted: Wanted<'_>,
     sections: &Sections,
 ) -> Result<Job, Status>
-    ensures sound { IfOk result (λ job. IsSound job.settings) }
-    ensures asks { AsksBehind sections.now path.now (F.told files.old) (F.told files.new) (case_of result) }
+    ensures sound { IfOk result (λ job. IsSound (settings_in job)) }
+    ensures asks { AsksBehind sections.now (wanted_of wanted.entry) (F.told files.old) (F.told files.new) (case_of result) }
     ensures cause { HasCause (F.faults files.old) (F.faults files.new) (IsFileFault result) }
     ensures refusal { IfErr result IsRefusal }
+    ensures kind { IfOk result (λ job. is_to_run job ≡ is_run_wanted (wanted_of wanted.entry)) }
 {
     match settings(alloc, sections) {
         Ok(settings) => {
             if is_built(&settings) {
-                job_of_file(alloc, files, path, settings)
+                job_of_settings(alloc, files, wanted, settings)
             } else {
                 Err(Status::NotBuilt)
             }
@@ -145,24 +186,49 @@ fn job_of_sections<F: Files>(
     }
 }
 
-/// What the words `replay -c FILE -s FILE` ask for: the configuration is read, its settings are checked, and then the
-/// schedule is read. The first of these that is refused says why there is none.
+/// What is to be done by the settings of a configuration.
+fn job_of_config<F: Files>(
+    alloc: Global,
+    config: &[u8],
+    wanted: Wanted<'_>,
+    env: &[(String, String)],
+    files: &mut F,
+) -> Result<Job, Status>
+    ensures sound { IfOk result (λ job. IsSound (settings_in job)) }
+    ensures asks { AsksFor config.now (wanted_of wanted.entry) (environment env.now) (F.told files.old) (F.told files.new) (case_of result) }
+    ensures cause { HasCause (F.faults files.old) (F.faults files.new) (IsFileFault result) }
+    ensures refusal { IfErr result IsRefusal }
+    ensures kind { IfOk result (λ job. is_to_run job ≡ is_run_wanted (wanted_of wanted.entry)) }
+{
+    match load(alloc, files, config, env) {
+        Ok(sections) => job_of_sections(alloc, files, wanted, &sections),
+        Err(fault) => Err(refused_config(fault)),
+    }
+}
+
+/// What the words ask for: the configuration is read, its settings are checked, and then the schedule of a replay is read.
+/// The first of these that is refused says why there is nothing to do. A listing and a generated load aren't built yet.
 pub fn read_job<F: Files>(
     alloc: Global,
     words: &[String],
     env: &[(String, String)],
     files: &mut F,
 ) -> Result<Job, Status>
-    ensures sound { IfOk result (λ job. IsSound job.settings) }
+    ensures sound { IfOk result (λ job. IsSound (settings_in job)) }
     ensures asks { Asks words.now (environment env.now) (F.told files.old) (F.told files.new) (case_of result) }
     ensures cause { HasCause (F.faults files.old) (F.faults files.new) (IsFileFault result) }
     ensures refusal { IfErr result IsRefusal }
+    ensures kind { IfOk result (λ job. is_run (command_of (map string_bytes words.now)) ≡ is_to_run job) }
 {
-    let Some(paths) = read_words(words) else {
-        return Err(Status::Usage);
-    };
-    match load(alloc, files, paths.config, env) {
-        Ok(sections) => job_of_sections(alloc, files, paths.schedule, &sections),
-        Err(fault) => Err(refused_config(fault)),
+    match read_words(words) {
+        Some(Command::Run { config, ticks }) => {
+            job_of_config(alloc, config, Wanted::ToRun { ticks }, env, files)
+        }
+        Some(Command::Replay { config, schedule }) => {
+            job_of_config(alloc, config, Wanted::ToReplay { schedule }, env, files)
+        }
+        Some(Command::List { .. }) => Err(Status::NotBuilt),
+        Some(Command::Generate { .. }) => Err(Status::NotBuilt),
+        None => Err(Status::Usage),
     }
 }

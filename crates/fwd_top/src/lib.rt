@@ -1,4 +1,4 @@
-//! The top call: `log_forwarder` does all that the program does, over files and a sink that are handed in.
+//! The top call: `log_forwarder` does all that the program does, over the files, the loop and the sink that are handed in.
 #![tactic(auto)]
 
 mod asking;

@@ -5,7 +5,7 @@ ghost use Rattle.fwd_settings.specs.Sound.{IsSound};
 use crate::texts::between;
 use fwd_base::{Bytes, Memory};
 use fwd_config::{Sections, load};
-use fwd_replay::{Replayed, replay};
+use fwd_replay::{Reported, replay};
 use fwd_script::{Life, MemFiles, Schedule, read_schedule};
 use fwd_settings::{AllSettings, settings};
 use std::alloc::Global;
@@ -24,11 +24,11 @@ enum Comes {
     LoopFailed,
 }
 
-fn is_so(replayed: &Replayed, comes: Comes) -> bool {
+fn is_so(replayed: &Reported, comes: Comes) -> bool {
     match (replayed, comes) {
-        (Replayed::Over(text), Comes::Over(end)) => text.as_slice().ends_with(end),
-        (Replayed::TurnsSpent(text), Comes::TurnsSpent(end)) => text.as_slice().ends_with(end),
-        (Replayed::LoopFailed, Comes::LoopFailed) => true,
+        (Reported::Over(text), Comes::Over(end)) => text.as_slice().ends_with(end),
+        (Reported::TurnsSpent(text), Comes::TurnsSpent(end)) => text.as_slice().ends_with(end),
+        (Reported::LoopFailed, Comes::LoopFailed) => true,
         _ => false,
     }
 }

@@ -1,8 +1,9 @@
-//! Runs of the program over files and a sink in memory.
+//! Runs of the program over files, a loop and a sink in memory.
 
 use crate::texts::{between, times};
 use fwd_base::{Bytes, Memory};
-use fwd_script::{MemFiles, MemSink};
+use fwd_play::Script;
+use fwd_script::{Life, MemFiles, MemSink, Schedule, read_schedule};
 use fwd_top::{
     ConfigKind, ConfigRefusal, Place, ScheduleKind, SettingKind, Status, log_forwarder, status_line,
 };
@@ -42,12 +43,56 @@ fn has_line(alloc: Global, status: &Status, number: u8, line: &[u8]) -> bool {
     }
 }
 
-/// What a run is over: its words, its environment, and at most how many happenings it takes.
+/// What a run is over: its words, its environment, the life that its loop brings, and at most how many happenings it takes.
 #[derive(Clone, Copy)]
 struct Asked<'a> {
     words: &'a [String],
     env: &'a [(String, String)],
+    brought: &'a [u8],
     turns: u64,
+}
+
+fn ends_over(
+    rt: &(impl Threads + Sync),
+    alloc: Global,
+    asked: &Asked,
+    files: &mut MemFiles,
+    outside: &mut Script,
+    out: &mut MemSink,
+    ends: Ends,
+) -> bool {
+    let status = log_forwarder(
+        rt,
+        alloc,
+        asked.words,
+        asked.env,
+        files,
+        outside,
+        out,
+        asked.turns,
+    );
+    has_line(alloc, &status, ends.number, ends.line) && is_text(out.bytes().as_slice(), ends.text)
+}
+
+fn ends_over_life(
+    rt: &(impl Threads + Sync),
+    alloc: Global,
+    asked: &Asked,
+    life: &Life,
+    files: &mut MemFiles,
+    out: &mut MemSink,
+    ends: Ends,
+) -> Result<bool, Memory> {
+    let mut outside = Script::new(alloc, life)?;
+    Ok(ends_over(rt, alloc, asked, files, &mut outside, out, ends))
+}
+
+/// The life of a schedule that is written rightly.
+fn life_of(schedule: &Schedule) -> Result<&Life, Memory> {
+    match schedule.lives.as_slice() {
+        [life] => Ok(life),
+        _ => Err(Memory),
+    }
 }
 
 fn ends_so(
@@ -57,9 +102,11 @@ fn ends_so(
     files: &mut MemFiles,
     out: &mut MemSink,
     ends: Ends,
-) -> bool {
-    let status = log_forwarder(rt, alloc, asked.words, asked.env, files, out, asked.turns);
-    has_line(alloc, &status, ends.number, ends.line) && is_text(out.bytes().as_slice(), ends.text)
+) -> Result<bool, Memory> {
+    let Ok(schedule) = read_schedule(alloc, asked.brought) else {
+        return Err(Memory);
+    };
+    ends_over_life(rt, alloc, asked, life_of(&schedule)?, files, out, ends)
 }
 
 /// Over a configuration `c` and a schedule `s`.
@@ -75,7 +122,7 @@ fn runs(
     files.preset(b"c", config)?;
     files.preset(b"s", schedule)?;
     let mut out = MemSink::new(alloc);
-    Ok(ends_so(rt, alloc, asked, &mut files, &mut out, ends))
+    ends_so(rt, alloc, asked, &mut files, &mut out, ends)
 }
 
 fn words_of(alloc: Global, words: &[&str]) -> Result<Vec<String>, Memory> {
@@ -99,6 +146,7 @@ fn answers(
     let asked = Asked {
         words: &words,
         env: &[],
+        brought: b"",
         turns: 10,
     };
     runs(rt, alloc, &asked, config, schedule, ends)
@@ -199,7 +247,28 @@ const WORDS: &[(&[&str], Ends)] = &[
     (&["replay", "-c", "c", "-s", "x"], FILE_FAULT),
     (&["replay", "-c", "c"], NO_WORDS),
     (&[], NO_WORDS),
+    (&["run"], NO_WORDS),
+    (&["run", "-c"], NO_WORDS),
+    (&["run", "-c", "c", "-n"], NO_WORDS),
+    (&["run", "-c", "c", "-n", "0"], NO_WORDS),
+    (&["run", "-c", "c", "-n", "01"], NO_WORDS),
+    (&["run", "-c", "c", "-n", "18446744073709551616"], NO_WORDS),
+    (&["run", "-c", "c", "-c", "c"], NO_WORDS),
+    (&["run", "-c", "-n", "-n", "1"], NO_WORDS),
+    (&["run", "-s", "s", "-c", "c"], NO_WORDS),
+    (&["run", "-c", "x"], FILE_FAULT),
+    (&["list", "-p", "S"], NOT_BUILT),
+    (&["list", "-p", ""], NO_WORDS),
+    (&["gen", "-n", "200000"], NOT_BUILT),
+    (&["gen", "-n", "200001"], NO_WORDS),
+    (&["gen", "-n", "0"], NO_WORDS),
 ];
+
+const NOT_BUILT: Ends = Ends {
+    number: 10,
+    line: b"not built yet",
+    text: Text::Is(b""),
+};
 
 const FILE_FAULT: Ends = Ends {
     number: 3,
@@ -221,6 +290,82 @@ fn options_come_in_any_order(rt: HostRuntime) {
     }
 }
 
+/// Words of a run.
+const RUN: &[&str] = &["run", "-c", "c"];
+
+const RUN_TWO: &[&str] = &["run", "-n", "2", "-c", "c"];
+
+/// What a loop brings to a run by `CONFIG`, its words, at most how many happenings, and how it ends.
+const RUNS: &[(&[u8], &[&str], u64, Ends)] = &[
+    // the report alone is written, and not what standard output took; the third reading isn't waited for
+    (
+        b"joined 0 1\npiece 0 1 t:hello\\n\ntick 1000\ntick 2000\ntick 3000\n",
+        RUN_TWO,
+        4,
+        Ends {
+            number: 0,
+            line: b"",
+            text: Text::Is(REPORTED),
+        },
+    ),
+    (
+        b"joined 0 1\npiece 0 1 t:hello\\n\ntick 1000\ntick 2000\ntick 3000\n",
+        RUN,
+        5,
+        Ends {
+            number: 7,
+            line: b"turns spent",
+            text: Text::Is(REPORTED),
+        },
+    ),
+    (
+        b"joined 0 1\npiece 0 1 t:hello\\n\nstop\n",
+        RUN,
+        9,
+        Ends {
+            number: 0,
+            line: b"",
+            text: Text::Is(REPORTED),
+        },
+    ),
+    (b"tick 1\nfailed\n", RUN, 9, LOOP_FAULT),
+];
+
+const REPORTED: &[u8] =
+    b"input tcp.0: batches 1 events 1 refused 0\noutput stdout.0: ok 1 retry 0 error 0 spent 0 lost 0 taken 35\nloaded 0 unrouted 0 left 0 faults 0\nowed 0\n";
+
+const LOOP_FAULT: Ends = Ends {
+    number: 9,
+    line: b"loop fault",
+    text: Text::Is(b""),
+};
+
+fn runs_over(
+    rt: &(impl Threads + Sync),
+    alloc: Global,
+    words: &[&str],
+    brought: &[u8],
+    turns: u64,
+    ends: Ends,
+) -> Result<bool, Memory> {
+    let words = words_of(alloc, words)?;
+    let asked = Asked {
+        words: &words,
+        env: &[],
+        brought,
+        turns,
+    };
+    runs(rt, alloc, &asked, CONFIG, b"", ends)
+}
+
+#[test]
+fn a_run_goes_over_the_loop_that_is_handed_in(rt: HostRuntime) {
+    for (brought, words, turns, ends) in RUNS.iter() {
+        let is = runs_over(&rt, rt.alloc(), words, brought, *turns, *ends);
+        assert!(rt; matches!(is, Ok(true)), "status {}", ends.number);
+    }
+}
+
 /// Whether the run tells that the sink fails.
 fn tells_of_the_sink(
     rt: &(impl Threads + Sync),
@@ -230,7 +375,7 @@ fn tells_of_the_sink(
 ) -> Result<bool, Memory> {
     let mut out = MemSink::new(alloc);
     out.fail_at(1)?;
-    Ok(ends_so(rt, alloc, asked, files, &mut out, fails(6, b"output fault")))
+    ends_so(rt, alloc, asked, files, &mut out, fails(6, b"output fault"))
 }
 
 fn sink_fails(rt: &(impl Threads + Sync), alloc: Global, words: &[String]) -> Result<bool, Memory> {
@@ -240,6 +385,7 @@ fn sink_fails(rt: &(impl Threads + Sync), alloc: Global, words: &[String]) -> Re
     let asked = Asked {
         words,
         env: &[],
+        brought: b"",
         turns: 10,
     };
     tells_of_the_sink(rt, alloc, &asked, &mut files)
@@ -549,6 +695,7 @@ fn prints(
     let asked = Asked {
         words,
         env: &[],
+        brought: b"",
         turns: u64::MAX,
     };
     let ends = done(Text::EndsIn(b"owed 0\n"));
@@ -606,6 +753,7 @@ fn reads_the_environment(
     let asked = Asked {
         words,
         env: &env,
+        brought: b"",
         turns: 10,
     };
     let schedule = b"tick 5000\njoined 0 1\npiece 0 1 t:hello\\n\ntick 6000\nstop\n";

@@ -13,13 +13,13 @@ use Rattle.fwd_engine.proofs.Acting.{act_ends, notes_one}
 use Rattle.fwd_engine.proofs.Asking.{asked, unasked}
 use Rattle.fwd_engine.proofs.landing.retry.Goals as goal
 
-pub returns-in_err-word : goal.returns-in_err-word
-returns-in_err-word g c others h out P =
+pub returns-in_err-word-clause-acts : goal.returns-in_err-word-clause-acts
+returns-in_err-word-clause-acts g c others h out P =
     act_ends c.args.setup.now _ _ c.from_residual.result c.from_residual.ensures.0 (_, unasked others _ _ _ c.in_err-word.ensures.told)
 
-pub returns-in_ok-word : goal.returns-in_ok-word
+pub returns-in_ok-word-clause-acts : goal.returns-in_ok-word-clause-acts
 unfolding retries
-returns-in_ok-word g c others h out P =
+returns-in_ok-word-clause-acts g c others h out P =
     let s = c.args.setup.now in
     let r = route_of c.args.route in
     let may : may_retry (retries_at (output_at s r.output)) (tries h r) ≡ true = (λ i. may_retry (sym c.retries.ensures i) (sym P.1 i)) ∙ sym c.may_retry.ensures ∙ c.if-may_retry.true in
@@ -32,9 +32,9 @@ returns-in_ok-word g c others h out P =
       shows = subst (λ (n : ℕ). Shows s c.retries-then-may_retry.new.self (OnRoute r (Retries n) ∷ h)) seconds (c.retries-then-may_retry.ensures s h out P.0);
     })
 
-pub returns-else-may_retry : goal.returns-else-may_retry
+pub returns-else-may_retry-clause-acts : goal.returns-else-may_retry-clause-acts
 unfolding retries
-returns-else-may_retry g c others h out P =
+returns-else-may_retry-clause-acts g c others h out P =
     let s = c.args.setup.now in
     let r = route_of c.args.route in
     let may : may_retry (retries_at (output_at s r.output)) (tries h r) ≡ false = (λ i. may_retry (sym c.retries.ensures i) (sym P.1 i)) ∙ sym c.may_retry.ensures ∙ c.if-may_retry.false in

@@ -11,25 +11,25 @@ use Rattle.fwd_engine.specs.Meets.{telling}
 use Rattle.fwd_engine.proofs.Acting.{acts_after, acts_then, act_ends, idles, acted_at}
 use Rattle.fwd_engine.proofs.stepping.finish.Goals as goal
 
-pub returns-in_default : goal.returns-in_default
+pub returns-in_default-clause-acts : goal.returns-in_default-clause-acts
 unfolding finishes
-returns-in_default g c others h shows =
+returns-in_default-clause-acts g c others h shows =
     let s = c.args.setup.now in
     let at : input_at s c.args.input.0 ≡ None = sym c.input.ensures ∙ ap option_copied c.in_default.is in
     rw at (idles _ s h _ shows)
 
-pub returns-in_err-lines : goal.returns-in_err-lines
-returns-in_err-lines g c others h shows = act_ends c.args.setup.now _ _ c.from_residual.result c.from_residual.ensures.0 (_, stays (telling others (g.L.Loop.told c.args.outside.now)) _)
+pub returns-in_err-lines-clause-acts : goal.returns-in_err-lines-clause-acts
+returns-in_err-lines-clause-acts g c others h shows = act_ends c.args.setup.now _ _ c.from_residual.result c.from_residual.ensures.0 (_, stays (telling others (g.L.Loop.told c.args.outside.now)) _)
 
-pub returns-in_err-events : goal.returns-in_err-events
-returns-in_err-events g c others h shows = act_ends c.args.setup.now _ _ c.from_residual-in_err-events.result c.from_residual-in_err-events.ensures.0 (_, stays (telling others (g.L.Loop.told c.args.outside.now)) _)
+pub returns-in_err-events-clause-acts : goal.returns-in_err-events-clause-acts
+returns-in_err-events-clause-acts g c others h shows = act_ends c.args.setup.now _ _ c.from_residual-in_err-events.result c.from_residual-in_err-events.ensures.0 (_, stays (telling others (g.L.Loop.told c.args.outside.now)) _)
 
-pub returns-in_err-accept : goal.returns-in_err-accept
-returns-in_err-accept g c others h shows = act_ends c.args.setup.now _ _ c.from_residual-in_err-accept.result c.from_residual-in_err-accept.ensures.0 (_, stays (telling others (g.L.Loop.told c.args.outside.now)) _)
+pub returns-in_err-accept-clause-acts : goal.returns-in_err-accept-clause-acts
+returns-in_err-accept-clause-acts g c others h shows = act_ends c.args.setup.now _ _ c.from_residual-in_err-accept.result c.from_residual-in_err-accept.ensures.0 (_, stays (telling others (g.L.Loop.told c.args.outside.now)) _)
 
-pub returns-in_ok-accept : goal.returns-in_ok-accept
+pub returns-in_ok-accept-clause-acts : goal.returns-in_ok-accept-clause-acts
 unfolding finishes
-returns-in_ok-accept g c others h shows =
+returns-in_ok-accept-clause-acts g c others h shows =
     let s = c.args.setup.now in
     let w = telling others (g.L.Loop.told c.args.outside.now) in
     let set = c.in-Some.set.now in
@@ -44,11 +44,11 @@ returns-in_ok-accept g c others h shows =
     (acts_then _ s _ (stops s) _ _ c.stop.result
     (acted_at w w s (λ (es : List Event). accepts s c.args.input.0 (tag_of set) es ended) _ _ _ events
     (acted_at w w s (λ (tag : List ℕ). accepts s c.args.input.0 tag c.in_ok-events.events ended) _ _ _ c.tag_for.ensures accepted))
-    (c.stop.ensures others)))
+    (c.stop.ensures.acts others)))
 
-pub returns-else-reads : goal.returns-else-reads
+pub returns-else-reads-clause-acts : goal.returns-else-reads-clause-acts
 unfolding finishes
-returns-else-reads g c others h shows =
+returns-else-reads-clause-acts g c others h shows =
     let s = c.args.setup.now in
     let at : input_at s c.args.input.0 ≡ Some c.in-Some.set.now = sym c.input.ensures ∙ ap option_copied c.in-Some.is in
     let reads : reads_standard c.in-Some.set.now.kind ≡ false = sym c.is_standard-reads.ensures ∙ c.if-reads.false in

@@ -16,18 +16,18 @@ use Rattle.fwd_engine.proofs.Turning.{flown, delivers_same, kept_is, kept_now, p
 use Rattle.fwd_engine.proofs.walking.begin.Goals as goal
 use Rattle.fwd_engine.proofs.walking.begin.Goals.{in-Some-output+in_ok-payload-in-Some-output, in-None}
 
-pub returns-in_default : goal.returns-in_default
-returns-in_default g c others h shows idle =
+pub returns-in_default-clause-acts : goal.returns-in_default-clause-acts
+returns-in_default-clause-acts g c others h shows idle =
     let s = c.args.setup.now in
     let told : option_copied c.kept.result ≡ kept s h c.args.route.chunk.0 = c.kept.ensures s h None shows in
     absurd (cc (ap option_copied (sym c.in_default.is) ∙ told ∙ kept_is s h c.args.route.chunk.0 (idle_has s h (route_of c.args.route) idle)))
 
-pub returns-in_err-payload-in-Some-output : goal.returns-in_err-payload-in-Some-output
-returns-in_err-payload-in-Some-output g c others h shows idle =
+pub returns-in_err-payload-in-Some-output-clause-acts : goal.returns-in_err-payload-in-Some-output-clause-acts
+returns-in_err-payload-in-Some-output-clause-acts g c others h shows idle =
     act_ends c.args.setup.now _ _ c.from_residual.result c.from_residual.ensures.0 (_, stays (telling others (g.L.Loop.told c.args.outside.now)) _)
 
-pub returns-in_err-poll : goal.returns-in_err-poll
-returns-in_err-poll g c others h shows idle =
+pub returns-in_err-poll-clause-acts : goal.returns-in_err-poll-clause-acts
+returns-in_err-poll-clause-acts g c others h shows idle =
     let s = c.args.setup.now in
     let r = route_of c.args.route in
     let kept = kept_now s h r.chunk (option_copied c.kept.result) c.in-Some.kept.now (c.kept.ensures s h None shows) (ap option_copied c.in-Some.is) (idle_has s h r idle) in
@@ -44,8 +44,8 @@ returns-in_err-poll g c others h shows idle =
     let began = lifted_began others _ _ act (b.0, record { entries = b.1.entries; grew = b.1.grew; way = b.1.way }) in
     rw begun (act_ends s _ _ c.from_residual-in_err-poll.result c.from_residual-in_err-poll.ensures.0 (began_inside (λ progress. lands s r 0 progress h) began))
 
-pub returns : goal.returns
-returns g c others h shows idle =
+pub returns-clause-acts : goal.returns-clause-acts
+returns-clause-acts g c others h shows idle =
     let s = c.args.setup.now in
     let r = route_of c.args.route in
     let kept = kept_now s h r.chunk (option_copied c.kept.result) c.in-Some.kept.now (c.kept.ensures s h None shows) (ap option_copied c.in-Some.is) (idle_has s h r idle) in
@@ -63,4 +63,4 @@ returns g c others h shows idle =
     let of : IsFlightOf s h (record { route = c.args.route; tries = c.tries-tries.result; flush = c.start.new.self }) r = (refl, ap (λ (f : Flown NoReply). f.output) after ∙ ap (λ (f : Flown NoReply). f.output) first, ap (λ (f : Flown NoReply). f.payload) after ∙ ap (λ (f : Flown NoReply). f.payload) first ∙ payload, c.tries-tries.ensures s h None shows idle, idle_closed s h r idle) in
     rw begun
     (acts_after _ s _ _ _ c.land.result (inside (λ progress. lands s r 0 progress h) (lifted others _ _ act _ calls.0))
-    (c.land.ensures others h (let_out s h r _ (idle_flight s h r idle) shows) (of, calls.1)))
+    (c.land.ensures.acts others h (let_out s h r _ (idle_flight s h r idle) shows) (of, calls.1)))

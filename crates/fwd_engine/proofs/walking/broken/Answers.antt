@@ -11,16 +11,16 @@ use Rattle.fwd_engine.proofs.Asking.{lifted, lifted_began}
 use Rattle.fwd_engine.proofs.Turning.{flown, delivers_same, resumes_is, flight_goes}
 use Rattle.fwd_engine.proofs.walking.broken.Goals as goal
 
-pub returns-in_default : goal.returns-in_default
+pub returns-in_default-clause-acts : goal.returns-in_default-clause-acts
 unfolding has_broken
-returns-in_default g c others h shows =
+returns-in_default-clause-acts g c others h shows =
     let s = c.args.setup.now in
     let out = subst (λ f. TakenOut s h c.take.new.self c.args.link.0 f) c.in_default.is (c.take.ensures s h shows) in
     rw out.1 (idles _ s h _ out.0)
 
-pub returns-in_err-poll : goal.returns-in_err-poll
+pub returns-in_err-poll-clause-acts : goal.returns-in_err-poll-clause-acts
 unfolding has_broken
-returns-in_err-poll g c others h shows =
+returns-in_err-poll-clause-acts g c others h shows =
     let s = c.args.setup.now in
     let f = c.in-Some.flight in
     let r = route_of f.route in
@@ -29,16 +29,16 @@ returns-in_err-poll g c others h shows =
     let began = lifted_began others _ _ (breaks f.flush.progress) c.in_err-poll.ensures.calls.0 in
     rw is (act_ends s _ _ c.from_residual.result c.from_residual.ensures.0 (began_inside (λ now. lands s r f.flush.progress.taken now h) began))
 
-pub returns : goal.returns
+pub returns-clause-acts : goal.returns-clause-acts
 unfolding has_broken
-returns g c others h shows =
+returns-clause-acts g c others h shows =
     let s = c.args.setup.now in
     let f = c.in-Some.flight in
     let r = route_of f.route in
     let out = subst (λ f. TakenOut s h c.take.new.self c.args.link.0 f) c.in-Some.is (c.take.ensures s h shows) in
     let is = resumes_is s (λ d p. on_loop (breaks p)) h (route_on h c.args.link.0) r f.flush.progress (flown f.flush) out.1 out.2 (delivers_same s h r f.flush out.3.2) in
     let calls = c.in_ok-poll.ensures.calls in
-    let landed = c.land.ensures others h out.0 (flight_goes s h f r _ c.in_ok-poll.ensures.same out.3, calls.1) in
+    let landed = c.land.ensures.acts others h out.0 (flight_goes s h f r _ c.in_ok-poll.ensures.same out.3, calls.1) in
     let before = c.taken-before.ensures in
     rw is
     (acts_after _ s _ _ _ c.land.result (inside (λ now. lands s r f.flush.progress.taken now h) (lifted others _ _ (breaks f.flush.progress) _ calls.0))

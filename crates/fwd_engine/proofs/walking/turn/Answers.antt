@@ -9,18 +9,18 @@ use Rattle.fwd_engine.proofs.Acting.{idles}
 use Rattle.fwd_engine.proofs.walking.turn.Goals as goal
 use Rattle.fwd_engine.proofs.walking.turn.Goals.{else-is_idle-via-then-is_idle+else-has_place, else-is_idle-via-else-is_idle}
 
-pub returns-then-has_place : goal.returns-then-has_place
+pub returns-then-has_place-clause-acts : goal.returns-then-has_place-clause-acts
 unfolding turn
-returns-then-has_place g c others h shows =
+returns-then-has_place-clause-acts g c others h shows =
     let s = c.args.setup.now in
     let r = route_of c.args.route in
     let idle : is_idle s h r ≡ true = sym (c.is_idle.ensures s h None shows) ∙ c.if-is_idle.true in
     let place : nat_lt (flights_to s h r.output) (places_at (output_at s r.output)) ≡ true = (λ i. nat_lt (sym (c.flights_to.ensures s h None shows) i) (sym c.places.ensures i)) ∙ lt-ltb _ _ c.if-has_place.true in
-    rw (idle, place) (c.begin.ensures others h shows idle)
+    rw (idle, place) (c.begin.ensures.acts others h shows idle)
 
-pub returns-else-is_idle : goal.returns-else-is_idle
+pub returns-else-is_idle-clause-acts : goal.returns-else-is_idle-clause-acts
 unfolding turn
-returns-else-is_idle g c others h shows =
+returns-else-is_idle-clause-acts g c others h shows =
     let s = c.args.setup.now in
     let r = route_of c.args.route in
     elim c.else-is_idle.branch [

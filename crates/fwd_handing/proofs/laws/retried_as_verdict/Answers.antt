@@ -4,21 +4,21 @@ use Rattle.fwd_handing.proofs.Closing.{kept_at_end, has_failed, is_rejected, non
 use Rattle.fwd_handing.proofs.laws.retried_as_verdict.Goals as goal
 
 pub returns-clause-retried : goal.returns-clause-retried
-returns-clause-retried c s ends turns trace lived r wait_s way are noted =
-    let kept = kept_at_end s ends turns trace lived way are in
+returns-clause-retried c s ends ticks turns trace lived r wait_s way are noted =
+    let kept = kept_at_end s ends ticks turns trace lived way are in
     has_failed s kept.0 (loop_part trace) lived.history kept.1 r (kept.1.came r (Retries wait_s) noted)
 
 pub returns-clause-spent : goal.returns-clause-spent
-returns-clause-spent c s ends turns trace lived r way are noted =
-    let kept = kept_at_end s ends turns trace lived way are in
+returns-clause-spent c s ends ticks turns trace lived r way are noted =
+    let kept = kept_at_end s ends ticks turns trace lived way are in
     has_failed s kept.0 (loop_part trace) lived.history kept.1 r (kept.1.came r Spent noted)
 
 pub returns-clause-failed : goal.returns-clause-failed
-returns-clause-failed c s ends turns trace lived r way are noted =
-    let kept = kept_at_end s ends turns trace lived way are in
+returns-clause-failed c s ends ticks turns trace lived r way are noted =
+    let kept = kept_at_end s ends ticks turns trace lived way are in
     is_rejected s kept.0 (loop_part trace) lived.history kept.1 r (kept.1.came r Failed noted)
 
 pub returns-clause-no_error : goal.returns-clause-no_error
-returns-clause-no_error c s ends turns trace lived r way are noted =
-    let kept = kept_at_end s ends turns trace lived way are in
+returns-clause-no_error c s ends ticks turns trace lived r way are noted =
+    let kept = kept_at_end s ends ticks turns trace lived way are in
     none_rejected s kept.0 (loop_part trace) lived.history kept.1 r (kept.1.came r Failed noted)

@@ -1,3 +1,4 @@
+use Rattle.std.proofs.Common.{None}
 use Rattle.fwd_settings.specs.Ends.{ends_of}
 use Rattle.fwd_play.specs.Lines.{given_of}
 use Rattle.fwd_play.specs.Place.{beginning}
@@ -10,8 +11,8 @@ returns-clause-links c s turns planned trace lived is = are_new (beginning (give
 
 pub returns-clause-beginnings : goal.returns-clause-beginnings
 returns-clause-beginnings c s turns planned trace lived to link is given =
-    c.each_link_hands_a_beginning.ensures s (ends_of s) turns trace lived to link is.way (are_new (beginning (given_of planned)) (loop_part trace) is.played) given
+    c.each_link_hands_a_beginning.ensures s (ends_of s) None turns trace lived to link is.way (are_new (beginning (given_of planned)) (loop_part trace) is.played) given
 
 pub returns-clause-wholes : goal.returns-clause-wholes
 returns-clause-wholes c s turns planned trace lived r is noted =
-    c.delivered_is_whole.ensures s (ends_of s) turns trace lived r is.way (are_new (beginning (given_of planned)) (loop_part trace) is.played) noted
+    c.delivered_is_whole.ensures s (ends_of s) None turns trace lived r is.way (are_new (beginning (given_of planned)) (loop_part trace) is.played) noted

@@ -10,4 +10,4 @@ pub returns-clause-of_steps : goal.returns-clause-of_steps
 returns-clause-of_steps c s brought h new entries way = ends_way IsNoted h (step s brought h) (tells_step s brought h) entries new way
 
 pub returns-clause-of_lives : goal.returns-clause-of_lives
-returns-clause-of_lives c s ends turns lived entries way = ends_way HasNoted [] (life s ends turns) (lives_life s ends turns) entries lived way
+returns-clause-of_lives c s ends ticks turns lived entries way = ends_way HasNoted [] (life s ends ticks turns) (lives_life s ends ticks turns) entries lived way

@@ -7,15 +7,15 @@ use Rattle.fwd_engine.specs.Meets.{telling}
 use Rattle.fwd_engine.specs.Steps.{Stepped, as_turn}
 use Rattle.fwd_engine.proofs.engine.Engine.take.Goals as goal
 
-pub returns-then-is_failure : goal.returns-then-is_failure
-returns-then-is_failure g c others s h at = (sym c.is_failure.ensures ∙ c.if-is_failure.true, refl)
+pub returns-then-is_failure-clause-steps : goal.returns-then-is_failure-clause-steps
+returns-then-is_failure-clause-steps g c others s h at = (sym c.is_failure.ensures ∙ c.if-is_failure.true, refl)
 
-pub returns-in-Ok : goal.returns-in-Ok
-returns-in-Ok g c others s h at =
+pub returns-in-Ok-clause-steps : goal.returns-in-Ok-clause-steps
+returns-in-Ok-clause-steps g c others s h at =
     let a = telling others (g.L.Loop.told c.args.outside.now) in
     let b = telling others (g.L.Loop.told c.step.new.outside) in
     let shows : Shows c.args.self.now.setup c.args.self.now.book h = subst (λ (x : AllSettings). Shows x c.args.self.now.book h) (sym at.settings) at.shows in
-    let acted = c.in-Ok.ensures others h shows in
+    let acted = c.in-Ok.ensures.acts others h shows in
     let stepped : Stepped a b c.args.self.now.setup h c.args.happening.now (record { setup = c.args.self.now.setup; book = c.step.new.book }) c.turn_of.result = record {
       history = acted.history;
       did = acted.did;
@@ -24,9 +24,9 @@ returns-in-Ok g c others s h at =
     } in
     (sym c.is_failure.ensures ∙ c.if-is_failure.false, subst (λ (x : AllSettings). Stepped a b x h c.args.happening.now (record { setup = c.args.self.now.setup; book = c.step.new.book }) c.turn_of.result) at.settings stepped)
 
-pub returns-in-Err : goal.returns-in-Err
-returns-in-Err g c others s h at =
+pub returns-in-Err-clause-steps : goal.returns-in-Err-clause-steps
+returns-in-Err-clause-steps g c others s h at =
     let a = telling others (g.L.Loop.told c.args.outside.now) in
     let b = telling others (g.L.Loop.told c.step.new.outside) in
     let shows : Shows c.args.self.now.setup c.args.self.now.book h = subst (λ (x : AllSettings). Shows x c.args.self.now.book h) (sym at.settings) at.shows in
-    (sym c.is_failure.ensures ∙ c.if-is_failure.false, subst (λ (x : AllSettings). Began a b (step x c.args.happening.now h)) at.settings (c.in-Err.ensures others h shows))
+    (sym c.is_failure.ensures ∙ c.if-is_failure.false, subst (λ (x : AllSettings). Began a b (step x c.args.happening.now h)) at.settings (c.in-Err.ensures.acts others h shows))

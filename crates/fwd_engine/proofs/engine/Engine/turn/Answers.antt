@@ -12,8 +12,8 @@ use Rattle.fwd_engine.proofs.Asking.{asked, unasked}
 use Rattle.fwd_engine.proofs.Waiting.{turns_of}
 use Rattle.fwd_engine.proofs.engine.Engine.turn.Goals as goal
 
-pub returns-in-Ok : goal.returns-in-Ok
-returns-in-Ok g c others s h at =
+pub returns-in-Ok-clause-turns : goal.returns-in-Ok-clause-turns
+returns-in-Ok-clause-turns g c others s h at =
     let a = telling others (g.L.Loop.told c.args.outside.now) in
     let between = telling others (g.L.Loop.told c.wait.new.self) in
     let brought = c.in-Ok.happening in
@@ -23,7 +23,7 @@ returns-in-Ok g c others s h at =
     let timed : Did a between (Ask (OnLoop (Wait (plus (clock h) 250) c.paused.result)) (λ x. Return x)) brought =
     subst (λ (n : ℕ). Did a between (Ask (OnLoop (Wait n c.paused.result)) (λ x. Return x)) brought) until called in
     let waited : Did a between (waits s h) brought = subst (λ (n : ℕ). Did a between (Ask (OnLoop (Wait (plus (clock h) 250) n)) (λ x. Return x)) brought) stopped timed in
-    turns_of _ _ s h _ c.take.result (record { brought = brought; between = between; waited = waited; steps = c.take.ensures others s h at })
+    turns_of _ _ s h _ c.take.result (record { brought = brought; between = between; waited = waited; steps = c.take.ensures.steps others s h at })
 
-pub returns-in-Err : goal.returns-in-Err
-returns-in-Err g c others s h at = inr (waits s h, unasked others _ _ (waits s h) c.in-Err.ensures.told)
+pub returns-in-Err-clause-turns : goal.returns-in-Err-clause-turns
+returns-in-Err-clause-turns g c others s h at = inr (waits s h, unasked others _ _ (waits s h) c.in-Err.ensures.told)

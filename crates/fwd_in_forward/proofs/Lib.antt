@@ -1,0 +1,5 @@
+pub mod Growing
+pub mod Joining
+pub mod Parts
+pub mod Taking
+pub mod Feeding

@@ -1,0 +1,2 @@
+pub mod Conn
+pub mod Next

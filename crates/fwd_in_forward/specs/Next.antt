@@ -1,0 +1,32 @@
+-- What stands next in a stream.
+use Rattle.std.specs.Prelude.{◌≡◌, ℕ, List, Result, Ok, Err, IsErr}
+use Rattle.fwd_base.specs.declared.memory.Memory.{Memory}
+use Rattle.fwd_wire.specs.declared.errors.WireErr.{WireErr}
+use Rattle.fwd_wire.specs.declared.errors.WireErr.TheVariants as errors
+use Rattle.fwd_wire.specs.declared.fault.ConnFault.TheVariants as fault
+use Rattle.fwd_wire.specs.declared.message.Message.{Message as Held}
+use Rattle.fwd_wire.specs.Answer.{IsAnswer, message, short}
+use Rattle.fwd_wire.specs.Fits.{SaidFits}
+use Rattle.fwd_wire.specs.Held.{said_of}
+use Rattle.fwd_wire.specs.Stream.{Breaks}
+use Rattle.fwd_in_forward.specs.declared.reading.Next.{Next}
+use Rattle.fwd_in_forward.specs.declared.reading.Next.TheVariants.{Message, Short, Broken}
+
+abbrev pub NextIs : List ℕ → Next → Type 0
+NextIs b (Message m n) = IsAnswer b (message (said_of m) n)
+NextIs b Short = IsAnswer b short
+NextIs b (Broken fault) = Breaks fault b
+
+-- a message that may be written again
+abbrev pub NextFits : Next → Type 0
+NextFits (Message m n) = SaidFits (said_of m)
+NextFits _ = Unit {0}
+
+-- what is made of what was read
+abbrev pub TakenAs : Result (Held × ℕ) WireErr → Result Next Memory → Type 0
+TakenAs (Ok x) r = r ≡ Ok (Message x.0 x.1)
+TakenAs (Err errors.Short) r = r ≡ Ok Short
+TakenAs (Err (errors.NotAMessage at)) r = r ≡ Ok (Broken fault.NotAMessage)
+TakenAs (Err errors.Compressed) r = r ≡ Ok (Broken fault.Compressed)
+TakenAs (Err errors.TooLong) r = r ≡ Ok (Broken fault.TooLong)
+TakenAs (Err errors.Memory) r = IsErr r

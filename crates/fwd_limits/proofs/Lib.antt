@@ -1,0 +1,4 @@
+pub mod Sums
+pub mod Looking
+pub mod Losing
+pub mod Masks

@@ -1,0 +1,61 @@
+-- How a row that is seen stands to an output.
+use Rattle.std.proofs.Common.{◌≡◌, ◌↔◌, ℕ, ◌<◌, ◌≤◌, Bool, true, false, ◌&&◌, not, eqb, List, [], ◌∷◌, refl, sym, ap, ◌∙◌, subst, arith, Option, Some, None}
+use Rattle.std.specs.Prelude.{Any, IsBitSet, IfSome, option_map}
+use Rattle.std.specs.List.{list_any}
+use Rattle.std.specs.Int.{bit_at}
+use Prim.Native.Nat.{◌^◌}
+use Rattle.std.proofs.lemmas.Nat.{bit_set_by_shift}
+use Rattle.std.proofs.lemmas.Nat.Bits.{shr_and_one, bit_at_above}
+use Rattle.std.proofs.lemmas.Bool.{eq-eqb, ne_eqb, eqb-true}
+use Rattle.std.proofs.lemmas.List.Folds.{Any-from_list_any, list_any-from_Any}
+use Rattle.fwd_base.specs.declared.ids.OutputId.{OutputId}
+use Rattle.fwd_table.specs.declared.route.Route.{Route}
+use Rattle.fwd_table.specs.declared.row.Row.{Row}
+use Rattle.fwd_table.specs.declared.row.RowSeen.{RowSeen}
+use Rattle.fwd_table.specs.Routes.{flying_of, is_to, IsMaskOf}
+use Rattle.fwd_table.specs.Rows.{seen_of}
+use Rattle.fwd_limits.specs.declared.rows.Look.{Look}
+use Rattle.fwd_limits.specs.Kept.{is_file, look_of}
+
+-- no bit is set past those of a word
+pub none_past : (mask bit : ℕ) → mask < 2 ^ 64 → 64 ≤ bit → eqb (bit_at mask bit) 1 ≡ false
+none_past mask bit word past = let none = bit_at_above mask 64 bit word past in ne_eqb (bit_at mask bit) 1 (λ one. omega (arith, one, none))
+
+from_bit : (mask i : ℕ) → IsBitSet mask i → bit_at mask i ≡ 1
+from_bit mask i set = sym (shr_and_one mask i) ∙ (bit_set_by_shift mask i).1 set
+
+to_bit : (mask i : ℕ) → bit_at mask i ≡ 1 → IsBitSet mask i
+to_bit mask i is = (bit_set_by_shift mask i).0 (shr_and_one mask i ∙ is)
+
+-- a bit of a mask is whether one of its routes is to that output
+bit_any : (routes : List Route) (mask : ℕ) (output : OutputId) → IsMaskOf routes mask → eqb (bit_at mask output.0) 1 ≡ list_any (is_to output) routes
+bit_any routes mask output is = by (eqb (bit_at mask output.0) 1) (list_any (is_to output) routes) refl refl
+  where
+    by : (a b : Bool) → eqb (bit_at mask output.0) 1 ≡ a → list_any (is_to output) routes ≡ b → a ≡ b
+    by true true x y = refl
+    by false false x y = refl
+    by true false x y =
+        let any = (is output.0).0 (to_bit mask output.0 (eqb-true (bit_at mask output.0) 1 x)) in
+        let some = list_any-from_Any (is_to output) routes (any.0, any.1, any.2, any.3, eq-eqb any.1.output.0 output.0 any.4) in
+        cc
+    by false true x y =
+        let any = Any-from_list_any (is_to output) routes y in
+        let set = from_bit mask output.0 ((is output.0).1 (any.0, any.1, any.2, any.3, eqb-true any.1.output.0 output.0 any.4)) in
+        let one = eq-eqb (bit_at mask output.0) 1 set in
+        cc
+
+pub look_is : (at : Option Row) (seen : RowSeen) (output : OutputId) (file owed flying waiting : Bool) → Some seen ≡ option_map seen_of at
+    → IfSome at (λ row. IsMaskOf row.routes seen.owed) → IfSome at (λ row. IsMaskOf (flying_of row.routes) seen.flying)
+    → file ≡ is_file seen.home → owed ≡ eqb (bit_at seen.owed output.0) 1 → flying ≡ eqb (bit_at seen.flying output.0) 1 → waiting ≡ (seen.shut && (owed && not flying))
+    → option_map (look_of output) at ≡ Some (record { chunk = seen.chunk; size = seen.size; is_file = file; is_flying = flying; is_waiting = waiting })
+look_is None seen output file owed flying waiting is owes flies a b c d = absurd (cc)
+look_is (Some row) seen output file owed flying waiting is owes flies a b c d =
+    let same : seen ≡ seen_of row = cc in
+    let flying_is : flying ≡ list_any (is_to output) (flying_of row.routes) = c ∙ bit_any (flying_of row.routes) seen.flying output flies in
+    let owed_is : owed ≡ list_any (is_to output) row.routes = b ∙ bit_any row.routes seen.owed output owes in
+    let shut : seen.shut ≡ row.shut = ap (λ (s : RowSeen). s.shut) same in
+    let file_is : file ≡ is_file row.home = a ∙ ap (λ (s : RowSeen). is_file s.home) same in
+    let chunk = ap (λ (s : RowSeen). s.chunk) same in
+    let size = ap (λ (s : RowSeen). s.size) same in
+    let waits : waiting ≡ (row.shut && (list_any (is_to output) row.routes && not (list_any (is_to output) (flying_of row.routes)))) = rw (d, shut, owed_is, flying_is) refl in
+    sym (λ i. Some (record { chunk = chunk i; size = size i; is_file = file_is i; is_flying = flying_is i; is_waiting = waits i }))

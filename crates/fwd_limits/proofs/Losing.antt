@@ -1,0 +1,77 @@
+-- The first chunks, as few as leave room.
+use Prim.Native.Nat.{◌^◌}
+use Rattle.std.proofs.Common.{◌≡◌, ◌⊎◌, inl, inr, ℕ, zero, suc, ◌+◌, ◌-◌, ◌<◌, ◌≤◌, Bool, true, false, cond, leb, ltb, List, [], ◌∷◌, ◌++◌, length, take, drop, get_or, min, refl, sym, ap, ◌∙◌, arith, append_assoc, Option, Some, None}
+use Rattle.std.specs.Prelude.{filter, nat_le, nat_lt, slice_get, option_map}
+use Rattle.std.proofs.lemmas.Bool.Decides.{nat_tests}
+use Rattle.std.proofs.lemmas.Bool.{le-leb, lt-ltb}
+use Rattle.fwd_base.specs.declared.ids.ChunkId.{ChunkId}
+use Rattle.fwd_base.specs.declared.ids.OutputId.{OutputId}
+use Rattle.fwd_table.specs.declared.row.Row.{Row}
+use Rattle.fwd_limits.specs.declared.loss.Loss.{Loss}
+use Rattle.fwd_limits.specs.declared.loss.Loss.TheVariants.{Fits, Lose, NewLoses}
+use Rattle.fwd_limits.specs.Kept.{size_of}
+use Rattle.fwd_table.specs.Rows.{is_row_of}
+use Rattle.fwd_limits.specs.Losses.{flying_to, lost_among, first_chunk, loss_of, fixed, others_for, next_of, IsShortest}
+
+pub shortest : (room : ℕ) (rows : List Row) → IsShortest room rows (lost_among room rows)
+shortest room [] = record { left = []; first = refl; fits = omega arith; shortest = λ n less. absurd (omega (arith, less)) }
+shortest room (row ∷ rows) = by (shortest room rows) (nat_le (size_of (row ∷ rows)) room) refl
+  where
+    by : IsShortest room rows (lost_among room rows) → (test : Bool) → nat_le (size_of (row ∷ rows)) room ≡ test → IsShortest room (row ∷ rows) (cond test [] (row ∷ lost_among room rows))
+    by again true test = record { left = row ∷ rows; first = refl; fits = let fits : size_of (row ∷ rows) ≤ room = grind (arith, nat_tests) in fits; shortest = λ n less. absurd (omega (arith, less)) }
+    by again false test = record {
+      left = again.left;
+      first = ap (λ (rs : List Row). row ∷ rs) again.first;
+      fits = again.fits;
+      shortest = more again test;
+    }
+      where
+        more : IsShortest room rows (lost_among room rows) → nat_le (size_of (row ∷ rows)) room ≡ false → (n : ℕ) → n < length (row ∷ lost_among room rows) → room < size_of (drop n (row ∷ rows))
+        more again test zero less = let over : room < size_of (row ∷ rows) = grind (arith, nat_tests) in over
+        more again test (suc n) less = again.shortest n (omega (arith, less))
+
+among_fits : (room : ℕ) (rows : List Row) → size_of rows ≤ room → lost_among room rows ≡ []
+among_fits room [] fits = refl
+among_fits room (row ∷ rows) fits = let test : nat_le (size_of (row ∷ rows)) room ≡ true = grind (arith, nat_tests) in rw test refl
+
+among_first : (room : ℕ) (rows : List Row) → room < size_of rows → first_chunk (lost_among room rows) ≡ first_chunk rows
+among_first room [] over = refl
+among_first room (row ∷ rows) over = let test : nat_le (size_of (row ∷ rows)) room ≡ false = grind (arith, nat_tests) in rw test refl
+
+-- by sums that stop at a last value
+pub new_loses : (output : OutputId) (limit : ℕ) (chunk : ChunkId) (rows : List Row) → limit < fixed output chunk rows → next_of output limit chunk rows ≡ NewLoses
+new_loses output limit chunk rows over = let test : nat_lt limit (fixed output chunk rows) ≡ true = grind (arith, nat_tests) in rw test refl
+
+next_within : (output : OutputId) (limit : ℕ) (chunk : ChunkId) (rows : List Row) → fixed output chunk rows ≤ limit
+    → next_of output limit chunk rows ≡ loss_of (first_chunk (lost_among (limit - fixed output chunk rows) (others_for output chunk rows)))
+next_within output limit chunk rows within = let test : nat_lt limit (fixed output chunk rows) ≡ false = grind (arith, nat_tests) in rw test refl
+
+pub it_fits : (output : OutputId) (limit : ℕ) (chunk : ChunkId) (rows : List Row) → fixed output chunk rows ≤ limit → size_of (others_for output chunk rows) ≤ limit - fixed output chunk rows → next_of output limit chunk rows ≡ Fits
+it_fits output limit chunk rows within fits =
+    next_within output limit chunk rows within ∙ ap (λ (rs : List Row). loss_of (first_chunk rs)) (among_fits (limit - fixed output chunk rows) (others_for output chunk rows) fits)
+
+pub first_is_lost : (output : OutputId) (limit : ℕ) (chunk : ChunkId) (rows : List Row) (first : Option ChunkId) → fixed output chunk rows ≤ limit → limit - fixed output chunk rows < size_of (others_for output chunk rows)
+    → first ≡ first_chunk (others_for output chunk rows) → next_of output limit chunk rows ≡ loss_of first
+first_is_lost output limit chunk rows first within over is =
+    next_within output limit chunk rows within ∙ ap loss_of (among_first (limit - fixed output chunk rows) (others_for output chunk rows) over ∙ sym is)
+
+-- ---- by sums that stop at a last value
+
+pub loses_by : (output : OutputId) (limit : ℕ) (chunk : ChunkId) (rows : List Row) (flying own both most : ℕ) → flying ≡ min (size_of (flying_to output rows)) most → own ≡ min (size_of (filter (is_row_of chunk) rows)) most → both ≡ min (flying + own) most
+    → limit < both → next_of output limit chunk rows ≡ NewLoses
+loses_by output limit chunk rows flying own both most a b c over = new_loses output limit chunk rows (omega (arith, a, b, c, over))
+
+fixed_is : (f o flying own both most limit : ℕ) → flying ≡ min f most → own ≡ min o most → both ≡ min (flying + own) most → both ≤ limit → limit < most → f + o ≡ both
+fixed_is f o flying own both most limit a b c within small = omega (arith, a, b, c, within, small)
+
+pub fits_by : (output : OutputId) (limit : ℕ) (chunk : ChunkId) (rows : List Row) (flying own both waiting most : ℕ) → flying ≡ min (size_of (flying_to output rows)) most → own ≡ min (size_of (filter (is_row_of chunk) rows)) most → both ≡ min (flying + own) most
+    → both ≤ limit → limit < most → waiting ≡ min (size_of (others_for output chunk rows)) most → waiting ≤ limit - both → next_of output limit chunk rows ≡ Fits
+fits_by output limit chunk rows flying own both waiting most a b c within small d fits =
+    let same = fixed_is (size_of (flying_to output rows)) (size_of (filter (is_row_of chunk) rows)) flying own both most limit a b c within small in
+    it_fits output limit chunk rows (omega (arith, same, within)) (omega (arith, same, within, small, d, fits))
+
+pub first_by : (output : OutputId) (limit : ℕ) (chunk : ChunkId) (rows : List Row) (flying own both waiting most : ℕ) (first : Option ChunkId) → flying ≡ min (size_of (flying_to output rows)) most → own ≡ min (size_of (filter (is_row_of chunk) rows)) most → both ≡ min (flying + own) most
+    → both ≤ limit → limit < most → waiting ≡ min (size_of (others_for output chunk rows)) most → limit - both < waiting → first ≡ first_chunk (others_for output chunk rows) → next_of output limit chunk rows ≡ loss_of first
+first_by output limit chunk rows flying own both waiting most first a b c within small d over is =
+    let same = fixed_is (size_of (flying_to output rows)) (size_of (filter (is_row_of chunk) rows)) flying own both most limit a b c within small in
+    first_is_lost output limit chunk rows first (omega (arith, same, within)) (omega (arith, same, within, small, d, over)) is

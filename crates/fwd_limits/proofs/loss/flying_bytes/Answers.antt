@@ -1,0 +1,12 @@
+use Rattle.std.proofs.Common.{ℕ, ◌-◌, refl, sym, ap, ◌∙◌, ◌&&◌, ◌||◌, not, eqb, cond, length, List}
+use Prim.Native.Nat.{◌^◌}
+use Rattle.fwd_limits.specs.Kept.{look_of, in_file, is_flying, is_waiting}
+use Rattle.fwd_limits.specs.Looks.{flying_size}
+use Rattle.fwd_table.specs.declared.row.Row.{Row}
+use Rattle.fwd_limits.proofs.Sums.{sum_goes}
+use Rattle.fwd_limits.proofs.loss.flying_bytes.Goals as goal
+
+pub loop-index-preserved : goal.loop-index-preserved
+loop-index-preserved c =
+    sum_goes (look_of c.args.output) flying_size (λ (row : Row). in_file row && is_flying c.args.output row) (λ row. refl) c.args.table.now.rows c.loop-index.index c.look_at.result c.loop-index.total _ _ (2 ^ 128 - 1)
+    c.look_at.ensures c.loop-index.invariant (c.from.ensures ∙ c.flying_part.ensures) c.saturating_add-total.ensures

@@ -1,0 +1,7 @@
+use Rattle.std.proofs.Common.{◌≡◌, ℕ, ◌-◌, ◌≤◌, length, take, min}
+use Prim.Native.Nat.{◌^◌}
+use Rattle.fwd_limits.specs.Pausing.{memory_of}
+use Rattle.fwd_limits.proofs.pausing.memory_of.Given as goal
+
+abbrev pub invariant-loop-index : goal.invariant-loop-index
+invariant-loop-index l = l.total ≡ min (memory_of l.input (take l.index l.table.rows)) (2 ^ 64 - 1)

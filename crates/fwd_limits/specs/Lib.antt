@@ -1,0 +1,4 @@
+pub mod Kept
+pub mod Losses
+pub mod Pausing
+pub mod Looks

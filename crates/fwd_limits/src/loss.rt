@@ -1,0 +1,125 @@
+//! Which chunks an output loses.
+
+ghost use Rattle.std.specs.Prelude.{◌≡◌, ◌-◌, ◌^◌, min, filter};
+ghost use Rattle.fwd_table.specs.Rows.{is_row_of};
+ghost use Rattle.fwd_limits.specs.Kept.{size_of};
+ghost use Rattle.fwd_limits.specs.Losses.{flying_to, others_for, first_chunk, next_of};
+ghost use Rattle.fwd_limits.specs.Looks.{flying_size, waiting_size, waits_beside, own_size};
+
+use crate::rows::{Look, look_at};
+use fwd_base::{ChunkId, OutputId};
+use fwd_table::Table;
+
+/// What is to be given up next, so that a chunk that has closed has room.
+#[derive(Clone, Copy, Debug, PartialEq, Eq)]
+pub enum Loss {
+    /// It has room.
+    Fits,
+    /// The output loses this chunk, and it is to be asked again.
+    Lose(ChunkId),
+    /// There is no room for the new chunk: the output loses it, and no other.
+    NewLoses,
+}
+
+/// How many bytes of a chunk are on their way to the output.
+fn flying_part(look: Look) -> u64
+    ensures { result ≡ flying_size look }
+{
+    if look.is_file && look.is_flying {
+        look.size
+    } else {
+        0
+    }
+}
+
+/// How many bytes wait for the output, of another chunk than this.
+fn waiting_part(look: Look, chunk: ChunkId) -> u64
+    ensures { result ≡ waiting_size chunk look }
+{
+    if is_other(look, chunk) { look.size } else { 0 }
+}
+
+fn is_other(look: Look, chunk: ChunkId) -> bool
+    ensures { result ≡ waits_beside chunk look }
+{
+    look.is_file && look.is_waiting && look.chunk != chunk
+}
+
+/// How many bytes are of this chunk.
+fn own_part(look: Look, chunk: ChunkId) -> u64
+    ensures { result ≡ own_size chunk look }
+{
+    if look.chunk == chunk { look.size } else { 0 }
+}
+
+/// How many bytes of chunks in files are on their way to the output. Sums stop at their last value.
+fn flying_bytes(table: &Table, output: OutputId) -> u128
+    ensures { result ≡ min (size_of (flying_to output table.now.rows)) (2 ^ 128 - 1) }
+{
+    let mut total: u128 = 0;
+    for index in 0..table.len() {
+        total = total.saturating_add(u128::from(flying_part(look_at(table, index, output))));
+    }
+    total
+}
+
+/// How many bytes of chunks in files wait for the output, without this chunk.
+fn waiting_bytes(table: &Table, output: OutputId, chunk: ChunkId) -> u128
+    ensures { result ≡ min (size_of (others_for output chunk table.now.rows)) (2 ^ 128 - 1) }
+{
+    let mut total: u128 = 0;
+    for index in 0..table.len() {
+        total = total.saturating_add(u128::from(waiting_part(
+            look_at(table, index, output),
+            chunk,
+        )));
+    }
+    total
+}
+
+/// How many bytes a chunk has.
+fn own_bytes(table: &Table, output: OutputId, chunk: ChunkId) -> u128
+    ensures { result ≡ min (size_of (filter (is_row_of chunk) table.now.rows)) (2 ^ 128 - 1) }
+{
+    let mut total: u128 = 0;
+    for index in 0..table.len() {
+        total = total.saturating_add(u128::from(own_part(look_at(table, index, output), chunk)));
+    }
+    total
+}
+
+/// The first chunk in a file that waits for the output, without this chunk.
+fn first_waiting(table: &Table, output: OutputId, chunk: ChunkId) -> Option<ChunkId>
+    ensures { result ≡ first_chunk (others_for output chunk table.now.rows) }
+{
+    for index in 0..table.len() {
+        let row = look_at(table, index, output);
+        if is_other(row, chunk) {
+            return Some(row.chunk);
+        }
+    }
+    None
+}
+
+/// What an output whose storage has a limit, in bytes, gives up next, so that a chunk has room in it. It is asked where
+/// the chunk has closed in a file and waits for this output.
+///
+/// What is on its way to the output stays in any case. Where this and the new chunk are above the limit, the new chunk is
+/// lost alone. Else the chunks that wait are lost, the lowest number first, until the others and the new one have room:
+/// `Lose` names the next one, which the table is to lose before it is asked again.
+pub fn next_loss(table: &Table, output: OutputId, limit: u64, chunk: ChunkId) -> Loss
+    ensures { result ≡ next_of output limit chunk table.now.rows }
+{
+    let limit = u128::from(limit);
+    let fixed = flying_bytes(table, output).saturating_add(own_bytes(table, output, chunk));
+    if fixed > limit {
+        return Loss::NewLoses;
+    }
+    if waiting_bytes(table, output, chunk) <= limit - fixed {
+        return Loss::Fits;
+    }
+    match first_waiting(table, output, chunk) {
+        Some(first) => Loss::Lose(first),
+        None => Loss::Fits,
+    }
+}

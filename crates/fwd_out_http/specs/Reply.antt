@@ -1,0 +1,119 @@
+-- What a server's reply to a request is, as a function of its bytes: the status of its head decides, and its length where
+-- it has none.
+use Rattle.std.specs.Prelude.{ℕ, ◌+◌, Bool, true, false, ◌&&◌, ◌||◌, ◌==◌, nat_eq, nat_lt, nat_le, if◌then◌else◌, List, [], ◌∷◌, length, take, drop, map, fold, codes, Option, Some, None}
+use Rattle.std.specs.List.{list_all, starts_with}
+use Rattle.std.specs.Char.{is_ascii_digit}
+use Rattle.std.specs.Str.Lines.{strip_carriage_return}
+use Rattle.std.specs.Str.Parse.{digits_value}
+use Rattle.fwd_base.specs.Limits.{longest_head}
+use Rattle.fwd_frames.specs.Lines.{ended}
+use Rattle.fwd_flush.specs.declared.judged.Judged.{Judged}
+use Rattle.fwd_flush.specs.declared.judged.Judged.TheVariants.{More, Right, Wrong, Fatal}
+use Rattle.httparse.specs.Grammar.{is_token_byte, is_value_byte}
+
+-- a head has at most so many fields
+abbrev pub most_fields : ℕ
+most_fields = 64
+
+abbrev pub is_between : ℕ → ℕ → ℕ → Bool
+is_between low high n = nat_le low n && nat_le n high
+
+-- a head of this status comes before the one that counts (RFC 9110, section 15.2)
+abbrev pub is_interim : ℕ → Bool
+is_interim status = is_between 100 199 status
+
+-- ---- a line of a head, without its end
+
+abbrev pub is_empty : List ℕ → Bool
+is_empty [] = true
+is_empty (b ∷ line) = false
+
+-- nothing, or a blank and a phrase
+abbrev pub is_reason : List ℕ → Bool
+is_reason [] = true
+is_reason (b ∷ phrase) = b == 32 && list_all is_value_byte phrase
+
+-- the status in what stands behind HTTP/1. in a status line: the minor version, a blank, three digits and a reason
+abbrev pub status_behind : List ℕ → Option ℕ
+status_behind (minor ∷ blank ∷ a ∷ b ∷ c ∷ reason) =
+    let digits = a ∷ b ∷ c ∷ [] in
+    if is_between 48 49 minor && (blank == 32 && (list_all is_ascii_digit digits && is_reason reason))
+    then Some (digits_value 10 digits)
+    else None
+status_behind _ = None
+
+-- the status of a status line; none where a line isn't one
+abbrev pub status_of : List ℕ → Option ℕ
+status_of line = if starts_with nat_eq line (codes "HTTP/1.") then status_behind (drop 7 line) else None
+
+-- whether it is a field line, or the end of one: a name, unless it is named already, then a colon and a value
+abbrev pub is_field_end : Bool → List ℕ → Bool
+is_field_end named [] = false
+is_field_end named (b ∷ line) =
+    if b == 58 then named && list_all is_value_byte line
+    else is_token_byte b && is_field_end true line
+
+abbrev pub is_field : List ℕ → Bool
+is_field line = is_field_end false line
+
+-- ---- the lines of a reply
+
+-- how far the heads of a reply have been read
+pub data Reading : Type 0 where
+  -- a head is to begin
+  Before : Reading
+  -- one of this status has begun, and so many fields of it have come
+  Within : (status fields : ℕ) → Reading
+  -- the one that counts is whole
+  Whole : (status : ℕ) → Reading
+  -- what has come doesn't go on as a head
+  Broken : Reading
+
+abbrev pub begun : Option ℕ → Reading
+begun (Some status) = Within status 0
+begun None = Broken
+
+abbrev pub finished : ℕ → Reading
+finished status = if is_interim status then Before else Whole status
+
+-- behind a further line
+abbrev pub behind : Reading → List ℕ → Reading
+behind Before line = if is_empty line then Before else begun (status_of line)
+behind (Within status fields) line =
+    if is_empty line then finished status
+    else if is_field line && nat_lt fields most_fields then Within status (fields + 1)
+    else Broken
+behind (Whole status) line = Whole status
+behind Broken line = Broken
+
+abbrev pub status_read : Reading → Option ℕ
+status_read Before = None
+status_read (Within status fields) = None
+status_read (Whole status) = Some status
+status_read Broken = None
+
+-- the lines that are whole, each without its end, which is CR LF or LF
+abbrev pub whole_lines : List ℕ → List (List ℕ)
+whole_lines bytes = map strip_carriage_return (ended bytes)
+
+-- the status of the first head in some bytes that isn't interim
+unfoldable pub status_in : List ℕ → Option ℕ
+status_in bytes = status_read (fold behind Before (whole_lines bytes))
+
+-- ---- what a reply is
+
+-- by the status of its head
+abbrev pub by_status : ℕ → Judged
+by_status status =
+    if is_between 200 299 status then Right
+    else if status == 429 || is_between 500 599 status then Wrong
+    else Fatal
+
+-- by the status of its head, if there is one, and by whether no further bytes are looked at
+abbrev pub judged_by : Option ℕ → Bool → Judged
+judged_by (Some status) full = by_status status
+judged_by None true = Wrong
+judged_by None false = More
+
+abbrev pub http_judged : List ℕ → Judged
+http_judged reply = judged_by (status_in (take longest_head reply)) (nat_le longest_head (length reply))

@@ -1,0 +1,4 @@
+pub mod Id
+pub mod Judged
+pub mod Reader
+pub mod Without

@@ -1,0 +1,10 @@
+pub mod Verdicts
+pub mod Seen
+pub mod Members
+pub mod Stops
+pub mod Unpacked
+pub mod Spelled
+pub mod Answering
+pub mod Packed
+pub mod Worked
+pub mod Fitting

@@ -1,0 +1,9 @@
+use Rattle.std.proofs.Common.{◌≡◌, map, drop}
+use Rattle.fwd_value.specs.Val.{vals_of}
+use Rattle.fwd_value.specs.View.{val_of}
+use Rattle.fwd_wire.specs.Message.{events_of}
+use Rattle.fwd_wire.proofs.Unpacked.{behind}
+use Rattle.fwd_wire.proofs.carried.listed.Given as goal
+
+abbrev pub invariant-loop-value : goal.invariant-loop-value
+invariant-loop-value l = behind l.events (events_of (vals_of (map val_of (drop l.value-index l.values)))) ≡ events_of (vals_of (map val_of l.values))

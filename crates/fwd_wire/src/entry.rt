@@ -1,0 +1,136 @@
+//! The event that a value is.
+
+ghost use Rattle.std.specs.Prelude.{◌≡◌};
+ghost use Rattle.fwd_value.specs.Val.{whole, list, val, no_vals, vals_of, entries_of};
+ghost use Rattle.fwd_value.specs.View.{val_of};
+ghost use Rattle.fwd_event.specs.Event.{event_time, time_of, timed, headed, event_of};
+
+use fwd_event::Event;
+use fwd_msgpack::{Below, Pairs, Value, Values};
+use std::alloc::Global;
+
+fn event_time(bytes: &[u8]) -> Option<(u32, u32)>
+    ensures { result ≡ event_time bytes.now }
+{
+    if bytes.len() != 8 {
+        return None;
+    }
+    let (sec, nsec) = bytes.split_at(4);
+    Some((
+        u32::from_be_bytes([sec[0], sec[1], sec[2], sec[3]]),
+        u32::from_be_bytes([nsec[0], nsec[1], nsec[2], nsec[3]]),
+    ))
+}
+
+/// The time that a value says, in seconds and nanoseconds.
+fn time_of(value: &Value) -> Option<(u32, u32)>
+    ensures { result ≡ time_of (val_of value.now) }
+{
+    match value {
+        Value::Uint(n) => {
+            if *n < 4_294_967_296 {
+                Some((*n as u32, 0))
+            } else {
+                None
+            }
+        }
+        Value::Ext(kind, bytes) => {
+            if *kind == 0 {
+                event_time(bytes.as_slice())
+            } else {
+                None
+            }
+        }
+        Value::Neg(n) => no_time(n),
+        _ => None,
+    }
+}
+
+/// No time is below 0.
+#[tactic(auto, using(fwd_event::proofs::Parts::time_below))]
+fn no_time(n: &Below) -> Option<(u32, u32)>
+    ensures { result ≡ time_of (whole n.now) }
+{
+    let _below_zero = n.get();
+    None
+}
+
+/// An event at a moment, where there is one.
+#[tactic(auto, using(fwd_event::proofs::Parts::pairs_back))]
+fn timed(moment: Option<(u32, u32)>, meta: Pairs, body: Pairs) -> Option<Event>
+    ensures { result ≡ timed moment (entries_of meta) (entries_of body) }
+{
+    match moment {
+        Some((sec, nsec)) => Some(Event {
+            sec,
+            nsec,
+            meta,
+            body,
+        }),
+        None => None,
+    }
+}
+
+/// The event of a time, metadata and a body.
+fn stamped(time: Value, meta: Value, body: Pairs) -> Option<Event>
+    ensures { result ≡ headed (list (val (val_of time) (val (val_of meta) no_vals))) (entries_of body) }
+{
+    match meta {
+        Value::Map(meta) => timed(time_of(&time), meta, body),
+        _ => None,
+    }
+}
+
+#[tactic(auto, using(fwd_event::proofs::Parts::no_head))]
+fn stamped_by(mut head: Values, body: Pairs) -> Option<Event>
+    ensures { result ≡ headed (list (vals_of head)) (entries_of body) }
+{
+    if head.len() != 2 {
+        return None;
+    }
+    let meta = head.remove(1);
+    let time = head.remove(0);
+    stamped(time, meta, body)
+}
+
+/// The event of a head and a body.
+fn headed(alloc: Global, head: Value, body: Pairs) -> Option<Event>
+    ensures { result ≡ headed (val_of head) (entries_of body) }
+{
+    match head {
+        Value::List(parts) => stamped_by(parts, body),
+        time => timed(time_of(&time), Pairs::new(alloc), body),
+    }
+}
+
+/// The event of a head and a body that may be one.
+pub fn event_of_two(alloc: Global, head: Value, body: Value) -> Option<Event>
+    ensures { result ≡ event_of (list (val (val_of head) (val (val_of body) no_vals))) }
+{
+    match body {
+        Value::Map(body) => headed(alloc, head, body),
+        _ => None,
+    }
+}
+
+#[tactic(auto, using(fwd_event::proofs::Parts::not_two_parts))]
+fn event_of_list(alloc: Global, mut values: Values) -> Option<Event>
+    ensures { result ≡ event_of (list (vals_of values)) }
+{
+    if values.len() != 2 {
+        return None;
+    }
+    let body = values.remove(1);
+    let head = values.remove(0);
+    event_of_two(alloc, head, body)
+}
+
+/// The event that a value is, in either form.
+pub fn event_of(alloc: Global, value: Value) -> Option<Event>
+    ensures { result ≡ event_of (val_of value) }
+{
+    match value {
+        Value::List(values) => event_of_list(alloc, values),
+        _ => None,
+    }
+}

@@ -1,0 +1,233 @@
+//! The parts of a message: its tag, what it carries and its option.
+
+ghost use Rattle.std.specs.Prelude.{◌≡◌, map, option_map, IfOk};
+ghost use Rattle.fwd_value.specs.Val.{text, list, vals_of};
+ghost use Rattle.fwd_value.specs.View.{val_of};
+ghost use Rattle.fwd_wire.specs.Message.{is_tag, tag_of, option_of, is_plain, option_value, chunk_key, text_word, tagged_by, with_option, with_time, in_mode, parts_of, CarriedSays, PlainSays, PartsSay, MessageSays};
+ghost use Rattle.fwd_wire.specs.Held.{carried_of, option_read, bytes_read, CarriesOnly, Meets};
+ghost use Rattle.fwd_wire.specs.declared.message.Message.TheVariants.{Batch as batch_of};
+ghost use Rattle.fwd_body.specs.Keys.{is_text};
+
+use crate::carried::{listed, single, unpacked};
+use crate::{Message, WireErr};
+use fwd_base::limits::LONGEST_TAG;
+use fwd_base::{Bytes, Memory, is_utf8};
+use fwd_body::{is_text, value_of};
+use fwd_event::Events;
+use fwd_msgpack::{Pairs, Value};
+use std::alloc::Global;
+
+/// A whole value that is no message.
+const NO_MESSAGE: WireErr = WireErr::NotAMessage { at: 0 };
+
+/// What a message carries: the time and the record of one event, events in a list, or the bytes of events.
+#[derive(Clone, Copy)]
+pub enum Carried<'m> {
+    One(&'m Value, &'m Value),
+    Many(&'m [Value]),
+    Packed(&'m [u8]),
+}
+
+/// The events that are carried, if what is carried is events.
+fn events_in(alloc: Global, carried: Carried<'_>) -> Result<Option<Events>, Memory>
+    ensures { IfOk result (λ events. CarriesOnly (carried_of carried.entry) events) }
+{
+    match carried {
+        Carried::One(time, body) => single(alloc, time, body),
+        Carried::Many(values) => listed(alloc, values),
+        Carried::Packed(bytes) => unpacked(alloc, bytes),
+    }
+}
+
+/// Whether bytes may be a tag: a text of 1 to 1,024 bytes.
+fn is_tag(bytes: &[u8]) -> bool
+    ensures { result ≡ is_tag bytes.now }
+{
+    0 < bytes.len() && bytes.len() <= LONGEST_TAG && is_utf8(bytes)
+}
+
+/// The bytes, if they may be a tag.
+fn checked_tag(bytes: &[u8]) -> Option<&[u8]>
+    ensures { bytes_read result ≡ tag_of (text bytes.now) }
+{
+    if is_tag(bytes) { Some(bytes) } else { None }
+}
+
+/// The tag that a value is.
+fn tag_of(value: &Value) -> Option<&[u8]>
+    ensures { bytes_read result ≡ tag_of (val_of value.now) }
+{
+    match value {
+        Value::Text(bytes) => checked_tag(bytes.as_slice()),
+        Value::Bin(bytes) => checked_tag(bytes.as_slice()),
+        _ => None,
+    }
+}
+
+/// Whether the option says that the entries aren't compressed.
+fn is_plain(alloc: Global, option: &Pairs) -> Result<bool, Memory>
+    ensures { IfOk result (λ plain. plain ≡ is_plain option.now) }
+{
+    let key = Bytes::from_slice(alloc, b"compressed")?;
+    match value_of(option, &key) {
+        Some(value) => is_word(alloc, value),
+        None => Ok(true),
+    }
+}
+
+/// Whether a value is the text `text`.
+fn is_word(alloc: Global, value: &Value) -> Result<bool, Memory>
+    ensures { IfOk result (λ is. is ≡ is_text text_word (val_of value.now)) }
+{
+    let word = Bytes::from_slice(alloc, b"text")?;
+    Ok(is_text(value, &word))
+}
+
+/// The chunk that the option wants acknowledged.
+fn chunk_of(alloc: Global, option: &Pairs) -> Result<Option<Value>, Memory>
+    ensures { IfOk result (λ chunk. option_map val_of chunk ≡ option_value option.now chunk_key) }
+{
+    let key = Bytes::from_slice(alloc, b"chunk")?;
+    match value_of(option, &key) {
+        Some(value) => Ok(Some(value.try_clone(alloc)?)),
+        None => Ok(None),
+    }
+}
+
+/// The batch of these events.
+fn batch(alloc: Global, tag: &[u8], events: Events, chunk: Option<Value>) -> Result<Message, Memory>
+    ensures { IfOk result (λ message. message ≡ batch_of tag.now events chunk) }
+{
+    Ok(Message::Batch {
+        tag: Bytes::from_slice(alloc, tag)?,
+        events,
+        chunk,
+    })
+}
+
+/// The batch of what is carried.
+fn carried_batch(
+    alloc: Global,
+    tag: &[u8],
+    carried: Carried<'_>,
+    chunk: Option<Value>,
+) -> Result<Message, WireErr>
+    ensures { Meets (CarriedSays tag.now (option_map val_of chunk) (carried_of carried.entry)) result }
+{
+    match events_in(alloc, carried)? {
+        Some(events) => Ok(batch(alloc, tag, events, chunk)?),
+        None => Err(NO_MESSAGE),
+    }
+}
+
+/// The batch of what is carried, if it isn't compressed.
+fn plain_batch(
+    alloc: Global,
+    tag: &[u8],
+    carried: Carried<'_>,
+    option: &Pairs,
+) -> Result<Message, WireErr>
+    ensures { Meets (PlainSays (is_plain option.now) tag.now (option_value option.now chunk_key) (carried_of carried.entry)) result }
+{
+    if !is_plain(alloc, option)? {
+        return Err(WireErr::Compressed);
+    }
+    let chunk = chunk_of(alloc, option)?;
+    carried_batch(alloc, tag, carried, chunk)
+}
+
+/// What a tag, something carried and an option say.
+fn tagged(
+    alloc: Global,
+    tag: &Value,
+    carried: Carried<'_>,
+    option: Option<&Pairs>,
+) -> Result<Message, WireErr>
+    ensures { Meets (PartsSay (tagged_by (tag_of (val_of tag.now)) (option_read option.entry) (carried_of carried.entry))) result }
+{
+    let Some(tag) = tag_of(tag) else {
+        return Err(NO_MESSAGE);
+    };
+    match option {
+        Some(option) => plain_batch(alloc, tag, carried, option),
+        None => carried_batch(alloc, tag, carried, None),
+    }
+}
+
+/// What a tag, something carried and a value as their option say.
+#[tactic(auto, using(fwd_event::proofs::Parts::pairs_back))]
+fn optioned(
+    alloc: Global,
+    tag: &Value,
+    carried: Carried<'_>,
+    option: &Value,
+) -> Result<Message, WireErr>
+    ensures { Meets (PartsSay (tagged_by (tag_of (val_of tag.now)) (option_of (val_of option.now)) (carried_of carried.entry))) result }
+{
+    match option {
+        Value::Nil => tagged(alloc, tag, carried, None),
+        Value::Map(pairs) => tagged(alloc, tag, carried, Some(pairs)),
+        _ => Err(NO_MESSAGE),
+    }
+}
+
+/// What a tag, something carried and at most one option behind it say.
+fn with_option(
+    alloc: Global,
+    tag: &Value,
+    carried: Carried<'_>,
+    behind: &[Value],
+) -> Result<Message, WireErr>
+    ensures { Meets (PartsSay (with_option (val_of tag.now) (carried_of carried.entry) (vals_of (map val_of behind.now)))) result }
+{
+    match behind {
+        [] => tagged(alloc, tag, carried, None),
+        [option] => optioned(alloc, tag, carried, option),
+        [_, _, ..] => Err(NO_MESSAGE),
+    }
+}
+
+/// What a tag and a time say, with a record and at most one option behind them.
+fn with_time(alloc: Global, tag: &Value, time: &Value, behind: &[Value]) -> Result<Message, WireErr>
+    ensures { Meets (PartsSay (with_time (val_of tag.now) (val_of time.now) (vals_of (map val_of behind.now)))) result }
+{
+    match behind {
+        [] => Err(NO_MESSAGE),
+        [body, behind @ ..] => with_option(alloc, tag, Carried::One(time, body), behind),
+    }
+}
+
+/// What a tag, a second member, which tells the mode, and what stands behind them say.
+fn in_mode(alloc: Global, tag: &Value, second: &Value, behind: &[Value]) -> Result<Message, WireErr>
+    ensures { Meets (PartsSay (in_mode (val_of tag.now) (val_of second.now) (vals_of (map val_of behind.now)))) result }
+{
+    match second {
+        Value::List(entries) => {
+            with_option(alloc, tag, Carried::Many(entries.as_slice()), behind)
+        }
+        Value::Text(bytes) => with_option(alloc, tag, Carried::Packed(bytes.as_slice()), behind),
+        Value::Bin(bytes) => with_option(alloc, tag, Carried::Packed(bytes.as_slice()), behind),
+        time => with_time(alloc, tag, time, behind),
+    }
+}
+
+/// What the values of a list say.
+fn members(alloc: Global, values: &[Value]) -> Result<Message, WireErr>
+    ensures { Meets (PartsSay (parts_of (list (vals_of (map val_of values.now))))) result }
+{
+    match values {
+        [tag, second, behind @ ..] => in_mode(alloc, tag, second, behind),
+        _ => Err(NO_MESSAGE),
+    }
+}
+
+/// What a value says as a message.
+pub fn message_of(alloc: Global, value: &Value) -> Result<Message, WireErr>
+    ensures { Meets (MessageSays (val_of value.now)) result }
+{
+    match value {
+        Value::Nil => Ok(Message::Nothing),
+        Value::List(values) => members(alloc, values.as_slice()),
+        _ => Err(NO_MESSAGE),
+    }
+}
