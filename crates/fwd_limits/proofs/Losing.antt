@@ -30,9 +30,12 @@ shortest room (row ∷ rows) = by (shortest room rows) (nat_le (size_of (row ∷
         more again test zero less = let over : room < size_of (row ∷ rows) = grind (arith, nat_tests) in over
         more again test (suc n) less = again.shortest n (omega (arith, less))
 
-among_fits : (room : ℕ) (rows : List Row) → size_of rows ≤ room → lost_among room rows ≡ []
+pub among_fits : (room : ℕ) (rows : List Row) → size_of rows ≤ room → lost_among room rows ≡ []
 among_fits room [] fits = refl
 among_fits room (row ∷ rows) fits = let test : nat_le (size_of (row ∷ rows)) room ≡ true = grind (arith, nat_tests) in rw test refl
+
+pub among_over : (room : ℕ) (row : Row) (rows : List Row) → room < size_of (row ∷ rows) → lost_among room (row ∷ rows) ≡ row ∷ lost_among room rows
+among_over room row rows over = let test : nat_le (size_of (row ∷ rows)) room ≡ false = grind (arith, nat_tests) in rw test refl
 
 among_first : (room : ℕ) (rows : List Row) → room < size_of rows → first_chunk (lost_among room rows) ≡ first_chunk rows
 among_first room [] over = refl

@@ -46,6 +46,17 @@ next_of output limit chunk rows =
     if nat_lt limit (fixed output chunk rows) then NewLoses
     else loss_of (first_chunk (lost_among (limit - fixed output chunk rows) (others_for output chunk rows)))
 
+-- what is lost behind an answer: nothing, the chunk that has closed, or another one and what is answered then
+abbrev pub goes_on : (List Row → List ChunkId) → OutputId → ChunkId → List Row → Loss → List ChunkId
+goes_on again output chunk rows Fits = []
+goes_on again output chunk rows (Lose first) = first ∷ again (on_chunk first (resolved_to output) rows)
+goes_on again output chunk rows NewLoses = chunk ∷ []
+
+-- what is lost where it is asked again and again, at most so many times, and each chunk that is lost goes from the table
+abbrev pub asked : ℕ → OutputId → ℕ → ChunkId → List Row → List ChunkId
+asked zero output limit chunk rows = []
+asked (suc turns) output limit chunk rows = goes_on (asked turns output limit chunk) output chunk rows (next_of output limit chunk rows)
+
 -- these are the first of some chunks, what is left has room, and no fewer would do
 pub record IsShortest (room : ℕ) (rows lost : List Row) : Type 0 where
   pub left : List Row
