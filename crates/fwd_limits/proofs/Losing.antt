@@ -1,14 +1,11 @@
 -- The first chunks, as few as leave room.
-use Prim.Native.Nat.{◌^◌}
-use Rattle.std.proofs.Common.{◌≡◌, ◌⊎◌, inl, inr, ℕ, zero, suc, ◌+◌, ◌-◌, ◌<◌, ◌≤◌, Bool, true, false, cond, leb, ltb, List, [], ◌∷◌, ◌++◌, length, take, drop, get_or, min, refl, sym, ap, ◌∙◌, arith, append_assoc, Option, Some, None}
-use Rattle.std.specs.Prelude.{filter, nat_le, nat_lt, slice_get, option_map}
+use Rattle.std.proofs.Common.{◌≡◌, ℕ, zero, suc, ◌+◌, ◌-◌, ◌<◌, ◌≤◌, Bool, true, false, cond, List, [], ◌∷◌, length, drop, min, refl, sym, ap, ◌∙◌, arith, Option}
+use Rattle.std.specs.Prelude.{filter, nat_le, nat_lt}
 use Rattle.std.proofs.lemmas.Bool.Decides.{nat_tests}
-use Rattle.std.proofs.lemmas.Bool.{le-leb, lt-ltb}
 use Rattle.fwd_base.specs.declared.ids.ChunkId.{ChunkId}
 use Rattle.fwd_base.specs.declared.ids.OutputId.{OutputId}
 use Rattle.fwd_table.specs.declared.row.Row.{Row}
-use Rattle.fwd_limits.specs.declared.loss.Loss.{Loss}
-use Rattle.fwd_limits.specs.declared.loss.Loss.TheVariants.{Fits, Lose, NewLoses}
+use Rattle.fwd_limits.specs.declared.loss.Loss.TheVariants.{Fits, NewLoses}
 use Rattle.fwd_limits.specs.Kept.{size_of}
 use Rattle.fwd_table.specs.Rows.{is_row_of}
 use Rattle.fwd_limits.specs.Losses.{flying_to, lost_among, first_chunk, loss_of, fixed, others_for, next_of, IsShortest}
