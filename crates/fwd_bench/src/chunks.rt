@@ -3,7 +3,7 @@
 use fwd_chunk::{ChunkHead, commit, create, stage};
 use fwd_disk_mem::MemDisk;
 use fwd_found::read_chunk;
-use fwd_outside::{Bytes, DiskErr, Memory};
+use fwd_outside::{Bytes, DiskErr, Memory, Names};
 use std::alloc::Global;
 use std::io;
 use std::time::Instant;
@@ -23,11 +23,18 @@ const PLAIN_HEADER: &[u8] = b"\xc1\0\0\0\0\0\0\0\0\0\0\0\0\0\0\0\0\0\0\0\0\0\0\x
 
 fn new_chunk(alloc: Global, disk: &mut MemDisk, number: u32) -> Result<ChunkHead, DiskErr> {
     let name = format!(in alloc; "S/bench.0/{number:020}.flb")?;
-    create(alloc, disk, name.as_bytes(), b"bench", EVENT)
+    create(
+        alloc,
+        disk,
+        name.as_bytes(),
+        b"bench",
+        EVENT,
+        &Names::new(alloc),
+    )
 }
 
 fn append(disk: &mut MemDisk, head: &mut ChunkHead, full: bool) -> Result<(), DiskErr> {
-    if head.meta > 1028 || head.size > FULL_CHUNK {
+    if head.meta > 17_479 || head.size > FULL_CHUNK {
         return Ok(());
     }
     let size = head.size + EVENT.len() as u64;
