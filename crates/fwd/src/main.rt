@@ -24,8 +24,7 @@ fn status_without_loop(error: &io::Error) -> Status {
 
 /// Who calls this picks the files that stand there, and what the loop is to bring.
 fn run(rt: &HostRuntime, threads: &(impl Threads + Sync)) -> Status
-    ghost given: { FilesGiven }
-    ghost brought: { LoopGiven }
+    ghost given: { FilesGiven × LoopGiven }
 {
     let words = match words(rt) {
         Ok(words) => words,

@@ -1,6 +1,6 @@
 -- How a row that is seen stands to an output.
-use Rattle.std.proofs.Common.{◌≡◌, ◌↔◌, ℕ, ◌<◌, ◌≤◌, Bool, true, false, ◌&&◌, not, eqb, List, [], ◌∷◌, refl, sym, ap, ◌∙◌, subst, arith, Option, Some, None}
-use Rattle.std.specs.Prelude.{Any, IsBitSet, IfSome, option_map}
+use Rattle.std.proofs.Common.{◌≡◌, ℕ, ◌<◌, ◌≤◌, Bool, true, false, ◌&&◌, not, eqb, List, refl, sym, ap, ◌∙◌, arith, Option, Some, None}
+use Rattle.std.specs.Prelude.{IsBitSet, IfSome, option_map}
 use Rattle.std.specs.List.{list_any}
 use Rattle.std.specs.Int.{bit_at}
 use Prim.Native.Nat.{◌^◌}
@@ -14,7 +14,6 @@ use Rattle.fwd_table.specs.declared.row.Row.{Row}
 use Rattle.fwd_table.specs.declared.row.RowSeen.{RowSeen}
 use Rattle.fwd_table.specs.Routes.{flying_of, is_to, IsMaskOf}
 use Rattle.fwd_table.specs.Rows.{seen_of}
-use Rattle.fwd_limits.specs.declared.rows.Look.{Look}
 use Rattle.fwd_limits.specs.Kept.{is_file, look_of}
 
 -- no bit is set past those of a word

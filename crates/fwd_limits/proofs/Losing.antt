@@ -1,14 +1,11 @@
 -- The first chunks, as few as leave room.
-use Prim.Native.Nat.{◌^◌}
-use Rattle.std.proofs.Common.{◌≡◌, ◌⊎◌, inl, inr, ℕ, zero, suc, ◌+◌, ◌-◌, ◌<◌, ◌≤◌, Bool, true, false, cond, leb, ltb, List, [], ◌∷◌, ◌++◌, length, take, drop, get_or, min, refl, sym, ap, ◌∙◌, arith, append_assoc, Option, Some, None}
-use Rattle.std.specs.Prelude.{filter, nat_le, nat_lt, slice_get, option_map}
+use Rattle.std.proofs.Common.{◌≡◌, ℕ, zero, suc, ◌+◌, ◌-◌, ◌<◌, ◌≤◌, Bool, true, false, cond, List, [], ◌∷◌, length, drop, min, refl, sym, ap, ◌∙◌, arith, Option}
+use Rattle.std.specs.Prelude.{filter, nat_le, nat_lt}
 use Rattle.std.proofs.lemmas.Bool.Decides.{nat_tests}
-use Rattle.std.proofs.lemmas.Bool.{le-leb, lt-ltb}
 use Rattle.fwd_base.specs.declared.ids.ChunkId.{ChunkId}
 use Rattle.fwd_base.specs.declared.ids.OutputId.{OutputId}
 use Rattle.fwd_table.specs.declared.row.Row.{Row}
-use Rattle.fwd_limits.specs.declared.loss.Loss.{Loss}
-use Rattle.fwd_limits.specs.declared.loss.Loss.TheVariants.{Fits, Lose, NewLoses}
+use Rattle.fwd_limits.specs.declared.loss.Loss.TheVariants.{Fits, NewLoses}
 use Rattle.fwd_limits.specs.Kept.{size_of}
 use Rattle.fwd_table.specs.Rows.{is_row_of}
 use Rattle.fwd_limits.specs.Losses.{flying_to, lost_among, first_chunk, loss_of, fixed, others_for, next_of, IsShortest}
@@ -30,9 +27,12 @@ shortest room (row ∷ rows) = by (shortest room rows) (nat_le (size_of (row ∷
         more again test zero less = let over : room < size_of (row ∷ rows) = grind (arith, nat_tests) in over
         more again test (suc n) less = again.shortest n (omega (arith, less))
 
-among_fits : (room : ℕ) (rows : List Row) → size_of rows ≤ room → lost_among room rows ≡ []
+pub among_fits : (room : ℕ) (rows : List Row) → size_of rows ≤ room → lost_among room rows ≡ []
 among_fits room [] fits = refl
 among_fits room (row ∷ rows) fits = let test : nat_le (size_of (row ∷ rows)) room ≡ true = grind (arith, nat_tests) in rw test refl
+
+pub among_over : (room : ℕ) (row : Row) (rows : List Row) → room < size_of (row ∷ rows) → lost_among room (row ∷ rows) ≡ row ∷ lost_among room rows
+among_over room row rows over = let test : nat_le (size_of (row ∷ rows)) room ≡ false = grind (arith, nat_tests) in rw test refl
 
 among_first : (room : ℕ) (rows : List Row) → room < size_of rows → first_chunk (lost_among room rows) ≡ first_chunk rows
 among_first room [] over = refl

@@ -1,5 +1,5 @@
 -- What is given up of the chunks in files that an output is owed, so that a chunk that has closed has room.
-use Rattle.std.specs.Prelude.{◌≡◌, ℕ, zero, suc, ◌+◌, ◌-◌, ◌<◌, ◌≤◌, Bool, true, false, ◌&&◌, not, nat_lt, nat_le, if◌then◌else◌, List, [], ◌∷◌, ◌++◌, length, drop, map, filter, Option, Some, None}
+use Rattle.std.specs.Prelude.{◌≡◌, ℕ, zero, suc, ◌+◌, ◌-◌, ◌<◌, ◌≤◌, ◌&&◌, not, nat_lt, nat_le, if◌then◌else◌, List, [], ◌∷◌, ◌++◌, length, drop, map, filter, Option, Some, None}
 use Rattle.fwd_base.specs.declared.ids.ChunkId.{ChunkId}
 use Rattle.fwd_base.specs.declared.ids.OutputId.{OutputId}
 use Rattle.fwd_table.specs.declared.row.Row.{Row}
@@ -45,6 +45,17 @@ abbrev pub next_of : OutputId → ℕ → ChunkId → List Row → Loss
 next_of output limit chunk rows =
     if nat_lt limit (fixed output chunk rows) then NewLoses
     else loss_of (first_chunk (lost_among (limit - fixed output chunk rows) (others_for output chunk rows)))
+
+-- what is lost behind an answer: nothing, the chunk that has closed, or another one and what is answered then
+abbrev pub goes_on : (List Row → List ChunkId) → OutputId → ChunkId → List Row → Loss → List ChunkId
+goes_on again output chunk rows Fits = []
+goes_on again output chunk rows (Lose first) = first ∷ again (on_chunk first (resolved_to output) rows)
+goes_on again output chunk rows NewLoses = chunk ∷ []
+
+-- what is lost where it is asked again and again, at most so many times, and each chunk that is lost goes from the table
+abbrev pub asked : ℕ → OutputId → ℕ → ChunkId → List Row → List ChunkId
+asked zero output limit chunk rows = []
+asked (suc turns) output limit chunk rows = goes_on (asked turns output limit chunk) output chunk rows (next_of output limit chunk rows)
 
 -- these are the first of some chunks, what is left has room, and no fewer would do
 pub record IsShortest (room : ℕ) (rows lost : List Row) : Type 0 where

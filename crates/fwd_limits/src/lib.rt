@@ -11,6 +11,6 @@ mod pausing;
 mod rows;
 
 pub use flights::{files_up, found_up};
-pub use laws::losses_are_the_lowest;
+pub use laws::{losses_are_the_lowest, one_after_another};
 pub use loss::{Loss, next_loss};
 pub use pausing::{MemLimits, paused};

@@ -10,5 +10,5 @@ mod reader;
 pub use fwd_base::{Bytes, ChunkId, Memory, OutputId};
 pub use fwd_flush::{Judged, ReplyReader};
 pub use id::chunk_id;
-pub use laws::{more_is_a_beginning, none_is_fatal, right_is_the_ack};
+pub use laws::{entries_are_short, more_is_a_beginning, none_is_fatal, right_is_the_ack};
 pub use reader::EndReader;

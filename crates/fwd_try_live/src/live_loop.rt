@@ -91,17 +91,12 @@ fn is_read(live: &mut LiveLoop, alloc: Global, first: u64) -> Result<bool, Memor
     }
 }
 
-fn joins_now(live: &mut LiveLoop, alloc: Global) -> Result<bool, Memory> {
-    let happening = live.wait(alloc, u64::MAX, 0)?;
-    Ok(happening == JOINED)
-}
-
 /// What has come meanwhile is told behind the clock.
 fn is_stamped(live: &mut LiveLoop, rt: HostRuntime) -> Result<bool, Fail> {
     let _peer = connect(&rt, live)?;
     let first = clock(live, rt.alloc())?;
     busy(&rt, 20)?;
-    Ok(is_read(live, rt.alloc(), first)? && joins_now(live, rt.alloc())?)
+    Ok(is_read(live, rt.alloc(), first)? && brings(live, rt.alloc(), &JOINED)?)
 }
 
 #[test]

@@ -1,5 +1,4 @@
-use Rattle.std.proofs.Common.{◌≡◌, ℕ, ◌-◌, ◌≤◌, length, take, min}
-use Prim.Native.Nat.{◌^◌}
+use Rattle.std.proofs.Common.{◌≡◌, ◌≤◌, take}
 use Rattle.fwd_limits.specs.Kept.{files_up}
 use Rattle.fwd_limits.proofs.flights.files_up.Given as goal
 

@@ -1,9 +1,9 @@
-use Rattle.std.proofs.Common.{ℕ, ◌-◌, refl, sym, ap, ◌∙◌, ◌&&◌, ◌||◌, not, eqb, cond, length, List}
+use Rattle.std.proofs.Common.{◌-◌, sym, ap, ◌&&◌, not, cond}
 use Prim.Native.Nat.{◌^◌}
 use Rattle.std.proofs.Common.{Bool}
 use Rattle.fwd_table.specs.Rows.{seen_of}
 use Rattle.fwd_table.specs.Routes.{flying_of}
-use Rattle.fwd_limits.specs.Kept.{in_file, was_found, flies}
+use Rattle.fwd_limits.specs.Kept.{was_found, flies}
 use Rattle.fwd_limits.proofs.Sums.{mask_none}
 use Rattle.fwd_limits.specs.Looks.{found_size}
 use Rattle.fwd_table.specs.declared.row.Row.{Row}

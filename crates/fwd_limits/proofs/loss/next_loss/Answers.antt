@@ -1,4 +1,4 @@
-use Rattle.std.proofs.Common.{◌≡◌, ◌-◌, ◌<◌, ◌≤◌, sym, arith}
+use Rattle.std.proofs.Common.{◌≡◌, ◌-◌, sym, arith}
 use Prim.Native.Nat.{◌^◌}
 use Rattle.fwd_limits.proofs.Losing.{fits_by}
 use Rattle.fwd_limits.proofs.loss.next_loss.Goals as goal

@@ -1,6 +1,6 @@
-use Rattle.std.proofs.Common.{ℕ, ◌-◌, refl, sym, ap, ◌∙◌, ◌&&◌, ◌||◌, not, eqb, cond, length, List}
+use Rattle.std.proofs.Common.{◌-◌, refl, ◌∙◌}
 use Prim.Native.Nat.{◌^◌}
-use Rattle.fwd_limits.specs.Kept.{look_of, in_file, is_flying, is_waiting}
+use Rattle.fwd_limits.specs.Kept.{look_of}
 use Rattle.fwd_table.specs.Rows.{is_row_of}
 use Rattle.fwd_limits.specs.Looks.{own_size}
 use Rattle.fwd_table.specs.declared.row.Row.{Row}

@@ -1,4 +1,4 @@
-use Rattle.std.proofs.Common.{◌≡◌, ℕ, ◌-◌, ◌≤◌, length, take, min}
+use Rattle.std.proofs.Common.{◌≡◌, ◌-◌, take, min}
 use Prim.Native.Nat.{◌^◌}
 use Rattle.std.specs.Prelude.{filter}
 use Rattle.fwd_table.specs.Rows.{is_row_of}

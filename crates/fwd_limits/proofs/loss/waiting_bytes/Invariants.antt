@@ -1,4 +1,4 @@
-use Rattle.std.proofs.Common.{◌≡◌, ℕ, ◌-◌, ◌≤◌, length, take, min}
+use Rattle.std.proofs.Common.{◌≡◌, ◌-◌, take, min}
 use Prim.Native.Nat.{◌^◌}
 use Rattle.fwd_limits.specs.Kept.{size_of}
 use Rattle.fwd_limits.specs.Losses.{others_for}

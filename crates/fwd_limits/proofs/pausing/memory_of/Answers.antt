@@ -1,9 +1,8 @@
-use Rattle.std.proofs.Common.{ℕ, ◌-◌, refl, sym, ap, ◌∙◌, ◌&&◌, ◌||◌, not, eqb, cond, length, List}
+use Rattle.std.proofs.Common.{◌-◌, sym, ap, ◌&&◌, ◌||◌, not, eqb, cond, length}
 use Prim.Native.Nat.{◌^◌}
 use Rattle.std.proofs.Common.{Bool}
 use Rattle.fwd_table.specs.Rows.{seen_of}
-use Rattle.fwd_table.specs.Routes.{flying_of}
-use Rattle.fwd_limits.specs.Kept.{in_file, was_found, flies}
+use Rattle.fwd_limits.specs.Kept.{in_file}
 use Rattle.fwd_limits.proofs.Sums.{mask_none}
 use Rattle.fwd_limits.specs.Looks.{memory_size}
 use Rattle.fwd_limits.specs.Pausing.{is_from}

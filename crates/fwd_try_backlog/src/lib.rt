@@ -1,0 +1,12 @@
+//! Tests of files that are found: those that name outputs, and many files that several threads check.
+//!
+//! What a clause says is proved where it stands. What is run here is what no clause can say: that the calls come to an end
+//! with a value where there is memory, that bytes are those of the formats, and that two threads do work.
+#![tactic(auto)]
+
+#[cfg(test)]
+mod groups;
+#[cfg(test)]
+mod meeting;
+#[cfg(test)]
+mod named;

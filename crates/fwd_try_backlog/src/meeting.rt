@@ -1,0 +1,70 @@
+//! The gate at which two threads meet.
+
+use fwd_outside::Gate;
+use std::sync::atomic::{AtomicBool, Ordering};
+
+/// How often a side looks for the other.
+const TURNS: u64 = 100_000_000;
+
+/// Whether a side came, and whether it saw the other.
+#[derive(Drop)]
+struct Side {
+    came: AtomicBool,
+    saw: AtomicBool,
+}
+
+impl Side {
+    fn new() -> Self {
+        Side {
+            came: AtomicBool::new(false),
+            saw: AtomicBool::new(false),
+        }
+    }
+
+    fn meet(&self, other: &Side) {
+        self.came.store(true, Ordering::SeqCst);
+        for _ in 0..TURNS {
+            if other.came.load(Ordering::SeqCst) {
+                self.saw.store(true, Ordering::SeqCst);
+                return;
+            }
+        }
+    }
+}
+
+/// A gate made for two places. One thread alone never meets at it.
+#[derive(Drop)]
+pub struct Meeting {
+    first: u64,
+    second: u64,
+    one: Side,
+    other: Side,
+}
+
+impl Meeting {
+    pub fn new(first: u64, second: u64) -> Self {
+        Meeting {
+            first,
+            second,
+            one: Side::new(),
+            other: Side::new(),
+        }
+    }
+
+    /// Both sides saw the other.
+    pub fn has_met(&self) -> bool {
+        let one = self.one.saw.load(Ordering::SeqCst);
+        let other = self.other.saw.load(Ordering::SeqCst);
+        one && other
+    }
+}
+
+impl Gate for Meeting {
+    fn pass(&self, item: u64) {
+        if item == self.first {
+            self.one.meet(&self.other);
+        } else if item == self.second {
+            self.other.meet(&self.one);
+        }
+    }
+}
