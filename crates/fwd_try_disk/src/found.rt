@@ -87,7 +87,7 @@ fn the_selector_chooses_the_committed_length(rt: HostRuntime) -> Result<(), Fail
 /// Files that are refused: the mark, the last byte of the first slot, what stands behind the padding, and why.
 const REFUSED: &[(u8, u8, &[u8], &str)] = &[
     (2, 9, b"\0", "TooShort"),
-    (2, 9, b"\0\x01", "BadId"),
+    (3, 9, b"\0\x01", "BadId"),
     (1, 9, b"\0\x04\xf1\x77\x01", "TooShort"),
     (1, 9, b"\x01\x00", "TooShort"),
     (1, 9, b"\0\x04\xf1\x77\x01\xff", "NotLogs"),
