@@ -1,10 +1,12 @@
 //! The file of a chunk on a disk in memory: its bytes, and what a crash leaves of an append.
 
-use crate::samples::{FILE, ONE, TWO, empties};
+ghost use Rattle.fwd_chunk.specs.Layout.{AreOutputs};
+
+use crate::samples::{FILE, NEW_FILE, ONE, TWO, empties, outputs};
 use fwd_chunk::{ChunkHead, commit, create, stage};
 use fwd_disk_mem::MemDisk;
 use fwd_found::read_chunk;
-use fwd_outside::{Disk, DiskErr};
+use fwd_outside::{Bytes, Disk, DiskErr, Memory, Names};
 use std::alloc::Global;
 use std::test::Fail;
 
@@ -17,7 +19,7 @@ fn append(
     batch: &[u8],
     full: bool,
 ) -> Result<(), DiskErr> {
-    if head.meta > 1_028 || head.size > 2_048_000 || batch.len() > 2_048_000 {
+    if head.meta > 17_479 || head.size > 2_048_000 || batch.len() > 2_048_000 {
         return Ok(());
     }
     let size = head.size + batch.len() as u64;
@@ -30,14 +32,42 @@ fn push_head(alloc: Global, head: &ChunkHead, text: &mut String) -> Result<(), F
     Ok(text.push_str(line.as_str())?)
 }
 
-/// A file with the line `one`, and then `two` appended; the calls of the append count from the mark.
+/// The head of the file of mark 1.
+fn head_of(alloc: Global) -> Result<ChunkHead, Memory> {
+    Ok(ChunkHead {
+        name: Bytes::from_slice(alloc, NAME)?,
+        meta: 7,
+        size: 22,
+        selector: 0,
+        mark: 1,
+        outputs: Names::new(alloc),
+    })
+}
+
+/// A file with the tag `app` and a batch.
+fn created(
+    alloc: Global,
+    disk: &mut MemDisk,
+    batch: &[u8],
+    names: &Names,
+) -> Result<ChunkHead, DiskErr>
+    requires { AreOutputs names.now }
+{
+    if batch.len() > 2_048_000 {
+        return Err(DiskErr::Memory);
+    }
+    create(alloc, disk, NAME, b"app", batch, names)
+}
+
+/// A file of mark 1 with the line `one`, and then `two` appended; the calls of the append count from the mark.
 fn push_appended(
     alloc: Global,
     disk: &mut MemDisk,
     full: bool,
     text: &mut String,
 ) -> Result<(), Fail> {
-    let mut head = create(alloc, disk, NAME, b"app", ONE)?;
+    disk.preset(NAME, FILE)?;
+    let mut head = head_of(alloc)?;
     push_two(alloc, disk, &mut head, full, text)
 }
 
@@ -176,7 +206,7 @@ fn an_append_without_sync_is_in_doubt(rt: HostRuntime) -> Result<(), Fail> {
 fn push_whole(alloc: Global, disk: &mut MemDisk, text: &mut String) -> Result<(), Fail> {
     let read = disk.read(alloc, NAME, 0, 100);
     let word = match &read {
-        Ok(bytes) if bytes.as_slice() == FILE => "whole ",
+        Ok(bytes) if bytes.as_slice() == NEW_FILE => "whole ",
         Ok(_) => "other ",
         Err(_) => "none ",
     };
@@ -193,11 +223,16 @@ fn push_whole_image(
     push_whole(alloc, &mut image, text)
 }
 
+fn is_created(alloc: Global, disk: &mut MemDisk) -> Result<bool, Fail> {
+    let names = outputs(alloc)?;
+    Ok(created(alloc, disk, ONE, &names).is_ok())
+}
+
 /// A file is created where the call of that number fails; whether it was, and then the four picks.
 fn push_created(alloc: Global, fails: u64, text: &mut String) -> Result<(), Fail> {
     let mut disk = MemDisk::new(alloc);
     disk.fail_at(fails)?;
-    let created = create(alloc, &mut disk, NAME, b"app", ONE).is_ok();
+    let created = is_created(alloc, &mut disk)?;
     text.push_str(if created { "created: " } else { "failed: " })?;
     for pick in 0..4 {
         push_whole_image(alloc, &disk, pick, text)?;
@@ -217,10 +252,8 @@ fn a_file_comes_whole_or_not_at_all(rt: HostRuntime) -> Result<(), Fail> {
 }
 
 fn append_large(alloc: Global, disk: &mut MemDisk, batch: &[u8]) -> Result<(), DiskErr> {
-    if batch.len() > 2_048_000 {
-        return Ok(());
-    }
-    let mut head = create(alloc, disk, NAME, b"app", batch)?;
+    let names = outputs(alloc)?;
+    let mut head = created(alloc, disk, batch, &names)?;
     append(disk, &mut head, batch, true)
 }
 
