@@ -428,7 +428,7 @@ def folder_without_rights(room):
         room.give(folder)
         os.chmod(folder, 0o500)
         program.send(port, b'{"a":1}\n')
-        time.sleep(1.5)
+        time.sleep(2)
         holds(not os.path.exists(folder + "/out"), "a file was made in a folder without rights")
         os.chmod(folder, 0o700)
         until(lambda: len(program.lines("shut/out")) == 1, "the line comes once there are rights", 20)
@@ -445,8 +445,7 @@ def no_descriptor_left(room):
         peers = [program.connect(port) for _ in range(30)]
         for number, peer in enumerate(peers):
             peer.sendall(b'{"n":%d}\n' % number)
-        time.sleep(1.5)
-        holds(program.lines("out") == [], "there were descriptors for all")
+        until(lambda: len(os.listdir(f"/proc/{program.process.pid}/fd")) == 24, "no descriptor is left", 10)
         for peer in peers[:20]:
             peer.close()
         until(lambda: len(program.lines("out")) == 30, "all peers are heard", 30)

@@ -1,8 +1,9 @@
-//! How fast events are written and read back, lines become events, and files of chunks are appended to and read.
-//! `bench/values`, `bench/lines` and `bench/chunks` run it; without words it says what it takes.
+//! How fast events are written and read back, lines become events, forward messages are read, and files of chunks are
+//! appended to and read. `bench/values`, `bench/lines`, `bench/forward` and `bench/chunks` run it; without words it says what it takes.
 #![tactic(auto)]
 
 mod chunks;
+mod forward;
 mod lines;
 mod values;
 
@@ -13,6 +14,7 @@ use std::{env, io};
 enum Measured {
     Values,
     Lines,
+    Forward,
     Chunks,
     Reading,
 }
@@ -29,6 +31,7 @@ fn measured_of(word: &str) -> Option<Measured> {
     match word {
         "values" => Some(Measured::Values),
         "lines" => Some(Measured::Lines),
+        "forward" => Some(Measured::Forward),
         "chunks" => Some(Measured::Chunks),
         "reading" => Some(Measured::Reading),
         _ => None,
@@ -52,11 +55,12 @@ fn main(rt: HostRuntime) -> io::Result<()> {
         words.push(word)?;
     }
     let Some(measure) = measure_of(&words) else {
-        return rt.println("fwd_bench values|lines|chunks|reading COUNT TURNS");
+        return rt.println("fwd_bench values|lines|forward|chunks|reading COUNT TURNS");
     };
     match measure.what {
         Measured::Values => values::measure(&rt, measure.count, measure.turns),
         Measured::Lines => lines::measure(&rt, measure.count, measure.turns),
+        Measured::Forward => forward::measure(&rt, measure.count, measure.turns),
         Measured::Chunks => chunks::measure(&rt, measure.count, measure.turns),
         Measured::Reading => chunks::measure_reading(&rt, measure.count, measure.turns),
     }

@@ -1,4 +1,4 @@
-//! Tests of output over HTTP, and of limits on what a run keeps.
+//! Tests of output over HTTP, of limits on what a run keeps, and of files that are followed.
 #![tactic(auto)]
 
 #[cfg(test)]
@@ -7,3 +7,5 @@ mod http;
 mod limits;
 #[cfg(test)]
 mod rows;
+#[cfg(test)]
+mod tail;
