@@ -109,13 +109,11 @@ fn a_file_that_is_not_there_is_a_fault(rt: HostRuntime) {
 /// How many lines of 1,024 bytes the long file has: three reads of 1,048,576 bytes.
 const LINES: usize = 3 * 1024;
 
-fn long_file(alloc: Global) -> Result<Vec<u8>, Memory> {
-    let mut bytes = Vec::new(alloc);
-    bytes.resize(LINES * 1024, b'x')?;
-    let mut end = 1023;
-    while end < bytes.len() {
-        bytes[end] = b'\n';
-        end += 1024;
+fn long_file(alloc: Global) -> Result<Bytes, Memory> {
+    let mut bytes = Bytes::new(alloc);
+    for _ in 0..LINES {
+        bytes.extend_from_slice(&[b'x'; 1023])?;
+        bytes.push(b'\n')?;
     }
     Ok(bytes)
 }
@@ -143,7 +141,7 @@ fn new_reads_long(alloc: Global, bytes: &[u8]) -> Result<bool, TailErr> {
 
 fn reads_a_long_file(alloc: Global) -> Result<bool, TailErr> {
     let bytes = long_file(alloc)?;
-    new_reads_long(alloc, &bytes)
+    new_reads_long(alloc, bytes.as_slice())
 }
 
 #[test]
