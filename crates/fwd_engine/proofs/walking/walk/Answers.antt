@@ -14,9 +14,13 @@ pub returns-in_err-routes-clause-acts : goal.returns-in_err-routes-clause-acts
 returns-in_err-routes-clause-acts g c others h shows = act_ends c.args.setup.now _ _ c.from_residual.result c.from_residual.ensures.0 (_, stays (telling others (g.L.Loop.told c.args.outside.now)) _)
 
 pub loop-route-init : goal.loop-route-init
-loop-route-init g c = (unheard_first (g.L.Loop.counts c.args.outside.now), as_many (g.L.Loop.faults c.args.outside.now), λ others h shows.
-    let told = ap (map route_of) c.deref-route-items.ensures.value ∙ c.in_ok-routes.ensures c.args.setup.now h None shows in
-    (h, shows, rw (walk_is c.args.setup.now h _ told) (stays (telling others (g.L.Loop.told c.args.outside.now)) _)))
+loop-route-init g c = (
+  unheard_first (g.L.Loop.counts c.args.outside.now),
+  as_many (g.L.Loop.faults c.args.outside.now),
+  λ others h shows.
+      let told = ap (map route_of) c.deref-route-items.ensures.value ∙ c.in_ok-routes.ensures c.args.setup.now h None shows in
+      (h, shows, rw (walk_is c.args.setup.now h _ told) (stays (telling others (g.L.Loop.told c.args.outside.now)) _)),
+)
 
 pub returns-in_err-turn-clause-acts : goal.returns-in_err-turn-clause-acts
 returns-in_err-turn-clause-acts g c others h shows =
@@ -28,13 +32,17 @@ returns-in_err-turn-clause-acts g c others h shows =
     (began_after left (began_inside (turns s (map route_of (drop (c.loop-route.route-index + 1) c.deref-route-items.result.now))) (c.in_err-turn.ensures.acts others so_far.0 so_far.1)))
 
 pub loop-route-preserved : goal.loop-route-preserved
-loop-route-preserved g c = (unheard_on c.loop-route.invariant.0 c.in_ok-turn.ensures.unheard, omega arith, λ others h shows.
-    let s = c.args.setup.now in
-    let so_far = c.loop-route.invariant.2 others h shows in
-    let none : RouteId = record { chunk = record { 0 = 0 }; output = record { 0 = 0 } } in
-    let left = rw (drop_more c.deref-route-items.result.now c.loop-route.route-index none c.loop-route-test.true) at so_far.2 in
-    let acted = c.in_ok-turn.ensures.acts others so_far.0 so_far.1 in
-    (acted.history, acted.shows, goes_on left (follows (turns s (map route_of (drop (c.loop-route.route-index + 1) c.deref-route-items.result.now))) acted.did (stays _ _))))
+loop-route-preserved g c = (
+  unheard_on c.loop-route.invariant.0 c.in_ok-turn.ensures.unheard,
+  omega arith,
+  λ others h shows.
+      let s = c.args.setup.now in
+      let so_far = c.loop-route.invariant.2 others h shows in
+      let none : RouteId = record { chunk = record { 0 = 0 }; output = record { 0 = 0 } } in
+      let left = rw (drop_more c.deref-route-items.result.now c.loop-route.route-index none c.loop-route-test.true) at so_far.2 in
+      let acted = c.in_ok-turn.ensures.acts others so_far.0 so_far.1 in
+      (acted.history, acted.shows, goes_on left (follows (turns s (map route_of (drop (c.loop-route.route-index + 1) c.deref-route-items.result.now))) acted.did (stays _ _))),
+)
 
 pub returns-clause-acts : goal.returns-clause-acts
 returns-clause-acts g c others h shows =
