@@ -13,5 +13,5 @@ pub use event::{Event, Events, events_cross};
 pub use fwd_base::{Bytes, Memory};
 pub use fwd_msgpack::{Below, Pairs, Value, Values};
 pub use laws::{all_bytes_are_events, events_are_the_whole_prefix, spellings_are_events};
-pub use reading::{read_events, whole_prefix};
+pub use reading::{event_of, event_of_two, read_events, whole_prefix};
 pub use writing::{can_write, write_event};

@@ -106,7 +106,8 @@ fn headed(alloc: Global, head: Value, body: Pairs) -> Option<Event>
     }
 }
 
-fn event_of_two(alloc: Global, head: Value, body: Value) -> Option<Event>
+/// The event of a head and a body, where they are one: a time or a list of a time and metadata, and a map.
+pub fn event_of_two(alloc: Global, head: Value, body: Value) -> Option<Event>
     ensures { result ≡ event_of (list (val (val_of head) (val (val_of body) no_vals))) }
 {
     match body {
@@ -127,8 +128,8 @@ fn event_of_list(alloc: Global, mut values: Values) -> Option<Event>
     event_of_two(alloc, head, body)
 }
 
-/// The event that a value is, in either form.
-fn event_of(alloc: Global, value: Value) -> Option<Event>
+/// The event that a value is, in either form; none where it is no event.
+pub fn event_of(alloc: Global, value: Value) -> Option<Event>
     ensures { result ≡ event_of (val_of value) }
 {
     match value {

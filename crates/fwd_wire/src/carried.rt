@@ -7,9 +7,8 @@ ghost use Rattle.fwd_event.specs.Event.{event_of};
 ghost use Rattle.fwd_wire.specs.Message.{in_front, events_of, packed, one};
 ghost use Rattle.fwd_wire.specs.Held.{CarriesOnly, Pushes};
 
-use crate::entry::{event_of, event_of_two};
 use fwd_base::{Items, Memory};
-use fwd_event::{Event, EventErr, Events, read_events};
+use fwd_event::{Event, EventErr, Events, event_of, event_of_two, read_events};
 use fwd_msgpack::Value;
 use std::alloc::Global;
 

@@ -5,7 +5,6 @@
 
 mod ack;
 mod carried;
-mod entry;
 mod errors;
 mod fault;
 mod laws;
