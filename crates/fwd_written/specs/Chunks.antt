@@ -1,15 +1,14 @@
 -- Chunks: which were found or begun, which are open, and what each holds.
 use Rattle.std.specs.Prelude.{ℕ, ◌+◌, max, ◌==◌, ◌&&◌, nat_le, not, Bool, true, false, if◌then◌else◌, List, [], ◌∷◌, ◌++◌, length, filter, find, Option, Some, None}
-use Rattle.std.specs.List.{flat_map}
 use Rattle.std.specs.Str.{bytes_eq}
 use Rattle.fwd_base.specs.Limits.{largest_batch}
-use Rattle.fwd_msgpack.specs.Canonical.{canonical}
 use Rattle.fwd_event.specs.declared.event.Event.{Event}
-use Rattle.fwd_event.specs.Event.{event_val}
 use Rattle.fwd_backlog.specs.Serial.{serial_number}
 use Rattle.fwd_found.specs.declared.chunk.Chunk.{Chunk}
 use Rattle.fwd_written.specs.Fact.{History, Batch, Where, Nowhere, First, Behind, Found, Offers, Accepted, Shut}
 use Rattle.fwd_written.specs.Found.{found_in, content_found, events_found}
+-- events as they are stored, each in its shortest spelling
+pub use Rattle.fwd_event.specs.Whole.{spellings as spelled}
 
 -- a chunk by its number, the input that it is of, none where it was found, and its tag
 pub record ChunkOf : Type 0 where
@@ -75,10 +74,6 @@ records [] chunk = []
 records (Found other stream name bytes ∷ h) chunk = if other == chunk then events_found bytes else records h chunk
 records (Accepted b place ∷ h) chunk = if goes_to place chunk then records h chunk ++ b.events else records h chunk
 records (_ ∷ h) chunk = records h chunk
-
--- events as they are stored, each in its shortest spelling
-abbrev pub spelled : List Event → List ℕ
-spelled events = flat_map (λ e. canonical (event_val e)) events
 
 -- the content of a chunk, and its length in bytes
 abbrev pub content : History → ℕ → List ℕ
