@@ -1,2 +1,5 @@
+pub mod Growing
+pub mod Acting
+pub mod Lifting
 pub mod Ending
 pub mod Worked
