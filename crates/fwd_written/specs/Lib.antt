@@ -1,6 +1,7 @@
 pub mod Fact
 pub mod Trace
 pub mod World
+pub mod Meets
 pub mod Parts
 pub mod Setup
 pub mod Clock
