@@ -7,6 +7,8 @@ pub mod Files
 pub mod Serials
 pub mod Keeping
 pub mod Standing
+pub mod Named
+mod Numbered
 mod Fresh
 mod Places
 mod Once

@@ -11,11 +11,16 @@ use Rattle.fwd_found.specs.declared.chunk.Seen.TheVariants.{Whole}
 use Rattle.fwd_found.specs.Seen.{IsSeen}
 use Rattle.fwd_backlog.specs.declared.listed.Listed.{Listed}
 use Rattle.fwd_backlog.specs.Serial.{is_chunk_name}
-use Rattle.fwd_backlog.specs.Listing.{path_of, by_name}
+use Rattle.fwd_backlog.specs.Listing.{path_of, by_name, IsNamed}
 
 -- where a found file stands
 abbrev pub place_of : Found → Listed
 place_of found = record { name = found.name; stream = found.stream }
+
+-- found files stand under names that a disk may list, by name, then by stream, each once
+pub record AreNamed (found : List Found) : Type 0 where
+  pub each : All (λ file. IsNamed (place_of file)) found
+  pub sorted : IsStrictlySortedBy by_name (map place_of found)
 
 -- these are the files of the names root/STREAM/NAME that end in `.flb`, by name, then by stream, and what their bytes
 -- stand for

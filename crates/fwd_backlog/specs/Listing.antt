@@ -1,11 +1,11 @@
 -- The files of chunks under a root: how they are listed, and in which order they are taken.
-use Rattle.std.specs.Prelude.{ℕ, if◌then◌else◌, List, [], ◌∷◌, ◌++◌, fold, Option, Some}
+use Rattle.std.specs.Prelude.{ℕ, if◌then◌else◌, IsTrue, List, [], ◌∷◌, ◌++◌, fold, Option, Some}
 use Rattle.std.specs.declared.cmp.Ordering.{Ordering}
 use Rattle.std.specs.Ordering.{nat_cmp, ordering_then}
 use Rattle.std.specs.Cmp.Lexicographic.{slice_cmp}
 use Rattle.std.specs.BTreeSet.{insert_key}
 use Rattle.fwd_program.specs.Program.{Return, and_then}
-use Rattle.fwd_outside.specs.Disk.{DiskProgram, lists}
+use Rattle.fwd_outside.specs.Disk.{DiskProgram, IsFileName, lists}
 use Rattle.fwd_backlog.specs.declared.listed.Listed.{Listed}
 use Rattle.fwd_backlog.specs.Serial.{is_chunk_name}
 
@@ -15,6 +15,12 @@ folder_of root stream = root ++ 47 ∷ stream
 
 abbrev pub path_of : List ℕ → Listed → List ℕ
 path_of root file = folder_of root file.stream ++ 47 ∷ file.name
+
+-- a chunk's file as a disk may list it: both names are names of files, and its own is that of a chunk's file
+pub record IsNamed (file : Listed) : Type 0 where
+  pub stream : IsFileName file.stream
+  pub name : IsFileName file.name
+  pub chunk : IsTrue (is_chunk_name file.name)
 
 -- of the names in a stream's folder, those of chunks' files
 abbrev pub chunks_in : List ℕ → List (List ℕ) → List Listed

@@ -21,7 +21,7 @@ mod serial;
 pub use errors::LoadErr;
 pub use fwd_found::{Brief, ChunkKind, Found, Seen};
 pub use laws::{
-    files_stand_in_order, found_paths_differ, later_numbers_are_free,
+    files_stand_in_order, found_paths_differ, later_names_are_new, later_numbers_are_free,
     loading_changes_no_fresh_file, loading_leaves_no_more, one_backlog, paths_tell_files,
     what_is_loaded_stands,
 };

@@ -1,12 +1,12 @@
 //! Folders are listed.
 
-ghost use Rattle.std.specs.Prelude.{◌≡◌, [], ◌∷◌, ◌++◌, IsErrOf, OnOk};
+ghost use Rattle.std.specs.Prelude.{◌≡◌, [], ◌∷◌, ◌++◌, All, IfOk, IsErrOf, OnOk};
 ghost use Rattle.fwd_program.specs.Told.{Makes};
 ghost use Rattle.fwd_program.specs.Cause.{HasCause};
-ghost use Rattle.fwd_outside.specs.Disk.{lists};
+ghost use Rattle.fwd_outside.specs.Disk.{IsFileName, lists};
 ghost use Rattle.fwd_backlog.specs.declared.errors.LoadErr.TheVariants.{DiskFailed};
 ghost use Rattle.fwd_backlog.specs.Answer.{outcome};
-ghost use Rattle.fwd_backlog.specs.Listing.{folder_of, chunks_in, lists_files};
+ghost use Rattle.fwd_backlog.specs.Listing.{folder_of, chunks_in, lists_files, IsNamed};
 
 use crate::LoadErr;
 use crate::file_name::FileName;
@@ -52,6 +52,7 @@ fn add_chunks(
 
 fn list_names<D: Disk>(alloc: Global, disk: &mut D, folder: &[u8]) -> Result<Names, LoadErr>
     ensures calls { Makes (D.told disk.old) (D.told disk.new) (lists folder.now) (outcome result) }
+    ensures names { IfOk result (All IsFileName) }
     ensures cause { HasCause (D.faults disk.old) (D.faults disk.new) (IsErrOf result DiskFailed) }
 {
     Ok(disk.list(alloc, folder)?)
@@ -64,6 +65,7 @@ fn list_folder<D: Disk>(
     stream: &[u8],
 ) -> Result<Names, LoadErr>
     ensures calls { Makes (D.told disk.old) (D.told disk.new) (lists (folder_of root.now stream.now)) (outcome result) }
+    ensures names { IfOk result (All IsFileName) }
     ensures cause { HasCause (D.faults disk.old) (D.faults disk.new) (IsErrOf result DiskFailed) }
 {
     let folder = folder_of(alloc, root, stream)?;
@@ -77,6 +79,7 @@ pub fn list_files<D: Disk>(
     root: &[u8],
 ) -> Result<Items<Listed>, LoadErr>
     ensures calls { Makes (D.told disk.old) (D.told disk.new) (lists_files root.now) (outcome result) }
+    ensures names { IfOk result (All IsNamed) }
     ensures cause { HasCause (D.faults disk.old) (D.faults disk.new) (IsErrOf result DiskFailed) }
 {
     let streams = list_names(alloc, disk, root)?;

@@ -8,7 +8,7 @@ ghost use Rattle.fwd_backlog.specs.declared.errors.LoadErr.TheVariants.{DiskFail
 ghost use Rattle.fwd_backlog.specs.Answer.{Loads};
 ghost use Rattle.fwd_backlog.specs.Loading.{loads, IsBacklog};
 ghost use Rattle.fwd_backlog.specs.Groups.{HasShortMeta};
-ghost use Rattle.fwd_backlog.specs.Found.{AreFoundIn, FitsFile, LeavesNoMore};
+ghost use Rattle.fwd_backlog.specs.Found.{AreNamed, AreFoundIn, FitsFile, LeavesNoMore};
 
 use crate::LoadErr;
 use crate::checking::check_files;
@@ -47,6 +47,7 @@ pub fn load_all<D: Disk>(
 ) -> Result<Backlog, LoadErr>
     ensures loaded { Loads (D.told disk.old) (D.told disk.new) (loads root.now) IsBacklog result }
     ensures next { IfOk result (λ backlog. (1 ≤ backlog.next) × (backlog.next ≤ past_numbers)) }
+    ensures named { IfOk result (λ backlog. AreNamed backlog.found) }
 
     // A chunk that was found ends within the longest file that is read, and its metadata are counted in two bytes.
     ensures lengths { IfOk result (λ backlog. All FitsFile backlog.found) }
@@ -70,6 +71,7 @@ pub fn load_gated<D: Disk, G: Gate>(
 ) -> Result<Backlog, LoadErr>
     ensures loaded { Loads (D.told disk.old) (D.told disk.new) (loads root.now) IsBacklog result }
     ensures next { IfOk result (λ backlog. (1 ≤ backlog.next) × (backlog.next ≤ past_numbers)) }
+    ensures named { IfOk result (λ backlog. AreNamed backlog.found) }
 
     // A chunk that was found ends within the longest file that is read, and its metadata are counted in two bytes.
     ensures lengths { IfOk result (λ backlog. All FitsFile backlog.found) }
@@ -92,6 +94,7 @@ fn load<D: Disk, G: Gate>(
 ) -> Result<Backlog, LoadErr>
     ensures loaded { Loads (D.told disk.old) (D.told disk.new) (loads root.now) IsBacklog result }
     ensures next { IfOk result (λ backlog. (1 ≤ backlog.next) × (backlog.next ≤ past_numbers)) }
+    ensures named { IfOk result (λ backlog. AreNamed backlog.found) }
     ensures meta { IfOk result (λ backlog. All HasShortMeta backlog.found) }
     ensures cause { HasCause (D.faults disk.old) (D.faults disk.new) (IsErrOf result DiskFailed) }
 {

@@ -71,7 +71,7 @@ fn append_time(rt: &HostRuntime, count: u32, disks: u32, full: bool) -> io::Resu
 }
 
 /// A plain file with as many events as so many bytes have room for.
-fn plain_file(alloc: Global, longest: usize) -> Result<Bytes, Memory> {
+pub fn plain_file(alloc: Global, longest: usize) -> Result<Bytes, Memory> {
     let mut file = Bytes::from_slice(alloc, PLAIN_HEADER)?;
     for _ in 0..longest.saturating_sub(PLAIN_HEADER.len()) / EVENT.len() {
         file.extend_from_slice(EVENT)?;

@@ -1,10 +1,11 @@
 //! How fast events are written and read back, lines become events, forward messages are read, and files of chunks are
-//! appended to and read. `bench/values`, `bench/lines`, `bench/forward` and `bench/chunks` run it; without words it says what it takes.
+//! appended to, read and loaded. `bench/values`, `bench/lines`, `bench/forward` and `bench/chunks` run it; without words it says what it takes.
 #![tactic(auto)]
 
 mod chunks;
 mod forward;
 mod lines;
+mod loading;
 mod values;
 
 use std::{env, io};
@@ -17,6 +18,7 @@ enum Measured {
     Forward,
     Chunks,
     Reading,
+    Loading,
 }
 
 /// What is measured, over how many, and how many times over.
@@ -34,6 +36,7 @@ fn measured_of(word: &str) -> Option<Measured> {
         "forward" => Some(Measured::Forward),
         "chunks" => Some(Measured::Chunks),
         "reading" => Some(Measured::Reading),
+        "loading" => Some(Measured::Loading),
         _ => None,
     }
 }
@@ -55,7 +58,7 @@ fn main(rt: HostRuntime) -> io::Result<()> {
         words.push(word)?;
     }
     let Some(measure) = measure_of(&words) else {
-        return rt.println("fwd_bench values|lines|forward|chunks|reading COUNT TURNS");
+        return rt.println("fwd_bench values|lines|forward|chunks|reading|loading COUNT TURNS");
     };
     match measure.what {
         Measured::Values => values::measure(&rt, measure.count, measure.turns),
@@ -63,5 +66,6 @@ fn main(rt: HostRuntime) -> io::Result<()> {
         Measured::Forward => forward::measure(&rt, measure.count, measure.turns),
         Measured::Chunks => chunks::measure(&rt, measure.count, measure.turns),
         Measured::Reading => chunks::measure_reading(&rt, measure.count, measure.turns),
+        Measured::Loading => loading::measure(&rt, measure.count, measure.turns),
     }
 }

@@ -1,6 +1,7 @@
 use Rattle.std.proofs.Common.{◌≡◌, ◌∙◌, List, subst}
 use Rattle.fwd_found.specs.declared.chunk.Found.{Found}
 use Rattle.fwd_backlog.specs.Serial.{next_number}
+use Rattle.fwd_backlog.proofs.Named.{found_named}
 use Rattle.fwd_backlog.proofs.Files.{listing_stopped, loading_unordered, loading_stopped, loading_done, all_short}
 use Rattle.fwd_backlog.proofs.loading.load.Goals as goal
 
@@ -23,3 +24,7 @@ returns-clause-loaded g c =
 
 pub returns-clause-meta : goal.returns-clause-meta
 returns-clause-meta g c = all_short _ _ c.args.root.now c.as_slice.result.now c.in_ok-found.found c.in_ok-found.ensures.calls
+
+pub returns-clause-named : goal.returns-clause-named
+returns-clause-named g c =
+    found_named _ _ c.args.root.now c.in_ok-listed.listed c.as_slice.result.now c.in_ok-found.found (c.as_slice.ensures ∙ c.in_ok-files.ensures) c.in_ok-listed.ensures.names c.in_ok-found.ensures.calls

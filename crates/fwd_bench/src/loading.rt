@@ -1,0 +1,60 @@
+//! Files of chunks that are loaded from a disk in memory.
+
+use crate::chunks::plain_file;
+use fwd_backlog::load_all;
+use fwd_disk_mem::MemDisk;
+use fwd_outside::Memory;
+use std::alloc::Global;
+use std::io;
+use std::time::Instant;
+
+/// How long a file is at most.
+const LONGEST: usize = 65_536;
+
+fn preset(alloc: Global, disk: &mut MemDisk, number: u32, file: &[u8]) -> Result<(), Memory> {
+    let name = format!(in alloc; "S/bench.0/{number:020}.flb")?;
+    disk.preset(name.as_bytes(), file)
+}
+
+/// A disk with so many files of these bytes.
+fn disk_with(alloc: Global, file: &[u8], count: u32) -> Result<MemDisk, Memory> {
+    let mut disk = MemDisk::new(alloc);
+    for number in 1..=count {
+        preset(alloc, &mut disk, number, file)?;
+    }
+    Ok(disk)
+}
+
+/// How many files are found, and the time that loading takes, in microseconds.
+fn load_time(rt: &HostRuntime, disk: &mut MemDisk) -> io::Result<(usize, u128)> {
+    let start = Instant::now(rt)?;
+    let loaded = load_all(rt, rt.alloc(), disk, b"S");
+    let spent = start.elapsed(rt)?.as_micros();
+    match loaded {
+        Ok(backlog) => Ok((backlog.found.len(), spent)),
+        Err(_) => Ok((0, u128::MAX)),
+    }
+}
+
+fn load_once(rt: &HostRuntime, file: &[u8], count: u32) -> io::Result<(usize, u128)> {
+    match disk_with(rt.alloc(), file, count) {
+        Ok(mut disk) => load_time(rt, &mut disk),
+        Err(Memory) => Ok((0, u128::MAX)),
+    }
+}
+
+/// Prints how many of so many files are found, the bytes of each, and the least time of loading them so often, in
+/// microseconds.
+pub fn measure(rt: &HostRuntime, count: u32, turns: u32) -> io::Result<()> {
+    let Ok(file) = plain_file(rt.alloc(), LONGEST) else {
+        return rt.println("out of memory");
+    };
+    let mut least = u128::MAX;
+    let mut found = 0;
+    for _ in 0..turns {
+        let (files, spent) = load_once(rt, file.as_slice(), count)?;
+        found = files;
+        least = least.min(spent);
+    }
+    println!(rt; "{found} {} {least}", file.len())
+}
