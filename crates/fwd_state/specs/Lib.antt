@@ -1,0 +1,4 @@
+pub mod Changes
+pub mod Reader
+pub mod Sight
+pub mod Stands
