@@ -175,7 +175,7 @@ module _ (s : AllSettings) (n : ℕ) (stream name bytes : List ℕ) (h : History
   abbrev found_chunk : Chunk → ChunkOf
   found_chunk chunk = record { number = n; input = None; tag = chunk.tag }
 
-  chunks_found : (chunk : Chunk) → found_in bytes ≡ Some chunk → chunks_of found_with ≡ chunks_of h ++ found_chunk chunk ∷ []
+  pub chunks_found : (chunk : Chunk) → found_in bytes ≡ Some chunk → chunks_of found_with ≡ chunks_of h ++ found_chunk chunk ∷ []
   chunks_found chunk is = ap (λ (o : Option Chunk). chunks_of h ++ found_as n o) is
 
   found_resolved : (chunk : Chunk) → found_in bytes ≡ Some chunk → (o : ℕ) → is_resolved s found_with (route n o) ≡ has_done (output_name s o) (Some chunk)

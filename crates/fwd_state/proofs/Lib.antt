@@ -7,3 +7,5 @@ pub mod Ending
 pub mod Standing
 pub mod Having
 pub mod Idle
+pub mod Loading
+pub mod Staying

@@ -1,7 +1,5 @@
 use Rattle.std.proofs.Common.{◌≤◌, refl, arith}
 use Rattle.fwd_written.specs.Chunks.{next}
-use Rattle.fwd_state.proofs.Ending.{rows_found}
-use Rattle.fwd_state.proofs.Standing.{carried_found}
 use Rattle.fwd_state.proofs.Rising.{next_least}
 use Rattle.fwd_state.proofs.laws.offered_is_new.Goals as goal
 
