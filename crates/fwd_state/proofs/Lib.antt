@@ -9,3 +9,4 @@ pub mod Having
 pub mod Idle
 pub mod Loading
 pub mod Staying
+pub mod Walking
