@@ -10,3 +10,4 @@ pub mod Idle
 pub mod Loading
 pub mod Staying
 pub mod Walking
+pub mod Fitting

@@ -11,10 +11,12 @@ mod counts;
 mod flights;
 mod laws;
 mod reader;
+mod rooms;
 mod state;
 mod walks;
 
 pub use flights::{Flight, RouteId};
 pub use laws::{begun_is_out, idle_is_closed, offered_is_new, others_change_nothing};
 pub use reader::Reader;
+pub use rooms::UpLimits;
 pub use state::{Place, State};

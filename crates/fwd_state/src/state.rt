@@ -4,12 +4,12 @@ ghost use Rattle.std.specs.Prelude.{◌≡◌, ◌<◌, ◌≤◌, ◌+◌, ℕ,
 ghost use Rattle.fwd_outside.specs.declared.happening.Happening.TheVariants as happening;
 ghost use Rattle.fwd_settings.specs.declared.chosen.AllSettings.{AllSettings};
 ghost use Rattle.fwd_written.specs.Fact.{History, Batch, Nowhere, First, Behind, Reason, Brought, Misread, Found, Accepted, Refused, Shut, Handed, OnRoute, Flies, Retries, Delivered, Failed, Spent, Lost, Faulted};
-ghost use Rattle.fwd_written.specs.Setup.{plus, outputs_for, home_at, reads_standard_at};
+ghost use Rattle.fwd_written.specs.Setup.{plus, outputs_for, home_at, reads_standard_at, output_at, places_at};
 ghost use Rattle.fwd_written.specs.Clock.{clock, ticked, stopped, next_closing, is_closing};
 ghost use Rattle.fwd_written.specs.Found.{found_in};
 ghost use Rattle.fwd_written.specs.Chunks.{next, size as size_of, spelled};
 ghost use Rattle.fwd_written.specs.Routes.{tries, wait_for, is_idle, flights_to, owes, rows_of};
-ghost use Rattle.fwd_written.specs.Walk.{due_routes};
+ghost use Rattle.fwd_written.specs.Walk.{due_routes, may_start};
 ghost use Rattle.fwd_written.specs.Noting.{is_empty};
 ghost use Rattle.fwd_written.specs.Tallies.{loading_of, Unrouted, Leaves, tally_of};
 ghost use Rattle.fwd_state.specs.Sight.{route_of};
@@ -18,6 +18,7 @@ ghost use Rattle.fwd_state.specs.Stands.{Shows, Tells, Keeps, Notes, NotesWhere,
 use crate::chunks::Chunks;
 use crate::counts::Counts;
 use crate::flights::{Flight, Flights, RouteId};
+use crate::rooms::{UpLimits, fits_in};
 use crate::walks::due_in;
 use fwd_base::limits::LAST_READING;
 use fwd_base::{Bytes, ChunkId, InputId, LinkId, Memory, OutputId};
@@ -298,6 +299,17 @@ impl State {
         ensures { Tells self.now (λ s h. result ≡ is_idle s h (route_of route)) }
     {
         self.chunks.table().is_idle(route.chunk, route.output)
+    }
+
+    /// Whether a route is begun at its turn, where its output has so many places: it is idle still, one of them is free, and
+    /// its chunk has room.
+    pub fn may_start(&self, route: RouteId, places: u64, limits: UpLimits) -> bool
+        ensures { Tells self.now (λ s h. places_at (output_at s route.output.0) ≡ places → s.service.max_up ≡ limits.max_up → s.service.backlog_limit ≡ limits.backlog_limit
+            → result ≡ may_start s h (route_of route)) }
+    {
+        self.is_idle(route)
+            && self.flights_to(route.output) < places
+            && fits_in(self.chunks.table(), route.chunk, limits)
     }
 
     /// How often an idle route has failed.
