@@ -1,0 +1,38 @@
+-- The row of a chunk, and whether it has room.
+use Rattle.std.proofs.Common.{◌≡◌, ℕ, ◌+◌, Bool, true, false, ◌&&◌, ◌||◌, not, inl, inr, List, [], ◌∷◌, Option, Some, None, length, refl, sym, ◌∙◌, ap, subst}
+use Rattle.std.specs.Prelude.{◌==◌, nat_lt, nat_le, filter, find, slice_get, option_map}
+use Rattle.std.proofs.lemmas.Bool.{cases_Bool}
+use Rattle.fwd_base.specs.declared.ids.ChunkId.{ChunkId}
+use Rattle.fwd_settings.specs.declared.chosen.AllSettings.{AllSettings}
+use Rattle.fwd_table.specs.Routes.{flying_of}
+use Rattle.fwd_table.specs.Rows.{is_row_of, row_at, seen_of}
+use Rattle.fwd_table.specs.declared.row.Row.{Row}
+use Rattle.fwd_table.specs.declared.row.RowSeen.{RowSeen}
+use Rattle.fwd_limits.specs.Kept.{in_file, is_nobody, files_up, found_up}
+use Rattle.fwd_limits.proofs.Sums.{mask_none}
+use Rattle.fwd_written.specs.Walk.{fits_row}
+use Rattle.fwd_state.specs.Rooms.{fits_seen}
+
+-- a row, as it is seen
+fits_as : (s : AllSettings) (max_up limit : ℕ) (rows : List Row) (row : Row) → s.service.max_up ≡ max_up → s.service.backlog_limit ≡ limit → fits_seen max_up limit rows (seen_of row) ≡ fits_row s rows (Some row)
+fits_as s max_up limit rows row up backlog = λ i.
+    not (in_file row) || (not (mask_none (flying_of row.routes) i) || (nat_lt (files_up rows) (sym up i) && (not (is_nobody row.input) || (nat_le (found_up rows + row.size) (sym backlog i) || found_up rows == 0))))
+
+fits_some : (s : AllSettings) (max_up limit : ℕ) (rows : List Row) (seen : RowSeen) (at : Option Row) → s.service.max_up ≡ max_up → s.service.backlog_limit ≡ limit → Some seen ≡ option_map seen_of at
+    → fits_seen max_up limit rows seen ≡ fits_row s rows at
+fits_some s max_up limit rows seen None up backlog is = absurd (cc is)
+fits_some s max_up limit rows seen (Some row) up backlog is = let same : seen ≡ seen_of row = cc is in ap (fits_seen max_up limit rows) same ∙ fits_as s max_up limit rows row up backlog
+
+-- the row at a place that is the chunk's
+pub fits_at : (s : AllSettings) (max_up limit : ℕ) (rows : List Row) (seen : RowSeen) (at : Option Row) (chunk : ChunkId) → s.service.max_up ≡ max_up → s.service.backlog_limit ≡ limit
+    → Some seen ≡ option_map seen_of at → at ≡ row_at seen.chunk rows → seen.chunk ≡ chunk → fits_seen max_up limit rows seen ≡ fits_row s rows (row_at chunk rows)
+fits_at s max_up limit rows seen at chunk up backlog is there same =
+    fits_some s max_up limit rows seen at up backlog is ∙ ap (fits_row s rows) (there ∙ ap (λ (c : ChunkId). row_at c rows) same)
+
+-- none is the chunk's
+pub none_there : (chunk : ChunkId) (rows : List Row) → filter (is_row_of chunk) rows ≡ [] → row_at chunk rows ≡ None
+none_there chunk [] none = refl
+none_there chunk (row ∷ rows) none = elim (cases_Bool (is_row_of chunk row)) [
+  | inl is ↦ absurd (cc (rw is at none))
+  | inr isnt ↦ rw isnt (none_there chunk rows (rw isnt at none))
+]

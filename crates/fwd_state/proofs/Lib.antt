@@ -1,0 +1,13 @@
+pub mod Listed
+pub mod Counted
+pub mod Numbers
+pub mod Rising
+pub mod Changing
+pub mod Ending
+pub mod Standing
+pub mod Having
+pub mod Idle
+pub mod Loading
+pub mod Staying
+pub mod Walking
+pub mod Fitting

@@ -1,0 +1,12 @@
+use Rattle.std.proofs.Common.{◌≤◌, refl, arith}
+use Rattle.fwd_written.specs.Chunks.{next}
+use Rattle.fwd_state.proofs.Rising.{next_least}
+use Rattle.fwd_state.proofs.laws.offered_is_new.Goals as goal
+
+pub returns : goal.returns
+returns c s state h out b before = record {
+  first = next_least h;
+  behind = before.numbers;
+  given = omega arith;
+  fresh = before.fresh (next h) (omega arith);
+}

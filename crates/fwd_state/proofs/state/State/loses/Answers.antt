@@ -1,0 +1,28 @@
+use Rattle.std.proofs.Common.{◌≡◌, ℕ, ◌<◌, List, refl, sym, ◌∙◌, ap, subst}
+use Rattle.fwd_table.specs.Rows.{on_chunk, resolved_to, owed_rows}
+use Rattle.fwd_table.specs.declared.row.Row.{Row}
+use Rattle.fwd_written.specs.Fact.{Lost}
+use Rattle.fwd_state.specs.Sight.{chunk_id, output_id, route_of}
+use Rattle.fwd_state.proofs.Ending.{rows_ended}
+use Rattle.fwd_state.proofs.Having.{open_left_owed}
+use Rattle.fwd_state.proofs.Idle.{idle_closed, idle_flight}
+use Rattle.fwd_state.proofs.Standing.{fresh_routed, carried_lost}
+use Rattle.fwd_state.proofs.state.State.loses.Goals as goal
+
+pub returns : goal.returns
+returns c s h out before idle =
+    let r = route_of c.args.route in
+    let closed = idle_closed s h r idle before.numbers in
+    record {
+      rows = c.resolve.ensures.rows ∙ ap (λ (l : List Row). owed_rows (on_chunk (chunk_id r.chunk) (resolved_to (output_id r.output)) l)) before.rows ∙ rows_ended s r Lost h refl;
+      top = λ m first rise. subst (λ (k : ℕ). k < m) (sym c.resolve.ensures.top) (before.top m first rise);
+      flights = λ link. carried_lost s r Lost h out link _ refl (idle_flight s h r idle) (before.flights link);
+      time = before.time;
+      ticks = before.ticks;
+      closing = before.closing;
+      stopped = before.stopped;
+      tally = c.lost.ensures s h r refl before.tally;
+      numbers = before.numbers;
+      fresh = fresh_routed s r Lost h closed.1 before.fresh;
+      open_owed = λ k is. open_left_owed s r Lost h refl closed.0 k is (before.open_owed k is);
+    }

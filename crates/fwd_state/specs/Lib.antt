@@ -1,0 +1,5 @@
+pub mod Changes
+pub mod Reader
+pub mod Sight
+pub mod Stands
+pub mod Rooms

@@ -1,0 +1,22 @@
+//! The state of an engine below its acts: which outputs each chunk is owed to, the flights under way, the clock and the
+//! counts.
+//!
+//! Each call that changes the state takes note of one fact of the history. What is asked of it is told as the history
+//! gives it, so that whoever stands above speaks of histories alone. It makes no call on a device.
+#![tactic(auto)]
+
+mod changes;
+mod chunks;
+mod counts;
+mod flights;
+mod laws;
+mod reader;
+mod rooms;
+mod state;
+mod walks;
+
+pub use flights::{Flight, RouteId};
+pub use laws::{begun_is_out, idle_is_closed, offered_is_new, others_change_nothing};
+pub use reader::Reader;
+pub use rooms::UpLimits;
+pub use state::{Place, State};
