@@ -1,0 +1,3 @@
+pub mod Stands
+pub mod Follows
+pub mod Named
