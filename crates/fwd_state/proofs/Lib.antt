@@ -11,3 +11,4 @@ pub mod Loading
 pub mod Staying
 pub mod Walking
 pub mod Fitting
+pub mod Pauses

@@ -10,6 +10,7 @@ mod chunks;
 mod counts;
 mod flights;
 mod laws;
+mod pausing;
 mod reader;
 mod rooms;
 mod state;

@@ -1,15 +1,18 @@
 //! The state of an engine. Each call that changes it takes note of one fact.
 
 ghost use Rattle.std.specs.Prelude.{◌≡◌, ◌<◌, ◌≤◌, ◌+◌, ℕ, List, [], ◌∷◌, length, map, true, IfOk, OnOk};
+ghost use Rattle.fwd_base.specs.Limits.{most_inputs};
 ghost use Rattle.fwd_outside.specs.declared.happening.Happening.TheVariants as happening;
 ghost use Rattle.fwd_settings.specs.declared.chosen.AllSettings.{AllSettings};
+ghost use Rattle.fwd_settings.specs.declared.chosen.InputSet.{InputSet};
 ghost use Rattle.fwd_written.specs.Fact.{History, Batch, Nowhere, First, Behind, Reason, Brought, Misread, Found, Accepted, Refused, Shut, Handed, OnRoute, Flies, Retries, Delivered, Failed, Spent, Lost, Faulted};
 ghost use Rattle.fwd_written.specs.Setup.{plus, outputs_for, home_at, reads_standard_at, output_at, places_at};
 ghost use Rattle.fwd_written.specs.Clock.{clock, ticked, stopped, next_closing, is_closing};
 ghost use Rattle.fwd_written.specs.Found.{found_in};
 ghost use Rattle.fwd_written.specs.Chunks.{next, size as size_of, spelled};
 ghost use Rattle.fwd_written.specs.Routes.{tries, wait_for, is_idle, flights_to, owes, rows_of};
-ghost use Rattle.fwd_written.specs.Walk.{due_routes, may_start};
+ghost use Rattle.fwd_written.specs.Walk.{due_routes, has_place, fits, may_start};
+ghost use Rattle.fwd_written.specs.Limits.{paused};
 ghost use Rattle.fwd_written.specs.Noting.{is_empty};
 ghost use Rattle.fwd_written.specs.Tallies.{loading_of, Unrouted, Leaves, tally_of};
 ghost use Rattle.fwd_state.specs.Sight.{route_of};
@@ -18,10 +21,12 @@ ghost use Rattle.fwd_state.specs.Stands.{Shows, Tells, Keeps, Notes, NotesWhere,
 use crate::chunks::Chunks;
 use crate::counts::Counts;
 use crate::flights::{Flight, Flights, RouteId};
+use crate::pausing::all_below;
 use crate::rooms::{UpLimits, fits_in};
 use crate::walks::due_in;
 use fwd_base::limits::LAST_READING;
 use fwd_base::{Bytes, ChunkId, InputId, LinkId, Memory, OutputId};
+use fwd_limits::{MemLimits, paused};
 use fwd_outside::Home;
 use fwd_table::{Table, Tally};
 use std::alloc::Global;
@@ -301,15 +306,32 @@ impl State {
         self.chunks.table().is_idle(route.chunk, route.output)
     }
 
-    /// Whether a route is begun at its turn, where its output has so many places: it is idle still, one of them is free, and
-    /// its chunk has room.
+    /// Whether an output that has so many places has a free one.
+    pub fn has_place(&self, route: RouteId, places: u64) -> bool
+        ensures { Tells self.now (λ s h. places_at (output_at s route.output.0) ≡ places → result ≡ has_place s h (route_of route)) }
+    {
+        self.flights_to(route.output) < places
+    }
+
+    /// Whether the chunk of a route has room beside those in flight.
+    pub fn fits(&self, route: RouteId, limits: UpLimits) -> bool
+        ensures { Tells self.now (λ s h. s.service.max_up ≡ limits.max_up → s.service.backlog_limit ≡ limits.backlog_limit → result ≡ fits s h (route_of route)) }
+    {
+        fits_in(self.chunks.table(), route.chunk, limits)
+    }
+
+    /// Whether a route is begun at its turn: it is idle still, its output has a free place, and its chunk has room.
     pub fn may_start(&self, route: RouteId, places: u64, limits: UpLimits) -> bool
         ensures { Tells self.now (λ s h. places_at (output_at s route.output.0) ≡ places → s.service.max_up ≡ limits.max_up → s.service.backlog_limit ≡ limits.backlog_limit
             → result ≡ may_start s h (route_of route)) }
     {
-        self.is_idle(route)
-            && self.flights_to(route.output) < places
-            && fits_in(self.chunks.table(), route.chunk, limits)
+        if !self.is_idle(route) {
+            return false;
+        }
+        if !self.has_place(route, places) {
+            return false;
+        }
+        self.fits(route, limits)
     }
 
     /// How often an idle route has failed.
@@ -331,6 +353,18 @@ impl State {
         ensures { Tells self.now (λ s h. result ≡ owes s h chunk.0) }
     {
         self.chunks.table().has(chunk)
+    }
+
+    /// The inputs that are paused, as a mask, by their limits on memory in the order of the configuration: those that have
+    /// reached theirs, and after a stop each.
+    pub fn paused(&self, limits: &MemLimits) -> u64
+        requires { length limits.now ≤ most_inputs }
+        ensures { Tells self.now (λ s h. limits.now ≡ map (λ (set : InputSet). set.mem_limit) s.inputs → result ≡ paused s h) }
+    {
+        if self.stopped.is_some() {
+            return all_below(limits.as_slice().len());
+        }
+        paused(self.chunks.table(), limits)
     }
 
     /// Whether nothing is owed.

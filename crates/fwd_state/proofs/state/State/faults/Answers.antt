@@ -1,4 +1,3 @@
-
 use Rattle.fwd_state.proofs.state.State.faults.Goals as goal
 
 pub returns : goal.returns

@@ -1,4 +1,3 @@
-
 use Rattle.fwd_state.proofs.state.State.hands.Goals as goal
 
 pub returns : goal.returns

@@ -1,4 +1,3 @@
-
 use Rattle.fwd_state.proofs.state.State.refuses.Goals as goal
 
 pub returns-clause-batch : goal.returns-clause-batch
