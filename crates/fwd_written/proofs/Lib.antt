@@ -1,0 +1,6 @@
+pub mod Growing
+pub mod Acting
+pub mod Lifting
+pub mod Meeting
+pub mod Ending
+pub mod Worked
