@@ -6,6 +6,7 @@ use fwd_disk_mem::MemDisk;
 use fwd_outside::Memory;
 use std::alloc::Global;
 use std::io;
+use std::thread::Threads;
 use std::time::Instant;
 
 /// How long a file is at most.
@@ -26,9 +27,13 @@ fn disk_with(alloc: Global, file: &[u8], count: u32) -> Result<MemDisk, Memory> 
 }
 
 /// How many files are found, and the time that loading takes, in microseconds.
-fn load_time(rt: &HostRuntime, disk: &mut MemDisk) -> io::Result<(usize, u128)> {
+fn load_time(
+    rt: &HostRuntime,
+    threads: &(impl Threads + Sync),
+    disk: &mut MemDisk,
+) -> io::Result<(usize, u128)> {
     let start = Instant::now(rt)?;
-    let loaded = load_all(rt, rt.alloc(), disk, b"S");
+    let loaded = load_all(threads, rt.alloc(), disk, b"S");
     let spent = start.elapsed(rt)?.as_micros();
     match loaded {
         Ok(backlog) => Ok((backlog.found.len(), spent)),
@@ -36,23 +41,33 @@ fn load_time(rt: &HostRuntime, disk: &mut MemDisk) -> io::Result<(usize, u128)> 
     }
 }
 
-fn load_once(rt: &HostRuntime, file: &[u8], count: u32) -> io::Result<(usize, u128)> {
+fn load_once(
+    rt: &HostRuntime,
+    threads: &(impl Threads + Sync),
+    file: &[u8],
+    count: u32,
+) -> io::Result<(usize, u128)> {
     match disk_with(rt.alloc(), file, count) {
-        Ok(mut disk) => load_time(rt, &mut disk),
+        Ok(mut disk) => load_time(rt, threads, &mut disk),
         Err(Memory) => Ok((0, u128::MAX)),
     }
 }
 
 /// Prints how many of so many files are found, the bytes of each, and the least time of loading them so often, in
 /// microseconds.
-pub fn measure(rt: &HostRuntime, count: u32, turns: u32) -> io::Result<()> {
+pub fn measure(
+    rt: &HostRuntime,
+    threads: &(impl Threads + Sync),
+    count: u32,
+    turns: u32,
+) -> io::Result<()> {
     let Ok(file) = plain_file(rt.alloc(), LONGEST) else {
         return rt.println("out of memory");
     };
     let mut least = u128::MAX;
     let mut found = 0;
     for _ in 0..turns {
-        let (files, spent) = load_once(rt, file.as_slice(), count)?;
+        let (files, spent) = load_once(rt, threads, file.as_slice(), count)?;
         found = files;
         least = least.min(spent);
     }

@@ -66,6 +66,6 @@ fn main(rt: HostRuntime) -> io::Result<()> {
         Measured::Forward => forward::measure(&rt, measure.count, measure.turns),
         Measured::Chunks => chunks::measure(&rt, measure.count, measure.turns),
         Measured::Reading => chunks::measure_reading(&rt, measure.count, measure.turns),
-        Measured::Loading => loading::measure(&rt, measure.count, measure.turns),
+        Measured::Loading => loading::measure(&rt, &rt, measure.count, measure.turns),
     }
 }
