@@ -1,6 +1,7 @@
 -- Each chunk in a file has a file of its own.
-use Rattle.std.proofs.Common.{◌≡◌, ◌≢◌, ℕ, List, Some, arith}
+use Rattle.std.proofs.Common.{◌≡◌, ◌≢◌, ℕ, ◌<◌, List, Some, arith}
 use Rattle.std.specs.FinMap as map
+use Rattle.fwd_base.specs.Limits.{past_numbers}
 use Rattle.fwd_kept.specs.Kept.{file_held}
 use Rattle.fwd_store.specs.Stored.{Stored}
 use Rattle.fwd_store.specs.Store.{IsSound, new_name}
@@ -8,5 +9,5 @@ use Rattle.fwd_store.specs.Store.{IsSound, new_name}
 pub own_file : (s : Stored) (n m : ℕ) (name : List ℕ) → IsSound s → file_held (map.get s.chunks n) ≡ Some name → file_held (map.get s.chunks m) ≡ Some name → n ≡ m
 own_file s n m name sound at_n at_m = sound.differ n m name at_n at_m
 
-pub next_is_new : (s : Stored) (stream : List ℕ) (n : ℕ) (name : List ℕ) → IsSound s → file_held (map.get s.chunks n) ≡ Some name → name ≢ new_name s stream
-next_is_new s stream n name sound at_n = sound.free n name at_n stream s.next (omega arith) sound.numbers
+pub next_is_new : (s : Stored) (stream : List ℕ) (n : ℕ) (name : List ℕ) → IsSound s → s.next < past_numbers → file_held (map.get s.chunks n) ≡ Some name → name ≢ new_name s stream
+next_is_new s stream n name sound less at_n = sound.free n name at_n stream s.next (omega arith) less

@@ -150,7 +150,7 @@ sound_with_new s input tag kept lt can as_held named sound = record {
   held = held_with s.root s.chunks s.next kept as_held sound.held;
   below = λ k there. held_put s.chunks s.next kept (s.next + 1) k (omega arith) (λ n is. let b : n < s.next = sound.below n is in omega arith) there;
   numbers = omega arith;
-  differ = differ_put s.chunks s.next kept sound.differ (λ m name ne here there. let w = named name here in sound.free m name there w.0 s.next (omega arith) sound.numbers w.1);
+  differ = differ_put s.chunks s.next kept sound.differ (λ m name ne here there. let w = named name here in sound.free m name there w.0 s.next (omega arith) lt w.1);
   free = free_put s.root (s.next + 1) s.chunks s.next kept (λ n name at_n. later_on s.root s.next name (sound.free n name at_n)) (λ name here. let w = named name here in new_is_no_later s.root s.next w.0 name w.1 (omega arith));
 }
 

@@ -169,7 +169,7 @@ IsHeldAs root n None = Unit {0}
 
 -- no chunk to come, from this number on, has a file of this name
 abbrev pub IsNoLater : Option (List ℕ) → ℕ → List ℕ → Type 0
-IsNoLater root next name = (stream : List ℕ) (n : ℕ) → next ≤ n → n ≤ past_numbers → name ≢ file_name (unwrap_or root []) stream n
+IsNoLater root next name = (stream : List ℕ) (n : ℕ) → next ≤ n → n < past_numbers → name ≢ file_name (unwrap_or root []) stream n
 
 -- Each open chunk is held and takes batches, and the next number is above that of each chunk that is held. No two chunks
 -- have one file, and none has the file of a chunk to come.

@@ -2,7 +2,7 @@
 
 ghost use Rattle.std.specs.Prelude.{List, [], ℕ, true, Option, Some, Ok, unwrap_or, All, ◌+◌, ◌^◌, ◌<◌, ◌≤◌, ◌++◌, ◌≡◌, ◌≢◌, length};
 ghost use Rattle.std.specs.FinMap as map;
-ghost use Rattle.fwd_base.specs.Limits.{longest_file, longest_tag};
+ghost use Rattle.fwd_base.specs.Limits.{longest_file, longest_tag, past_numbers};
 ghost use Rattle.fwd_program.specs.Program.{Way, Return};
 ghost use Rattle.fwd_program.specs.Moments.{Moments, Ends};
 ghost use Rattle.fwd_outside.specs.Disk.{DiskEntry, DiskGiven, DiskProgram};
@@ -58,11 +58,11 @@ pub fn found_content_stands()
 {}
 
 /// A name tells the number of its chunk. No two chunks of a store have one file, and none of them has the file of the next
-/// new chunk.
+/// new chunk, where there can be one.
 pub fn names_tell_numbers()
     ensures names { (root stream other : List ℕ) (n m : ℕ) → n < 10 ^ 20 → m < 10 ^ 20 → file_name root stream n ≡ file_name root other m → n ≡ m }
     ensures held { (s : Stored) (n m : ℕ) (name : List ℕ) → IsSound s → file_held (map.get s.chunks n) ≡ Some name → file_held (map.get s.chunks m) ≡ Some name → n ≡ m }
-    ensures next { (s : Stored) (stream : List ℕ) (n : ℕ) (name : List ℕ) → IsSound s → file_held (map.get s.chunks n) ≡ Some name → name ≢ new_name s stream }
+    ensures next { (s : Stored) (stream : List ℕ) (n : ℕ) (name : List ℕ) → IsSound s → s.next < past_numbers → file_held (map.get s.chunks n) ≡ Some name → name ≢ new_name s stream }
 {}
 
 /// As long as no call is about a chunk's file, it stands for its content, or each image of it for one of two contents. Of
