@@ -1,3 +1,4 @@
 mod Matching
 mod Owing
 mod Naming
+mod Outputs
