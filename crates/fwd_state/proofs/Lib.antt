@@ -12,3 +12,4 @@ pub mod Staying
 pub mod Walking
 pub mod Fitting
 pub mod Pauses
+pub mod Losses
