@@ -68,7 +68,7 @@ module _ (s : AllSettings) (r : Route) (o : Outcome) (h : History) (done : resol
   ]
 
   -- one that was resolved is so still
-  fewer : (m : ℕ) (ns : List ℕ) → (length (filter (λ n. not (is_resolved s h (route m n))) ns) == 0) ≡ true → (length (filter (λ n. not (is_resolved s (OnRoute r o ∷ h) (route m n))) ns) == 0) ≡ true
+  pub fewer : (m : ℕ) (ns : List ℕ) → (length (filter (λ n. not (is_resolved s h (route m n))) ns) == 0) ≡ true → (length (filter (λ n. not (is_resolved s (OnRoute r o ∷ h) (route m n))) ns) == 0) ≡ true
   fewer m [] none = refl
   fewer m (n ∷ ns) none = elim (cases_Bool (is_resolved s h (route m n))) [
     | inl gone ↦ elim (cases_Bool (same_route r (route m n))) [

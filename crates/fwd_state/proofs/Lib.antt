@@ -13,3 +13,4 @@ pub mod Walking
 pub mod Fitting
 pub mod Pauses
 pub mod Losses
+pub mod Others
