@@ -1,8 +1,8 @@
 -- Losses in the history, one at a time.
-use Rattle.std.proofs.Common.{◌≡◌, ◌≢◌, ◌⊎◌, ℕ, zero, suc, ◌+◌, ◌-◌, ◌<◌, ◌≤◌, Bool, true, false, ◌&&◌, not, inl, inr, List, [], ◌∷◌, ◌++◌, length, Option, Some, None, map, refl, sym, ◌∙◌, ap, subst, arith}
+use Rattle.std.proofs.Common.{◌≡◌, ◌≢◌, ℕ, suc, ◌+◌, ◌-◌, ◌<◌, ◌≤◌, Bool, true, false, ◌&&◌, not, inl, inr, List, [], ◌∷◌, length, Option, Some, None, map, refl, sym, ◌∙◌, ap, subst, arith}
 use Rattle.std.specs.Prelude.{if◌then◌else◌, ◌==◌, filter, nat_lt, nat_le, All}
 use Rattle.std.specs.List.{list_any}
-use Rattle.std.proofs.lemmas.Bool.{cases_Bool, cases_eq, ne_eqb, eq-eqb, eqb-true}
+use Rattle.std.proofs.lemmas.Bool.{cases_Bool, cases_eq, ne_eqb, eq-eqb}
 use Rattle.std.proofs.lemmas.List.{length-map}
 use Rattle.std.proofs.lemmas.List.Kept.{AllPairs-cons}
 use Rattle.std.proofs.lemmas.List.Elements.{All-cons, All-nil}
@@ -18,12 +18,11 @@ use Rattle.fwd_table.proofs.Chunks.{rise-on_chunk}
 use Rattle.fwd_limits.specs.declared.loss.Loss.{Loss}
 use Rattle.fwd_limits.specs.declared.loss.Loss.TheVariants.{Fits, Lose, NewLoses}
 use Rattle.fwd_limits.specs.Kept.{in_file, is_flying, is_waiting, size_of}
-use Rattle.fwd_limits.specs.Losses.{flying_to, others_for, fixed, lost_among, lost_to, first_chunk, loss_of, next_of, goes_on, asked}
+use Rattle.fwd_limits.specs.Losses.{others_for, fixed, lost_among, lost_to, first_chunk, loss_of, next_of, goes_on, asked}
 use Rattle.fwd_limits.proofs.Asking.{asked_is}
-use Rattle.fwd_written.specs.Fact.{Fact, History, Route, OnRoute, Lost}
+use Rattle.fwd_written.specs.Fact.{History, OnRoute, Lost}
 use Rattle.fwd_written.specs.Chunks.{ChunkOf, chunks_of, next}
 use Rattle.fwd_written.specs.Routes.{route, owed, is_owed, standing, row_of, rows_of}
-use Rattle.fwd_state.specs.Sight.{chunk_id, output_id}
 use Rattle.fwd_state.specs.Stands.{Rise}
 use Rattle.fwd_state.proofs.Ending.{rows_ended}
 

@@ -1,9 +1,9 @@
 -- What one output loses changes nothing of what another loses.
-use Rattle.std.proofs.Common.{◌≡◌, ◌≢◌, ℕ, ◌+◌, ◌-◌, ◌<◌, ◌≤◌, Bool, true, false, ◌&&◌, not, inl, inr, List, [], ◌∷◌, length, Option, Some, None, map, refl, sym, ◌∙◌, ap, subst, arith}
+use Rattle.std.proofs.Common.{◌≡◌, ℕ, ◌+◌, ◌-◌, ◌<◌, Bool, true, false, ◌&&◌, not, inl, inr, List, [], ◌∷◌, length, None, map, refl, sym, ◌∙◌, ap, arith}
 use Rattle.std.specs.Prelude.{if◌then◌else◌, ◌==◌, filter, find, nat_lt, nat_le}
 use Rattle.std.specs.List.{list_any}
 use Rattle.std.specs.Option.{option_map_or}
-use Rattle.std.proofs.lemmas.Bool.{cases_Bool, cases_eq, ne_eqb, eq-eqb, eqb-true}
+use Rattle.std.proofs.lemmas.Bool.{cases_Bool, cases_eq, ne_eqb, eq-eqb}
 use Rattle.std.proofs.lemmas.List.{length-map}
 use Rattle.std.proofs.lemmas.List.Sums.{sum_by-cons}
 use Rattle.fwd_base.specs.declared.ids.ChunkId.{ChunkId}
@@ -13,14 +13,14 @@ use Rattle.fwd_table.specs.declared.row.Row.{Row}
 use Rattle.fwd_table.specs.Routes.{is_to, flying_of}
 use Rattle.fwd_table.specs.Rows.{is_row_of, is_owed_row}
 use Rattle.fwd_limits.specs.Kept.{in_file, is_flying, is_waiting, size_of}
-use Rattle.fwd_limits.specs.Losses.{flying_to, others_for, fixed, lost_among, lost_to}
-use Rattle.fwd_written.specs.Fact.{History, Route, Outcome, OnRoute, Lost}
+use Rattle.fwd_limits.specs.Losses.{others_for, fixed, lost_among, lost_to}
+use Rattle.fwd_written.specs.Fact.{History, Route, OnRoute, Lost}
 use Rattle.fwd_written.specs.Setup.{outputs_for}
 use Rattle.fwd_written.specs.Chunks.{ChunkOf, chunks_of, next, is_shut}
 use Rattle.fwd_written.specs.Routes.{same_route, route, is_resolved, owed, is_owed, owes, standing, row_of, rows_of}
 use Rattle.fwd_state.specs.Sight.{chunk_id, output_id}
 use Rattle.fwd_state.specs.Stands.{Rise}
-use Rattle.fwd_state.proofs.Changing.{ended, standing_same}
+use Rattle.fwd_state.proofs.Changing.{standing_same}
 use Rattle.fwd_state.proofs.Ending.{fewer}
 use Rattle.fwd_state.proofs.Losses.{flying_owed, waiting_owed}
 use Rattle.fwd_state.proofs.Rising.{none_before}

@@ -1,4 +1,4 @@
-use Rattle.std.proofs.Common.{◌≡◌, List, map, ap}
+use Rattle.std.proofs.Common.{map, ap}
 use Rattle.fwd_base.specs.declared.ids.ChunkId.{ChunkId}
 use Rattle.fwd_written.specs.Routes.{route}
 use Rattle.fwd_state.proofs.Losses.{fits_next, new_next, lose_next}
