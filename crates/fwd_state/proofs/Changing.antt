@@ -1,7 +1,7 @@
 -- What one fact more changes in rows.
-use Rattle.std.proofs.Common.{◌≡◌, ◌≢◌, ℕ, ◌+◌, ◌<◌, ◌≤◌, Bool, true, false, ◌&&◌, ◌||◌, not, inl, inr, List, [], ◌∷◌, ◌++◌, Option, Some, None, map, refl, sym, ◌∙◌, ap, subst}
+use Rattle.std.proofs.Common.{◌≡◌, ℕ, ◌+◌, ◌<◌, Bool, true, false, ◌&&◌, ◌||◌, not, inl, inr, List, [], ◌∷◌, ◌++◌, None, map, refl, sym, ◌∙◌, ap, subst}
 use Rattle.std.specs.Prelude.{if◌then◌else◌, ◌==◌, filter, length, is_some}
-use Rattle.std.proofs.lemmas.Bool.{cases_Bool, cases_eq, ne_eqb, eq-eqb, eqb-true}
+use Rattle.std.proofs.lemmas.Bool.{cases_Bool, cases_eq, ne_eqb, eq-eqb}
 use Rattle.fwd_event.specs.declared.event.Event.{Event}
 use Rattle.fwd_settings.specs.declared.chosen.AllSettings.{AllSettings}
 use Rattle.fwd_flush.specs.Flight.{Progress}
@@ -10,7 +10,7 @@ use Rattle.fwd_table.specs.Routes.{due_at, started, retried, is_to, on_output}
 use Rattle.fwd_table.specs.Rows.{is_row_of, on_chunk, shut_at, grown, started_to, retried_to}
 use Rattle.fwd_table.specs.declared.row.Row.{Row}
 use Rattle.fwd_table.specs.declared.route.Route.{Route as Owed}
-use Rattle.fwd_written.specs.Fact.{Fact, History, Route, Outcome, Batch, Accepted, Behind, Shut, OnRoute, Begun, Flies, Retries, Delivered, Failed, Spent, Lost}
+use Rattle.fwd_written.specs.Fact.{History, Route, Outcome, Batch, Accepted, Behind, Shut, OnRoute, Begun, Flies, Retries, Delivered, Failed, Spent, Lost}
 use Rattle.fwd_written.specs.Setup.{plus, outputs_for}
 use Rattle.fwd_written.specs.Clock.{clock}
 use Rattle.fwd_written.specs.Chunks.{ChunkOf, chunks_of, size}

@@ -1,5 +1,5 @@
 -- What one fact more changes in rows where a route is owed no more, or a chunk begins or was found.
-use Rattle.std.proofs.Common.{◌≡◌, ◌≢◌, ℕ, ◌+◌, ◌<◌, ◌≤◌, Bool, true, false, ◌&&◌, ◌||◌, not, inl, inr, List, [], ◌∷◌, ◌++◌, Option, Some, None, map, refl, sym, ◌∙◌, ap, subst, arith}
+use Rattle.std.proofs.Common.{◌≡◌, ◌≢◌, ℕ, ◌+◌, ◌<◌, ◌≤◌, Bool, true, false, ◌||◌, not, inl, inr, List, [], ◌∷◌, ◌++◌, Option, Some, None, map, refl, sym, ◌∙◌, ap, subst, arith}
 use Rattle.std.specs.Prelude.{if◌then◌else◌, ◌==◌, filter, length}
 use Rattle.std.proofs.lemmas.Bool.{cases_Bool, cases_eq, ne_eqb, eq-eqb, eqb-true}
 use Rattle.std.proofs.lemmas.List.{length-map, map-append}
@@ -7,11 +7,11 @@ use Rattle.std.proofs.lemmas.List.Elements.{filter-append}
 use Rattle.fwd_found.specs.declared.chunk.Chunk.{Chunk}
 use Rattle.fwd_outside.specs.declared.home.Home.TheVariants.{Disk}
 use Rattle.fwd_settings.specs.declared.chosen.AllSettings.{AllSettings}
-use Rattle.fwd_table.specs.Routes.{idle_at, routes_to, is_to, without_output, due_at}
-use Rattle.fwd_table.specs.Rows.{is_row_of, on_chunk, resolved_to, owed_rows, is_owed_row, shut_at, opened as opened_row}
+use Rattle.fwd_table.specs.Routes.{idle_at, routes_to, without_output, due_at}
+use Rattle.fwd_table.specs.Rows.{is_row_of, on_chunk, resolved_to, owed_rows, shut_at, opened as opened_row}
 use Rattle.fwd_table.specs.declared.row.Row.{Row}
 use Rattle.fwd_table.specs.declared.route.Route.{Route as Owed}
-use Rattle.fwd_written.specs.Fact.{Fact, History, Route, Outcome, Batch, First, Accepted, Found, OnRoute}
+use Rattle.fwd_written.specs.Fact.{History, Route, Outcome, Batch, First, Accepted, Found, OnRoute}
 use Rattle.fwd_written.specs.Setup.{outputs_for, output_name, home_at}
 use Rattle.fwd_written.specs.Found.{found_in, has_done}
 use Rattle.fwd_written.specs.Chunks.{ChunkOf, chunks_of, found_as, size, spelled, is_shut}
@@ -68,7 +68,7 @@ module _ (s : AllSettings) (r : Route) (o : Outcome) (h : History) (done : resol
   ]
 
   -- one that was resolved is so still
-  fewer : (m : ℕ) (ns : List ℕ) → (length (filter (λ n. not (is_resolved s h (route m n))) ns) == 0) ≡ true → (length (filter (λ n. not (is_resolved s (OnRoute r o ∷ h) (route m n))) ns) == 0) ≡ true
+  pub fewer : (m : ℕ) (ns : List ℕ) → (length (filter (λ n. not (is_resolved s h (route m n))) ns) == 0) ≡ true → (length (filter (λ n. not (is_resolved s (OnRoute r o ∷ h) (route m n))) ns) == 0) ≡ true
   fewer m [] none = refl
   fewer m (n ∷ ns) none = elim (cases_Bool (is_resolved s h (route m n))) [
     | inl gone ↦ elim (cases_Bool (same_route r (route m n))) [

@@ -1,19 +1,19 @@
 -- Which chunks have rows, behind one fact more.
-use Rattle.std.proofs.Common.{◌≡◌, ◌≢◌, ℕ, ◌+◌, ◌<◌, ◌≤◌, Bool, true, false, ◌&&◌, ◌||◌, not, inl, inr, List, [], ◌∷◌, ◌++◌, Option, Some, None, map, refl, sym, ◌∙◌, ap, subst, arith}
-use Rattle.std.specs.Prelude.{if◌then◌else◌, ◌==◌, filter, find, length, is_some}
+use Rattle.std.proofs.Common.{◌≡◌, ◌≢◌, ℕ, ◌+◌, ◌<◌, Bool, true, false, not, inl, inr, List, [], ◌∷◌, ◌++◌, None, map, refl, sym, ◌∙◌, ap, arith}
+use Rattle.std.specs.Prelude.{if◌then◌else◌, ◌==◌, filter, find, length}
 use Rattle.std.specs.Option.{option_map_or}
 use Rattle.std.proofs.lemmas.Bool.{cases_Bool, cases_eq, ne_eqb, eq-eqb, eqb-true}
 use Rattle.fwd_settings.specs.declared.chosen.AllSettings.{AllSettings}
 use Rattle.fwd_base.specs.declared.ids.ChunkId.{ChunkId}
-use Rattle.fwd_table.specs.Rows.{is_row_of, on_chunk, has_row, row_at, resolved_to, owed_rows, is_owed_row}
+use Rattle.fwd_table.specs.Rows.{is_row_of, on_chunk, has_row}
 use Rattle.fwd_table.specs.declared.row.Row.{Row}
-use Rattle.fwd_written.specs.Fact.{Fact, History, Route, Outcome, OnRoute}
+use Rattle.fwd_written.specs.Fact.{History, Route, Outcome, OnRoute}
 use Rattle.fwd_written.specs.Setup.{outputs_for}
-use Rattle.fwd_written.specs.Chunks.{ChunkOf, chunks_of, chunk_at, is_shut, next}
+use Rattle.fwd_written.specs.Chunks.{ChunkOf, chunks_of, is_shut, next}
 use Rattle.fwd_written.specs.Routes.{resolves, owed, is_owed, owes, row_of, rows_of}
-use Rattle.fwd_state.specs.Sight.{chunk_id, output_id}
+use Rattle.fwd_state.specs.Sight.{chunk_id}
 use Rattle.fwd_state.specs.Stands.{Rise, is_open}
-use Rattle.fwd_state.proofs.Ending.{rows_ended, kept_same}
+use Rattle.fwd_state.proofs.Ending.{kept_same}
 use Rattle.fwd_state.proofs.Rising.{none_before}
 use Rattle.fwd_state.proofs.Standing.{open_is}
 

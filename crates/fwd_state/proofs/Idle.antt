@@ -1,17 +1,17 @@
 -- What is so of an idle route.
-use Rattle.std.proofs.Common.{◌≡◌, ℕ, ◌+◌, ◌<◌, Bool, true, false, ◌&&◌, not, inl, inr, List, [], ◌∷◌, Option, Some, None, map, refl, sym, ◌∙◌, ap, subst}
-use Rattle.std.specs.Prelude.{if◌then◌else◌, ◌==◌, filter, find, is_some}
+use Rattle.std.proofs.Common.{◌≡◌, ℕ, true, false, ◌&&◌, not, inl, inr, List, [], ◌∷◌, Option, Some, None, map, refl, sym, ◌∙◌, ap}
+use Rattle.std.specs.Prelude.{◌==◌, filter, find, is_some}
 use Rattle.std.specs.Option.{option_map_or}
 use Rattle.std.proofs.lemmas.Bool.{cases_Bool, eqb-true}
 use Rattle.fwd_settings.specs.declared.chosen.AllSettings.{AllSettings}
 use Rattle.fwd_flush.specs.Flight.{Progress}
 use Rattle.fwd_table.specs.Routes.{is_to}
-use Rattle.fwd_table.specs.Rows.{is_row_of, row_at, has_row, tries_of, is_idle_in, waits_for}
+use Rattle.fwd_table.specs.Rows.{row_at, has_row, tries_of, waits_for}
 use Rattle.fwd_table.specs.declared.row.Row.{Row}
 use Rattle.fwd_table.specs.declared.route.Route.{Route as Owed}
 use Rattle.fwd_written.specs.Fact.{History, Route}
 use Rattle.fwd_written.specs.Chunks.{ChunkOf, chunks_of, is_shut, next}
-use Rattle.fwd_written.specs.Routes.{route, tries, flight, owed, is_owed, is_idle, standing, row_of, rows_of}
+use Rattle.fwd_written.specs.Routes.{tries, flight, owed, is_owed, is_idle, standing, row_of, rows_of}
 use Rattle.fwd_state.specs.Sight.{chunk_id, output_id}
 use Rattle.fwd_state.specs.Stands.{Rise, IsClosedRoute}
 use Rattle.fwd_state.proofs.Having.{has_given}

@@ -12,3 +12,5 @@ pub mod Staying
 pub mod Walking
 pub mod Fitting
 pub mod Pauses
+pub mod Losses
+pub mod Others

@@ -1,6 +1,6 @@
 -- What a found file counts as, and what it adds to the chunks.
-use Rattle.std.proofs.Common.{◌≡◌, ◌≢◌, ℕ, ◌+◌, ◌<◌, ◌≤◌, Bool, true, false, not, inl, inr, List, [], ◌∷◌, ◌++◌, Option, Some, None, refl, sym, ◌∙◌, ap, subst, arith}
-use Rattle.std.specs.Prelude.{if◌then◌else◌, filter}
+use Rattle.std.proofs.Common.{◌≡◌, ◌≢◌, ℕ, ◌<◌, ◌≤◌, Bool, true, false, not, inl, inr, List, [], ◌∷◌, ◌++◌, Option, Some, None, refl, sym, ◌∙◌, ap, subst, arith}
+use Rattle.std.specs.Prelude.{filter}
 use Rattle.std.specs.List.{list_all}
 use Rattle.std.proofs.lemmas.Bool.{cases_Bool}
 use Rattle.fwd_found.specs.declared.chunk.Chunk.{Chunk}
@@ -9,7 +9,7 @@ use Rattle.fwd_written.specs.Fact.{History, Found}
 use Rattle.fwd_written.specs.Setup.{outputs_for, output_name}
 use Rattle.fwd_written.specs.Found.{found_in, has_done}
 use Rattle.fwd_written.specs.Chunks.{ChunkOf, chunks_of, found_as, next}
-use Rattle.fwd_written.specs.Tallies.{Loading, Loads, Unrouted, Leaves, loading_by, loading_of}
+use Rattle.fwd_written.specs.Tallies.{Loads, Unrouted, Leaves, loading_by, loading_of}
 use Rattle.fwd_state.specs.Stands.{Rise, left_for}
 use Rattle.fwd_state.proofs.Changing.{no_more}
 use Rattle.fwd_state.proofs.Rising.{rise_later, rise_append, rise_first}

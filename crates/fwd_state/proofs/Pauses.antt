@@ -1,5 +1,5 @@
 -- A mask that has a bit for each paused input is their sum.
-use Rattle.std.proofs.Common.{◌≡◌, ◌≢◌, ◌⊎◌, inl, inr, ◌↔◌, ℕ, zero, suc, ◌+◌, ◌-◌, ◌*◌, ◌<◌, ◌≤◌, Bool, true, false, ◌||◌, List, [], ◌∷◌, length, map, Option, Some, None, refl, sym, ◌∙◌, ap, subst, arith}
+use Rattle.std.proofs.Common.{◌≡◌, inl, inr, ◌↔◌, ℕ, zero, suc, ◌+◌, ◌-◌, ◌*◌, ◌<◌, ◌≤◌, Bool, true, false, List, [], length, map, Option, Some, None, refl, sym, ◌∙◌, ap, subst, arith}
 use Prim.Native.Nat.{◌^◌}
 use Rattle.std.specs.Prelude.{if◌then◌else◌, slice_get, option_map, sum_by, IsSomeAnd, is_some}
 use Rattle.std.specs.Int.{IsBitSet, bit_at}
@@ -7,13 +7,12 @@ use Rattle.std.specs.List.{range_with_len}
 use Rattle.std.specs.Option.{option_and_then}
 use Rattle.std.proofs.lemmas.Bool.{cases_Bool, cases_eq, cases_lt}
 use Rattle.std.proofs.lemmas.Grind.{pow_more}
-use Rattle.std.proofs.lemmas.Nat.{bit_set_by_shift, pow_pos}
-use Rattle.std.proofs.lemmas.Nat.Bits.{shr_and_one, bit_at-lt, bit_at_above, bit_at_cat_low, bit_at_cat_high, same_from_bits, bit_at-zero}
+use Rattle.std.proofs.lemmas.Nat.{bit_set_by_shift}
+use Rattle.std.proofs.lemmas.Nat.Bits.{shr_and_one, bit_at-lt, bit_at_above, bit_at_cat_low, bit_at_cat_high, same_from_bits}
 use Rattle.std.proofs.lemmas.List.Sums.{sum_by-cons}
 use Rattle.std.proofs.lemmas.Option.{slice_get-map, slice_get_within}
 use Rattle.fwd_settings.specs.declared.chosen.AllSettings.{AllSettings}
 use Rattle.fwd_settings.specs.declared.chosen.InputSet.{InputSet}
-use Rattle.fwd_table.specs.declared.row.Row.{Row}
 use Rattle.fwd_limits.specs.Pausing.{IsPaused, reaches, memory_of}
 use Rattle.fwd_written.specs.Fact.{History}
 use Rattle.fwd_written.specs.Setup.{mem_limit_at}

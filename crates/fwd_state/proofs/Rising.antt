@@ -1,8 +1,8 @@
 -- Chunks whose numbers rise and are below another.
-use Rattle.std.proofs.Common.{◌≡◌, ℕ, ◌+◌, ◌<◌, ◌≤◌, Bool, true, false, inl, inr, List, [], ◌∷◌, ◌++◌, Option, Some, None, refl, sym, ◌∙◌, ap, arith}
-use Rattle.std.specs.Prelude.{◌==◌, max, find}
-use Rattle.std.proofs.lemmas.Bool.{cases_Bool, ne_eqb, eq-eqb, eqb-true}
-use Rattle.fwd_written.specs.Fact.{Fact, History, Found, Offers}
+use Rattle.std.proofs.Common.{◌≡◌, ℕ, ◌+◌, ◌<◌, ◌≤◌, false, inl, inr, List, [], ◌∷◌, ◌++◌, None, refl, arith}
+use Rattle.std.specs.Prelude.{◌==◌, find}
+use Rattle.std.proofs.lemmas.Bool.{cases_Bool, ne_eqb}
+use Rattle.fwd_written.specs.Fact.{History, Found, Offers}
 use Rattle.fwd_written.specs.Chunks.{ChunkOf, next}
 use Rattle.fwd_state.specs.Stands.{Rise}
 

@@ -1,5 +1,5 @@
 -- Chunks that aren't there yet, open chunks, and flights, behind one fact more.
-use Rattle.std.proofs.Common.{◌≡◌, ◌≢◌, ℕ, ◌+◌, ◌<◌, ◌≤◌, Bool, true, false, ◌&&◌, not, inl, inr, List, [], ◌∷◌, ◌++◌, Option, Some, None, map, refl, sym, ◌∙◌, ap, subst, arith}
+use Rattle.std.proofs.Common.{◌≡◌, ◌≢◌, ℕ, ◌<◌, ◌≤◌, Bool, true, false, not, inl, inr, List, [], ◌∷◌, ◌++◌, Option, Some, None, refl, sym, ◌∙◌, ap, subst, arith}
 use Rattle.std.specs.Prelude.{if◌then◌else◌, ◌==◌, filter, find}
 use Rattle.std.specs.List.{list_any}
 use Rattle.std.specs.Option.{option_map_or}
@@ -8,14 +8,13 @@ use Rattle.fwd_found.specs.declared.chunk.Chunk.{Chunk}
 use Rattle.fwd_settings.specs.declared.chosen.AllSettings.{AllSettings}
 use Rattle.fwd_flush.specs.Flight.{Progress, link_in}
 use Rattle.fwd_base.specs.declared.ids.LinkId.{LinkId}
-use Rattle.fwd_written.specs.Fact.{Fact, History, Route, Outcome, Batch, Where, Nowhere, First, Behind, Flies, Accepted, Found, Offers, Shut, OnRoute}
+use Rattle.fwd_written.specs.Fact.{History, Route, Outcome, Batch, Where, Nowhere, First, Behind, Flies, Accepted, Found, Offers, Shut, OnRoute}
 use Rattle.fwd_written.specs.Setup.{output_at}
 use Rattle.fwd_written.specs.Found.{found_in}
-use Rattle.fwd_written.specs.Chunks.{ChunkOf, chunks_of, found_as, next, is_shut, open_chunks, goes_to}
-use Rattle.fwd_written.specs.Routes.{same_route, route, is_link, flies_on, progress_of, other_than, route_on, flight, tries, rows_of, begun}
+use Rattle.fwd_written.specs.Chunks.{ChunkOf, chunks_of, found_as, next, is_shut, goes_to}
+use Rattle.fwd_written.specs.Routes.{same_route, is_link, flies_on, progress_of, other_than, route_on, flight, begun}
 use Rattle.fwd_written.specs.Payloads.{tag_for, delivery, delivery_at}
-use Rattle.fwd_state.specs.Sight.{route_of}
-use Rattle.fwd_state.specs.Stands.{Rise, is_open, IsUntouched, IsClosedRoute, IsFlightOf, IsKept, IsCarried}
+use Rattle.fwd_state.specs.Stands.{is_open, IsUntouched, IsFlightOf, IsKept, IsCarried}
 use Rattle.fwd_state.specs.declared.flights.Flight.{Flight}
 use Rattle.fwd_state.proofs.Changing.{no_more}
 use Rattle.fwd_state.proofs.Rising.{found_append}

@@ -1,7 +1,6 @@
 -- What is seen of a state is what the history gives.
 use Rattle.std.specs.Prelude.{◌≡◌, ◌≢◌, ℕ, ◌+◌, ◌<◌, ◌≤◌, ◌==◌, not, Bool, true, false, List, [], ◌∷◌, length, map, filter, Option, Some, None}
 use Rattle.std.specs.List.{list_any}
-use Rattle.fwd_base.specs.declared.ids.LinkId.{LinkId}
 use Rattle.fwd_outside.specs.declared.happening.Happening.{Happening}
 use Rattle.fwd_outside.specs.declared.happening.Happening.TheVariants as happening
 use Rattle.fwd_found.specs.declared.chunk.Chunk.{Chunk}

@@ -1,11 +1,16 @@
 //! What facts leave a state as it is.
 
-ghost use Rattle.std.specs.Prelude.{◌≡◌, true, ◌∷◌, ◌+◌, ℕ, List, Option, Some, None};
+ghost use Rattle.std.specs.Prelude.{◌≡◌, ◌==◌, true, false, [], ◌∷◌, ◌+◌, ℕ, List, Option, Some, None};
+ghost use Rattle.fwd_base.specs.declared.ids.ChunkId.{ChunkId};
+ghost use Rattle.fwd_base.specs.declared.ids.OutputId.{OutputId};
 ghost use Rattle.fwd_event.specs.declared.event.Event.{Event};
 ghost use Rattle.fwd_settings.specs.declared.chosen.AllSettings.{AllSettings};
-ghost use Rattle.fwd_written.specs.Fact.{Fact, History, Route, Batch, Offers, OnRoute, Begun};
+ghost use Rattle.fwd_written.specs.Fact.{Fact, History, Route, Batch, Offers, OnRoute, Begun, Lost};
 ghost use Rattle.fwd_written.specs.Chunks.{next};
-ghost use Rattle.fwd_written.specs.Routes.{is_idle};
+ghost use Rattle.fwd_written.specs.Routes.{route, is_idle, owes, rows_of};
+ghost use Rattle.fwd_written.specs.Limits.{losses_to};
+ghost use Rattle.fwd_limits.specs.Losses.{next_of};
+ghost use Rattle.fwd_limits.specs.declared.loss.Loss.TheVariants.{Fits, Lose, NewLoses};
 ghost use Rattle.fwd_state.specs.Stands.{Stands, Shows, IsClosedRoute, IsNew, is_others};
 ghost use Rattle.fwd_state.specs.declared.state.State.{State};
 
@@ -27,4 +32,23 @@ pub fn begun_is_out()
 /// An idle route is of a chunk that is there and closed.
 pub fn idle_is_closed()
     ensures { (s : AllSettings) (state : State) (h : History) (out : Option Route) (r : Route) → Stands s state h out → is_idle s h r ≡ true → IsClosedRoute h r }
+{}
+
+/// What an output loses where a chunk has closed, one loss at a time: nothing where all fits in; the chunk itself; or the
+/// first one, and then what is lost behind it.
+pub fn losses_one_by_one()
+    ensures fits { (s : AllSettings) (state : State) (h : History) (out : Option Route) (output : OutputId) (limit : ℕ) (chunk : ChunkId) → Stands s state h out
+        → next_of output limit chunk (rows_of s h) ≡ Fits → losses_to s h chunk.0 output.0 (Some limit) ≡ [] }
+    ensures new { (s : AllSettings) (state : State) (h : History) (out : Option Route) (output : OutputId) (limit : ℕ) (chunk : ChunkId) → Stands s state h out
+        → next_of output limit chunk (rows_of s h) ≡ NewLoses → losses_to s h chunk.0 output.0 (Some limit) ≡ route chunk.0 output.0 ∷ [] }
+    ensures lose { (s : AllSettings) (state : State) (h : History) (out : Option Route) (output : OutputId) (limit : ℕ) (chunk first : ChunkId) → Stands s state h out
+        → next_of output limit chunk (rows_of s h) ≡ Lose first
+        → losses_to s h chunk.0 output.0 (Some limit) ≡ route first.0 output.0 ∷ losses_to s (OnRoute (route first.0 output.0) Lost ∷ h) chunk.0 output.0 (Some limit) }
+{}
+
+/// What an output loses changes nothing of what another one loses, as long as the chunk that has closed is owed still.
+pub fn others_lose_the_same()
+    ensures { (s : AllSettings) (state : State) (h : History) (out : Option Route) (r : Route) (other chunk : ℕ) (limit : Option ℕ) → Stands s state h out
+        → (r.output == other) ≡ false → owes s (OnRoute r Lost ∷ h) chunk ≡ true
+        → losses_to s (OnRoute r Lost ∷ h) chunk other limit ≡ losses_to s h chunk other limit }
 {}

@@ -17,7 +17,10 @@ mod state;
 mod walks;
 
 pub use flights::{Flight, RouteId};
-pub use laws::{begun_is_out, idle_is_closed, offered_is_new, others_change_nothing};
+pub use laws::{
+    begun_is_out, idle_is_closed, losses_one_by_one, offered_is_new, others_change_nothing,
+    others_lose_the_same,
+};
 pub use reader::Reader;
 pub use rooms::UpLimits;
 pub use state::{Place, State};

@@ -5,6 +5,7 @@ ghost use Rattle.fwd_base.specs.Limits.{most_inputs};
 ghost use Rattle.fwd_outside.specs.declared.happening.Happening.TheVariants as happening;
 ghost use Rattle.fwd_settings.specs.declared.chosen.AllSettings.{AllSettings};
 ghost use Rattle.fwd_settings.specs.declared.chosen.InputSet.{InputSet};
+ghost use Rattle.fwd_limits.specs.Losses.{next_of};
 ghost use Rattle.fwd_written.specs.Fact.{History, Batch, Nowhere, First, Behind, Reason, Brought, Misread, Found, Accepted, Refused, Shut, Handed, OnRoute, Flies, Retries, Delivered, Failed, Spent, Lost, Faulted};
 ghost use Rattle.fwd_written.specs.Setup.{plus, outputs_for, home_at, reads_standard_at, output_at, places_at};
 ghost use Rattle.fwd_written.specs.Clock.{clock, ticked, stopped, next_closing, is_closing};
@@ -26,7 +27,7 @@ use crate::rooms::{UpLimits, fits_in};
 use crate::walks::due_in;
 use fwd_base::limits::LAST_READING;
 use fwd_base::{Bytes, ChunkId, InputId, LinkId, Memory, OutputId};
-use fwd_limits::{MemLimits, paused};
+use fwd_limits::{Loss, MemLimits, next_loss, paused};
 use fwd_outside::Home;
 use fwd_table::{Table, Tally};
 use std::alloc::Global;
@@ -365,6 +366,13 @@ impl State {
             return all_below(limits.as_slice().len());
         }
         paused(self.chunks.table(), limits)
+    }
+
+    /// What an output with this limit loses next where a chunk has closed.
+    pub fn next_loss(&self, output: OutputId, limit: u64, chunk: ChunkId) -> Loss
+        ensures { Tells self.now (λ s h. result ≡ next_of output limit chunk (rows_of s h)) }
+    {
+        next_loss(self.chunks.table(), output, limit, chunk)
     }
 
     /// Whether nothing is owed.

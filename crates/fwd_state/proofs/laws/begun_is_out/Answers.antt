@@ -1,4 +1,4 @@
-use Rattle.std.proofs.Common.{◌≡◌, ℕ, refl, sym, ◌∙◌, ap}
+use Rattle.std.proofs.Common.{refl, sym, ◌∙◌, ap}
 use Rattle.fwd_table.specs.Rows.{has_row}
 use Rattle.fwd_written.specs.Fact.{Begun}
 use Rattle.fwd_state.specs.Sight.{chunk_id}

@@ -1,4 +1,4 @@
-use Rattle.std.proofs.Common.{◌≤◌, refl, arith}
+use Rattle.std.proofs.Common.{arith}
 use Rattle.fwd_written.specs.Chunks.{next}
 use Rattle.fwd_state.proofs.Rising.{next_least}
 use Rattle.fwd_state.proofs.laws.offered_is_new.Goals as goal

@@ -1,9 +1,8 @@
-use Rattle.std.proofs.Common.{◌≡◌, List, Some, ◌++◌, [], ◌∷◌, map, filter, sym, ◌∙◌, ap, append_assoc}
+use Rattle.std.proofs.Common.{List, ◌++◌, [], ◌∷◌, map, filter, sym, ◌∙◌, ap, append_assoc}
 use Rattle.std.proofs.lemmas.List.{map-append}
 use Rattle.fwd_retry.specs.declared.timer.Timer.{Timer}
 use Rattle.fwd_retry.specs.Timer.{is_next}
 use Rattle.fwd_table.specs.Rows.{idle_timers_of}
-use Rattle.fwd_written.specs.Fact.{Route}
 use Rattle.fwd_written.specs.Walk.{route_of as timer_route}
 use Rattle.fwd_state.specs.Sight.{route_of}
 use Rattle.fwd_state.proofs.Walking.{turn, first_found, fewer_left}

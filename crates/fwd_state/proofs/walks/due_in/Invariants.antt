@@ -1,4 +1,4 @@
-use Rattle.std.proofs.Common.{◌≡◌, ◌++◌, ℕ, length, map, filter}
+use Rattle.std.proofs.Common.{◌≡◌, ◌++◌, length, map, filter}
 use Rattle.std.specs.Prelude.{nat_le}
 use Rattle.fwd_retry.specs.declared.timer.Timer.{Timer}
 use Rattle.fwd_retry.specs.Timer.{is_next}

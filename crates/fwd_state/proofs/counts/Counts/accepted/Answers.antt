@@ -1,5 +1,4 @@
 use Rattle.std.proofs.Common.{◌≡◌, ℕ, refl, subst, ◌∷◌}
-use Rattle.std.specs.Prelude.{length}
 use Rattle.fwd_written.specs.Fact.{Accepted}
 use Rattle.fwd_written.specs.Tallies.{input_tally}
 use Rattle.fwd_state.specs.Changes.{changed_at, input_changed}

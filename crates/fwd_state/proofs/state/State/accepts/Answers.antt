@@ -1,4 +1,4 @@
-use Rattle.std.proofs.Common.{◌≡◌, ℕ, ◌∷◌, List, refl, sym, ◌∙◌, ap, subst, map}
+use Rattle.std.proofs.Common.{◌≡◌, ◌∷◌, List, refl, sym, ◌∙◌, ap, subst, map}
 use Rattle.std.specs.Prelude.{filter}
 use Rattle.fwd_table.specs.Rows.{has_row}
 use Rattle.fwd_written.specs.Fact.{Accepted, Nowhere}

@@ -1,4 +1,4 @@
-use Rattle.std.proofs.Common.{◌≡◌, ℕ, ◌<◌, List, refl, sym, ◌∙◌, ap, subst}
+use Rattle.std.proofs.Common.{ℕ, ◌<◌, List, refl, sym, ◌∙◌, ap, subst}
 use Rattle.fwd_table.specs.Rows.{on_chunk, resolved_to, owed_rows}
 use Rattle.fwd_table.specs.declared.row.Row.{Row}
 use Rattle.fwd_written.specs.Fact.{Delivered}

@@ -1,7 +1,6 @@
-use Rattle.std.proofs.Common.{◌≡◌, ℕ, ◌<◌, ◌≤◌, ◌∷◌, ◌++◌, [], None, List, refl, sym, ◌∙◌, ap, subst, arith}
+use Rattle.std.proofs.Common.{ℕ, ◌<◌, ◌≤◌, ◌∷◌, ◌++◌, [], None, refl, sym, ◌∙◌, ap, subst, arith}
 use Rattle.fwd_outside.specs.declared.home.Home.TheVariants.{Disk}
 use Rattle.fwd_table.specs.Rows.{has_row, on_chunk, opened, shut_at}
-use Rattle.fwd_table.specs.declared.row.Row.{Row}
 use Rattle.fwd_written.specs.Chunks.{chunks_of, next}
 use Rattle.fwd_written.specs.Routes.{rows_of}
 use Rattle.fwd_state.specs.Sight.{chunk_id}

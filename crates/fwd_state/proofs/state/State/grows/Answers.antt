@@ -1,6 +1,6 @@
-use Rattle.std.proofs.Common.{◌≡◌, ℕ, ◌<◌, ◌∷◌, refl, sym, ◌∙◌, ap, subst}
+use Rattle.std.proofs.Common.{ℕ, ◌<◌, refl, sym, ◌∙◌, ap, subst}
 use Rattle.fwd_table.specs.Rows.{has_row, on_chunk, grown}
-use Rattle.fwd_written.specs.Fact.{Accepted, Behind}
+use Rattle.fwd_written.specs.Fact.{Behind}
 use Rattle.fwd_written.specs.Chunks.{chunks_of, next}
 use Rattle.fwd_written.specs.Routes.{rows_of}
 use Rattle.fwd_state.specs.Sight.{chunk_id}

@@ -1,4 +1,4 @@
-use Rattle.std.proofs.Common.{List, ◌∙◌, ap}
+use Rattle.std.proofs.Common.{◌∙◌, ap}
 use Rattle.fwd_table.specs.Rows.{has_row}
 use Rattle.fwd_state.proofs.Having.{has_owes}
 use Rattle.fwd_state.proofs.state.State.owes.Goals as goal

@@ -1,5 +1,5 @@
-use Rattle.std.proofs.Common.{◌≡◌, ◌↔◌, ℕ, ◌<◌, List, length, map, Option, Some, None, true, false, sym, ◌∙◌, ap, subst}
-use Rattle.std.specs.Prelude.{IsBitSet, is_some}
+use Rattle.std.proofs.Common.{◌≡◌, ◌↔◌, ℕ, ◌<◌, List, length, sym, ◌∙◌, ap, subst}
+use Rattle.std.specs.Prelude.{IsBitSet}
 use Rattle.std.proofs.lemmas.List.{length-map}
 use Rattle.fwd_settings.specs.declared.chosen.InputSet.{InputSet}
 use Rattle.fwd_table.specs.declared.row.Row.{Row}

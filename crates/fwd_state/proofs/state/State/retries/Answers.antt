@@ -1,4 +1,4 @@
-use Rattle.std.proofs.Common.{◌≡◌, ℕ, ◌<◌, refl, sym, ◌∙◌, ap, subst}
+use Rattle.std.proofs.Common.{ℕ, ◌<◌, refl, sym, ◌∙◌, ap, subst}
 use Rattle.fwd_table.specs.Answers.{due_after}
 use Rattle.fwd_table.specs.Rows.{has_row, on_chunk, retried_to}
 use Rattle.fwd_written.specs.Fact.{Retries}

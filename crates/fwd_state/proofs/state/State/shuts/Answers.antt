@@ -1,4 +1,4 @@
-use Rattle.std.proofs.Common.{◌≡◌, ℕ, ◌<◌, ◌∷◌, refl, sym, ◌∙◌, ap, subst}
+use Rattle.std.proofs.Common.{ℕ, ◌<◌, refl, sym, ◌∙◌, ap, subst}
 use Rattle.fwd_table.specs.Rows.{has_row, on_chunk, shut_at}
 use Rattle.fwd_written.specs.Clock.{clock}
 use Rattle.fwd_written.specs.Routes.{rows_of}
