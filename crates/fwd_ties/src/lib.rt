@@ -1,0 +1,2 @@
+//! What the facts of a written run mean in its calls.
+#![tactic(auto)]
