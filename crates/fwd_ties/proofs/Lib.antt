@@ -2,3 +2,4 @@ pub mod Members
 pub mod Walking
 pub mod Standing
 pub mod Deeds
+pub mod Outer
