@@ -8,6 +8,7 @@ use Rattle.fwd_base.specs.Limits.{past_numbers}
 use Rattle.fwd_program.specs.Program.{entry, Return, Ask, bind}
 use Rattle.fwd_outside.specs.Loop.{LoopCall, Start, Wait, Dial, Push, Close, Reply, DropConn, Word}
 use Rattle.fwd_outside.specs.Disk.{DiskProgram}
+use Rattle.fwd_outside.specs.Files.{FilesProgram}
 use Rattle.fwd_outside.specs.declared.happening.Happening.{Happening}
 use Rattle.fwd_outside.specs.declared.happening.Happening.TheVariants as happening
 use Rattle.fwd_outside.specs.declared.ends.Ends.{Ends}
@@ -253,3 +254,81 @@ module _ (s : AllSettings) (K : Past → Type 0) (stable : IsKept s IsOuter K) w
   told_pieces : (before : History) (input conn : ℕ) (bytes : List ℕ) (past : Past) → Ready past → Told past (pieces s before input conn bytes (noted past))
   unfolding pieces
   told_pieces before input conn bytes past ready = told_hears before input bytes (stream_of s before input conn) past ready
+
+  -- ---- polls
+
+  told_polled : (input index : ℕ) (past : Past) (poll : Option Poll) → Ready past → Told past (polled s input index (noted past) poll)
+  told_polled input index past None ready = (ready.0, λ answer. let then = on (Note Faulted) answer past tt tt ready in (then.0, (refl, then.1)))
+  told_polled input index past (Some poll) ready =
+      (ready.0, λ answer.
+          told_takes (poll_batch s (noted past) input index poll) (entry (Note (Polled input index poll.long poll.bytes)) answer ∷ past) (on (Note (Polled input index poll.long poll.bytes)) answer past tt tt ready))
+
+  told_behind_files : {R : Type 0} (p : FilesProgram R) (past : Past) (next : R → History → Act History) → Ready past
+      → ((x : R) (now : Past) → Ready now → Told now (next x (noted now))) → Told past (bind (on_files p) (λ (x : R). next x (noted past)))
+  told_behind_files (Return x) past next ready more = more x past ready
+  told_behind_files (Ask call go) past next ready more =
+      (ready.0, λ answer. told_behind_files (go answer) (entry (OnFiles call) answer ∷ past) next (on (OnFiles call) answer past tt tt ready) more)
+
+  told_polls_file : (input index : ℕ) (path : List ℕ) (past : Past) → Ready past → Told past (polls_file s input index path (noted past))
+  unfolding polls_file
+  told_polls_file input index path past ready =
+      told_behind_files (polls_of path (from_head_at s input) (file_at s (noted past) input index).place) past (λ poll h. polled s input index h poll) ready (λ poll now then. told_polled input index now poll then)
+
+  told_polls_files : (input index : ℕ) (paths : List (List ℕ)) (past : Past) → Ready past → Told past (polls_files s input index paths (noted past))
+  told_polls_files input index [] past ready = nothing past ready
+  told_polls_files input index (path ∷ paths) past ready =
+      told_then past (polls_file s input index path (noted past)) (polls_files s input (index + 1) paths) (told_polls_file input index path past ready)
+      (λ now grown then. told_polls_files input (index + 1) paths now then)
+
+  told_follows : (input : ℕ) (past : Past) → Ready past → Told past (follows s input (noted past))
+  unfolding follows
+  told_follows input past ready =
+      walks_if (Due s) (λ (h : History) (now : Past). (h ≡ noted now) × K now) (is_paused s (noted past) input) past (Return (noted past)) (polls_files s input 0 (paths_at s input) (noted past))
+      (λ yes. nothing past ready) (λ no. told_polls_files input 0 (paths_at s input) past ready)
+
+  told_follows_each : (inputs : List ℕ) (past : Past) → Ready past → Told past (follows_each s inputs (noted past))
+  told_follows_each [] past ready = nothing past ready
+  told_follows_each (input ∷ inputs) past ready =
+      told_then past (follows s input (noted past)) (follows_each s inputs) (told_follows input past ready) (λ now grown then. told_follows_each inputs now then)
+
+  told_follows_all : (past : Past) → Ready past → Told past (follows_all s (noted past))
+  unfolding follows_all
+  told_follows_all past ready = told_follows_each (range_with_len 0 (length s.inputs)) past ready
+
+  -- ---- steps
+
+  told_walks : (closing : Bool) (past : Past) → Ready past → Told past (walks s closing (noted past))
+  unfolding walks
+  told_walks true past ready = told_then past (closes_all s (noted past)) (walk s) (tells_closes_all s K inner past ready) (λ now grown then. tells_walk s K inner now then)
+  told_walks false past ready = tells_walk s K inner past ready
+
+  told_ticks : (closing : Bool) (past : Past) → Ready past → Told past (ticks s closing (noted past))
+  unfolding ticks
+  told_ticks closing past ready = told_then past (follows_all s (noted past)) (walks s closing) (told_follows_all past ready) (λ now grown then. told_walks closing now then)
+
+  told_stops : (before : Option ℕ) (past : Past) → Ready past → Told past (stops s before (noted past))
+  unfolding stops
+  told_stops (Some at) past ready = nothing past ready
+  told_stops None past ready = told_walks true past ready
+
+  told_finishes : (before : History) (input : ℕ) (past : Past) → Ready past → Told past (finishes s before input (noted past))
+  unfolding finishes
+  told_finishes before input past ready =
+      walks_if (Due s) (λ (h : History) (now : Past). (h ≡ noted now) × K now) (reads_standard_at s input) past
+      (bind (takes s (end_batch s before input (Standard input)) (noted past)) (stops s (stopped s before))) (Return (noted past))
+      (λ yes. told_then past (takes s (end_batch s before input (Standard input)) (noted past)) (stops s (stopped s before)) (told_takes (end_batch s before input (Standard input)) past ready)
+          (λ now grown then. told_stops (stopped s before) now then))
+      (λ no. nothing past ready)
+
+  pub told_happens : (before : History) (brought : Happening) (past : Past) → Ready past → Told past (happens s before brought (noted past))
+  told_happens before (happening.Tick now) past ready = told_ticks (is_closing s before now) past ready
+  told_happens before (happening.Joined input conn) past ready = nothing past ready
+  told_happens before (happening.Piece input conn bytes) past ready = told_pieces before input.0 conn.0 bytes past ready
+  told_happens before (happening.Gone input conn) past ready = nothing past ready
+  told_happens before (happening.Room link) past ready = tells_has_room s K inner link.0 past ready
+  told_happens before (happening.Back link bytes) past ready = tells_comes_back s K inner link.0 bytes past ready
+  told_happens before (happening.Broken link) past ready = tells_has_broken s K inner link.0 past ready
+  told_happens before (happening.InputEnd input) past ready = told_finishes before input.0 past ready
+  told_happens before happening.Stop past ready = told_stops (stopped s before) past ready
+  told_happens before happening.End past ready = nothing past ready
+  told_happens before happening.Failed past ready = nothing past ready
