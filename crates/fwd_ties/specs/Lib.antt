@@ -1,0 +1,5 @@
+pub mod Past
+pub mod Due
+pub mod Sound
+pub mod Given
+pub mod Resolved

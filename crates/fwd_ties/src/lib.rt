@@ -1,0 +1,14 @@
+//! What the facts of a written run mean in its calls.
+//!
+//! The written run says what is called and noted. Here each entry of a life is held against all that stands before it, so
+//! that a fact can't say what its calls don't: a fact or a dial stands only where it may, and what follows from that is said
+//! in the subject's own words.
+#![tactic(auto)]
+
+mod determined;
+mod echoing;
+mod owing;
+
+pub use determined::trace_is_determined;
+pub use echoing::{entries_are_due, histories_are_noted};
+pub use owing::owed_exactly;
