@@ -111,20 +111,22 @@ record_acted others old new s r h Shows x did same done failed = by (outcome_at 
   where
     calls : DiskProgram (Option Bool)
     calls = settles_for (kept_of s h r.chunk) (output_name s r.output) s.service.full
+
     noted_by : (y : Option Bool) → x ≡ y → Acted Shows (with_disk new others) (with_disk new others) (recorded r (Records r ∷ h) y)
     noted_by None is = acted_noting Shows (with_disk new others) Faulted (Records r ∷ h) (failed is)
     noted_by (Some b) is = acted_noting Shows (with_disk new others) (Recorded r) (Records r ∷ h) (done b is)
+
     by : (place : Option ℕ) → outcome_at (output_name s r.output) (kept_of s h r.chunk) ≡ place → Acted Shows (with_disk old others) (with_disk new others) (records s r h)
     by None none =
         let grew = only_false old new (kept_of s h r.chunk) (output_name s r.output) s.service.full x none did in
         let is = false_alone old new (kept_of s h r.chunk) (output_name s r.output) s.service.full x none did in
         rw (records_is s r h None none)
-           (acted_after Shows (with_disk new others) (Return h) (Return h) (unasked_disk others old new (Return h) grew) (acted_idle Shows (with_disk new others) h (same false is)))
+        (acted_after Shows (with_disk new others) (Return h) (Return h) (unasked_disk others old new (Return h) grew) (acted_idle Shows (with_disk new others) h (same false is)))
     by (Some place) is =
         rw (records_is s r h (Some place) is)
-           (acted_noted Shows (with_disk old others) (with_disk new others) (Records r) h (λ at. bind (on_disk calls) (recorded r at))
-             (acted_after Shows (with_disk new others) (bind (on_disk calls) (recorded r (Records r ∷ h))) (recorded r (Records r ∷ h) x)
-               (disk_did others old new calls x (recorded r (Records r ∷ h)) did) (noted_by x refl)))
+        (acted_noted Shows (with_disk old others) (with_disk new others) (Records r) h (λ at. bind (on_disk calls) (recorded r at))
+        (acted_after Shows (with_disk new others) (bind (on_disk calls) (recorded r (Records r ∷ h))) (recorded r (Records r ∷ h) x)
+        (disk_did others old new calls x (recorded r (Records r ∷ h)) did) (noted_by x refl)))
 
 -- or they were begun
 pub record_began : (others : World) (old new : DiskTold) (s : AllSettings) (r : Route) (h : History)
@@ -133,8 +135,9 @@ record_began others old new s r h began = by (outcome_at (output_name s r.output
   where
     calls : DiskProgram (Option Bool)
     calls = settles_for (kept_of s h r.chunk) (output_name s r.output) s.service.full
+
     by : (place : Option ℕ) → outcome_at (output_name s r.output) (kept_of s h r.chunk) ≡ place → Began (with_disk old others) (with_disk new others) (records s r h)
     by None none = (records s r h, unasked_disk others old new (records s r h) (none_began old new (kept_of s h r.chunk) (output_name s r.output) s.service.full none began))
     by (Some place) is =
         rw (records_is s r h (Some place) is)
-           (began_after (noted (with_disk old others) (Records r) (λ _. bind (on_disk calls) (recorded r (Records r ∷ h)))) (disk_began others old new calls (recorded r (Records r ∷ h)) began))
+        (began_after (noted (with_disk old others) (Records r) (λ _. bind (on_disk calls) (recorded r (Records r ∷ h)))) (disk_began others old new calls (recorded r (Records r ∷ h)) began))

@@ -8,9 +8,9 @@ ghost use Rattle.fwd_state.specs.Sight.{route_of};
 ghost use Rattle.fwd_parts.specs.Acts.{with_disk, Acts, ActsWhere};
 
 use fwd_base::{ChunkId, Memory};
-use fwd_outside::{Disk, DiskErr};
 use fwd_following::others_are_not_followed;
 use fwd_hearing::others_are_not_heard;
+use fwd_outside::{Disk, DiskErr};
 use fwd_parts::Parts;
 use fwd_run_settings::RunSettings;
 use fwd_state::{RouteId, others_change_nothing};

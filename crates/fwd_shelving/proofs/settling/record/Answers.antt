@@ -24,14 +24,14 @@ returns-in-Ok-clause-acts g c others h shows =
     let parts = c.args.parts.now in
     let did = rw (shows.store.chunks r.chunk, c.output_name.ensures, shows.store.full) at c.in-Ok.ensures.calls in
     record_acted others _ _ s r h (λ (now : History). Shows s parts now) (Some c.in-Ok.field-0) did
-      (λ b is. shows)
-      (λ b is. record {
-        state = c.others_change_nothing.ensures s _ (Records r ∷ h) None (Recorded r) refl (c.others_change_nothing.ensures s _ h None (Records r) refl shows.state);
-        hearing = c.others_are_not_heard.ensures s _ (Records r ∷ h) (Recorded r) refl (c.others_are_not_heard.ensures s _ h (Records r) refl shows.hearing);
-        following = c.others_are_not_followed.ensures s _ (Records r ∷ h) (Recorded r) refl (c.others_are_not_followed.ensures s _ h (Records r) refl shows.following);
-        store = holds_on s _ (Records r ∷ h) (Recorded r) refl (holds_on s _ h (Records r) refl shows.store);
-      })
-      (λ is. absurd (cc is))
+    (λ b is. shows)
+    (λ b is. record {
+      state = c.others_change_nothing.ensures s _ (Records r ∷ h) None (Recorded r) refl (c.others_change_nothing.ensures s _ h None (Records r) refl shows.state);
+      hearing = c.others_are_not_heard.ensures s _ (Records r ∷ h) (Recorded r) refl (c.others_are_not_heard.ensures s _ h (Records r) refl shows.hearing);
+      following = c.others_are_not_followed.ensures s _ (Records r ∷ h) (Recorded r) refl (c.others_are_not_followed.ensures s _ h (Records r) refl shows.following);
+      store = holds_on s _ (Records r ∷ h) (Recorded r) refl (holds_on s _ h (Records r) refl shows.store);
+    })
+    (λ is. absurd (cc is))
 
 pub returns-in-Err-Failed-clause-acts : goal.returns-in-Err-Failed-clause-acts
 returns-in-Err-Failed-clause-acts g c others h shows =
@@ -39,14 +39,14 @@ returns-in-Err-Failed-clause-acts g c others h shows =
     let r = route_of c.args.route in
     let did = rw (c.in-Err-Failed.field-0-is, shows.store.chunks r.chunk, c.output_name.ensures, shows.store.full) at c.in-Err-Failed.ensures.calls in
     record_acted others _ _ s r h _ None did
-      (λ b is. absurd (cc is))
-      (λ b is. absurd (cc is))
-      (λ is. record {
-        state = c.faults.ensures s (Records r ∷ h) None (c.others_change_nothing.ensures s _ h None (Records r) refl shows.state);
-        hearing = c.others_are_not_heard.ensures s _ (Records r ∷ h) Faulted refl (c.others_are_not_heard.ensures s _ h (Records r) refl shows.hearing);
-        following = c.others_are_not_followed.ensures s _ (Records r ∷ h) Faulted refl (c.others_are_not_followed.ensures s _ h (Records r) refl shows.following);
-        store = holds_on s _ (Records r ∷ h) Faulted refl (holds_on s _ h (Records r) refl shows.store);
-      })
+    (λ b is. absurd (cc is))
+    (λ b is. absurd (cc is))
+    (λ is. record {
+      state = c.faults.ensures s (Records r ∷ h) None (c.others_change_nothing.ensures s _ h None (Records r) refl shows.state);
+      hearing = c.others_are_not_heard.ensures s _ (Records r ∷ h) Faulted refl (c.others_are_not_heard.ensures s _ h (Records r) refl shows.hearing);
+      following = c.others_are_not_followed.ensures s _ (Records r ∷ h) Faulted refl (c.others_are_not_followed.ensures s _ h (Records r) refl shows.following);
+      store = holds_on s _ (Records r ∷ h) Faulted refl (holds_on s _ h (Records r) refl shows.store);
+    })
 
 pub returns-in-Err-Memory-clause-acts : goal.returns-in-Err-Memory-clause-acts
 returns-in-Err-Memory-clause-acts g c others h shows =
