@@ -14,3 +14,4 @@ pub mod Fitting
 pub mod Pauses
 pub mod Losses
 pub mod Others
+pub mod Turns
