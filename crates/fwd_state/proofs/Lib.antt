@@ -15,3 +15,4 @@ pub mod Pauses
 pub mod Losses
 pub mod Others
 pub mod Turns
+pub mod Waiting

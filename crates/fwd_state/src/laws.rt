@@ -7,7 +7,7 @@ ghost use Rattle.fwd_event.specs.declared.event.Event.{Event};
 ghost use Rattle.fwd_settings.specs.declared.chosen.AllSettings.{AllSettings};
 ghost use Rattle.fwd_written.specs.Fact.{Fact, History, Route, Batch, Offers, OnRoute, Begun, Lost};
 ghost use Rattle.fwd_written.specs.Chunks.{ChunkOf, chunk_at, next};
-ghost use Rattle.fwd_written.specs.Routes.{route, is_idle, owed, owes, home_of, rows_of};
+ghost use Rattle.fwd_written.specs.Routes.{route, tries, begun, is_idle, owed, owes, home_of, rows_of};
 ghost use Rattle.fwd_written.specs.Setup.{limit_at};
 ghost use Rattle.fwd_written.specs.Limits.{losses_to, lost_at};
 ghost use Rattle.fwd_limits.specs.Kept.{is_file};
@@ -32,6 +32,12 @@ pub fn begun_is_out()
     ensures { (s : AllSettings) (state : State) (h : History) (r : Route) (events : List Event) → Shows s state h → is_idle s h r ≡ true → Stands s state (OnRoute r (Begun events) ∷ h) (Some r) }
 {}
 
+/// A flight that is begun hands over what it begins with, and the tries of its route stay.
+pub fn begun_tells()
+    ensures events { (h : History) (r : Route) (events : List Event) → begun (OnRoute r (Begun events) ∷ h) r ≡ events }
+    ensures tries { (h : History) (r : Route) (events : List Event) → tries (OnRoute r (Begun events) ∷ h) r ≡ tries h r }
+{}
+
 /// An idle route is of a chunk that is there and closed.
 pub fn idle_is_closed()
     ensures { (s : AllSettings) (state : State) (h : History) (out : Option Route) (r : Route) → Stands s state h out → is_idle s h r ≡ true → IsClosedRoute h r }
@@ -47,6 +53,12 @@ pub fn losses_one_by_one()
     ensures lose { (s : AllSettings) (state : State) (h : History) (out : Option Route) (output : OutputId) (limit : ℕ) (chunk first : ChunkId) → Stands s state h out
         → next_of output limit chunk (rows_of s h) ≡ Lose first
         → losses_to s h chunk.0 output.0 (Some limit) ≡ route first.0 output.0 ∷ losses_to s (OnRoute (route first.0 output.0) Lost ∷ h) chunk.0 output.0 (Some limit) }
+{}
+
+/// The chunk that an output loses next waits for it.
+pub fn next_loss_is_idle()
+    ensures { (s : AllSettings) (state : State) (h : History) (out : Option Route) (output : OutputId) (limit : ℕ) (chunk first : ChunkId) → Stands s state h out
+        → next_of output limit chunk (rows_of s h) ≡ Lose first → is_idle s h (route first.0 output.0) ≡ true }
 {}
 
 /// What an output loses changes nothing of what another one loses, as long as the chunk that has closed is owed still.
