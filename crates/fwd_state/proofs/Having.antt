@@ -89,7 +89,7 @@ open_left_owed s r o h done closed k is has =
 
 -- ---- the chunk of a number is owed exactly where it has a row
 
-no_row : (s : AllSettings) (h : History) (k : ℕ) (cs : List ChunkOf) → find (λ (c : ChunkOf). c.number == k) cs ≡ None → has_row (chunk_id k) (map (row_of s h) (filter (is_owed s h) cs)) ≡ false
+pub no_row : (s : AllSettings) (h : History) (k : ℕ) (cs : List ChunkOf) → find (λ (c : ChunkOf). c.number == k) cs ≡ None → has_row (chunk_id k) (map (row_of s h) (filter (is_owed s h) cs)) ≡ false
 no_row s h k [] none = refl
 no_row s h k (c ∷ cs) none = elim (cases_Bool (c.number == k)) [
   | inl same ↦ absurd (cc (rw same at none))

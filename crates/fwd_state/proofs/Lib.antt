@@ -14,3 +14,5 @@ pub mod Fitting
 pub mod Pauses
 pub mod Losses
 pub mod Others
+pub mod Turns
+pub mod Waiting

@@ -100,7 +100,7 @@ flying_any output (x ∷ xs) any = elim (cases_Bool (is_to output x)) [
 pub flying_owed : (output : OutputId) (row : Row) → (in_file row && is_flying output row) ≡ true → is_owed_row row ≡ true
 flying_owed output row is = some_routes output row.routes (flying_any output row.routes (both_true (in_file row) (is_flying output row) is).1)
 
-waiting_parts : (output : OutputId) (chunk : ChunkId) (row : Row) → (in_file row && (is_waiting output row && not (is_row_of chunk row))) ≡ true → (list_any (is_to output) row.routes ≡ true) × (not (is_row_of chunk row) ≡ true)
+pub waiting_parts : (output : OutputId) (chunk : ChunkId) (row : Row) → (in_file row && (is_waiting output row && not (is_row_of chunk row))) ≡ true → (list_any (is_to output) row.routes ≡ true) × (not (is_row_of chunk row) ≡ true)
 waiting_parts output chunk row is =
     let one = both_true (in_file row) (is_waiting output row && not (is_row_of chunk row)) is in
     let two = both_true (is_waiting output row) (not (is_row_of chunk row)) one.1 in
@@ -162,7 +162,7 @@ first_apart chunk first room (row ∷ rows) apart is = elim (cases_Bool (nat_le 
   | inr over ↦ let same : row.chunk ≡ first = let e : Some row.chunk ≡ Some first = rw over at is in cc e in subst (λ (c : ChunkId). chunk.0 ≢ c.0) same apart.0
 ]
 
-by_loss : (o : Option ChunkId) (first : ChunkId) → loss_of o ≡ Lose first → o ≡ Some first
+pub by_loss : (o : Option ChunkId) (first : ChunkId) → loss_of o ≡ Lose first → o ≡ Some first
 by_loss None first is = absurd (cc is)
 by_loss (Some c) first is = ap (λ (x : ChunkId). Some x) (let same : c ≡ first = cc is in same)
 

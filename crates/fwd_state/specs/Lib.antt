@@ -3,3 +3,4 @@ pub mod Reader
 pub mod Sight
 pub mod Stands
 pub mod Rooms
+pub mod Losing
