@@ -6,3 +6,4 @@ pub mod Outer
 pub mod Living
 pub mod Agreeing
 pub mod Resolving
+pub mod Sounding

@@ -1,5 +1,5 @@
 -- What is so of every history of a life.
-use Rattle.std.specs.Prelude.{◌≡◌, ℕ, ◌<◌, Bool, true, List, [], ◌∷◌, All, AllPairs, Option, Some, None}
+use Rattle.std.specs.Prelude.{◌≡◌, ℕ, ◌<◌, true, List, [], ◌∷◌, Contains, Option, Some, None}
 use Rattle.fwd_settings.specs.declared.chosen.AllSettings.{AllSettings}
 use Rattle.fwd_written.specs.Fact.{Fact, History, Where, Nowhere, First, Behind, Brought, Resumed, Polled, HungUp, Misread, Found, Offers, Accepted, Refused, Shut, Handed, OnRoute, Records, Recorded, Dropped, Left, Faulted}
 use Rattle.fwd_written.specs.Chunks.{ChunkOf, chunks_of, open_chunks, next}
@@ -34,11 +34,16 @@ abbrev pub IsBelow : ℕ → Option ℕ → Type 0
 IsBelow bound None = Unit {0}
 IsBelow bound (Some chunk) = chunk < bound
 
+-- each chunk has a number below those of all behind it
+abbrev pub NumbersRise : List ChunkOf → Type 0
+NumbersRise [] = Unit {0}
+NumbersRise (c ∷ cs) = ((d : ChunkOf) → Contains cs d → c.number < d.number) × NumbersRise cs
+
 pub record Sound (s : AllSettings) (h : History) : Type 0 where
   -- chunks have rising numbers below the next one
-  pub rising : AllPairs (λ (one : ChunkOf) (behind : ChunkOf). one.number < behind.number) (chunks_of h)
-  pub below : All (λ (c : ChunkOf). c.number < next h) (chunks_of h)
+  pub rising : NumbersRise (chunks_of h)
+  pub below : (c : ChunkOf) → Contains (chunks_of h) c → c.number < next h
   -- nothing is noted of chunks from the next one on
-  pub fresh : All (λ (fact : Fact). IsBelow (next h) (chunk_of fact)) h
+  pub fresh : (fact : Fact) → Contains h fact → IsBelow (next h) (chunk_of fact)
   -- each open chunk is owed to an output
-  pub owed : All (λ (c : ChunkOf). is_owed s h c ≡ true) (open_chunks h)
+  pub owed : (c : ChunkOf) → Contains (open_chunks h) c → is_owed s h c ≡ true

@@ -8,6 +8,7 @@ ghost use Rattle.fwd_written.specs.Trace.{Act, TraceEntry, behind};
 ghost use Rattle.fwd_written.specs.Run.{Lived, life};
 ghost use Rattle.fwd_ties.specs.Past.{since};
 ghost use Rattle.fwd_ties.specs.Due.{Due};
+ghost use Rattle.fwd_ties.specs.Sound.{Sound};
 
 /// The history of a life is what the life noted. So nothing is known of it but what its trace has.
 pub fn histories_are_noted()
@@ -19,4 +20,11 @@ pub fn histories_are_noted()
 pub fn entries_are_due()
     ensures { (s : AllSettings) (ends : Ends) (ticks : Option ℕ) (turns : ℕ) (entries : List TraceEntry) (left : Act Lived)
         → Way (life s ends ticks turns) entries left → Due s (since [] entries) }
+{}
+
+/// Every history of a life is sound, at each moment: chunks have rising numbers below the next one, nothing is noted of
+/// chunks from that one on, and each open chunk is owed to an output.
+pub fn sound_histories()
+    ensures { (s : AllSettings) (ends : Ends) (ticks : Option ℕ) (turns : ℕ) (entries : List TraceEntry) (left : Act Lived)
+        → Way (life s ends ticks turns) entries left → Sound s (behind entries []) }
 {}

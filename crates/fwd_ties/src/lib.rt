@@ -10,5 +10,5 @@ mod echoing;
 mod owing;
 
 pub use determined::trace_is_determined;
-pub use echoing::{entries_are_due, histories_are_noted};
+pub use echoing::{entries_are_due, histories_are_noted, sound_histories};
 pub use owing::owed_exactly;
