@@ -1,5 +1,5 @@
 -- What an output loses next waits for it.
-use Rattle.std.proofs.Common.{◌≡◌, ℕ, ◌+◌, ◌-◌, ◌<◌, Bool, true, false, ◌&&◌, not, inl, inr, List, [], ◌∷◌, Option, Some, None, map, refl, sym, ◌∙◌, ap, arith}
+use Rattle.std.proofs.Common.{◌≡◌, ℕ, ◌+◌, ◌-◌, Bool, true, false, ◌&&◌, not, inl, inr, List, [], ◌∷◌, Option, Some, None, map, refl, ap, arith}
 use Rattle.std.specs.Prelude.{◌==◌, filter, find, nat_lt, nat_le, is_some}
 use Rattle.std.specs.List.{list_any}
 use Rattle.std.specs.Option.{option_map_or}
@@ -10,7 +10,7 @@ use Rattle.fwd_settings.specs.declared.chosen.AllSettings.{AllSettings}
 use Rattle.fwd_table.specs.declared.route.Route.{Route as Owed}
 use Rattle.fwd_table.specs.declared.row.Row.{Row}
 use Rattle.fwd_table.specs.Routes.{is_to, flying_of}
-use Rattle.fwd_table.specs.Rows.{is_row_of, row_at, has_row, waits_for, is_idle_in}
+use Rattle.fwd_table.specs.Rows.{is_row_of, row_at, waits_for, is_idle_in}
 use Rattle.fwd_limits.specs.Kept.{in_file, is_flying, is_waiting, size_of}
 use Rattle.fwd_limits.specs.Losses.{others_for, fixed, lost_among, first_chunk, next_of}
 use Rattle.fwd_limits.specs.declared.loss.Loss.TheVariants.{Lose}
