@@ -41,7 +41,7 @@ use Rattle.fwd_written.specs.Flying.{retries, answers_by, stands_in, stands, lan
 use Rattle.fwd_ties.specs.Past.{Past, noted}
 use Rattle.fwd_ties.specs.Due.{IsChunk, IsDone, FactDue, IsDue, Due}
 use Rattle.fwd_ties.proofs.Members.{here, deeper}
-use Rattle.fwd_ties.proofs.Walking.{Walks, Grown, longer, walks_bind, walks_if}
+use Rattle.fwd_ties.proofs.Going.{Walks, Grown, longer, walks_bind, walks_if}
 use Rattle.fwd_ties.proofs.Standing.{shut_since, chunk_since, shut_still, open_is_chunk, idle_is_shut, lost_is_shut, shut_now, flight_shut}
 
 -- what is noted of chunks that are there, and what they hand over
@@ -112,7 +112,7 @@ links_writes : (d : Delivery) (link : LinkId) (p : Progress) → OnLinks (writes
 unfolding writes
 links_writes d link p = links_pushes (length d.payload) d link p
 
-links_dialed_on : (d : Delivery) (p : Progress) (answer : Option ℕ) → OnLinks (dialed_on d p answer)
+pub links_dialed_on : (d : Delivery) (p : Progress) (answer : Option ℕ) → OnLinks (dialed_on d p answer)
 links_dialed_on d p None = tt
 links_dialed_on d p (Some number) = let link : LinkId = record { 0 = number } in links_writes d link (record p { stage = Writing link })
 

@@ -1,5 +1,5 @@
 pub mod Members
-pub mod Walking
+pub mod Going
 pub mod Standing
 pub mod Deeds
 pub mod Outer
@@ -7,3 +7,4 @@ pub mod Living
 pub mod Agreeing
 pub mod Resolving
 pub mod Sounding
+pub mod Turning

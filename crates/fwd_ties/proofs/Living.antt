@@ -23,7 +23,7 @@ use Rattle.fwd_written.specs.Loading.{finds, loaded, loads_from, loads_in}
 use Rattle.fwd_written.specs.Run.{Lived, Over, TurnsSpent, LoopFailed, DiskFailed, lived, is_tick, is_over, goes_on, steps_on, is_last_reading, unless_last, brought, run, started, begun, life}
 use Rattle.fwd_ties.specs.Past.{Past, noted, since}
 use Rattle.fwd_ties.specs.Due.{BroughtDue, IsLoading, IsDue, Due}
-use Rattle.fwd_ties.proofs.Walking.{Walks, Grown, walks_bind, walks_if, walks_on, holds_now, noted_since}
+use Rattle.fwd_ties.proofs.Going.{Walks, Grown, walks_bind, walks_if, walks_on, holds_now, noted_since}
 use Rattle.fwd_ties.proofs.Outer.{told_happens}
 
 abbrev Any : Past → Type 0

@@ -39,7 +39,7 @@ use Rattle.fwd_written.specs.Steps.{walks, ticks, stops, finishes, happens, step
 use Rattle.fwd_ties.specs.Past.{Past, noted}
 use Rattle.fwd_ties.specs.Due.{IsChunk, Begins, Grows, IsToStore, BroughtDue, FactDue, IsDue, Due}
 use Rattle.fwd_ties.proofs.Members.{here, from_filter, from_find}
-use Rattle.fwd_ties.proofs.Walking.{Walks, Grown, longer, walks_bind, walks_if}
+use Rattle.fwd_ties.proofs.Going.{Walks, Grown, longer, walks_bind, walks_if}
 use Rattle.fwd_ties.proofs.Standing.{chunk_since, chunk_still}
 use Rattle.fwd_ties.proofs.Deeds.{IsInnerFact, IsInnerLoop, IsInner, IsKept, tells_shuts, tells_fills, tells_closes_all, tells_walk, tells_has_room, tells_comes_back, tells_has_broken}
 

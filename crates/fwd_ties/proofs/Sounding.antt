@@ -22,7 +22,7 @@ use Rattle.fwd_ties.specs.Due.{IsLoading, IsChunk, Begins, FactDue, RouteDue, Is
 use Rattle.fwd_ties.specs.Sound.{chunk_in, chunk_of, IsBelow, NumbersRise, Sound}
 use Rattle.fwd_ties.proofs.Members.{here, deeper, either, from_filter, off_where_not}
 use Rattle.fwd_ties.proofs.Standing.{shut_still, same_chunk}
-use Rattle.fwd_ties.proofs.Walking.{noted_since}
+use Rattle.fwd_ties.proofs.Going.{noted_since}
 use Rattle.fwd_ties.proofs.Living.{due_since}
 
 -- ---- the next number never falls

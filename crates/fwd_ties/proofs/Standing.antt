@@ -24,7 +24,7 @@ use Rattle.fwd_written.specs.Limits.{losses_to, losses_for, lost_at}
 use Rattle.fwd_ties.specs.Past.{Past, noted}
 use Rattle.fwd_ties.specs.Due.{IsChunk, RouteDue, FactDue, IsDue, Due}
 use Rattle.fwd_ties.proofs.Members.{from_filter, from_find, from_map, from_flat_map, here, deeper, either}
-use Rattle.fwd_ties.proofs.Walking.{Grown}
+use Rattle.fwd_ties.proofs.Going.{Grown}
 
 -- ---- what is closed stays closed, and a chunk stays one
 

@@ -3,3 +3,4 @@ pub mod Due
 pub mod Sound
 pub mod Given
 pub mod Resolved
+pub mod Walked

@@ -8,7 +8,9 @@
 mod determined;
 mod echoing;
 mod owing;
+mod walking;
 
 pub use determined::trace_is_determined;
 pub use echoing::{entries_are_due, histories_are_noted, sound_histories};
 pub use owing::owed_exactly;
+pub use walking::exactly_the_started_are_dialled;
