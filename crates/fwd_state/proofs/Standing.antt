@@ -1,5 +1,5 @@
 -- Chunks that aren't there yet, open chunks, and flights, behind one fact more.
-use Rattle.std.proofs.Common.{◌≡◌, ◌≢◌, ℕ, ◌<◌, ◌≤◌, Bool, true, false, not, inl, inr, List, [], ◌∷◌, ◌++◌, Option, Some, None, refl, sym, ◌∙◌, ap, subst, arith}
+use Rattle.std.proofs.Common.{◌≡◌, ◌≢◌, ℕ, ◌+◌, ◌<◌, ◌≤◌, Bool, true, false, not, inl, inr, List, [], ◌∷◌, ◌++◌, Option, Some, None, refl, sym, ◌∙◌, ap, subst, arith}
 use Rattle.std.specs.Prelude.{if◌then◌else◌, ◌==◌, filter, find}
 use Rattle.std.specs.List.{list_any}
 use Rattle.std.specs.Option.{option_map_or}
@@ -14,7 +14,7 @@ use Rattle.fwd_written.specs.Found.{found_in}
 use Rattle.fwd_written.specs.Chunks.{ChunkOf, chunks_of, found_as, next, is_shut, goes_to}
 use Rattle.fwd_written.specs.Routes.{same_route, is_link, flies_on, progress_of, other_than, route_on, flight, begun}
 use Rattle.fwd_written.specs.Payloads.{tag_for, delivery, delivery_at}
-use Rattle.fwd_state.specs.Stands.{is_open, IsUntouched, IsFlightOf, IsKept, IsCarried}
+use Rattle.fwd_state.specs.Stands.{Rise, is_open, IsUntouched, IsFlightOf, IsKept, IsCarried}
 use Rattle.fwd_state.specs.declared.flights.Flight.{Flight}
 use Rattle.fwd_state.proofs.Changing.{no_more}
 use Rattle.fwd_state.proofs.Rising.{found_append}
@@ -301,3 +301,19 @@ carried_begun s r o h link f none idle is = rw none (begun_on s r o h link f (ro
 
 pub landed_on : (s : AllSettings) (g : History) (link : ℕ) (now told : Option Flight) → now ≡ told → IsCarried s g None link told (route_on g link) → IsCarried s g None link now (route_on g link)
 landed_on s g link now told is carried = subst (λ (f : Option Flight). IsCarried s g None link f (route_on g link)) (sym is) carried
+
+-- an open chunk has a number that was given away
+given_in : (k least past : ℕ) (p : ChunkOf → Bool) (cs : List ChunkOf) → Rise least past cs → list_any (λ (c : ChunkOf). c.number == k) (filter p cs) ≡ true → k < past
+given_in k least past p [] rise any = absurd (cc any)
+given_in k least past p (c ∷ cs) rise any =
+    let below : c.number < past = rise.1 in
+    elim (cases_Bool (p c)) [
+      | inl is ↦ elim (cases_eq c.number k) [
+        | inl same ↦ omega (arith, below, same)
+        | inr differs ↦ given_in k (c.number + 1) past p cs rise.2 (rw (is, ne_eqb c.number k differs) at any)
+      ]
+      | inr isnt ↦ given_in k (c.number + 1) past p cs rise.2 (rw isnt at any)
+    ]
+
+pub open_given : (h : History) (k : ℕ) → Rise 0 (next h) (chunks_of h) → is_open h k ≡ true → k < next h
+open_given h k rise is = given_in k 0 (next h) (λ c. not (is_shut h c.number)) (chunks_of h) rise is

@@ -1,6 +1,6 @@
-//! What facts leave a state as it is.
+//! What follows where a state shows a history: facts that change nothing of it, and what is lost one after another.
 
-ghost use Rattle.std.specs.Prelude.{◌≡◌, ◌==◌, true, false, [], ◌∷◌, ◌+◌, ℕ, List, Option, Some, None};
+ghost use Rattle.std.specs.Prelude.{◌≡◌, ◌==◌, true, false, [], ◌∷◌, ◌<◌, ◌+◌, ℕ, List, Option, Some, None};
 ghost use Rattle.fwd_base.specs.declared.ids.ChunkId.{ChunkId};
 ghost use Rattle.fwd_base.specs.declared.ids.OutputId.{OutputId};
 ghost use Rattle.fwd_event.specs.declared.event.Event.{Event};
@@ -14,7 +14,7 @@ ghost use Rattle.fwd_limits.specs.Kept.{is_file};
 ghost use Rattle.fwd_state.specs.Losing.{losses_left, WaitsForOthers};
 ghost use Rattle.fwd_limits.specs.Losses.{next_of};
 ghost use Rattle.fwd_limits.specs.declared.loss.Loss.TheVariants.{Fits, Lose, NewLoses};
-ghost use Rattle.fwd_state.specs.Stands.{Stands, Shows, IsClosedRoute, IsNew, is_others};
+ghost use Rattle.fwd_state.specs.Stands.{Stands, Shows, IsClosedRoute, IsNew, is_open, is_others};
 ghost use Rattle.fwd_state.specs.declared.state.State.{State};
 
 /// Facts of other parts change nothing of a state.
@@ -25,6 +25,12 @@ pub fn others_change_nothing()
 /// A chunk with the next number may begin once it was offered a batch.
 pub fn offered_is_new()
     ensures { (s : AllSettings) (state : State) (h : History) (out : Option Route) (b : Batch) → Stands s state h out → IsNew s (Offers (next h) b ∷ h) (next h) }
+{}
+
+/// An open chunk has a number that was given away, and is owed to someone.
+pub fn open_is_owed()
+    ensures given { (s : AllSettings) (state : State) (h : History) (out : Option Route) (chunk : ℕ) → Stands s state h out → is_open h chunk ≡ true → chunk < next h }
+    ensures owed { (s : AllSettings) (state : State) (h : History) (out : Option Route) (chunk : ℕ) → Stands s state h out → is_open h chunk ≡ true → owes s h chunk ≡ true }
 {}
 
 /// An idle route is out once a flight of it is begun.

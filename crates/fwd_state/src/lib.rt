@@ -19,7 +19,7 @@ mod walks;
 pub use flights::{Flight, RouteId};
 pub use laws::{
     begun_is_out, begun_tells, idle_is_closed, losses_in_turn, losses_one_by_one,
-    next_loss_is_idle, offered_is_new, others_change_nothing, others_lose_the_same,
+    next_loss_is_idle, offered_is_new, open_is_owed, others_change_nothing, others_lose_the_same,
     others_stay_idle,
 };
 pub use reader::Reader;

@@ -121,18 +121,16 @@ impl State {
     }
 
     /// A chunk was found that matches no output.
-    pub fn passes(&mut self, chunk: ChunkId)
-        ensures { (stream name bytes : List ℕ) → NotesWhere self.old self.new (λ s h. (next h ≤ chunk.0) × (loading_of s (found_in bytes) ≡ Unrouted)) (Found chunk.0 stream name bytes) }
+    pub fn passes(&mut self)
+        ensures { (number : ℕ) (stream name bytes : List ℕ) → NotesWhere self.old self.new (λ s h. (next h ≤ number) × (loading_of s (found_in bytes) ≡ Unrouted)) (Found number stream name bytes) }
     {
-        let _found = chunk;
         self.counts.unrouted();
     }
 
     /// A file was found that is left as it is.
-    pub fn leaves(&mut self, chunk: ChunkId)
-        ensures { (stream name bytes : List ℕ) → NotesWhere self.old self.new (λ s h. (next h ≤ chunk.0) × (loading_of s (found_in bytes) ≡ Leaves)) (Found chunk.0 stream name bytes) }
+    pub fn leaves(&mut self)
+        ensures { (number : ℕ) (stream name bytes : List ℕ) → NotesWhere self.old self.new (λ s h. (next h ≤ number) × (loading_of s (found_in bytes) ≡ Leaves)) (Found number stream name bytes) }
     {
-        let _found = chunk;
         self.counts.left();
     }
 
@@ -230,11 +228,10 @@ impl State {
         Ok(())
     }
 
-    /// It is to be tried again in so many seconds, for which a word was drawn.
-    pub fn retries(&mut self, route: RouteId, word: u64, wait_s: u64)
-        ensures { Lands self.old self.new (route_of route) (λ s h. IsClosedRoute h (route_of route) × (wait_s ≡ wait_for s (plus (tries h (route_of route)) 1) word)) (OnRoute (route_of route) (Retries word)) }
+    /// It is to be tried again in so many seconds, as a word that was drawn has it.
+    pub fn retries(&mut self, route: RouteId, wait_s: u64)
+        ensures { (word : ℕ) → Lands self.old self.new (route_of route) (λ s h. IsClosedRoute h (route_of route) × (wait_s ≡ wait_for s (plus (tries h (route_of route)) 1) word)) (OnRoute (route_of route) (Retries word)) }
     {
-        let _drawn = word;
         self.chunks
             .retry(route.chunk, route.output, wait_s, self.clock);
         self.counts.retried(route.output);

@@ -8,8 +8,7 @@ use Rattle.fwd_state.proofs.Standing.{open_found, fresh_found, carried_found}
 use Rattle.fwd_state.proofs.state.State.passes.Goals as goal
 
 pub returns : goal.returns
-returns c stream name bytes s h out before is =
-    let n = c.args.chunk.0 in
+returns c n stream name bytes s h out before is =
     let past : next h ≤ n = is.0 in
     let moved = rows_passed s n stream name bytes h (before.fresh n past) (next h) before.numbers past (unrouted_none s bytes is.1) in
     record {
