@@ -8,3 +8,4 @@ pub mod Agreeing
 pub mod Resolving
 pub mod Sounding
 pub mod Turning
+pub mod Hearing

@@ -5,11 +5,13 @@
 //! in the subject's own words.
 #![tactic(auto)]
 
+mod bringing;
 mod determined;
 mod echoing;
 mod owing;
 mod walking;
 
+pub use bringing::what_was_brought;
 pub use determined::trace_is_determined;
 pub use echoing::{entries_are_due, histories_are_noted, sound_histories};
 pub use owing::owed_exactly;
