@@ -223,9 +223,9 @@ module _ (s : AllSettings) (K : Past → Type 0) (stable : IsKept s IsInner K) w
   tells_records_at r kept (Some place) past shut now =
       deed (Records r) past (λ at. bind (on_disk (settles_for kept (output_name s r.output) s.service.full)) (recorded r at)) tt shut now
       (λ answer then.
-          let at : Past = entry (Note (Records r)) answer ∷ past in
-          tells_behind at (on_disk (settles_for kept (output_name s r.output) s.service.full)) (λ answer h. recorded r h answer) (disk_rests (settles_for kept (output_name s r.output) s.service.full) at then)
-          (λ answer later grown still same. tells_recorded r later answer (shut_since at later r.chunk grown shut) still))
+      let at : Past = entry (Note (Records r)) answer ∷ past in
+      tells_behind at (on_disk (settles_for kept (output_name s r.output) s.service.full)) (λ answer h. recorded r h answer) (disk_rests (settles_for kept (output_name s r.output) s.service.full) at then)
+      (λ answer later grown still same. tells_recorded r later answer (shut_since at later r.chunk grown shut) still))
 
   tells_records : (r : Route) (past : Past) → is_shut (noted past) r.chunk ≡ true → Now past → Tells past (records s r (noted past))
   unfolding records
@@ -244,17 +244,17 @@ module _ (s : AllSettings) (K : Past → Type 0) (stable : IsKept s IsInner K) w
   tells_loses (r ∷ rs) past shut now =
       deed (OnRoute r Lost) past (λ at. bind (settles s r at) (loses s rs)) tt (shut r (here r rs)) now
       (λ answer then.
-          let at : Past = entry (Note (OnRoute r Lost)) answer ∷ past in
-          tells_then at (settles s r (noted at)) (loses s rs) (tells_settles r at (shut r (here r rs)) then)
-          (λ later grown still. tells_loses rs later (λ q has. shut_since at later q.chunk grown (shut q (deeper r rs q has))) still))
+      let at : Past = entry (Note (OnRoute r Lost)) answer ∷ past in
+      tells_then at (settles s r (noted at)) (loses s rs) (tells_settles r at (shut r (here r rs)) then)
+      (λ later grown still. tells_loses rs later (λ q has. shut_since at later q.chunk grown (shut q (deeper r rs q has))) still))
 
   pub tells_shuts : (chunk : ℕ) (past : Past) → IsChunk (noted past) chunk → Now past → Tells past (shuts s chunk (noted past))
   unfolding shuts
   tells_shuts chunk past is now =
       deed (Shut chunk) past (λ at. loses s (lost_at s at chunk) at) tt is now
       (λ answer then.
-          tells_loses (lost_at s (Shut chunk ∷ noted past) chunk) (entry (Note (Shut chunk)) answer ∷ past)
-          (λ r has. lost_is_shut s (Shut chunk ∷ noted past) chunk (shut_now chunk (noted past)) r has) then)
+      tells_loses (lost_at s (Shut chunk ∷ noted past) chunk) (entry (Note (Shut chunk)) answer ∷ past)
+      (λ r has. lost_is_shut s (Shut chunk ∷ noted past) chunk (shut_now chunk (noted past)) r has) then)
 
   pub tells_fills : (chunk : ℕ) (past : Past) → IsChunk (noted past) chunk → Now past → Tells past (fills s chunk (noted past))
   unfolding fills
@@ -314,10 +314,10 @@ module _ (s : AllSettings) (K : Past → Type 0) (stable : IsKept s IsInner K) w
   tells_begins_with r events past shut may now =
       deed (OnRoute r (Begun events)) past (λ at. bind (on_loop (starts (delivery s at r) r.output (tag_for at r.chunk) unopened)) (λ progress. lands s r 0 progress at)) tt (shut, may) now
       (λ answer then.
-          let at : Past = entry (Note (OnRoute r (Begun events))) answer ∷ past in
-          tells_behind at (on_loop (starts (delivery s (noted at) r) r.output (tag_for (noted at) r.chunk) unopened)) (λ progress h. lands s r 0 progress h)
-          (starts_rests (delivery s (noted at) r) r.output (tag_for (noted at) r.chunk) at (refl, refl) then)
-          (λ progress later grown still same. tells_lands r 0 progress later (shut_since at later r.chunk grown shut) still))
+      let at : Past = entry (Note (OnRoute r (Begun events))) answer ∷ past in
+      tells_behind at (on_loop (starts (delivery s (noted at) r) r.output (tag_for (noted at) r.chunk) unopened)) (λ progress h. lands s r 0 progress h)
+      (starts_rests (delivery s (noted at) r) r.output (tag_for (noted at) r.chunk) at (refl, refl) then)
+      (λ progress later grown still same. tells_lands r 0 progress later (shut_since at later r.chunk grown shut) still))
 
   tells_read_behind : (r : Route) (kept : ℕ) (past : Past) (bytes : Option (List ℕ)) → is_shut (noted past) r.chunk ≡ true → may_start s (noted past) r ≡ true → Now past → Tells past (read_behind s r kept (noted past) bytes)
   tells_read_behind r kept past None shut may now = only Faulted past tt tt now

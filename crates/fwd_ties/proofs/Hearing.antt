@@ -138,8 +138,8 @@ module _ (s : AllSettings) (ticks : Option ℕ) where
   even_stop x before now next due ready at last more =
       even_steps happening.Stop now next due ready
       (λ later then is.
-          goes_even happening.Stop next later then
-          (is.0 ∙ (ap (λ (h : History). Brought happening.Stop ∷ h) at.0 ∙ (sym (brings_last true x before now at last) ∙ ap (brings s ticks) (sym (is.1 ∙ at.1))))) more)
+      goes_even happening.Stop next later then
+      (is.0 ∙ (ap (λ (h : History). Brought happening.Stop ∷ h) at.0 ∙ (sym (brings_last true x before now at last) ∙ ap (brings s ticks) (sym (is.1 ∙ at.1))))) more)
 
   -- behind a step, the run is over, or it was the last reading, or it goes on
   even_behind : (tick : Option ℕ) → tick ≡ ticks → (x : Happening) (before : List Happening) (now : Past) (next : History → Act Lived) → Due s now → IsBehind x before now → Goes_even next
@@ -190,10 +190,12 @@ module _ (s : AllSettings) (ticks : Option ℕ) where
   even_finds : (number : ℕ) (reads : List FileRead) (past : Past) → number ≡ length (noted past) + 1 → IsLoading (noted past) → Due s past → IsEven past
       → Walks (Due s) Loaded_even past (finds number reads (noted past))
   even_finds number [] past at loading ready even = (ready, (refl, even))
-  even_finds number (read ∷ reads) past at loading ready even =
-      (ready, λ answer.
-          even_finds (number + 1) reads (entry (Note (Found number read.file.stream read.file.name read.bytes)) answer ∷ past)
-          (omega (arith, at)) (at, loading) ((at, loading), ready) even)
+  even_finds number (read ∷ reads) past at loading ready even = (
+    ready,
+    λ answer.
+        even_finds (number + 1) reads (entry (Note (Found number read.file.stream read.file.name read.bytes)) answer ∷ past)
+        (omega (arith, at)) (at, loading) ((at, loading), ready) even,
+  )
 
   even_read : (p : DiskProgram (Option (List FileRead))) (past : Past) → noted past ≡ [] → Due s past → IsEven past → Walks (Due s) Loaded_even past (bind (on_disk p) loaded)
   even_read (Return None) past none ready even = (ready, (none, even))

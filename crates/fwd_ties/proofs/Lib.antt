@@ -9,3 +9,4 @@ pub mod Resolving
 pub mod Sounding
 pub mod Turning
 pub mod Hearing
+pub mod Longer

@@ -50,9 +50,9 @@ module _ (s : AllSettings) where
       walks_bind (Due s) (λ (h : History) (now : Past). (h ≡ noted now) × Any now) (λ (end : Lived) (now : Past). end.history ≡ noted now) past (step s brings (noted past)) (goes_on s next brings)
       (steps_step brings past due ready)
       (λ h now grown then is.
-          subst (λ (x : History). Lives now (goes_on s next brings x)) (sym is.0)
-          (walks_if (Due s) (λ (end : Lived) (now : Past). end.history ≡ noted now) (is_over s brings (noted now)) now (Return (lived (noted now) Over)) (next (noted now))
-          (λ over. (then, refl)) (λ on. more now then)))
+      subst (λ (x : History). Lives now (goes_on s next brings x)) (sym is.0)
+      (walks_if (Due s) (λ (end : Lived) (now : Past). end.history ≡ noted now) (is_over s brings (noted now)) now (Return (lived (noted now) Over)) (next (noted now))
+      (λ over. (then, refl)) (λ on. more now then)))
 
   not_stopped : (at : Option ℕ) → is_none at ≡ true → at ≡ None
   not_stopped None is = refl
@@ -78,10 +78,12 @@ module _ (s : AllSettings) where
   lives_run : (ticks : Option ℕ) (turns : ℕ) (past : Past) → Due s past → Lives past (run s ticks turns (noted past))
   unfolding run
   lives_run ticks zero past ready = (ready, refl)
-  lives_run ticks (suc turns) past ready =
-      (ready, λ brings.
-          lives_brought ticks (run s ticks turns) (entry (OnLoop (Wait (plus (clock (noted past)) 250) (paused s (noted past)))) brings ∷ past) brings (inl refl) ((refl, refl), ready)
-          (λ now then. lives_run ticks turns now then))
+  lives_run ticks (suc turns) past ready = (
+    ready,
+    λ brings.
+        lives_brought ticks (run s ticks turns) (entry (OnLoop (Wait (plus (clock (noted past)) 250) (paused s (noted past)))) brings ∷ past) brings (inl refl) ((refl, refl), ready)
+        (λ now then. lives_run ticks turns now then),
+  )
 
   lives_started : (ticks : Option ℕ) (turns : ℕ) (past : Past) (ready : Option (Unit {0})) → Due s past → Lives past (started s ticks turns (noted past) ready)
   lives_started ticks turns past None due = (due, refl)
@@ -97,10 +99,12 @@ module _ (s : AllSettings) where
   loads_finds : (number : ℕ) (reads : List FileRead) (past : Past) → number ≡ length (noted past) + 1 → IsLoading (noted past) → Due s past
       → Walks (Due s) Loaded past (finds number reads (noted past))
   loads_finds number [] past at loading ready = (ready, refl)
-  loads_finds number (read ∷ reads) past at loading ready =
-      (ready, λ answer.
-          loads_finds (number + 1) reads (entry (Note (Found number read.file.stream read.file.name read.bytes)) answer ∷ past)
-          (omega (arith, at)) (at, loading) ((at, loading), ready))
+  loads_finds number (read ∷ reads) past at loading ready = (
+    ready,
+    λ answer.
+        loads_finds (number + 1) reads (entry (Note (Found number read.file.stream read.file.name read.bytes)) answer ∷ past)
+        (omega (arith, at)) (at, loading) ((at, loading), ready),
+  )
 
   loads_read : (p : DiskProgram (Option (List FileRead))) (past : Past) → noted past ≡ [] → Due s past → Walks (Due s) Loaded past (bind (on_disk p) loaded)
   loads_read (Return None) past none ready = (ready, none)
@@ -135,4 +139,3 @@ module _ (s : AllSettings) where
   noted_of_life ends ticks turns es end way =
       let Q : Lived → Past → Type 0 = λ (end : Lived) (now : Past). end.history ≡ noted now in
       (walks_on (Due s) Q [] (life s ends ticks turns) (lives_life ends ticks turns) es (Return end) way).1 ∙ noted_since [] es
-

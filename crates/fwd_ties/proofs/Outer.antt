@@ -116,10 +116,12 @@ module _ (s : AllSettings) (K : Past → Type 0) (stable : IsKept s IsOuter K) w
   taken_behind : {R : Type 0} (p : DiskProgram R) (past : Past) (next : R → History → Act Accepting) → Ready past
       → ((x : R) (now : Past) → Grown past now → noted now ≡ noted past → Ready now → Taken now (next x (noted now))) → Taken past (bind (on_disk p) (λ (x : R). next x (noted past)))
   taken_behind (Return x) past next ready more = more x past ([], refl) refl ready
-  taken_behind (Ask call go) past next ready more =
-      (ready.0, λ answer.
-          taken_behind (go answer) (entry (OnDisk call) answer ∷ past) next (on (OnDisk call) answer past tt tt ready)
-          (λ x now grown same. more x now (longer (entry (OnDisk call) answer) past now grown) same))
+  taken_behind (Ask call go) past next ready more = (
+    ready.0,
+    λ answer.
+        taken_behind (go answer) (entry (OnDisk call) answer ∷ past) next (on (OnDisk call) answer past tt tt ready)
+        (λ x now grown same. more x now (longer (entry (OnDisk call) answer) past now grown) same),
+  )
 
   taken_refuses : (b : Batch) (why : Reason) (past : Past) → FactDue s (Refused b why) past → Ready past → Taken past (refuses b why (noted past))
   taken_refuses b why past due ready = (ready.0, λ answer. let then = on (Note (Refused b why)) answer past tt due ready in (then.0, (refl, then.1)))
@@ -131,55 +133,69 @@ module _ (s : AllSettings) (K : Past → Type 0) (stable : IsKept s IsOuter K) w
 
   taken_appended : (b : Batch) (chunk : ℕ) (past : Past) (before : History) (answer : Option (Unit {0})) → noted past ≡ Offers chunk b ∷ before → IsToStore s b → Grows b chunk before → Ready past
       → Taken past (appended s b chunk (noted past) answer)
-  taken_appended b chunk past before (Some done) is store grows ready =
-      (ready.0, λ answer.
-          let due : FactDue s (Accepted b (Behind chunk)) past = (store, record { before = before; is = is; stood = grows }) in
-          let then = on (Note (Accepted b (Behind chunk))) answer past tt due ready in
-          let at : Past = entry (Note (Accepted b (Behind chunk))) answer ∷ past in
-          let one = open_one b chunk before grows in
-          let there = chunk_still (Accepted b (Behind chunk)) (noted past) one.chunk (subst (λ (h : History). Contains (chunks_of h) one.chunk) (sym is) one.stands) in
-          ends_taken true at (fills s chunk (noted at)) (tells_fills s K inner chunk at (record { chunk = one.chunk; stands = there; is = one.is }) then))
-  taken_appended b chunk past before None is store grows ready =
-      (ready.0, λ answer.
-          let at : Past = entry (Note Faulted) answer ∷ past in
-          let then = on (Note Faulted) answer past tt tt ready in
-          (then.0, λ more.
+  taken_appended b chunk past before (Some done) is store grows ready = (
+    ready.0,
+    λ answer.
+        let due : FactDue s (Accepted b (Behind chunk)) past = (store, record { before = before; is = is; stood = grows }) in
+        let then = on (Note (Accepted b (Behind chunk))) answer past tt due ready in
+        let at : Past = entry (Note (Accepted b (Behind chunk))) answer ∷ past in
+        let one = open_one b chunk before grows in
+        let there = chunk_still (Accepted b (Behind chunk)) (noted past) one.chunk (subst (λ (h : History). Contains (chunks_of h) one.chunk) (sym is) one.stands) in
+        ends_taken true at (fills s chunk (noted at)) (tells_fills s K inner chunk at (record { chunk = one.chunk; stands = there; is = one.is }) then),
+  )
+  taken_appended b chunk past before None is store grows ready = (
+    ready.0,
+    λ answer.
+        let at : Past = entry (Note Faulted) answer ∷ past in
+        let then = on (Note Faulted) answer past tt tt ready in (
+          then.0,
+          λ more.
               let last : Past = entry (Note (Refused b NotStored)) more ∷ at in
               let due : FactDue s (Refused b NotStored) at = record { chunk = chunk; before = before; is = ap (λ (h : History). Faulted ∷ h) is } in
               let ready_last = on (Note (Refused b NotStored)) more at tt due then in
               let one = open_one b chunk before grows in
               ends_taken false last (shuts s chunk (noted last))
-              (tells_shuts s K inner chunk last (record { chunk = one.chunk; stands = subst (λ (h : History). Contains (chunks_of h) one.chunk) (sym is) one.stands; is = one.is }) ready_last)))
+              (tells_shuts s K inner chunk last (record { chunk = one.chunk; stands = subst (λ (h : History). Contains (chunks_of h) one.chunk) (sym is) one.stands; is = one.is }) ready_last),
+        ),
+  )
 
   taken_placed : (b : Batch) (chunk : ℕ) (past : Past) (before : History) (answer : Option (Unit {0})) → noted past ≡ Offers chunk b ∷ before → IsToStore s b → Begins b chunk before → Ready past
       → Taken past (placed s b chunk (noted past) answer)
-  taken_placed b chunk past before (Some done) is store begins ready =
-      (ready.0, λ answer.
-          let due : FactDue s (Accepted b (First chunk)) past = (store, record { before = before; is = is; stood = begins }) in
-          let then = on (Note (Accepted b (First chunk))) answer past tt due ready in
-          let at : Past = entry (Note (Accepted b (First chunk))) answer ∷ past in
-          let made : ChunkOf = record { number = chunk; input = Some b.input; tag = b.tag } in
-          ends_taken true at (fills s chunk (noted at))
-          (tells_fills s K inner chunk at (record { chunk = made; stands = Contains-append_right (chunks_of (noted past)) (made ∷ []) made (here made []); is = refl }) then))
-  taken_placed b chunk past before None is store begins ready =
-      (ready.0, λ answer.
-          taken_refuses b NotStored (entry (Note Faulted) answer ∷ past) (record { chunk = chunk; before = before; is = ap (λ (h : History). Faulted ∷ h) is }) (on (Note Faulted) answer past tt tt ready))
+  taken_placed b chunk past before (Some done) is store begins ready = (
+    ready.0,
+    λ answer.
+        let due : FactDue s (Accepted b (First chunk)) past = (store, record { before = before; is = is; stood = begins }) in
+        let then = on (Note (Accepted b (First chunk))) answer past tt due ready in
+        let at : Past = entry (Note (Accepted b (First chunk))) answer ∷ past in
+        let made : ChunkOf = record { number = chunk; input = Some b.input; tag = b.tag } in
+        ends_taken true at (fills s chunk (noted at))
+        (tells_fills s K inner chunk at (record { chunk = made; stands = Contains-append_right (chunks_of (noted past)) (made ∷ []) made (here made []); is = refl }) then),
+  )
+  taken_placed b chunk past before None is store begins ready = (
+    ready.0,
+    λ answer.
+        taken_refuses b NotStored (entry (Note Faulted) answer ∷ past) (record { chunk = chunk; before = before; is = ap (λ (h : History). Faulted ∷ h) is }) (on (Note Faulted) answer past tt tt ready),
+  )
 
   taken_appends : (b : Batch) (chunk : ℕ) (past : Past) → IsToStore s b → Grows b chunk (noted past) → Ready past → Taken past (appends s b chunk (noted past))
   unfolding appends
-  taken_appends b chunk past store grows ready =
-      (ready.0, λ answer.
-          let at : Past = entry (Note (Offers chunk b)) answer ∷ past in
-          taken_behind (appends_to (kept_of s (noted past) chunk) (spelled b.events) s.service.full) at (λ done h. appended s b chunk h done) (on (Note (Offers chunk b)) answer past tt (store, inr grows) ready)
-          (λ done later grown same then. taken_appended b chunk later (noted past) done same store grows then))
+  taken_appends b chunk past store grows ready = (
+    ready.0,
+    λ answer.
+        let at : Past = entry (Note (Offers chunk b)) answer ∷ past in
+        taken_behind (appends_to (kept_of s (noted past) chunk) (spelled b.events) s.service.full) at (λ done h. appended s b chunk h done) (on (Note (Offers chunk b)) answer past tt (store, inr grows) ready)
+        (λ done later grown same then. taken_appended b chunk later (noted past) done same store grows then),
+  )
 
   taken_begins : (b : Batch) (chunk : ℕ) (past : Past) → IsToStore s b → Begins b chunk (noted past) → Ready past → Taken past (begins_chunk s b chunk (noted past))
   unfolding begins_chunk
-  taken_begins b chunk past store begins ready =
-      (ready.0, λ answer.
-          let at : Past = entry (Note (Offers chunk b)) answer ∷ past in
-          taken_behind (begins_as (name_for s b.input chunk) b.tag (home_at s b.input) (spelled b.events) (names_for s b.tag)) at (λ done h. placed s b chunk h done) (on (Note (Offers chunk b)) answer past tt (store, inl begins) ready)
-          (λ done later grown same then. taken_placed b chunk later (noted past) done same store begins then))
+  taken_begins b chunk past store begins ready = (
+    ready.0,
+    λ answer.
+        let at : Past = entry (Note (Offers chunk b)) answer ∷ past in
+        taken_behind (begins_as (name_for s b.input chunk) b.tag (home_at s b.input) (spelled b.events) (names_for s b.tag)) at (λ done h. placed s b chunk h done) (on (Note (Offers chunk b)) answer past tt (store, inl begins) ready)
+        (λ done later grown same then. taken_placed b chunk later (noted past) done same store begins then),
+  )
 
   taken_stores : (b : Batch) (c : Option ChunkOf) (past : Past) → open_chunk (noted past) b.input b.tag ≡ c → IsToStore s b → Ready past → Taken past (stores s b c (noted past))
   taken_stores b (Some c) past is store ready = taken_appends b c.number past store (record { chunk_open = c; is = is; number = refl }) ready
@@ -197,10 +213,10 @@ module _ (s : AllSettings) (K : Past → Type 0) (stable : IsKept s IsOuter K) w
       let routed : Act Accepting = cond (is_empty (outputs_for s b.tag)) (noting (Accepted b Nowhere) h taken) kept in
       walks_if (Due s) Q (is_empty b.events) past (taken h) routed (λ none. (ready.0, (refl, ready.1)))
       (λ some. walks_if (Due s) Q (is_empty (outputs_for s b.tag)) past (noting (Accepted b Nowhere) h taken) kept
-          (λ nobody. (ready.0, λ answer. let then = on (Note (Accepted b Nowhere)) answer past tt (some, nobody) ready in (then.0, (refl, then.1))))
-          (λ wanted. walks_if (Due s) Q (is_storable b.events) past (stores s b (open_chunk h b.input b.tag) h) (refuses b TooLarge h)
-              (λ fits. taken_stores b (open_chunk h b.input b.tag) past refl (record { some = some; wanted = wanted; fits = fits }) ready)
-              (λ large. taken_refuses b TooLarge past large ready)))
+      (λ nobody. (ready.0, λ answer. let then = on (Note (Accepted b Nowhere)) answer past tt (some, nobody) ready in (then.0, (refl, then.1))))
+      (λ wanted. walks_if (Due s) Q (is_storable b.events) past (stores s b (open_chunk h b.input b.tag) h) (refuses b TooLarge h)
+      (λ fits. taken_stores b (open_chunk h b.input b.tag) past refl (record { some = some; wanted = wanted; fits = fits }) ready)
+      (λ large. taken_refuses b TooLarge past large ready)))
 
   told_takes : (b : Batch) (past : Past) → Ready past → Told past (takes s b (noted past))
   unfolding takes
@@ -212,11 +228,13 @@ module _ (s : AllSettings) (K : Past → Type 0) (stable : IsKept s IsOuter K) w
 
   told_hangs_up : (conn : ℕ) (past : Past) → Ready past → Told past (hangs_up conn (noted past))
   unfolding hangs_up
-  told_hangs_up conn past ready =
-      (ready.0, λ answer.
-          let at : Past = entry (OnLoop (DropConn conn)) answer ∷ past in
-          let then = on (OnLoop (DropConn conn)) answer past tt tt ready in
-          (then.0, λ more. let last = on (Note (HungUp conn)) more at tt tt then in (last.0, (refl, last.1))))
+  told_hangs_up conn past ready = (
+    ready.0,
+    λ answer.
+        let at : Past = entry (OnLoop (DropConn conn)) answer ∷ past in
+        let then = on (OnLoop (DropConn conn)) answer past tt tt ready in
+        (then.0, λ more. let last = on (Note (HungUp conn)) more at tt tt then in (last.0, (refl, last.1))),
+  )
 
   told_replied : (conn : ℕ) (next : History → Act History) (past : Past) (answer : Option (Unit {0})) → ((now : Past) → Ready now → Told now (next (noted now))) → Ready past
       → Told past (replied conn next (noted past) answer)
@@ -242,8 +260,8 @@ module _ (s : AllSettings) (K : Past → Type 0) (stable : IsKept s IsOuter K) w
       walks_bind (Due s) (λ (a : Accepting) (now : Past). (a.history ≡ noted now) × K now) (λ (h : History) (now : Past). (h ≡ noted now) × K now) past (accepts s (message_batch s input m) (noted past))
       (answers conn (reply_of m) (reads s input conn breaks ms)) (taken_accepts (message_batch s input m) past ready)
       (λ a now grown due is.
-          subst (λ (h : History). Told now (answers conn (reply_of m) (reads s input conn breaks ms) (record { history = h; taken = a.taken }))) (sym is.0)
-          (told_answers conn (reply_of m) (reads s input conn breaks ms) a.taken now (λ later then. told_reads input conn breaks ms later then) (due, is.1)))
+      subst (λ (h : History). Told now (answers conn (reply_of m) (reads s input conn breaks ms) (record { history = h; taken = a.taken }))) (sym is.0)
+      (told_answers conn (reply_of m) (reads s input conn breaks ms) a.taken now (λ later then. told_reads input conn breaks ms later then) (due, is.1)))
 
   told_hears : (before : History) (input : ℕ) (bytes : List ℕ) (stream : Option Stream) (past : Past) → Ready past → Told past (hears s before input bytes stream (noted past))
   told_hears before input bytes None past ready = nothing past ready
@@ -259,9 +277,11 @@ module _ (s : AllSettings) (K : Past → Type 0) (stable : IsKept s IsOuter K) w
 
   told_polled : (input index : ℕ) (past : Past) (poll : Option Poll) → Ready past → Told past (polled s input index (noted past) poll)
   told_polled input index past None ready = (ready.0, λ answer. let then = on (Note Faulted) answer past tt tt ready in (then.0, (refl, then.1)))
-  told_polled input index past (Some poll) ready =
-      (ready.0, λ answer.
-          told_takes (poll_batch s (noted past) input index poll) (entry (Note (Polled input index poll.long poll.bytes)) answer ∷ past) (on (Note (Polled input index poll.long poll.bytes)) answer past tt tt ready))
+  told_polled input index past (Some poll) ready = (
+    ready.0,
+    λ answer.
+        told_takes (poll_batch s (noted past) input index poll) (entry (Note (Polled input index poll.long poll.bytes)) answer ∷ past) (on (Note (Polled input index poll.long poll.bytes)) answer past tt tt ready),
+  )
 
   told_behind_files : {R : Type 0} (p : FilesProgram R) (past : Past) (next : R → History → Act History) → Ready past
       → ((x : R) (now : Past) → Ready now → Told now (next x (noted now))) → Told past (bind (on_files p) (λ (x : R). next x (noted past)))
@@ -317,7 +337,7 @@ module _ (s : AllSettings) (K : Past → Type 0) (stable : IsKept s IsOuter K) w
       walks_if (Due s) (λ (h : History) (now : Past). (h ≡ noted now) × K now) (reads_standard_at s input) past
       (bind (takes s (end_batch s before input (Standard input)) (noted past)) (stops s (stopped s before))) (Return (noted past))
       (λ yes. told_then past (takes s (end_batch s before input (Standard input)) (noted past)) (stops s (stopped s before)) (told_takes (end_batch s before input (Standard input)) past ready)
-          (λ now grown then. told_stops (stopped s before) now then))
+      (λ now grown then. told_stops (stopped s before) now then))
       (λ no. nothing past ready)
 
   pub told_happens : (before : History) (brought : Happening) (past : Past) → Ready past → Told past (happens s before brought (noted past))

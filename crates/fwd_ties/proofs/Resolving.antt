@@ -52,7 +52,9 @@ ended_fact s (Found number stream name bytes) h r more is = by (either_is _ (is_
     by (inl now) =
         let parts = and_parts (number == r.chunk) (has_done (output_name s r.output) (found_in bytes)) now in
         IsRecorded (record {
-          stream = stream; name = name; bytes = bytes;
+          stream = stream;
+          name = name;
+          bytes = bytes;
           found = subst (λ (n : ℕ). Contains (Found number stream name bytes ∷ h) (Found n stream name bytes)) (eqb-true number r.chunk parts.0) (here (Found number stream name bytes) h);
           done = parts.1;
         })
@@ -95,6 +97,7 @@ resolved_found s stream name bytes (fact ∷ h) r is has = by (either fact h (Fo
   where
     now : is_resolved s (Found r.chunk stream name bytes ∷ h) r ≡ true
     now = rw (eq-eqb r.chunk r.chunk refl, is) refl
+
     by : (fact ≡ Found r.chunk stream name bytes) ⊎ Contains h (Found r.chunk stream name bytes) → (Contains h (Found r.chunk stream name bytes) → is_resolved s h r ≡ true) → is_resolved s (fact ∷ h) r ≡ true
     by (inl same) more = subst (λ (x : Fact). is_resolved s (x ∷ h) r ≡ true) (sym same) now
     by (inr before) more = stays_resolved s fact h r (more before)
