@@ -10,3 +10,5 @@ pub mod Sounding
 pub mod Turning
 pub mod Hearing
 pub mod Longer
+pub mod Shutting
+pub mod Ended

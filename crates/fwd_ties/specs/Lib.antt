@@ -5,3 +5,4 @@ pub mod Given
 pub mod Resolved
 pub mod Walked
 pub mod Brought
+pub mod Closes

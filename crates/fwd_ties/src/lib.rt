@@ -6,6 +6,7 @@
 #![tactic(auto)]
 
 mod bringing;
+mod closing;
 mod determined;
 mod echoing;
 mod growing;
@@ -13,6 +14,7 @@ mod owing;
 mod walking;
 
 pub use bringing::what_was_brought;
+pub use closing::chunks_close;
 pub use determined::trace_is_determined;
 pub use echoing::{entries_are_due, histories_are_noted, sound_histories};
 pub use growing::{clock_never_falls, records_only_grow};
