@@ -239,7 +239,7 @@ module _ (s : AllSettings) (K : Past → Type 0) (stable : IsKept s IsInner K) w
 
   -- ---- closing
 
-  tells_loses : (rs : List Route) (past : Past) → ((r : Route) → Contains rs r → is_shut (noted past) r.chunk ≡ true) → Now past → Tells past (loses s rs (noted past))
+  pub tells_loses : (rs : List Route) (past : Past) → ((r : Route) → Contains rs r → is_shut (noted past) r.chunk ≡ true) → Now past → Tells past (loses s rs (noted past))
   tells_loses [] past shut now = nothing past now
   tells_loses (r ∷ rs) past shut now =
       deed (OnRoute r Lost) past (λ at. bind (settles s r at) (loses s rs)) tt (shut r (here r rs)) now

@@ -8,3 +8,7 @@ pub mod Agreeing
 pub mod Resolving
 pub mod Sounding
 pub mod Turning
+pub mod Hearing
+pub mod Longer
+pub mod Shutting
+pub mod Ended

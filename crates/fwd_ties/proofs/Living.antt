@@ -58,7 +58,7 @@ module _ (s : AllSettings) where
   not_stopped None is = refl
   not_stopped (Some at) is = absurd (cc is)
 
-  last_due : (n : ℕ) (brings : Happening) (past : Past) → is_last_reading s (Some n) brings (noted past) ≡ true → BroughtDue s happening.Stop past
+  pub last_due : (n : ℕ) (brings : Happening) (past : Past) → is_last_reading s (Some n) brings (noted past) ≡ true → BroughtDue s happening.Stop past
   last_due n brings past is =
       inr (refl, not_stopped (stopped s (noted past)) (and_parts (ticked (noted past) == n) (is_none (stopped s (noted past))) (and_parts (is_tick brings) _ is).1).1)
 

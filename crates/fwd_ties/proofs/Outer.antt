@@ -73,7 +73,7 @@ loop_outer (Start ends) is = absurd is
 loop_outer (Wait until paused) is = absurd is
 loop_outer call is = tt
 
-outer : (call : Call) → IsInner call → IsOuter call
+pub outer : (call : Call) → IsInner call → IsOuter call
 outer (OnLoop call) is = loop_outer call is
 outer (OnDisk call) is = tt
 outer (OnFiles call) is = tt
@@ -218,7 +218,7 @@ module _ (s : AllSettings) (K : Past → Type 0) (stable : IsKept s IsOuter K) w
       (λ fits. taken_stores b (open_chunk h b.input b.tag) past refl (record { some = some; wanted = wanted; fits = fits }) ready)
       (λ large. taken_refuses b TooLarge past large ready)))
 
-  told_takes : (b : Batch) (past : Past) → Ready past → Told past (takes s b (noted past))
+  pub told_takes : (b : Batch) (past : Past) → Ready past → Told past (takes s b (noted past))
   unfolding takes
   told_takes b past ready =
       walks_bind (Due s) (λ (a : Accepting) (now : Past). (a.history ≡ noted now) × K now) (λ (h : History) (now : Past). (h ≡ noted now) × K now) past (accepts s b (noted past))
@@ -269,7 +269,7 @@ module _ (s : AllSettings) (K : Past → Type 0) (stable : IsKept s IsOuter K) w
   told_hears before input bytes (Some (Wire conn)) past ready = told_reads input conn (breaks_off (said s before (Wire conn)) bytes) (ending_messages (said s before (Wire conn)) bytes) past ready
   told_hears before input bytes (Some (Standard reader)) past ready = told_takes (piece_batch s before input (Standard reader) bytes) past ready
 
-  told_pieces : (before : History) (input conn : ℕ) (bytes : List ℕ) (past : Past) → Ready past → Told past (pieces s before input conn bytes (noted past))
+  pub told_pieces : (before : History) (input conn : ℕ) (bytes : List ℕ) (past : Past) → Ready past → Told past (pieces s before input conn bytes (noted past))
   unfolding pieces
   told_pieces before input conn bytes past ready = told_hears before input bytes (stream_of s before input conn) past ready
 
@@ -311,7 +311,7 @@ module _ (s : AllSettings) (K : Past → Type 0) (stable : IsKept s IsOuter K) w
   told_follows_each (input ∷ inputs) past ready =
       told_then past (follows s input (noted past)) (follows_each s inputs) (told_follows input past ready) (λ now grown then. told_follows_each inputs now then)
 
-  told_follows_all : (past : Past) → Ready past → Told past (follows_all s (noted past))
+  pub told_follows_all : (past : Past) → Ready past → Told past (follows_all s (noted past))
   unfolding follows_all
   told_follows_all past ready = told_follows_each (range_with_len 0 (length s.inputs)) past ready
 

@@ -86,6 +86,7 @@ shut_below bound (fact ∷ h) n fresh is = by fact (fresh fact (here fact h)) is
     either_way : (m : ℕ) (b : Bool) → m == n ≡ b → m < bound → cond b true (is_shut h n) ≡ true → (is_shut h n ≡ true → n < bound) → n < bound
     either_way m true same lt now more = let at = eqb-true m n same in omega (arith, at, lt)
     either_way m false same lt now more = more now
+
     by : (f : Fact) → IsBelow bound (chunk_of f) → is_shut (f ∷ h) n ≡ true → (is_shut h n ≡ true → n < bound) → n < bound
     by (Found number stream name bytes) lt now more = either_way number (number == n) refl lt now more
     by (Shut chunk) lt now more = either_way chunk (chunk == n) refl lt now more

@@ -225,7 +225,9 @@ turns_walk s [] h new (e ∷ es) way = absurd way
 turns_walk s (r ∷ rs) h new es way =
     let parts = way_parts (turn s r h) (turns s rs) es new way in
     let now = turned s r h parts.0 parts.1 parts.4 in (
-      parts.1, parts.2, parts.3,
+      parts.1,
+      parts.2,
+      parts.3,
       subst (λ (x : History). IsTurn s h x r parts.1) now.0 now.1,
       subst (λ (x : History). IsWalked s rs x parts.2 new) now.0 (turns_walk s rs parts.0 new parts.2 parts.5),
     )

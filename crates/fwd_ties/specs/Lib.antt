@@ -4,3 +4,5 @@ pub mod Sound
 pub mod Given
 pub mod Resolved
 pub mod Walked
+pub mod Brought
+pub mod Closes

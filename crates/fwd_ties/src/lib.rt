@@ -5,12 +5,18 @@
 //! in the subject's own words.
 #![tactic(auto)]
 
+mod bringing;
+mod closing;
 mod determined;
 mod echoing;
+mod growing;
 mod owing;
 mod walking;
 
+pub use bringing::what_was_brought;
+pub use closing::chunks_close;
 pub use determined::trace_is_determined;
 pub use echoing::{entries_are_due, histories_are_noted, sound_histories};
+pub use growing::{clock_never_falls, records_only_grow};
 pub use owing::owed_exactly;
 pub use walking::exactly_the_started_are_dialled;
