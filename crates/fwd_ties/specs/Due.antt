@@ -1,12 +1,12 @@
 -- When each entry of a life may stand, by all that stands before it.
-use Rattle.std.specs.Prelude.{◌≡◌, ◌⊎◌, ℕ, ◌+◌, ◌<◌, nat_lt, Bool, true, false, List, [], ◌∷◌, length, Contains, Option, Some, None}
+use Rattle.std.specs.Prelude.{◌≡◌, ◌⊎◌, ℕ, ◌+◌, nat_lt, true, false, List, [], ◌∷◌, length, Contains, Option, Some, None}
 use Rattle.fwd_base.specs.Limits.{past_numbers}
-use Rattle.fwd_outside.specs.Loop.{LoopCall, LoopAnswer, Wait, Dial, DropConn}
+use Rattle.fwd_outside.specs.Loop.{LoopCall, Wait, Dial}
 use Rattle.fwd_outside.specs.declared.happening.Happening.{Happening}
 use Rattle.fwd_outside.specs.declared.happening.Happening.TheVariants as happening
 use Rattle.fwd_settings.specs.declared.chosen.AllSettings.{AllSettings}
 use Rattle.fwd_written.specs.Fact.{Fact, History, Batch, Where, Nowhere, First, Behind, Reason, TooLarge, NoNumber, NotStored, Route, Outcome, Begun, Flies, Retries, Delivered, Failed, Spent, Lost, Brought, Resumed, Polled, HungUp, Misread, Found, Offers, Accepted, Refused, Shut, Handed, OnRoute, Records, Recorded, Dropped, Left, Faulted}
-use Rattle.fwd_written.specs.Trace.{Call, Answer, OnLoop, OnDisk, OnFiles, OnKeeper, Note}
+use Rattle.fwd_written.specs.Trace.{Call, OnLoop, OnDisk, OnFiles, OnKeeper, Note}
 use Rattle.fwd_written.specs.Setup.{plus, outputs_for}
 use Rattle.fwd_written.specs.Clock.{clock, stopped}
 use Rattle.fwd_written.specs.Chunks.{ChunkOf, chunks_of, open_chunk, next, is_shut, is_storable}
