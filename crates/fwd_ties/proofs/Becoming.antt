@@ -1,16 +1,15 @@
 -- What becomes of a batch that is accepted at some moment of a life.
-use Rattle.std.proofs.Common.{◌≡◌, ◌⊎◌, inl, inr, ℕ, nat_lt, Bool, true, false, cond, List, [], ◌∷◌, ◌++◌, Option, Some, None, refl, sym, ◌∙◌, ap, subst}
+use Rattle.std.proofs.Common.{◌≡◌, ◌⊎◌, inl, inr, ℕ, nat_lt, cond, List, [], ◌∷◌, ◌++◌, Option, Some, None, refl, sym, ◌∙◌, ap, subst}
 use Rattle.std.specs.Prelude.{Contains, ◌==◌}
 use Rattle.std.proofs.lemmas.Bool.{eq-eqb, cond-true}
 use Rattle.fwd_base.specs.Limits.{past_numbers}
-use Rattle.fwd_event.specs.declared.event.Event.{Event}
 use Rattle.fwd_program.specs.Program.{entry, Return, Ask, bind, Way}
 use Rattle.fwd_outside.specs.Disk.{DiskProgram}
 use Rattle.fwd_outside.specs.declared.ends.Ends.{Ends}
 use Rattle.fwd_store.specs.Store.{begins_as, appends_to}
 use Rattle.fwd_settings.specs.declared.chosen.AllSettings.{AllSettings}
-use Rattle.fwd_written.specs.Fact.{Fact, History, Batch, Nowhere, First, Behind, Reason, TooLarge, NoNumber, NotStored, Found, Offers, Accepted, Refused, Faulted}
-use Rattle.fwd_written.specs.Trace.{Call, Answer, Act, TraceEntry, OnLoop, OnDisk, Note, behind}
+use Rattle.fwd_written.specs.Fact.{Fact, History, Batch, Nowhere, First, Behind, TooLarge, NoNumber, NotStored, Found, Offers, Accepted, Refused, Faulted}
+use Rattle.fwd_written.specs.Trace.{Act, TraceEntry, OnDisk, Note, behind}
 use Rattle.fwd_written.specs.Parts.{on_disk}
 use Rattle.fwd_written.specs.Setup.{outputs_for, home_at, names_for}
 use Rattle.fwd_written.specs.Chunks.{ChunkOf, chunks_of, open_chunks, open_chunk, next, records, spelled, is_storable}
@@ -20,11 +19,11 @@ use Rattle.fwd_written.specs.Closing.{shuts, fills}
 use Rattle.fwd_written.specs.Accepting.{Accepting, taken, given_up, refuses, appended, placed, appends, begins_chunk, stores, accepts}
 use Rattle.fwd_written.specs.Run.{Lived, life}
 use Rattle.fwd_ties.specs.Past.{Past, noted, since}
-use Rattle.fwd_ties.specs.Due.{IsChunk, Begins, Grows, IsToStore, FactDue, IsDue, Due}
-use Rattle.fwd_ties.specs.Becomes.{SameRecords, IsAdded, BecomesOf, IsNothing, IsForNobody, IsTaken, IsRefused}
+use Rattle.fwd_ties.specs.Due.{IsChunk, Begins, Grows, IsToStore, Due}
+use Rattle.fwd_ties.specs.Becomes.{SameRecords, BecomesOf, IsNothing, IsForNobody, IsTaken, IsRefused}
 use Rattle.std.proofs.lemmas.List.Elements.{Contains-append_right}
 use Rattle.fwd_ties.proofs.Members.{here, deeper, from_filter, from_find}
-use Rattle.fwd_ties.proofs.Going.{Walks, Grown, longer, walks_bind, walks_if, walks_on, noted_since}
+use Rattle.fwd_ties.proofs.Going.{Walks, walks_bind, walks_if, walks_on, noted_since}
 use Rattle.fwd_ties.proofs.Standing.{chunk_still}
 use Rattle.fwd_ties.proofs.Deeds.{IsInnerFact, IsInner, IsKept, tells_shuts, tells_fills}
 use Rattle.fwd_ties.proofs.Living.{due_since}

@@ -1,13 +1,12 @@
 -- What becomes of a batch.
-use Rattle.std.specs.Prelude.{◌≡◌, ◌⊎◌, ℕ, nat_lt, true, false, [], ◌∷◌, ◌++◌, Contains, Some, None}
-use Rattle.fwd_base.specs.Limits.{past_numbers}
+use Rattle.std.specs.Prelude.{◌≡◌, ◌⊎◌, ℕ, true, false, ◌∷◌, ◌++◌, Contains}
 use Rattle.fwd_settings.specs.declared.chosen.AllSettings.{AllSettings}
-use Rattle.fwd_written.specs.Fact.{History, Batch, Nowhere, First, Behind, Reason, TooLarge, NoNumber, NotStored, Accepted, Refused}
+use Rattle.fwd_written.specs.Fact.{History, Batch, Nowhere, First, Behind, Reason, Accepted, Refused}
 use Rattle.fwd_written.specs.Setup.{outputs_for}
 use Rattle.fwd_written.specs.Chunks.{records}
 use Rattle.fwd_written.specs.Accepting.{Accepting}
 use Rattle.fwd_written.specs.Noting.{is_empty}
-use Rattle.fwd_ties.specs.Due.{Begins, Grows, RefusedDue}
+use Rattle.fwd_ties.specs.Due.{Begins, Grows}
 
 -- each chunk has what it had
 abbrev pub SameRecords : History → History → Type 0
