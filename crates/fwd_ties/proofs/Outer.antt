@@ -229,7 +229,7 @@ module _ (s : AllSettings) (K : Past → Type 0) (stable : IsKept s IsOuter K) w
     λ answer.
         let at : Past = entry (OnLoop (DropConn conn)) answer ∷ past in
         let then = on (OnLoop (DropConn conn)) answer past tt tt ready in
-        (then.0, λ more. let last = on (Note (HungUp conn)) more at tt tt then in (last.0, (refl, last.1))),
+        (then.0, λ more. let last = on (Note (HungUp conn)) more at tt refl then in (last.0, (refl, last.1))),
   )
 
   told_replied : (conn : ℕ) (next : History → Act History) (past : Past) (answer : Option (Unit {0})) → ((now : Past) → Ready now → Told now (next (noted now))) → Ready past

@@ -1,7 +1,7 @@
 -- When each entry of a life may stand, by all that stands before it.
 use Rattle.std.specs.Prelude.{◌≡◌, ◌⊎◌, ℕ, ◌+◌, nat_lt, true, false, List, [], ◌∷◌, length, Contains, Option, Some, None}
 use Rattle.fwd_base.specs.Limits.{past_numbers}
-use Rattle.fwd_outside.specs.Loop.{LoopCall, Wait, Dial}
+use Rattle.fwd_outside.specs.Loop.{LoopCall, Wait, Dial, DropConn}
 use Rattle.fwd_outside.specs.declared.happening.Happening.{Happening}
 use Rattle.fwd_outside.specs.declared.happening.Happening.TheVariants as happening
 use Rattle.fwd_settings.specs.declared.chosen.AllSettings.{AllSettings}
@@ -15,7 +15,7 @@ use Rattle.fwd_written.specs.Payloads.{tag_for}
 use Rattle.fwd_written.specs.Limits.{paused}
 use Rattle.fwd_written.specs.Walk.{may_start}
 use Rattle.fwd_written.specs.Noting.{is_empty}
-use Rattle.fwd_ties.specs.Past.{Past, noted, just_waited, just_noted}
+use Rattle.fwd_ties.specs.Past.{Past, noted, just_waited, just_noted, just_called}
 
 -- nothing but found files was noted, numbered by their places from 1 on
 abbrev pub IsLoading : History → Type 0
@@ -91,7 +91,7 @@ abbrev pub FactDue : AllSettings → Fact → Past → Type 0
 FactDue s (Brought brought) past = BroughtDue s brought past
 FactDue s (Resumed input index place) past = IsLoading (noted past)
 FactDue s (Polled input index long bytes) past = Unit {0}
-FactDue s (HungUp conn) past = Unit {0}
+FactDue s (HungUp conn) past = just_called past ≡ Some (OnLoop (DropConn conn))
 FactDue s (Misread input) past = Unit {0}
 FactDue s (Found number stream name bytes) past = (number ≡ length (noted past) + 1) × IsLoading (noted past)
 FactDue s (Offers chunk b) past = IsToStore s b × (Begins b chunk (noted past) ⊎ Grows b chunk (noted past))
