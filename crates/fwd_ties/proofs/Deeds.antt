@@ -1,14 +1,14 @@
 -- What each act does to what was noted: its entries may stand where they do, and what they keep is kept.
-use Rattle.std.proofs.Common.{◌≡◌, inl, inr, ℕ, zero, suc, ◌+◌, ◌-◌, ◌&&◌, min, nat_lt, Bool, true, false, cond, List, [], ◌∷◌, length, drop, Option, Some, None, refl, sym, ◌∙◌, ap, subst}
+use Rattle.std.proofs.Common.{◌≡◌, ℕ, zero, suc, ◌+◌, ◌-◌, ◌&&◌, min, nat_lt, Bool, true, false, cond, List, [], ◌∷◌, length, drop, Option, Some, None, refl, sym, subst}
 use Rattle.std.specs.Prelude.{Contains, ◌==◌, nat_le}
 use Rattle.std.proofs.lemmas.Bool.{and_parts}
 use Rattle.fwd_base.specs.Limits.{full_chunk}
 use Rattle.fwd_base.specs.declared.ids.LinkId.{LinkId}
 use Rattle.fwd_event.specs.declared.event.Event.{Event}
 use Rattle.fwd_event.specs.Whole.{events_in}
-use Rattle.fwd_program.specs.Program.{entry, Program, Return, Ask, bind}
-use Rattle.fwd_outside.specs.Loop.{LoopCall, LoopProgram, Start, Wait, Dial, Push, Close, Reply, DropConn, Word, PushAnswer, Took, Again, Broke}
-use Rattle.fwd_outside.specs.Disk.{DiskCall, DiskProgram}
+use Rattle.fwd_program.specs.Program.{entry, Return, Ask, bind}
+use Rattle.fwd_outside.specs.Loop.{LoopCall, LoopProgram, Dial, Push, Close, Word, PushAnswer, Took, Again, Broke}
+use Rattle.fwd_outside.specs.Disk.{DiskProgram}
 use Rattle.fwd_outside.specs.Files.{FilesProgram}
 use Rattle.fwd_table.specs.Answers.{may_retry}
 use Rattle.fwd_table.specs.declared.answer.Answer.{Answer as Answered}
@@ -24,11 +24,11 @@ use Rattle.fwd_flush.specs.declared.stage.Stage.{Stage}
 use Rattle.fwd_flush.specs.declared.stage.Stage.TheVariants.{Opening, Writing, AwaitingAck, Ended}
 use Rattle.fwd_flush.specs.Flight.{Progress, Delivery, link_in, ends, goes_by, confirms, pushed_on, pushes, writes, dialed_on, unopened, starts, heard, polls_in, polls, backs_in, backs, breaks_in, breaks}
 use Rattle.fwd_settings.specs.declared.chosen.AllSettings.{AllSettings}
-use Rattle.fwd_written.specs.Fact.{Fact, History, Route, Outcome, Begun, Flies, Retries, Delivered, Failed, Spent, Lost, Shut, Handed, OnRoute, Records, Recorded, Dropped, Left, Faulted}
-use Rattle.fwd_written.specs.Trace.{Call, Answer, Act, TraceEntry, OnLoop, OnDisk, OnFiles, OnKeeper, Note}
+use Rattle.fwd_written.specs.Fact.{Fact, History, Route, Begun, Flies, Retries, Delivered, Failed, Spent, Lost, Shut, Handed, OnRoute, Records, Recorded, Dropped, Left, Faulted}
+use Rattle.fwd_written.specs.Trace.{Call, Answer, Act, OnLoop, OnDisk, OnFiles, OnKeeper, Note}
 use Rattle.fwd_written.specs.Parts.{on_loop, on_disk, on_files}
 use Rattle.fwd_written.specs.Setup.{output_at, output_name, retries_at}
-use Rattle.fwd_written.specs.Chunks.{ChunkOf, chunks_of, open_chunks, is_shut, size, records as records_of}
+use Rattle.fwd_written.specs.Chunks.{ChunkOf, open_chunks, is_shut, size, records as records_of}
 use Rattle.fwd_written.specs.Held.{kept_of, outcome_at}
 use Rattle.fwd_written.specs.Routes.{owes, tries, flight, route_on, is_idle}
 use Rattle.fwd_written.specs.Payloads.{delivery, tag_for}
@@ -41,8 +41,8 @@ use Rattle.fwd_written.specs.Flying.{retries, answers_by, stands_in, stands, lan
 use Rattle.fwd_ties.specs.Past.{Past, noted}
 use Rattle.fwd_ties.specs.Due.{IsChunk, IsDone, FactDue, IsDue, Due}
 use Rattle.fwd_ties.proofs.Members.{here, deeper}
-use Rattle.fwd_ties.proofs.Going.{Walks, Grown, longer, walks_bind, walks_if}
-use Rattle.fwd_ties.proofs.Standing.{shut_since, chunk_since, shut_still, open_is_chunk, idle_is_shut, lost_is_shut, shut_now, flight_shut}
+use Rattle.fwd_ties.proofs.Going.{Walks, Grown, walks_bind, walks_if}
+use Rattle.fwd_ties.proofs.Standing.{shut_since, chunk_since, open_is_chunk, idle_is_shut, lost_is_shut, shut_now, flight_shut}
 
 -- what is noted of chunks that are there, and what they hand over
 abbrev pub IsInnerFact : Fact → Type 0

@@ -1,6 +1,5 @@
 -- At the end of a turn no chunk is open where all were to close.
-use Rattle.std.proofs.Common.{◌≡◌, inl, ℕ, zero, suc, ◌+◌, Bool, true, false, List, [], ◌∷◌, length, Option, Some, None, refl, sym, ◌∙◌, ap, subst, arith}
-use Rattle.std.specs.Prelude.{Contains}
+use Rattle.std.proofs.Common.{◌≡◌, inl, ℕ, zero, suc, ◌+◌, true, false, List, [], ◌∷◌, length, Option, Some, None, refl, sym, ◌∙◌, ap, subst, arith}
 use Rattle.fwd_program.specs.Program.{entry, Return, Ask, bind, Way}
 use Rattle.fwd_outside.specs.Loop.{Start, Wait}
 use Rattle.fwd_outside.specs.Disk.{DiskProgram}
@@ -11,7 +10,7 @@ use Rattle.fwd_backlog.specs.declared.file_read.FileRead.{FileRead}
 use Rattle.fwd_backlog.specs.Loading.{loads}
 use Rattle.fwd_settings.specs.declared.chosen.AllSettings.{AllSettings}
 use Rattle.fwd_written.specs.Fact.{History, Found}
-use Rattle.fwd_written.specs.Trace.{Act, TraceEntry, OnLoop, OnDisk, Note, behind}
+use Rattle.fwd_written.specs.Trace.{Act, TraceEntry, OnLoop, OnDisk, Note}
 use Rattle.fwd_written.specs.Parts.{on_disk}
 use Rattle.fwd_written.specs.Setup.{plus}
 use Rattle.fwd_written.specs.Clock.{clock}
@@ -23,7 +22,7 @@ use Rattle.fwd_written.specs.Run.{Lived, Over, lived, is_over, goes_on, steps_on
 use Rattle.fwd_ties.specs.Past.{Past, noted, since}
 use Rattle.fwd_ties.specs.Due.{BroughtDue, IsLoading, Due}
 use Rattle.fwd_ties.specs.Closes.{has_closed}
-use Rattle.fwd_ties.proofs.Going.{Walks, Grown, walks_bind, walks_if, walks_on, noted_since}
+use Rattle.fwd_ties.proofs.Going.{Walks, Grown, walks_bind, walks_if, walks_on}
 use Rattle.fwd_ties.proofs.Living.{last_due}
 use Rattle.fwd_ties.proofs.Shutting.{IsClosed, none_open, closed_step}
 

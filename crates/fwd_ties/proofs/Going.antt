@@ -1,8 +1,7 @@
 -- Walks through an act, with all that stands before each of its calls.
-use Rattle.std.proofs.Common.{◌≡◌, Bool, true, false, cond, List, [], ◌∷◌, ◌++◌, append_assoc, refl, sym, ◌∙◌, ap, subst}
-use Rattle.fwd_program.specs.Program.{entry, Program, Return, Ask, bind, Way}
-use Rattle.fwd_written.specs.Fact.{History}
-use Rattle.fwd_written.specs.Trace.{Call, Act, Answer, TraceEntry, behind, behind_call}
+use Rattle.std.proofs.Common.{◌≡◌, Bool, true, false, cond, List, [], ◌∷◌, ◌++◌, append_assoc, refl, sym, ◌∙◌, subst}
+use Rattle.fwd_program.specs.Program.{entry, Return, Ask, bind, Way}
+use Rattle.fwd_written.specs.Trace.{Act, Answer, TraceEntry, behind}
 use Rattle.fwd_ties.specs.Past.{Past, noted, since}
 
 -- whatever is answered, P holds of the past at each moment, and Q of the result at the end

@@ -1,7 +1,7 @@
 -- What is noted as brought is what waits brought.
-use Rattle.std.proofs.Common.{◌≡◌, inl, inr, ℕ, zero, suc, ◌+◌, ◌&&◌, Bool, true, false, cond, List, [], ◌∷◌, ◌++◌, length, Option, Some, None, refl, sym, ◌∙◌, ap, subst, arith}
+use Rattle.std.proofs.Common.{◌≡◌, inl, ℕ, zero, suc, ◌+◌, ◌&&◌, Bool, true, false, cond, List, [], ◌∷◌, ◌++◌, length, Option, Some, None, refl, sym, ◌∙◌, ap, subst, arith}
 use Rattle.std.specs.Prelude.{◌==◌, is_none}
-use Rattle.std.proofs.lemmas.Bool.{and_parts, cond-true}
+use Rattle.std.proofs.lemmas.Bool.{and_parts}
 use Rattle.fwd_program.specs.Program.{entry, Return, Ask, bind, Way}
 use Rattle.fwd_outside.specs.Loop.{LoopCall, Start, Wait}
 use Rattle.fwd_outside.specs.Disk.{DiskProgram}
@@ -11,18 +11,18 @@ use Rattle.fwd_outside.specs.declared.happening.Happening.TheVariants as happeni
 use Rattle.fwd_backlog.specs.declared.file_read.FileRead.{FileRead}
 use Rattle.fwd_backlog.specs.Loading.{loads}
 use Rattle.fwd_settings.specs.declared.chosen.AllSettings.{AllSettings}
-use Rattle.fwd_written.specs.Fact.{Fact, History, Brought, Resumed, Found}
-use Rattle.fwd_written.specs.Trace.{Call, Answer, Act, TraceEntry, OnLoop, OnDisk, OnFiles, OnKeeper, Note, behind}
+use Rattle.fwd_written.specs.Fact.{Fact, History, Brought, Found}
+use Rattle.fwd_written.specs.Trace.{Answer, Act, TraceEntry, OnLoop, OnDisk, OnFiles, OnKeeper, Note, behind}
 use Rattle.fwd_written.specs.Parts.{on_disk}
-use Rattle.fwd_written.specs.Setup.{plus, reads_standard_at}
-use Rattle.fwd_written.specs.Clock.{clock, read_behind, stopped, stopped_by, ticked}
+use Rattle.fwd_written.specs.Setup.{plus}
+use Rattle.fwd_written.specs.Clock.{clock, read_behind, stopped, ticked}
 use Rattle.fwd_written.specs.Limits.{paused}
 use Rattle.fwd_written.specs.Steps.{step}
 use Rattle.fwd_written.specs.Loading.{finds, loaded, loads_from, loads_in}
 use Rattle.fwd_written.specs.Run.{Lived, Over, lived, is_tick, is_over, is_over_behind, goes_on, steps_on, is_last_reading, unless_last, brought, run, started, begun, life}
 use Rattle.fwd_ties.specs.Past.{Past, noted, since}
 use Rattle.fwd_ties.specs.Due.{BroughtDue, IsLoading, Due}
-use Rattle.fwd_ties.specs.Brought.{only_brought, unless_failed, brought_by, waits, stop_behind, brings}
+use Rattle.fwd_ties.specs.Brought.{only_brought, brought_by, waits, brings}
 use Rattle.fwd_ties.proofs.Going.{Walks, Grown, walks_bind, walks_if, walks_on, noted_since}
 use Rattle.fwd_ties.proofs.Deeds.{IsKept}
 use Rattle.fwd_ties.proofs.Outer.{IsOuter, told_happens}

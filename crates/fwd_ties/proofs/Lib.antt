@@ -12,3 +12,4 @@ pub mod Hearing
 pub mod Longer
 pub mod Shutting
 pub mod Ended
+pub mod Becoming

@@ -1,5 +1,5 @@
 -- A life, from its loading to its end.
-use Rattle.std.proofs.Common.{◌≡◌, inl, inr, ℕ, zero, suc, ◌+◌, ◌&&◌, Bool, true, false, List, [], ◌∷◌, length, Option, Some, None, refl, sym, ◌∙◌, ap, subst, arith}
+use Rattle.std.proofs.Common.{◌≡◌, inl, inr, ℕ, zero, suc, ◌+◌, true, List, [], ◌∷◌, length, Option, Some, None, refl, sym, ◌∙◌, ap, subst, arith}
 use Rattle.std.specs.Prelude.{◌==◌, is_none}
 use Rattle.std.proofs.lemmas.Bool.{and_parts}
 use Rattle.fwd_program.specs.Program.{entry, Return, Ask, bind, Way}
@@ -12,17 +12,16 @@ use Rattle.fwd_backlog.specs.declared.file_read.FileRead.{FileRead}
 use Rattle.fwd_backlog.specs.Loading.{loads}
 use Rattle.fwd_settings.specs.declared.chosen.AllSettings.{AllSettings}
 use Rattle.fwd_written.specs.Fact.{History, Brought, Found}
-use Rattle.fwd_written.specs.Trace.{Call, Answer, Act, TraceEntry, OnLoop, OnDisk, Note, behind}
+use Rattle.fwd_written.specs.Trace.{Act, TraceEntry, OnLoop, OnDisk, Note, behind}
 use Rattle.fwd_written.specs.Parts.{on_disk}
 use Rattle.fwd_written.specs.Setup.{plus}
 use Rattle.fwd_written.specs.Clock.{clock, stopped, ticked}
 use Rattle.fwd_written.specs.Limits.{paused}
-use Rattle.fwd_written.specs.Noting.{noting}
-use Rattle.fwd_written.specs.Steps.{step, happens}
+use Rattle.fwd_written.specs.Steps.{step}
 use Rattle.fwd_written.specs.Loading.{finds, loaded, loads_from, loads_in}
-use Rattle.fwd_written.specs.Run.{Lived, Over, TurnsSpent, LoopFailed, DiskFailed, lived, is_tick, is_over, goes_on, steps_on, is_last_reading, unless_last, brought, run, started, begun, life}
+use Rattle.fwd_written.specs.Run.{Lived, Over, lived, is_tick, is_over, goes_on, steps_on, is_last_reading, unless_last, brought, run, started, begun, life}
 use Rattle.fwd_ties.specs.Past.{Past, noted, since}
-use Rattle.fwd_ties.specs.Due.{BroughtDue, IsLoading, IsDue, Due}
+use Rattle.fwd_ties.specs.Due.{BroughtDue, IsLoading, Due}
 use Rattle.fwd_ties.proofs.Going.{Walks, Grown, walks_bind, walks_if, walks_on, holds_now, noted_since}
 use Rattle.fwd_ties.proofs.Outer.{told_happens}
 

@@ -1,5 +1,5 @@
 -- The clock never falls, and what a chunk has only grows.
-use Rattle.std.proofs.Common.{◌≡◌, ℕ, suc, ◌+◌, ◌<◌, ◌≤◌, Bool, true, false, cond, List, [], ◌∷◌, ◌++◌, append-nil, append_assoc, length, Option, Some, None, refl, sym, ◌∙◌, ap, subst, arith}
+use Rattle.std.proofs.Common.{◌≡◌, ℕ, ◌<◌, ◌≤◌, Bool, true, false, cond, List, [], ◌∷◌, ◌++◌, append-nil, append_assoc, length, Option, refl, sym, ◌∙◌, ap, subst, arith}
 use Rattle.std.specs.Prelude.{◌==◌}
 use Rattle.std.proofs.lemmas.Bool.{eqb-true}
 use Rattle.fwd_event.specs.declared.event.Event.{Event}
@@ -8,7 +8,7 @@ use Rattle.fwd_outside.specs.declared.ends.Ends.{Ends}
 use Rattle.fwd_outside.specs.declared.happening.Happening.TheVariants as happening
 use Rattle.fwd_settings.specs.declared.chosen.AllSettings.{AllSettings}
 use Rattle.fwd_written.specs.Fact.{Fact, History, Brought, Found, Accepted}
-use Rattle.fwd_written.specs.Trace.{Call, Act, TraceEntry, OnLoop, OnDisk, OnFiles, OnKeeper, Note, behind, behind_call}
+use Rattle.fwd_written.specs.Trace.{Call, Act, TraceEntry, Note, behind, behind_call}
 use Rattle.fwd_written.specs.Clock.{clock}
 use Rattle.fwd_written.specs.Found.{events_found}
 use Rattle.fwd_written.specs.Chunks.{records, goes_to}

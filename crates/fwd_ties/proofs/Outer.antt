@@ -1,46 +1,42 @@
 -- What acceptance, pieces, polls and steps do to what was noted.
-use Rattle.std.proofs.Common.{◌≡◌, ◌⊎◌, inl, inr, ℕ, zero, suc, ◌+◌, ◌&&◌, nat_lt, Bool, true, false, cond, List, [], ◌∷◌, length, Option, Some, None, is_some, refl, sym, ◌∙◌, ap, subst, arith}
-use Rattle.std.specs.Prelude.{Contains, ◌==◌, is_none}
+use Rattle.std.proofs.Common.{◌≡◌, inl, inr, ℕ, ◌+◌, nat_lt, Bool, true, false, cond, List, [], ◌∷◌, length, Option, Some, None, refl, sym, ap, subst}
+use Rattle.std.specs.Prelude.{Contains}
 use Rattle.std.specs.List.{range_with_len}
-use Rattle.std.proofs.lemmas.Bool.{and_parts, eqb-true, eq-eqb}
-use Rattle.std.proofs.lemmas.List.Elements.{Contains-append_right, Contains-append_left}
+use Rattle.std.proofs.lemmas.List.Elements.{Contains-append_right}
 use Rattle.fwd_base.specs.Limits.{past_numbers}
 use Rattle.fwd_program.specs.Program.{entry, Return, Ask, bind}
-use Rattle.fwd_outside.specs.Loop.{LoopCall, Start, Wait, Dial, Push, Close, Reply, DropConn, Word}
+use Rattle.fwd_outside.specs.Loop.{LoopCall, Start, Wait, Reply, DropConn}
 use Rattle.fwd_outside.specs.Disk.{DiskProgram}
 use Rattle.fwd_outside.specs.Files.{FilesProgram}
 use Rattle.fwd_outside.specs.declared.happening.Happening.{Happening}
 use Rattle.fwd_outside.specs.declared.happening.Happening.TheVariants as happening
-use Rattle.fwd_outside.specs.declared.ends.Ends.{Ends}
 use Rattle.fwd_in_tail.specs.Followed.{Polled as Poll, polls as polls_of}
 use Rattle.fwd_wire.specs.Message.{Said}
 use Rattle.fwd_store.specs.Store.{begins_as, appends_to}
-use Rattle.fwd_backlog.specs.declared.file_read.FileRead.{FileRead}
-use Rattle.fwd_backlog.specs.Loading.{loads}
 use Rattle.fwd_settings.specs.declared.chosen.AllSettings.{AllSettings}
-use Rattle.fwd_written.specs.Fact.{Fact, History, Stream, Connection, Wire, Standard, Batch, Nowhere, First, Behind, Reason, TooLarge, NoNumber, NotStored, Brought, Resumed, Polled, HungUp, Misread, Found, Offers, Accepted, Refused, Shut, Handed, OnRoute, Records, Recorded, Dropped, Left, Faulted}
-use Rattle.fwd_written.specs.Trace.{Call, Answer, Act, TraceEntry, OnLoop, OnDisk, OnFiles, OnKeeper, Note}
+use Rattle.fwd_written.specs.Fact.{Fact, History, Stream, Connection, Wire, Standard, Batch, Nowhere, First, Behind, Reason, TooLarge, NoNumber, NotStored, Brought, Resumed, Polled, HungUp, Misread, Found, Offers, Accepted, Refused, Faulted}
+use Rattle.fwd_written.specs.Trace.{Call, Answer, Act, OnLoop, OnDisk, OnFiles, OnKeeper, Note}
 use Rattle.fwd_written.specs.Parts.{on_disk, on_files}
-use Rattle.fwd_written.specs.Setup.{plus, outputs_for, home_at, names_for, paths_at, from_head_at, reads_standard_at}
-use Rattle.fwd_written.specs.Clock.{clock, stopped, ticked, is_closing}
+use Rattle.fwd_written.specs.Setup.{outputs_for, home_at, names_for, paths_at, from_head_at, reads_standard_at}
+use Rattle.fwd_written.specs.Clock.{stopped, is_closing}
 use Rattle.fwd_written.specs.Streams.{stream_of, said}
 use Rattle.fwd_written.specs.Tails.{file_at}
 use Rattle.fwd_written.specs.Batches.{piece_batch, end_batch, poll_batch}
 use Rattle.fwd_written.specs.Messages.{ending_messages, breaks_off, message_batch, reply_of}
-use Rattle.fwd_written.specs.Chunks.{ChunkOf, chunks_of, open_chunks, open_chunk, next, is_shut, spelled, is_storable, is_from}
+use Rattle.fwd_written.specs.Chunks.{ChunkOf, chunks_of, open_chunks, open_chunk, next, spelled, is_storable}
 use Rattle.fwd_written.specs.Held.{kept_of, name_for}
 use Rattle.fwd_written.specs.Limits.{is_paused, paused}
-use Rattle.fwd_written.specs.Noting.{noting, note, is_empty}
+use Rattle.fwd_written.specs.Noting.{noting, is_empty}
 use Rattle.fwd_written.specs.Closing.{shuts, fills, closes_all}
-use Rattle.fwd_written.specs.Accepting.{Accepting, taken, given_up, refuses, appended, placed, appends, begins_chunk, stores, accepts, takes}
-use Rattle.fwd_written.specs.Flying.{walk, has_room, comes_back, has_broken}
+use Rattle.fwd_written.specs.Accepting.{Accepting, taken, refuses, appended, placed, appends, begins_chunk, stores, accepts, takes}
+use Rattle.fwd_written.specs.Flying.{walk}
 use Rattle.fwd_written.specs.Coming.{hangs_up, replied, replies, answers, reads, hears, pieces, polled, polls_file, polls_files, follows, follows_each, follows_all}
-use Rattle.fwd_written.specs.Steps.{walks, ticks, stops, finishes, happens, step}
+use Rattle.fwd_written.specs.Steps.{walks, ticks, stops, finishes, happens}
 use Rattle.fwd_ties.specs.Past.{Past, noted}
-use Rattle.fwd_ties.specs.Due.{IsChunk, Begins, Grows, IsToStore, BroughtDue, FactDue, IsDue, Due}
+use Rattle.fwd_ties.specs.Due.{IsChunk, Begins, Grows, IsToStore, FactDue, IsDue, Due}
 use Rattle.fwd_ties.proofs.Members.{here, from_filter, from_find}
 use Rattle.fwd_ties.proofs.Going.{Walks, Grown, longer, walks_bind, walks_if}
-use Rattle.fwd_ties.proofs.Standing.{chunk_since, chunk_still}
+use Rattle.fwd_ties.proofs.Standing.{chunk_still}
 use Rattle.fwd_ties.proofs.Deeds.{IsInnerFact, IsInnerLoop, IsInner, IsKept, tells_shuts, tells_fills, tells_closes_all, tells_walk, tells_has_room, tells_comes_back, tells_has_broken}
 
 -- all that a step notes behind what happened
@@ -233,7 +229,7 @@ module _ (s : AllSettings) (K : Past → Type 0) (stable : IsKept s IsOuter K) w
     λ answer.
         let at : Past = entry (OnLoop (DropConn conn)) answer ∷ past in
         let then = on (OnLoop (DropConn conn)) answer past tt tt ready in
-        (then.0, λ more. let last = on (Note (HungUp conn)) more at tt tt then in (last.0, (refl, last.1))),
+        (then.0, λ more. let last = on (Note (HungUp conn)) more at tt refl then in (last.0, (refl, last.1))),
   )
 
   told_replied : (conn : ℕ) (next : History → Act History) (past : Past) (answer : Option (Unit {0})) → ((now : Past) → Ready now → Told now (next (noted now))) → Ready past

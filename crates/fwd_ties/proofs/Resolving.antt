@@ -1,5 +1,5 @@
 -- What resolves a route, and to whom a chunk is owed.
-use Rattle.std.proofs.Common.{◌≡◌, ◌⊎◌, ◌↔◌, inl, inr, ℕ, ◌&&◌, ◌||◌, Bool, true, false, [], ◌∷◌, refl, sym, ◌∙◌, ap, subst, arith}
+use Rattle.std.proofs.Common.{◌≡◌, ◌⊎◌, ◌↔◌, inl, inr, ℕ, ◌&&◌, ◌||◌, Bool, true, false, [], ◌∷◌, refl, sym, subst, arith}
 use Rattle.std.specs.Prelude.{Contains, ◌==◌}
 use Rattle.std.proofs.lemmas.Bool.{eq-eqb, eqb-true, and_parts}
 use Rattle.fwd_settings.specs.declared.chosen.AllSettings.{AllSettings}
@@ -8,7 +8,7 @@ use Rattle.fwd_written.specs.Setup.{outputs_for, output_name}
 use Rattle.fwd_written.specs.Found.{found_in, has_done}
 use Rattle.fwd_written.specs.Chunks.{ChunkOf}
 use Rattle.fwd_written.specs.Routes.{same_route, route, resolves, is_resolved, owed}
-use Rattle.fwd_ties.specs.Resolved.{WasRecorded, HasEnded, IsDelivered, HasFailed, IsSpent, IsLost, IsRecorded}
+use Rattle.fwd_ties.specs.Resolved.{HasEnded, IsDelivered, HasFailed, IsSpent, IsLost, IsRecorded}
 use Rattle.fwd_ties.proofs.Members.{here, deeper, either, from_filter, in_filter, off_where_not, not_where_off}
 
 same_routes : (a b : Route) → same_route a b ≡ true → a ≡ b

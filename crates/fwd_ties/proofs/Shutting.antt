@@ -1,34 +1,28 @@
 -- Where all open chunks close, none is open at the end of the step.
-use Rattle.std.proofs.Common.{◌≡◌, ◌⊎◌, inl, inr, ⊎_elim, ℕ, zero, suc, ◌+◌, ◌&&◌, not, Bool, true, false, cond, List, [], ◌∷◌, ◌++◌, length, filter, Option, Some, None, is_some, refl, sym, ◌∙◌, ap, subst, arith}
+use Rattle.std.proofs.Common.{◌≡◌, ⊎_elim, ℕ, not, Bool, true, false, List, [], ◌∷◌, filter, Option, Some, None, refl, sym, ◌∙◌, ap, subst, arith}
 use Rattle.std.specs.Prelude.{Contains, is_none}
 use Rattle.std.proofs.lemmas.Bool.{and_parts}
-use Rattle.fwd_program.specs.Program.{entry, Return, Ask, bind, Way}
-use Rattle.fwd_outside.specs.Loop.{Start, Wait}
-use Rattle.fwd_outside.specs.Disk.{DiskProgram}
-use Rattle.fwd_outside.specs.declared.ends.Ends.{Ends}
+use Rattle.fwd_program.specs.Program.{entry, Return, Ask}
 use Rattle.fwd_outside.specs.declared.happening.Happening.{Happening}
 use Rattle.fwd_outside.specs.declared.happening.Happening.TheVariants as happening
-use Rattle.fwd_backlog.specs.declared.file_read.FileRead.{FileRead}
-use Rattle.fwd_backlog.specs.Loading.{loads}
 use Rattle.fwd_settings.specs.declared.chosen.AllSettings.{AllSettings}
-use Rattle.fwd_written.specs.Fact.{Fact, History, Standard, Brought, Resumed, Found, Offers, Accepted, Refused, Polled, HungUp, Misread, Shut}
-use Rattle.fwd_written.specs.Trace.{Call, Answer, Act, TraceEntry, OnLoop, OnDisk, OnFiles, OnKeeper, Note, behind}
-use Rattle.fwd_written.specs.Parts.{on_disk}
-use Rattle.fwd_written.specs.Setup.{plus, reads_standard_at}
-use Rattle.fwd_written.specs.Clock.{clock, stopped, is_closing}
+use Rattle.fwd_written.specs.Fact.{Fact, History, Standard, Brought, Found, Accepted, Shut}
+use Rattle.fwd_written.specs.Trace.{Call, Answer, Act, Note}
+use Rattle.fwd_written.specs.Setup.{reads_standard_at}
+use Rattle.fwd_written.specs.Clock.{stopped, is_closing}
 use Rattle.fwd_written.specs.Batches.{end_batch}
 use Rattle.fwd_written.specs.Chunks.{ChunkOf, chunks_of, open_chunks, is_shut}
-use Rattle.fwd_written.specs.Limits.{lost_at, paused}
+use Rattle.fwd_written.specs.Limits.{lost_at}
 use Rattle.fwd_written.specs.Closing.{shuts, closes, closes_all}
 use Rattle.fwd_written.specs.Accepting.{takes}
 use Rattle.fwd_written.specs.Flying.{walk}
 use Rattle.fwd_written.specs.Coming.{follows_all}
 use Rattle.fwd_written.specs.Steps.{walks, ticks, stops, finishes, happens, step}
 use Rattle.fwd_ties.specs.Past.{Past, noted}
-use Rattle.fwd_ties.specs.Due.{IsChunk, BroughtDue, IsDue, Due}
+use Rattle.fwd_ties.specs.Due.{IsChunk, BroughtDue, Due}
 use Rattle.fwd_ties.specs.Closes.{closes_at, has_closed}
 use Rattle.fwd_ties.proofs.Members.{here, deeper, either, in_filter, not_where_off}
-use Rattle.fwd_ties.proofs.Going.{Walks, Grown, walks_bind, walks_if}
+use Rattle.fwd_ties.proofs.Going.{Walks, Grown, walks_bind}
 use Rattle.fwd_ties.proofs.Standing.{shut_still, shut_since, chunk_since, open_is_chunk, lost_is_shut, shut_now}
 use Rattle.fwd_ties.proofs.Deeds.{IsInnerFact, IsInner, IsKept, tells_loses, tells_walk}
 use Rattle.fwd_ties.proofs.Outer.{IsOuter, outer, told_follows_all, told_takes, told_happens}

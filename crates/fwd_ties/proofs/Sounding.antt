@@ -1,24 +1,23 @@
 -- Where each entry may stand where it does, the history is sound.
-use Rattle.std.proofs.Common.{◌≡◌, ◌≢◌, ◌⊎◌, inl, inr, ⊎_elim, ℕ, zero, suc, ◌+◌, ◌<◌, ◌≤◌, ◌&&◌, ◌||◌, not, Bool, true, false, cond, List, [], ◌∷◌, ◌++◌, append-nil, length, filter, Option, Some, None, refl, sym, ◌∙◌, ap, subst, arith}
-use Rattle.std.specs.Prelude.{Contains, ◌==◌, max}
-use Rattle.std.proofs.lemmas.Bool.{eq-eqb, eqb-true, and_parts}
+use Rattle.std.proofs.Common.{◌≡◌, ◌≢◌, ◌⊎◌, inl, inr, ⊎_elim, ℕ, suc, ◌+◌, ◌<◌, ◌≤◌, not, Bool, true, false, cond, List, [], ◌∷◌, ◌++◌, append-nil, length, filter, Option, Some, None, refl, sym, ◌∙◌, ap, subst, arith}
+use Rattle.std.specs.Prelude.{Contains, ◌==◌}
+use Rattle.std.proofs.lemmas.Bool.{eq-eqb, eqb-true}
 use Rattle.std.proofs.lemmas.Bool.Decides.{eqb_tells}
 use Rattle.std.proofs.lemmas.List.Elements.{Contains-append_cases}
-use Rattle.fwd_backlog.specs.Serial.{serial_number}
 use Rattle.fwd_found.specs.declared.chunk.Chunk.{Chunk}
-use Rattle.fwd_program.specs.Program.{Return, Way}
+use Rattle.fwd_program.specs.Program.{Way}
 use Rattle.fwd_outside.specs.declared.ends.Ends.{Ends}
 use Rattle.fwd_settings.specs.declared.chosen.AllSettings.{AllSettings}
 use Rattle.fwd_written.specs.Fact.{Fact, History, Batch, Where, Nowhere, First, Behind, Route, Outcome, Begun, Flies, Retries, Delivered, Failed, Spent, Lost, Brought, Resumed, Polled, HungUp, Misread, Found, Offers, Accepted, Refused, Shut, Handed, OnRoute, Records, Recorded, Dropped, Left, Faulted}
-use Rattle.fwd_written.specs.Trace.{Call, Act, TraceEntry, OnLoop, OnDisk, OnFiles, OnKeeper, Note, behind, behind_call}
-use Rattle.fwd_written.specs.Setup.{outputs_for, output_name}
-use Rattle.fwd_written.specs.Found.{found_in, has_done}
+use Rattle.fwd_written.specs.Trace.{Call, Act, TraceEntry, Note, behind, behind_call}
+use Rattle.fwd_written.specs.Setup.{outputs_for}
+use Rattle.fwd_written.specs.Found.{found_in}
 use Rattle.fwd_written.specs.Noting.{is_empty}
 use Rattle.fwd_written.specs.Chunks.{ChunkOf, chunks_of, open_chunks, is_shut, next, found_as, begun_as}
-use Rattle.fwd_written.specs.Routes.{route, same_route, resolves, is_resolved, owed, is_owed}
+use Rattle.fwd_written.specs.Routes.{route, same_route, is_resolved, is_owed}
 use Rattle.fwd_written.specs.Run.{Lived, life}
 use Rattle.fwd_ties.specs.Past.{Past, noted, since}
-use Rattle.fwd_ties.specs.Due.{IsLoading, IsChunk, Begins, FactDue, RouteDue, IsDue, Due}
+use Rattle.fwd_ties.specs.Due.{IsLoading, Begins, FactDue, RouteDue, IsDue, Due}
 use Rattle.fwd_ties.specs.Sound.{chunk_in, chunk_of, IsBelow, NumbersRise, Sound}
 use Rattle.fwd_ties.proofs.Members.{here, deeper, either, from_filter, off_where_not}
 use Rattle.fwd_ties.proofs.Standing.{shut_still, same_chunk}

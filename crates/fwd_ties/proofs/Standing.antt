@@ -1,23 +1,22 @@
 -- What stays so of a history, and which chunks are closed.
-use Rattle.std.proofs.Common.{◌≡◌, ◌⊎◌, inl, inr, ⊎_elim, ℕ, ◌&&◌, not, Bool, true, false, cond, List, [], ◌∷◌, ◌++◌, map, filter, Option, Some, None, is_some, refl, sym, ◌∙◌, ap, subst, arith}
-use Rattle.std.specs.Prelude.{Contains, find, ◌==◌, nat_le, nat_lt, ◌-◌}
+use Rattle.std.proofs.Common.{◌≡◌, ⊎_elim, ℕ, ◌&&◌, not, Bool, true, false, cond, List, [], ◌∷◌, ◌++◌, map, filter, Option, Some, None, refl, sym, ◌∙◌, subst, arith}
+use Rattle.std.specs.Prelude.{Contains, ◌==◌, nat_le, nat_lt, ◌-◌}
 use Rattle.std.specs.Option.{option_map_or}
 use Rattle.std.specs.List.{flat_map}
 use Rattle.std.proofs.lemmas.Bool.{eq-eqb, eqb-true, and_parts, cond-true}
 use Rattle.std.proofs.lemmas.List.Elements.{Contains-append_left}
 use Rattle.fwd_base.specs.declared.ids.ChunkId.{ChunkId}
 use Rattle.fwd_base.specs.declared.ids.OutputId.{OutputId}
-use Rattle.fwd_outside.specs.declared.home.Home.{Home}
 use Rattle.fwd_table.specs.declared.row.Row.{Row}
-use Rattle.fwd_table.specs.Rows.{is_row_of, row_at, waits_for, is_idle_in}
+use Rattle.fwd_table.specs.Rows.{is_row_of, row_at, waits_for}
 use Rattle.fwd_limits.specs.Kept.{is_file, in_file, is_waiting, size_of}
 use Rattle.fwd_limits.specs.Losses.{fixed, others_for, lost_among, lost_to}
 use Rattle.fwd_flush.specs.Flight.{Progress}
 use Rattle.fwd_settings.specs.declared.chosen.AllSettings.{AllSettings}
 use Rattle.fwd_written.specs.Fact.{Fact, History, Route, Outcome, Begun, Flies, Retries, Delivered, Failed, Spent, Lost, Found, Accepted, Shut, OnRoute}
-use Rattle.fwd_written.specs.Trace.{Call, TraceEntry, OnLoop, OnDisk, OnFiles, OnKeeper, Note, behind_call}
+use Rattle.fwd_written.specs.Trace.{Call, TraceEntry, Note, behind_call}
 use Rattle.fwd_written.specs.Setup.{limit_at}
-use Rattle.fwd_written.specs.Chunks.{ChunkOf, chunks_of, chunk_at, open_chunks, open_chunk, is_shut, found_as, begun_as}
+use Rattle.fwd_written.specs.Chunks.{ChunkOf, chunks_of, chunk_at, open_chunks, is_shut, found_as, begun_as}
 use Rattle.fwd_written.specs.Found.{found_in}
 use Rattle.fwd_written.specs.Routes.{route, same_route, home_of, owed, is_owed, row_of, rows_of, is_idle, flight, progress_of}
 use Rattle.fwd_written.specs.Limits.{losses_to, losses_for, lost_at}

@@ -3,7 +3,7 @@ use Rattle.std.proofs.Common.{◌≡◌, ◌⊎◌, inl, inr, ℕ, ◌-◌, Bool
 use Rattle.fwd_event.specs.declared.event.Event.{Event}
 use Rattle.fwd_event.specs.Whole.{events_in}
 use Rattle.fwd_program.specs.Program.{entry, Return, Ask, bind, Way}
-use Rattle.fwd_outside.specs.Loop.{LoopCall, LoopProgram, Dial, Push, Close, Word}
+use Rattle.fwd_outside.specs.Loop.{LoopProgram, Push, Close, Word}
 use Rattle.fwd_outside.specs.Disk.{DiskProgram}
 use Rattle.fwd_table.specs.Answers.{may_retry}
 use Rattle.fwd_table.specs.declared.answer.Answer.{Answer as Answered}
@@ -17,8 +17,8 @@ use Rattle.fwd_flush.specs.declared.stage.Stage.{Stage}
 use Rattle.fwd_flush.specs.declared.stage.Stage.TheVariants.{Opening, Writing, AwaitingAck, Ended}
 use Rattle.fwd_flush.specs.Flight.{Progress, Delivery, dialed_on, unopened, starts}
 use Rattle.fwd_settings.specs.declared.chosen.AllSettings.{AllSettings}
-use Rattle.fwd_written.specs.Fact.{Fact, History, Route, Outcome, Begun, Flies, Retries, Delivered, Failed, Spent, Handed, OnRoute, Records, Recorded, Dropped, Left, Faulted}
-use Rattle.fwd_written.specs.Trace.{Call, Answer, Act, TraceEntry, OnLoop, OnDisk, OnFiles, OnKeeper, Note, behind, behind_call}
+use Rattle.fwd_written.specs.Fact.{History, Route, Begun, Retries, Delivered, Failed, Spent, Handed, OnRoute, Records, Faulted}
+use Rattle.fwd_written.specs.Trace.{Call, Answer, Act, TraceEntry, OnLoop, OnDisk, Note, behind, behind_call}
 use Rattle.fwd_written.specs.Parts.{on_loop, on_disk}
 use Rattle.fwd_written.specs.Setup.{output_at, output_name, retries_at}
 use Rattle.fwd_written.specs.Chunks.{records as records_of}
@@ -29,7 +29,7 @@ use Rattle.fwd_written.specs.Walk.{due_routes, may_start}
 use Rattle.fwd_written.specs.Noting.{noting, note}
 use Rattle.fwd_written.specs.Settling.{dropped, drops, recorded, records_at, records, settles}
 use Rattle.fwd_written.specs.Flying.{retries, answers_by, stands_in, stands, lands, begins_with, is_whole, read_behind, begins_as, begins, turn, turns, walk}
-use Rattle.fwd_ties.specs.Walked.{dialled_by, dials, begun_by, begins_in, IsInFile, StartsOnce, ReadsInVain, IsIdleTurn, IsTurn, MayNot, Starts, InVain, NotHeld, IsWalked}
+use Rattle.fwd_ties.specs.Walked.{dialled_by, dials, begun_by, begins_in, IsInFile, StartsOnce, IsTurn, MayNot, Starts, InVain, NotHeld, IsWalked}
 use Rattle.fwd_ties.proofs.Deeds.{OnLinks, links_dialed_on}
 
 -- a call that neither dials nor begins a flight

@@ -1,5 +1,5 @@
 -- When all open chunks close.
-use Rattle.std.specs.Prelude.{ℕ, ◌&&◌, Bool, false, [], ◌∷◌, is_none}
+use Rattle.std.specs.Prelude.{◌&&◌, Bool, false, [], ◌∷◌, is_none}
 use Rattle.fwd_outside.specs.declared.happening.Happening.{Happening}
 use Rattle.fwd_outside.specs.declared.happening.Happening.TheVariants as happening
 use Rattle.fwd_settings.specs.declared.chosen.AllSettings.{AllSettings}

@@ -1,12 +1,12 @@
 -- When each entry of a life may stand, by all that stands before it.
-use Rattle.std.specs.Prelude.{◌≡◌, ◌⊎◌, ℕ, ◌+◌, ◌<◌, nat_lt, Bool, true, false, List, [], ◌∷◌, length, Contains, Option, Some, None}
+use Rattle.std.specs.Prelude.{◌≡◌, ◌⊎◌, ℕ, ◌+◌, nat_lt, true, false, List, [], ◌∷◌, length, Contains, Option, Some, None}
 use Rattle.fwd_base.specs.Limits.{past_numbers}
-use Rattle.fwd_outside.specs.Loop.{LoopCall, LoopAnswer, Wait, Dial, DropConn}
+use Rattle.fwd_outside.specs.Loop.{LoopCall, Wait, Dial, DropConn}
 use Rattle.fwd_outside.specs.declared.happening.Happening.{Happening}
 use Rattle.fwd_outside.specs.declared.happening.Happening.TheVariants as happening
 use Rattle.fwd_settings.specs.declared.chosen.AllSettings.{AllSettings}
 use Rattle.fwd_written.specs.Fact.{Fact, History, Batch, Where, Nowhere, First, Behind, Reason, TooLarge, NoNumber, NotStored, Route, Outcome, Begun, Flies, Retries, Delivered, Failed, Spent, Lost, Brought, Resumed, Polled, HungUp, Misread, Found, Offers, Accepted, Refused, Shut, Handed, OnRoute, Records, Recorded, Dropped, Left, Faulted}
-use Rattle.fwd_written.specs.Trace.{Call, Answer, OnLoop, OnDisk, OnFiles, OnKeeper, Note}
+use Rattle.fwd_written.specs.Trace.{Call, OnLoop, OnDisk, OnFiles, OnKeeper, Note}
 use Rattle.fwd_written.specs.Setup.{plus, outputs_for}
 use Rattle.fwd_written.specs.Clock.{clock, stopped}
 use Rattle.fwd_written.specs.Chunks.{ChunkOf, chunks_of, open_chunk, next, is_shut, is_storable}
@@ -15,7 +15,7 @@ use Rattle.fwd_written.specs.Payloads.{tag_for}
 use Rattle.fwd_written.specs.Limits.{paused}
 use Rattle.fwd_written.specs.Walk.{may_start}
 use Rattle.fwd_written.specs.Noting.{is_empty}
-use Rattle.fwd_ties.specs.Past.{Past, noted, just_waited, just_noted}
+use Rattle.fwd_ties.specs.Past.{Past, noted, just_waited, just_noted, just_called}
 
 -- nothing but found files was noted, numbered by their places from 1 on
 abbrev pub IsLoading : History → Type 0
@@ -91,7 +91,7 @@ abbrev pub FactDue : AllSettings → Fact → Past → Type 0
 FactDue s (Brought brought) past = BroughtDue s brought past
 FactDue s (Resumed input index place) past = IsLoading (noted past)
 FactDue s (Polled input index long bytes) past = Unit {0}
-FactDue s (HungUp conn) past = Unit {0}
+FactDue s (HungUp conn) past = just_called past ≡ Some (OnLoop (DropConn conn))
 FactDue s (Misread input) past = Unit {0}
 FactDue s (Found number stream name bytes) past = (number ≡ length (noted past) + 1) × IsLoading (noted past)
 FactDue s (Offers chunk b) past = IsToStore s b × (Begins b chunk (noted past) ⊎ Grows b chunk (noted past))

@@ -6,3 +6,4 @@ pub mod Resolved
 pub mod Walked
 pub mod Brought
 pub mod Closes
+pub mod Becomes

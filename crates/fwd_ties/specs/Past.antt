@@ -36,3 +36,8 @@ noted_by call = None
 abbrev pub just_noted : Past → Option Fact
 just_noted [] = None
 just_noted (e ∷ past) = noted_by e.call
+
+-- what was called last of all
+abbrev pub just_called : Past → Option Call
+just_called [] = None
+just_called (e ∷ past) = Some e.call

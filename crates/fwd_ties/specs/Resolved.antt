@@ -1,7 +1,7 @@
 -- What ends a route, as it stands in the history.
-use Rattle.std.specs.Prelude.{◌≡◌, ◌⊎◌, ℕ, true, List, Contains}
+use Rattle.std.specs.Prelude.{◌≡◌, ℕ, true, List, Contains}
 use Rattle.fwd_settings.specs.declared.chosen.AllSettings.{AllSettings}
-use Rattle.fwd_written.specs.Fact.{History, Route, Found, OnRoute, Outcome, Delivered, Failed, Spent, Lost}
+use Rattle.fwd_written.specs.Fact.{History, Route, Found, OnRoute, Delivered, Failed, Spent, Lost}
 use Rattle.fwd_written.specs.Setup.{output_name}
 use Rattle.fwd_written.specs.Found.{found_in, has_done}
 

@@ -1,10 +1,10 @@
 -- What the turns of a walk do.
-use Rattle.std.specs.Prelude.{◌≡◌, ◌⊎◌, ℕ, Bool, true, false, List, [], ◌∷◌, ◌++◌, Option, Some, None}
-use Rattle.fwd_outside.specs.Loop.{LoopCall, Dial}
+use Rattle.std.specs.Prelude.{◌≡◌, ◌⊎◌, ℕ, true, false, List, [], ◌∷◌, ◌++◌, Option, Some, None}
+use Rattle.fwd_outside.specs.Loop.{Dial}
 use Rattle.fwd_kept.specs.declared.kept.Kept.{Kept}
 use Rattle.fwd_kept.specs.declared.kept.Kept.TheVariants.{InFile, Adopted, InMemory}
 use Rattle.fwd_settings.specs.declared.chosen.AllSettings.{AllSettings}
-use Rattle.fwd_written.specs.Fact.{Fact, History, Route, Outcome, Begun, OnRoute, Faulted}
+use Rattle.fwd_written.specs.Fact.{History, Route, Begun, OnRoute, Faulted}
 use Rattle.fwd_written.specs.Trace.{Call, TraceEntry, OnLoop, Note, behind}
 use Rattle.fwd_written.specs.Held.{kept_of}
 use Rattle.fwd_written.specs.Payloads.{tag_for}

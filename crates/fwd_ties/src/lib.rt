@@ -7,6 +7,7 @@
 
 mod bringing;
 mod closing;
+mod completeness;
 mod determined;
 mod echoing;
 mod growing;
@@ -15,6 +16,7 @@ mod walking;
 
 pub use bringing::what_was_brought;
 pub use closing::chunks_close;
+pub use completeness::complete_batches_come;
 pub use determined::trace_is_determined;
 pub use echoing::{entries_are_due, histories_are_noted, sound_histories};
 pub use growing::{clock_never_falls, records_only_grow};
