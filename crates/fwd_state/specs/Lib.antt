@@ -1,5 +1,4 @@
 pub mod Changes
-pub mod Reader
 pub mod Sight
 pub mod Stands
 pub mod Rooms

@@ -16,7 +16,7 @@ use Rattle.fwd_written.specs.Chunks.{ChunkOf, chunks_of, next, is_shut, open_chu
 use Rattle.fwd_written.specs.Routes.{route, tries, due, flight, is_resolved, rows_of, route_on}
 use Rattle.fwd_written.specs.Payloads.{delivery}
 use Rattle.fwd_written.specs.Tallies.{tally_of}
-use Rattle.fwd_state.specs.Reader.{wants, judges}
+use Rattle.fwd_delivery.specs.Reader.{wants, judges}
 use Rattle.fwd_state.specs.Sight.{chunk_id, output_id, flight_over, route_of}
 use Rattle.fwd_state.specs.declared.state.State.{State}
 use Rattle.fwd_state.specs.declared.flights.Flight.{Flight}

@@ -4,8 +4,8 @@ ghost use Rattle.std.specs.Prelude.{◌≡◌, ◌==◌, ℕ, Some, None, OnOk, 
 ghost use Rattle.fwd_written.specs.Routes.{flies_on};
 ghost use Rattle.fwd_state.specs.Sight.{flight_over};
 
-use crate::reader::Reader;
 use fwd_base::{ChunkId, LinkId, Memory, OutputId};
+use fwd_delivery::Reader;
 use fwd_flush::Flush;
 use std::alloc::Global;
 use std::collections::BTreeMap;

@@ -11,17 +11,16 @@ mod counts;
 mod flights;
 mod laws;
 mod pausing;
-mod reader;
 mod rooms;
 mod state;
 mod walks;
 
 pub use flights::{Flight, RouteId};
+pub use fwd_delivery::Reader;
 pub use laws::{
     begun_is_out, begun_tells, idle_is_closed, losses_in_turn, losses_one_by_one,
     next_loss_is_idle, offered_is_new, open_is_owed, others_change_nothing, others_lose_the_same,
     others_stay_idle,
 };
-pub use reader::Reader;
 pub use rooms::UpLimits;
 pub use state::{Place, State};
