@@ -1,6 +1,6 @@
 //! What is followed.
 
-ghost use Rattle.std.specs.Prelude.{◌≡◌, ℕ, List, [], ◌∷◌, length, slice_get, Some, IfOk, OnOk, OnErr, IsErrOf};
+ghost use Rattle.std.specs.Prelude.{◌≡◌, ◌≤◌, ℕ, List, [], ◌∷◌, length, slice_get, Some, IfOk, OnOk, OnErr, IsErrOf};
 ghost use Rattle.fwd_program.specs.Cause.{HasCause};
 ghost use Rattle.fwd_in_tail.specs.declared.tail.TailErr.TheVariants.{FileFault};
 ghost use Rattle.fwd_settings.specs.declared.chosen.AllSettings.{AllSettings};
@@ -58,6 +58,7 @@ impl Following {
         ensures polls { (s : AllSettings) (h : History) (path : List ℕ) → Follows s self.old h → slice_get (paths_at s input.0) index ≡ Some path →
             Polls (F.told files.old) (F.told files.new) s h input.0 index path self.new result }
         ensures err { OnErr result (Stays self.old self.new) }
+        ensures later { F.faults files.old ≤ F.faults files.new }
         ensures cause { (s : AllSettings) (h : History) (path : List ℕ) → Follows s self.old h → slice_get (paths_at s input.0) index ≡ Some path →
             HasCause (F.faults files.old) (F.faults files.new) (IsErrOf result FileFault) }
     {

@@ -1,6 +1,6 @@
 //! The files of one input.
 
-ghost use Rattle.std.specs.Prelude.{◌≡◌, ℕ, Bool, List, [], length, slice_get, Some, IfOk, OnOk, OnErr, IsErrOf};
+ghost use Rattle.std.specs.Prelude.{◌≡◌, ◌≤◌, ℕ, Bool, List, [], length, slice_get, Some, IfOk, OnOk, OnErr, IsErrOf};
 ghost use Rattle.fwd_program.specs.Cause.{HasCause};
 ghost use Rattle.fwd_in_tail.specs.Followed.{Followed, settled};
 ghost use Rattle.fwd_in_tail.specs.declared.tail.TailErr.TheVariants.{FileFault};
@@ -59,6 +59,7 @@ impl Sources {
         ensures polls { (paths : List (List ℕ)) (from_head : Bool) (all : ℕ → Followed) (path : List ℕ) → StandAll paths from_head all self.old.sources.items → slice_get paths index ≡ Some path →
             PollsOne (F.told files.old) (F.told files.new) paths from_head all index path self.new.sources.items result }
         ensures err { (paths : List (List ℕ)) (from_head : Bool) (all : ℕ → Followed) → StandAll paths from_head all self.old.sources.items → OnErr result (StandAll paths from_head all self.new.sources.items) }
+        ensures later { F.faults files.old ≤ F.faults files.new }
         ensures cause { (paths : List (List ℕ)) (from_head : Bool) (all : ℕ → Followed) (path : List ℕ) → StandAll paths from_head all self.old.sources.items → slice_get paths index ≡ Some path →
             HasCause (F.faults files.old) (F.faults files.new) (IsErrOf result FileFault) }
     {
