@@ -1,2 +1,4 @@
+pub mod Sound
 pub mod Shown
 pub mod Acts
+pub mod Heard
