@@ -1,5 +1,5 @@
 -- How chunks that are dropped and outcomes that are recorded are shown.
-use Rattle.std.proofs.Common.{◌≡◌, ℕ, Bool, true, false, not, cond, nat_eq, List, [], ◌∷◌, Option, Some, None, refl, sym, ◌∙◌, ap}
+use Rattle.std.proofs.Common.{◌≡◌, ℕ, Bool, true, false, cond, nat_eq, List, [], ◌∷◌, Option, Some, None, refl, sym, ◌∙◌, ap}
 use Rattle.std.specs.Prelude.{is_some}
 use Rattle.fwd_program.specs.Program.{Return, Way, bind}
 use Rattle.fwd_program.specs.Told.{Grew, Leads as LeadsOne, Did as DidOne, Began as BeganOne}

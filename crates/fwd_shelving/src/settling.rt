@@ -47,9 +47,6 @@ fn record<D: Disk>(
     ensures acts { Acts run.now (with_disk (D.told disk.old)) (with_disk (D.told disk.new)) parts.old parts.new (λ h. records run.now (route_of route) h) result }
     ensures later { D.faults disk.old ≤ D.faults disk.new }
 {
-    others_change_nothing();
-    others_are_not_heard();
-    others_are_not_followed();
     if !parts.store.holds(route.chunk) {
         return Ok(());
     }

@@ -1,6 +1,4 @@
-use Rattle.std.proofs.Common.{◌≡◌, true, false, ◌∷◌, Option, Some, None, refl, sym, ◌∙◌, ap, subst}
-use Rattle.std.specs.FinMap as map
-use Rattle.fwd_kept.specs.declared.kept.Kept.{Kept}
+use Rattle.std.proofs.Common.{◌≡◌, ◌∷◌, Some, None, refl, sym, ◌∙◌}
 use Rattle.fwd_store.specs.Store.{drops as removes}
 use Rattle.fwd_written.specs.Fact.{History, Dropped, Left, Faulted}
 use Rattle.fwd_written.specs.Held.{kept_of}
@@ -9,8 +7,8 @@ use Rattle.fwd_written.specs.Noting.{note}
 use Rattle.fwd_written.proofs.Meeting.{acted_after, acted_noting, acted_noted}
 use Rattle.fwd_holding.proofs.Elsewhere.{holds_on}
 use Rattle.fwd_holding.proofs.Dropping.{holds_dropped, holds_left}
-use Rattle.fwd_parts.specs.Shown.{Shown, Shows}
-use Rattle.fwd_parts.specs.Acts.{with_disk}
+use Rattle.fwd_parts.specs.Shown.{Shows}
+use Rattle.fwd_parts.proofs.Sounding.{sound_on}
 use Rattle.fwd_shelving.proofs.Shelving.{not_some, disk_did, disk_began, holds_without}
 use Rattle.fwd_shelving.proofs.settling.drop_chunk.Goals as goal
 
@@ -26,6 +24,7 @@ returns-then-not-holds-clause-acts g c s others h shows done =
       hearing = c.others_are_not_heard.ensures s parts.hearing h (Dropped n) refl shows.hearing;
       following = c.others_are_not_followed.ensures s parts.following h (Dropped n) refl shows.following;
       store = holds_without s parts.store h n none shows.store;
+      sound = sound_on s h None (Dropped n) refl shows.sound;
     }))
 
 pub returns-in-Ok-clause-acts : goal.returns-in-Ok-clause-acts
@@ -41,6 +40,7 @@ returns-in-Ok-clause-acts g c s others h shows done =
       hearing = c.others_are_not_heard.ensures s _ h (Dropped n) refl shows.hearing;
       following = c.others_are_not_followed.ensures s _ h (Dropped n) refl shows.following;
       store = rw c.in-Ok.ensures.dropped (holds_dropped s _ h n done held);
+      sound = sound_on s h None (Dropped n) refl shows.sound;
     }))
 
 pub returns-in-Err-Failed-clause-acts : goal.returns-in-Err-Failed-clause-acts
@@ -56,6 +56,7 @@ returns-in-Err-Failed-clause-acts g c s others h shows done =
       hearing = c.others_are_not_heard.ensures s _ (Faulted ∷ h) (Left n) refl (c.others_are_not_heard.ensures s _ h Faulted refl shows.hearing);
       following = c.others_are_not_followed.ensures s _ (Faulted ∷ h) (Left n) refl (c.others_are_not_followed.ensures s _ h Faulted refl shows.following);
       store = rw c.in-Err-Failed.ensures.dropped (holds_left s _ (Faulted ∷ h) n done (holds_on s _ h Faulted refl held));
+      sound = sound_on s (Faulted ∷ h) None (Left n) refl (sound_on s h None Faulted refl shows.sound);
     })))
 
 pub returns-in-Err-Memory-clause-acts : goal.returns-in-Err-Memory-clause-acts

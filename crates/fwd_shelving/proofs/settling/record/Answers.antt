@@ -1,12 +1,11 @@
-use Rattle.std.proofs.Common.{◌≡◌, true, false, ◌∷◌, Option, Some, None, refl, sym, ◌∙◌, ap}
-use Rattle.fwd_kept.specs.declared.kept.Kept.{Kept}
+use Rattle.std.proofs.Common.{◌≡◌, ◌∷◌, Some, None, refl, sym, ◌∙◌}
 use Rattle.fwd_written.specs.Fact.{History, Records, Recorded, Faulted}
 use Rattle.fwd_written.specs.Held.{kept_of}
 use Rattle.fwd_written.specs.Settling.{records}
 use Rattle.fwd_written.proofs.Meeting.{acted_idle}
-use Rattle.fwd_holding.proofs.Elsewhere.{holds_on}
 use Rattle.fwd_state.specs.Sight.{route_of}
-use Rattle.fwd_parts.specs.Shown.{Shown, Shows}
+use Rattle.fwd_parts.specs.Shown.{Shows}
+use Rattle.fwd_parts.proofs.Noting.{shown_on, shown_by_state}
 use Rattle.fwd_shelving.proofs.Shelving.{not_some, record_acted, record_began}
 use Rattle.fwd_shelving.proofs.settling.record.Goals as goal
 
@@ -25,12 +24,7 @@ returns-in-Ok-clause-acts g c others h shows =
     let did = rw (shows.store.chunks r.chunk, c.output_name.ensures, shows.store.full) at c.in-Ok.ensures.calls in
     record_acted others _ _ s r h (λ (now : History). Shows s parts now) (Some c.in-Ok.field-0) did
     (λ b is. shows)
-    (λ b is. record {
-      state = c.others_change_nothing.ensures s _ (Records r ∷ h) None (Recorded r) refl (c.others_change_nothing.ensures s _ h None (Records r) refl shows.state);
-      hearing = c.others_are_not_heard.ensures s _ (Records r ∷ h) (Recorded r) refl (c.others_are_not_heard.ensures s _ h (Records r) refl shows.hearing);
-      following = c.others_are_not_followed.ensures s _ (Records r ∷ h) (Recorded r) refl (c.others_are_not_followed.ensures s _ h (Records r) refl shows.following);
-      store = holds_on s _ (Records r ∷ h) (Recorded r) refl (holds_on s _ h (Records r) refl shows.store);
-    })
+    (λ b is. shown_on s parts (Records r ∷ h) None None (Recorded r) refl refl refl refl refl (shown_on s parts h None None (Records r) refl refl refl refl refl shows))
     (λ is. absurd (cc is))
 
 pub returns-in-Err-Failed-clause-acts : goal.returns-in-Err-Failed-clause-acts
@@ -41,12 +35,9 @@ returns-in-Err-Failed-clause-acts g c others h shows =
     record_acted others _ _ s r h _ None did
     (λ b is. absurd (cc is))
     (λ b is. absurd (cc is))
-    (λ is. record {
-      state = c.faults.ensures s (Records r ∷ h) None (c.others_change_nothing.ensures s _ h None (Records r) refl shows.state);
-      hearing = c.others_are_not_heard.ensures s _ (Records r ∷ h) Faulted refl (c.others_are_not_heard.ensures s _ h (Records r) refl shows.hearing);
-      following = c.others_are_not_followed.ensures s _ (Records r ∷ h) Faulted refl (c.others_are_not_followed.ensures s _ h (Records r) refl shows.following);
-      store = holds_on s _ (Records r ∷ h) Faulted refl (holds_on s _ h (Records r) refl shows.store);
-    })
+    (λ is.
+    let noted = shown_on s _ h None None (Records r) refl refl refl refl refl shows in
+    shown_by_state s _ _ (Records r ∷ h) None None None Faulted refl refl refl refl refl refl refl (c.faults.ensures s (Records r ∷ h) None noted.state) noted)
 
 pub returns-in-Err-Memory-clause-acts : goal.returns-in-Err-Memory-clause-acts
 returns-in-Err-Memory-clause-acts g c others h shows =
