@@ -1,0 +1,5 @@
+pub mod Heard
+pub mod Standing
+pub mod Turning
+pub mod Spelled
+pub mod Reading
