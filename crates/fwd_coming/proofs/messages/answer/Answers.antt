@@ -1,0 +1,14 @@
+use Rattle.std.proofs.Common.{◌≡◌, List, ℕ, Some, sym, ap, ◌∙◌}
+use Rattle.std.specs.Prelude.{option_copied}
+use Rattle.fwd_written.specs.Coming.{hangs_up}
+use Rattle.fwd_coming.proofs.Answering.{went_end}
+use Rattle.fwd_coming.proofs.messages.answer.Goals as goal
+
+pub returns-in_err-hang_up-clause-acts : goal.returns-in_err-hang_up-clause-acts
+returns-in_err-hang_up-clause-acts g c s others h next shows =
+    rw c.if-not-taken.true (went_end s _ (hangs_up c.args.conn.0 h) next c.from_residual.result c.from_residual.ensures.0 (c.in_err-hang_up.ensures.acts s others h shows))
+
+pub returns-in-Some-clause-acts : goal.returns-in-Some-clause-acts
+returns-in-Some-clause-acts g c s others h next shows =
+    let asked : option_copied c.args.asked ≡ Some c.as_slice.result.now = ap option_copied c.in-Some.is ∙ ap (λ (l : List ℕ). Some l) (sym c.as_slice.ensures) in
+    rw (c.if-not-taken.false, asked) (c.reply.ensures.acts s others h next shows)
