@@ -1,0 +1,269 @@
+-- Parts behind the files so far show what was found.
+use Rattle.std.proofs.Common.{nat_cmp, ◌≡◌, ℕ, ◌+◌, ◌≤◌, ◌<◌, false, cond, nat_eq, inl, inr, List, [], ◌∷◌, length, drop, map as list_map, Option, Some, None, refl, sym, ◌∙◌, ap, subst, arith}
+use Rattle.std.specs.Prelude.{◌==◌, if◌then◌else◌, unwrap_or, max, fold}
+use Rattle.std.specs.List.{AllZip}
+use Rattle.std.specs.FinMap as map
+use Rattle.std.proofs.lemmas.Bool.{cases_Bool, ne_eqb}
+use Rattle.fwd_found.specs.declared.chunk.Chunk.{Chunk}
+use Rattle.fwd_found.specs.declared.chunk.Brief.{Brief}
+use Rattle.fwd_found.specs.declared.chunk.Found.{Found as FoundFile}
+use Rattle.fwd_found.specs.declared.chunk.Seen.{Seen}
+use Rattle.fwd_found.specs.declared.chunk.Seen.TheVariants.{Whole, Empty, Refused}
+use Rattle.fwd_found.specs.Seen.{IsSeen}
+use Rattle.fwd_kept.specs.declared.kept.Kept.{Kept}
+use Rattle.fwd_kept.specs.declared.kept.Kept.TheVariants.{Adopted, InMemory}
+use Rattle.fwd_kept.specs.Kept.{size_of}
+use Rattle.fwd_kept.specs.Name.{found_name}
+use Rattle.fwd_store.specs.Stored.{Stored}
+use Rattle.fwd_store.specs.Store.{adopted as adopted_in}
+use Rattle.fwd_backlog.specs.declared.file_read.FileRead.{FileRead}
+use Rattle.fwd_backlog.specs.Loading.{IsFoundOf}
+use Rattle.fwd_backlog.specs.Serial.{serial_number, next_number}
+use Rattle.fwd_settings.specs.declared.chosen.AllSettings.{AllSettings}
+use Rattle.fwd_written.specs.Fact.{History, Found}
+use Rattle.fwd_written.specs.Found.{found_in, content_found}
+use Rattle.fwd_written.specs.Chunks.{next}
+use Rattle.fwd_written.specs.Held.{kept_of, adopted}
+use Rattle.fwd_state.specs.Stands.{Shows as StateShows}
+use Rattle.fwd_state.proofs.Standing.{open_is, open_found}
+use Rattle.fwd_hearing.specs.Hears.{Hears}
+use Rattle.fwd_hearing.proofs.Noting as hearing
+use Rattle.fwd_following.specs.Follows.{Follows}
+use Rattle.fwd_following.proofs.Noting as following
+use Rattle.fwd_holding.specs.Holds.{opened_of}
+use Rattle.fwd_holding.proofs.Numbers.{get_inserted, same_number}
+use Rattle.fwd_parts.specs.Sound.{IsSound}
+use Rattle.fwd_parts.specs.Shown.{Shows}
+use Rattle.fwd_parts.specs.declared.parts.Parts.{Parts}
+use Rattle.fwd_parts.proofs.Sounding.{sound_at_first}
+use Rattle.fwd_loading.specs.Taken.{found_after, NotesFile, taken, IsReady, AreNew}
+use Rattle.fwd_loading.proofs.Seeing.{IsWholeIn, whole_found, empty_found, refused_found}
+use Rattle.fwd_loading.proofs.Renaming.{IsPlain, plain_first, plain_found, stands_plain}
+
+-- ---- what is so of every history
+
+above_differs : (n q past : ℕ) → n < past → past ≤ q → (n == q) ≡ false
+above_differs n q past below above = ne_eqb n q (λ e. absurd (omega (arith, below, above, e)))
+
+found_size : (name : List ℕ) (o : Option Chunk) (bytes : List ℕ) (kept : Kept) → found_in bytes ≡ o → adopted name o ≡ Some kept → size_of kept ≡ length (content_found bytes)
+found_size name None bytes kept found is = absurd (cc is)
+found_size name (Some chunk) bytes kept found is =
+    let e : Adopted (record { name = name; meta = chunk.meta; size = length chunk.content; selector = 0; mark = chunk.mark; outputs = chunk.outputs }) ≡ kept = cc is in
+    rw found (ap size_of (sym e))
+
+never_in_memory : (name : List ℕ) (o : Option Chunk) (content : List ℕ) → adopted name o ≡ Some (InMemory content) → ⊥
+never_in_memory name None content is = absurd (cc is)
+never_in_memory name (Some chunk) content is = absurd (cc is)
+
+-- the next number may be greater by the names of files
+sound_found : (s : AllSettings) (h : History) (n : ℕ) (stream name bytes : List ℕ) → IsSound s h None → IsSound s (Found n stream name bytes ∷ h) None
+sound_found s h n stream name bytes sound = record {
+  untouched = λ q above. let apart = above_differs n q (n + 1) (omega arith) (omega (arith, above)) in let old = sound.untouched q (omega (arith, above)) in (rw apart old.0, rw apart old.1);
+  sized = λ q kept is. elim (cases_Bool (n == q)) [
+    | inl same ↦ rw same (found_size _ (found_in bytes) bytes kept refl (rw same at is))
+    | inr differs ↦ rw differs (sound.sized q kept (rw differs at is))
+  ];
+  memory = λ q content is. elim (cases_Bool (n == q)) [
+    | inl same ↦ absurd (never_in_memory _ (found_in bytes) content (rw same at is))
+    | inr differs ↦ rw differs (sound.memory q content (rw differs at is))
+  ];
+  grounded = λ q output still. elim (cases_Bool (n == q)) [
+    | inl same ↦ absurd (cc (rw same at still))
+    | inr differs ↦ sound.grounded q output (rw differs at still)
+  ];
+  room = λ q is other.
+      let closed = open_is (Found n stream name bytes ∷ h) q is in
+      elim (cases_Bool (n == q)) [
+        | inl same ↦ absurd (cc (rw same at closed))
+        | inr differs ↦ rw differs (sound.room q (open_found n stream name bytes h q is) other)
+      ];
+}
+
+-- ---- what is held
+
+same_kept : (s : AllSettings) (store : Stored) (found : FoundFile) (brief : Brief) (bytes : List ℕ) → store.root ≡ s.service.path → IsWholeIn bytes brief
+    → Some (adopted_in store found brief) ≡ adopted (found_name (unwrap_or s.service.path []) found.stream found.name) (found_in bytes)
+same_kept s store found brief bytes root whole = rw (whole.found, whole.kept, root) refl
+
+held_none : (n k : ℕ) (o p : Option Kept) → (k ≡ n → p ≡ None) → p ≡ o → p ≡ (if n == k then None else o)
+held_none n k o p none is = elim (cases_Bool (n == k)) [
+  | inl same ↦ rw same (none (sym (same_number n k same)))
+  | inr differs ↦ rw differs is
+]
+
+kept_found : (s : AllSettings) (store : Stored) (h : History) (n : ℕ) (found : FoundFile) (bytes : List ℕ) (seen : Seen) → IsSeen bytes seen → store.root ≡ s.service.path → map.get store.chunks n ≡ None
+    → ((k : ℕ) → map.get store.chunks k ≡ kept_of s h k) → (k : ℕ) → map.get (taken store n found seen).chunks k ≡ kept_of s (Found n found.stream found.name bytes ∷ h) k
+kept_found s store h n found bytes (Whole brief) seen root none held k =
+    let kept = same_kept s store found brief bytes root (whole_found bytes brief seen) in
+    get_inserted store.chunks n (adopted_in store found brief) k ∙ (λ i. cond (nat_eq n k) (kept i) (held k i))
+kept_found s store h n found bytes (Empty brief) seen root none held k =
+    held_none n k (kept_of s h k) (map.get store.chunks k) (λ same. ap (map.get store.chunks) same ∙ none) (held k)
+    ∙ ap (λ (o : Option Chunk). if n == k then adopted (found_name (unwrap_or s.service.path []) found.stream found.name) o else kept_of s h k) (sym (empty_found bytes brief seen))
+kept_found s store h n found bytes (Refused kind) seen root none held k =
+    held_none n k (kept_of s h k) (map.get store.chunks k) (λ same. ap (map.get store.chunks) same ∙ none) (held k)
+    ∙ ap (λ (o : Option Chunk). if n == k then adopted (found_name (unwrap_or s.service.path []) found.stream found.name) o else kept_of s h k) (sym (refused_found bytes kind seen))
+
+-- ---- all parts
+
+-- Behind so many files. The state shows a history in which their names tell no number, so that each next file has the next
+-- number of this history.
+pub record IsLoading (s : AllSettings) (parts : Parts) (n : ℕ) (g h : History) : Type 0 where
+  pub state : StateShows s parts.state g
+  pub plain : IsPlain s g h
+  pub low : next g ≤ n + 1
+  pub hearing : Hears s parts.hearing h
+  pub following : Follows s parts.following h
+  pub sound : IsSound s h None
+  pub chunks : (k : ℕ) → map.get parts.store.chunks k ≡ kept_of s h k
+
+pub loading_first : (s : AllSettings) (past : ℕ) (parts : Parts) → AreNew s past parts → IsLoading s parts 0 [] []
+loading_first s past parts new = record {
+  state = new.state;
+  plain = plain_first s;
+  low = omega arith;
+  hearing = new.hearing;
+  following = new.following;
+  sound = sound_at_first s;
+  chunks = λ k. ap (λ (store : Stored). map.get store.chunks k) new.store ∙ map.get-empty nat_cmp k;
+}
+
+-- what was done for one file
+pub record TakesFile (s : AllSettings) (old new : Parts) (n : ℕ) (found : FoundFile) : Type 0 where
+  pub state : NotesFile s old.state new.state (n + 1) found.seen
+  pub store : new.store ≡ taken old.store (n + 1) found found.seen
+  pub hearing : new.hearing ≡ old.hearing
+  pub following : new.following ≡ old.following
+
+pub loading_next : (s : AllSettings) (old new : Parts) (n : ℕ) (g h : History) (found : FoundFile) (more : List FoundFile) (read : FileRead)
+    → TakesFile s old new n found → IsReady s old.store n (found ∷ more) → IsFoundOf read found → IsLoading s old n g h
+    → IsLoading s new (n + 1) (Found (n + 1) read.file.stream [] read.bytes ∷ g) (Found (n + 1) read.file.stream read.file.name read.bytes ∷ h)
+loading_next s old new n g h found more read takes ready of loading = record {
+  state = takes.state read.file.stream [] read.bytes g of.seen loading.low loading.state;
+  plain = plain_found s (n + 1) read.file.stream read.file.name read.bytes g h loading.plain;
+  low = let low = loading.low in omega (arith, low);
+  hearing = rw takes.hearing (hearing.stays s old.hearing h (Found (n + 1) read.file.stream read.file.name read.bytes) refl loading.hearing);
+  following = rw takes.following (following.stays s old.following h (Found (n + 1) read.file.stream read.file.name read.bytes) refl loading.following);
+  sound = sound_found s h (n + 1) read.file.stream read.file.name read.bytes loading.sound;
+  chunks = λ k.
+      ap (λ (store : Stored). map.get store.chunks k) takes.store
+      ∙ kept_found s old.store h (n + 1) found read.bytes found.seen of.seen ready.root (ready.above (n + 1) (omega arith)) loading.chunks k
+      ∙ (λ i. kept_of s (Found (n + 1) (of.stream i) (of.name i) read.bytes ∷ h) k);
+}
+
+-- ---- the next number
+
+abbrev pub next_behind : ℕ → ℕ → List FoundFile → ℕ
+next_behind n past [] = past
+next_behind n past (found ∷ more) = next_behind (n + 1) (max past (1 + max (n + 1) (serial_number found.name))) more
+
+abbrev greatest_from : ℕ → List FoundFile → ℕ
+greatest_from greatest found = fold (λ (g : ℕ) (file : FoundFile). max g (serial_number file.name)) greatest found
+
+greatest_of : (a : ℕ) (found : List FoundFile) → greatest_from a found ≡ max a (greatest_from 0 found)
+greatest_of a [] = omega arith
+greatest_of a (f ∷ fs) =
+    let here = greatest_of (max a (serial_number f.name)) fs in
+    let there = greatest_of (max 0 (serial_number f.name)) fs in
+    omega (arith, here, there)
+
+next_all : (n past : ℕ) (found : List FoundFile) → n + 1 ≤ past → next_behind n past found ≡ max past (1 + max (n + length found) (greatest_from 0 found))
+next_all n past [] low = omega (arith, low)
+next_all n past (f ∷ fs) low =
+    let more = next_all (n + 1) (max past (1 + max (n + 1) (serial_number f.name))) fs (omega arith) in
+    let first = greatest_of (max 0 (serial_number f.name)) fs in
+    omega (arith, low, more, first)
+
+pub next_is : (found : List FoundFile) → next_behind 0 1 found ≡ next_number found
+next_is found = let all = next_all 0 1 found (omega arith) in omega (arith, all)
+
+-- ---- the end
+
+pub loading_ends : (s : AllSettings) (parts : Parts) (n : ℕ) (g h : History) → IsReady s parts.store n [] → next h ≡ parts.store.next → IsLoading s parts n g h → Shows s parts h
+loading_ends s parts n g h ready at loading = record {
+  state = stands_plain s parts.state g h loading.plain loading.state;
+  hearing = loading.hearing;
+  following = loading.following;
+  store = record {
+    root = ready.root;
+    full = ready.full;
+    next = sym at;
+    opened = ready.opened ∙ ap (list_map opened_of) (sym loading.plain.opens);
+    chunks = loading.chunks;
+  };
+  sound = loading.sound;
+}
+
+-- ---- one file after another
+
+-- behind so many of the files that were found and read
+pub record IsBehind (s : AllSettings) (parts : Parts) (n : ℕ) (found : List FoundFile) (files : List FileRead) : Type 0 where
+  pub plain : History
+  pub history : History
+  pub left : List FileRead
+  pub each : AllZip IsFoundOf left (drop n found)
+  pub loading : IsLoading s parts n plain history
+  pub after : found_after (n + 1) left history ≡ found_after 1 files []
+  pub at : next_behind n (next history) (drop n found) ≡ next_number found
+
+pub behind_first : (s : AllSettings) (past : ℕ) (parts : Parts) (found : List FoundFile) (files : List FileRead) → AreNew s past parts → AllZip IsFoundOf files found → IsBehind s parts 0 found files
+behind_first s past parts found files new each = record {
+  plain = [];
+  history = [];
+  left = files;
+  each = each;
+  loading = loading_first s past parts new;
+  after = refl;
+  at = next_is found;
+}
+
+pub behind_next : (s : AllSettings) (old new : Parts) (n : ℕ) (found : List FoundFile) (file : FoundFile) (more : List FoundFile) (files : List FileRead)
+    → drop n found ≡ file ∷ more → drop (n + 1) found ≡ more → TakesFile s old new n file → IsReady s old.store n (file ∷ more) → IsBehind s old n found files → IsBehind s new (n + 1) found files
+behind_next s old new n found file more files here there takes ready behind =
+    go behind.left (subst (λ (l : List FoundFile). AllZip IsFoundOf behind.left l) here behind.each) behind.after
+  where
+    go : (left : List FileRead) → AllZip IsFoundOf left (file ∷ more) → found_after (n + 1) left behind.history ≡ found_after 1 files [] → IsBehind s new (n + 1) found files
+    go [] each after = absurd each
+    go (read ∷ reads) each after = record {
+      plain = Found (n + 1) read.file.stream [] read.bytes ∷ behind.plain;
+      history = Found (n + 1) read.file.stream read.file.name read.bytes ∷ behind.history;
+      left = reads;
+      each = subst (λ (l : List FoundFile). AllZip IsFoundOf reads l) (sym there) each.1;
+      loading = loading_next s old new n behind.plain behind.history file more read takes ready each.0 behind.loading;
+      after = after;
+      at =
+          ap (λ (l : List FoundFile). next_behind (n + 1) (next (Found (n + 1) read.file.stream read.file.name read.bytes ∷ behind.history)) l) there
+          ∙ ap (λ (name : List ℕ). next_behind (n + 1) (max (next behind.history) (1 + max (n + 1) (serial_number name))) more) (sym each.0.name)
+          ∙ ap (λ (l : List FoundFile). next_behind n (next behind.history) l) (sym here)
+          ∙ behind.at;
+    }
+
+pub behind_ends : (s : AllSettings) (parts : Parts) (n : ℕ) (found : List FoundFile) (files : List FileRead) → drop n found ≡ [] → IsReady s parts.store n (drop n found) → parts.store.next ≡ next_number found
+    → IsBehind s parts n found files → Shows s parts (found_after 1 files [])
+behind_ends s parts n found files none ready past behind =
+    go behind.left (subst (λ (l : List FoundFile). AllZip IsFoundOf behind.left l) none behind.each) behind.after
+  where
+    shows : Shows s parts behind.history
+    shows = loading_ends s parts n behind.plain behind.history
+        (subst (λ (l : List FoundFile). IsReady s parts.store n l) none ready)
+        (ap (λ (l : List FoundFile). next_behind n (next behind.history) l) (sym none) ∙ behind.at ∙ sym past)
+        behind.loading
+
+    go : (left : List FileRead) → AllZip IsFoundOf left [] → found_after (n + 1) left behind.history ≡ found_after 1 files [] → Shows s parts (found_after 1 files [])
+    go [] each after = subst (Shows s parts) after shows
+    go (read ∷ reads) each after = absurd each
+
+-- nothing was to be loaded
+pub new_shows : (s : AllSettings) (parts : Parts) → AreNew s 1 parts → Shows s parts []
+new_shows s parts new = record {
+  state = new.state;
+  hearing = new.hearing;
+  following = new.following;
+  store = record {
+    root = ap (λ (store : Stored). store.root) new.store;
+    full = ap (λ (store : Stored). store.full) new.store;
+    next = ap (λ (store : Stored). store.next) new.store;
+    opened = ap (λ (store : Stored). store.opened) new.store;
+    chunks = λ k. ap (λ (store : Stored). map.get store.chunks k) new.store ∙ map.get-empty nat_cmp k;
+  };
+  sound = sound_at_first s;
+}

@@ -1,0 +1,8 @@
+mod Masks
+mod Seeing
+mod Renaming
+mod Readying
+mod Behind
+mod Metadata
+mod Calling
+mod Following
