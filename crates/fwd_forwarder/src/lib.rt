@@ -1,0 +1,11 @@
+//! The engine: it begins with what stands on the disk, and what happens outside is brought to it one thing at a time. It
+//! does what the written run says, over a loop, a disk and files.
+//!
+//! Its clauses hold for all of these devices, whether they tell their calls or not: from each history that the engine has
+//! come to, the calls are those of the step, and it then stands where the step leads.
+#![tactic(auto)]
+
+mod engine;
+mod setup;
+
+pub use engine::{BeginErr, Engine, EngineStop, Turn};
