@@ -1,0 +1,113 @@
+-- The turns of a run, one after another.
+use Rattle.std.proofs.Common.{arith, ◌≡◌, ℕ, suc, ◌+◌, ◌-◌, ◌<◌, ◌≤◌, inl, inr, Bool, true, false, Option, Result, Ok, Err, refl, sym, subst}
+use Rattle.fwd_program.specs.Program.{Return, bind}
+use Rattle.fwd_outside.specs.declared.happening.Happening.{Happening}
+use Rattle.fwd_outside.specs.declared.happening.Happening.TheVariants as happening
+use Rattle.fwd_settings.specs.declared.chosen.AllSettings.{AllSettings}
+use Rattle.fwd_written.specs.Fact.{History}
+use Rattle.fwd_written.specs.Trace.{Act}
+use Rattle.fwd_written.specs.World.{World, Leads, Did, Began}
+use Rattle.fwd_written.proofs.Acting.{goes_on as leads_on, stays, inside, began_inside, began_after}
+use Rattle.fwd_written.specs.Steps.{step}
+use Rattle.fwd_written.specs.Run.{Lived, lived, Over, LoopFailed, TurnsSpent, goes_on, steps_on, is_last_reading, unless_last, brought, run, is_over}
+use Rattle.fwd_forwarder.specs.Steps.{IsAt, Steps, waits, is_failed, as_turn}
+use Rattle.fwd_forwarder.specs.declared.engine.Engine.{Engine}
+use Rattle.fwd_forwarder.specs.declared.engine.EngineStop.{EngineStop}
+use Rattle.fwd_forwarder.specs.declared.engine.EngineStop.TheVariants as stop
+use Rattle.fwd_forwarder.specs.declared.engine.Turn.{Turn}
+use Rattle.fwd_forwarder.specs.declared.engine.Turn.TheVariants as turn
+use Rattle.fwd_lives.specs.Runs.{GoesOn, Runs}
+use Rattle.fwd_lives.specs.declared.running.RunEnd.{RunEnd}
+
+brought_is : (s : AllSettings) (ticks : Option ℕ) (next : History → Act Lived) (h : History) (x : Happening) → is_failed x ≡ false → brought s ticks next h x ≡ bind (step s x h) (goes_on s (unless_last s ticks next x) x)
+brought_is s ticks next h happening.Failed is = absurd (cc is)
+brought_is s ticks next h happens is = refl
+
+failed_is : (s : AllSettings) (ticks : Option ℕ) (next : History → Act Lived) (h : History) (x : Happening) → is_failed x ≡ true → brought s ticks next h x ≡ Return (lived h LoopFailed)
+failed_is s ticks next h happening.Failed is = refl
+failed_is s ticks next h happens is = absurd (cc is)
+
+over_is : (b : Bool) → turn.Over ≡ as_turn b → b ≡ true
+over_is true is = refl
+over_is false is = absurd (cc is)
+
+more_is : (b : Bool) → turn.More ≡ as_turn b → b ≡ false
+more_is true is = absurd (cc is)
+more_is false is = refl
+
+-- a happening that is taken, and what follows it
+module _ (a b : World) (s : AllSettings) (ticks : Option ℕ) (h : History) (next : History → Act Lived) (after : Engine) (x : Happening) where
+  stepped_on : (which : Turn) (steps : Steps a b s h x after (Ok which)) → Leads a b (brought s ticks next h x) (goes_on s (unless_last s ticks next x) x steps.1.history)
+  stepped_on which steps =
+      subst (λ (p : Act Lived). Leads a b p (goes_on s (unless_last s ticks next x) x steps.1.history)) (sym (brought_is s ticks next h x steps.0)) (inside (goes_on s (unless_last s ticks next x) x) steps.1.did)
+
+  pub took_more : (steps : Steps a b s h x after (Ok turn.More)) → Leads a b (brought s ticks next h x) (unless_last s ticks next x steps.1.history)
+  took_more steps =
+      let is : is_over s x steps.1.history ≡ false = more_is (is_over s x steps.1.history) steps.1.over in
+      subst (λ (p : Act Lived). Leads a b (brought s ticks next h x) p) (rw is refl) (stepped_on turn.More steps)
+
+  pub took_over : Steps a b s h x after (Ok turn.Over) → GoesOn a b s (brought s ticks next h x) next after (Ok turn.Over)
+  took_over steps =
+      let is : is_over s x steps.1.history ≡ true = over_is (is_over s x steps.1.history) steps.1.over in
+      (steps.1.history, steps.1.at, subst (λ (p : Act Lived). Leads a b (brought s ticks next h x) p) (rw is refl) (stepped_on turn.Over steps))
+
+  pub took_so : (stopped : EngineStop) → Steps a b s h x after (Err stopped) → GoesOn a b s (brought s ticks next h x) next after (Err stopped)
+  took_so stop.LoopFault steps =
+      let at : Leads a a (brought s ticks next h x) (Return (lived h LoopFailed)) = subst (λ (p : Act Lived). Leads a a p (Return (lived h LoopFailed))) (sym (failed_is s ticks next h x steps.0)) (stays a (Return (lived h LoopFailed))) in
+      (h, subst (λ (w : World). Leads a w (brought s ticks next h x) (Return (lived h LoopFailed))) (sym steps.1) at)
+  took_so stop.Memory steps =
+      subst (λ (p : Act Lived). Began a b p) (sym (brought_is s ticks next h x steps.0)) (began_inside (goes_on s (unless_last s ticks next x) x) steps.1)
+
+-- a wait, and what follows what it brought
+pub waited_on : (a b : World) (s : AllSettings) (ticks : Option ℕ) (h : History) (n : ℕ) (x : Happening) → Did a b (waits s h) x → Leads a b (run s ticks (suc n) h) (brought s ticks (run s ticks n) h x)
+unfolding run
+waited_on a b s ticks h n x did = inside (brought s ticks (run s ticks n) h) did
+
+pub unwaited : (a b : World) (s : AllSettings) (ticks : Option ℕ) (h : History) (n : ℕ) → Began a b (waits s h) → Began a b (run s ticks (suc n) h)
+unfolding run
+unwaited a b s ticks h n began = began_inside (brought s ticks (run s ticks n) h) began
+
+-- the step of Stop, and what follows it
+module _ (a b : World) (s : AllSettings) (h : History) (next : History → Act Lived) (after : Engine) where
+  stopped_on : (which : Turn) (steps : Steps a b s h happening.Stop after (Ok which)) → Leads a b (steps_on s next happening.Stop h) (goes_on s next happening.Stop steps.1.history)
+  stopped_on which steps = inside (goes_on s next happening.Stop) steps.1.did
+
+  pub stop_goes : (result : Result Turn EngineStop) → Steps a b s h happening.Stop after result → GoesOn a b s (steps_on s next happening.Stop h) next after result
+  stop_goes (Ok turn.More) steps =
+      let is : is_over s happening.Stop steps.1.history ≡ false = more_is (is_over s happening.Stop steps.1.history) steps.1.over in
+      (steps.1.history, steps.1.at, subst (λ (p : Act Lived). Leads a b (steps_on s next happening.Stop h) p) (rw is refl) (stopped_on turn.More steps))
+  stop_goes (Ok turn.Over) steps =
+      let is : is_over s happening.Stop steps.1.history ≡ true = over_is (is_over s happening.Stop steps.1.history) steps.1.over in
+      (steps.1.history, steps.1.at, subst (λ (p : Act Lived). Leads a b (steps_on s next happening.Stop h) p) (rw is refl) (stopped_on turn.Over steps))
+  stop_goes (Err stop.LoopFault) steps = absurd (cc steps.0)
+  stop_goes (Err stop.Memory) steps = began_inside (goes_on s next happening.Stop) steps.1
+
+  pub stops_last : (ticks : Option ℕ) (x : Happening) (result : Result Turn EngineStop) → is_last_reading s ticks x h ≡ true → Steps a b s h happening.Stop after result → GoesOn a b s (unless_last s ticks next x h) next after result
+  stops_last ticks x result is steps = rw is (stop_goes result steps)
+
+pub goes_unstopped : (a : World) (s : AllSettings) (h : History) (next : History → Act Lived) (after : Engine) (ticks : Option ℕ) (x : Happening) → is_last_reading s ticks x h ≡ false → IsAt after s h
+    → GoesOn a a s (unless_last s ticks next x h) next after (Ok turn.More)
+goes_unstopped a s h next after ticks x is at = rw is (h, at, stays a (next h))
+
+-- calls, and then a part of a run that goes on from what they left
+pub goes_after : (a b c : World) (s : AllSettings) (p q : Act Lived) (next : History → Act Lived) (after : Engine) (result : Result Turn EngineStop) → Leads a b p q → GoesOn b c s q next after result → GoesOn a c s p next after result
+goes_after a b c s p q next after (Ok turn.More) f g = (g.0, g.1, leads_on f g.2)
+goes_after a b c s p q next after (Ok turn.Over) f g = (g.0, g.1, leads_on f g.2)
+goes_after a b c s p q next after (Err stop.LoopFault) f g = (g.0, leads_on f g.1)
+goes_after a b c s p q next after (Err stop.Memory) f g = began_after f g
+
+-- one turn less is left
+pub left : (most counter : ℕ) → counter < most → most - counter ≡ suc (most - (counter + 1))
+left most counter more = grind arith
+
+pub none_left : (most counter : ℕ) → most ≤ counter → most - counter ≡ 0
+none_left most counter none = grind arith
+
+pub spent : (s : AllSettings) (ticks : Option ℕ) (h : History) → run s ticks 0 h ≡ Return (lived h TurnsSpent)
+unfolding run
+spent s ticks h = refl
+
+-- calls, and then a run that goes on with what they left
+pub runs_after : {E : Type 0} (a b c : World) (s : AllSettings) (p q : Act Lived) (after : Engine) (result : Result RunEnd E) → Leads a b p q → Runs b c s q after result → Runs a c s p after result
+runs_after a b c s p q after (Ok end) f g = record { history = g.history; did = leads_on f g.did; at = g.at }
+runs_after a b c s p q after (Err e) f g = began_after f g

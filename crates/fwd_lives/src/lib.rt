@@ -1,0 +1,6 @@
+//! An engine runs over a loop, a disk and files, turn by turn, from what it found to the end of its life.
+#![tactic(auto)]
+
+mod running;
+
+pub use running::{RunEnd, run};
