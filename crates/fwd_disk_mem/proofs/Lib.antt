@@ -7,3 +7,4 @@ pub mod Listed
 pub mod Picked
 pub mod Imaging
 pub mod Crashed
+pub mod Telling

@@ -104,7 +104,30 @@ impl MemDisk {
         ensures picked { IfOk result (λ image. (name : List ℕ) → content (files_of image.calls name) ≡ picked (pick % 4) (until self.now.mark calls self.now.calls) name) }
         ensures is_image { IfOk result (λ image. (name : List ℕ) → IsImage (files_of (until self.now.mark calls self.now.calls) name) (content (files_of image.calls name))) }
     {
-        crashed(alloc, pick % 4, told_until(&self.calls, self.mark, calls))
+        self.image_since(alloc, self.mark, calls, pick)
+    }
+
+    /// How much was told so far: calls, and what was set besides.
+    pub fn told_len(&self) -> usize
+        ensures { result ≡ length self.now.calls }
+    {
+        self.calls.len()
+    }
+
+    /// The disk that a crash leaves after so many calls since that place of what was told, or after all where there were
+    /// fewer: the image that `image` gives where the mark stands there.
+    pub fn image_since(
+        &self,
+        alloc: Global,
+        since: usize,
+        calls: u64,
+        pick: u64,
+    ) -> Result<MemDisk, Memory>
+        ensures fresh { IfOk result (λ image. ((files : List MemFile) × (image.calls ≡ presets files)) × (image.faults ≡ 0) × (image.mark ≡ 0)) }
+        ensures picked { IfOk result (λ image. (name : List ℕ) → content (files_of image.calls name) ≡ picked (pick % 4) (until since calls self.now.calls) name) }
+        ensures is_image { IfOk result (λ image. (name : List ℕ) → IsImage (files_of (until since calls self.now.calls) name) (content (files_of image.calls name))) }
+    {
+        crashed(alloc, pick % 4, told_until(&self.calls, since, calls))
     }
 
     /// Whatever was asked, there is a disk that gives the answers that this one gave.

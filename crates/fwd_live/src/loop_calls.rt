@@ -15,7 +15,7 @@ impl Model for LoopBrought {
 
     ghost coded = { brought_code };
 
-    ghost view = { λ _. record { happenings = []; dials = []; pushes = []; replies = []; words = [] } };
+    ghost view = { λ _. record { happenings = []; places = []; dials = []; pushes = []; replies = []; words = [] } };
 }
 
 /// Stands for a call of a loop with its answer. No value of it is made.

@@ -11,12 +11,15 @@ pub data FilesCall : Type 0 where
   ReadAt : (path : List ℕ) → (at max : ℕ) → FilesCall
   -- no call, but a change from outside: the file of this path has these bytes from here on
   Changed : (path bytes : List ℕ) → FilesCall
+  -- no call, but what is told to files in memory: the call of this number is to fail
+  FailAt : (number : ℕ) → FilesCall
 
 -- none where the call failed
 abbrev pub FilesAnswer : FilesCall → Type 0
 FilesAnswer (Length path) = Option ℕ
 FilesAnswer (ReadAt path at max) = Option (List ℕ)
 FilesAnswer (Changed path bytes) = Unit {0}
+FilesAnswer (FailAt number) = Unit {0}
 
 abbrev pub FilesEntry : Type 0
 FilesEntry = Entry FilesCall FilesAnswer
@@ -47,6 +50,7 @@ abbrev pub files_after : FilesGiven → FilesCall → FilesGiven
 files_after files (Length path) = files
 files_after files (ReadAt path at max) = files
 files_after files (Changed path bytes) = (path, bytes) ∷ files
+files_after files (FailAt number) = files
 
 -- A read gives the bytes from the offset on, perhaps fewer than there are, and none only where there are none.
 pub record IsPart (content : List ℕ) (at max : ℕ) (bytes : List ℕ) : Type 0 where
@@ -61,6 +65,7 @@ Answers files (Length path) (Some n) = (content : List ℕ) × (found files path
 Answers files (ReadAt path at max) None = Unit {0}
 Answers files (ReadAt path at max) (Some bytes) = (content : List ℕ) × (found files path ≡ Some content) × IsPart content at max bytes
 Answers files (Changed path bytes) answer = Unit {0}
+Answers files (FailAt number) answer = Unit {0}
 
 -- files that stood so at first give these answers
 abbrev pub IsHonest : FilesGiven → List FilesEntry → Type 0

@@ -47,10 +47,12 @@ LoopAnswer Word = ℕ
 abbrev pub LoopEntry : Type 0
 LoopEntry = Entry LoopCall LoopAnswer
 
--- What a loop in memory is to bring and to answer, each list in order: happenings; by output whether a dial is taken, and
--- what a push is answered; whether a reply is taken; words.
+-- What a loop in memory is to bring and to answer, each list in order: happenings, and the place of each, which is its line
+-- and how many of that line stand behind; by output whether a dial is taken, and what a push is answered; whether a reply is
+-- taken; words.
 pub record LoopGiven : Type 0 where
   pub happenings : List Happening
+  pub places : List (ℕ × ℕ)
   pub dials : List (ℕ × Bool)
   pub pushes : List (ℕ × PushAnswer)
   pub replies : List Bool

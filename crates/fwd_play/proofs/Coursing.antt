@@ -52,12 +52,15 @@ module _ (paused : ℕ) (queue behind : List Coming) (at : ℕ) (is : IsFirst (h
   pub heard_here : (c : Coming) → c ≡ get_or queue at c → is_heard paused c.happening ≡ true
   heard_here c read = ap (λ (x : Coming). hears paused x) read ∙ is.here c
 
-  -- its line, and whether it ends the life
+  -- its line, whether it ends the life, and its place
   pub line_here : (lines : List Planned) (c : Coming) → c ≡ get_or queue at c → c.line ≡ line_ahead lines (find (hears paused) (queue ++ behind))
   line_here lines c read = sym (ap (λ (o : Option Coming). line_ahead lines o) (found_here c read))
 
   pub ends_here : (lines : List Planned) (c : Coming) → c ≡ get_or queue at c → is_last lines c.line c.behind ≡ ends_life lines (find (hears paused) (queue ++ behind))
   ends_here lines c read = sym (ap (λ (o : Option Coming). ends_life lines o) (found_here c read))
+
+  pub place_here : (c : Coming) → c ≡ get_or queue at c → Some (c.line, c.behind) ≡ place_in (find (hears paused) (queue ++ behind))
+  place_here c read = sym (ap place_in (found_here c read))
 
 -- nothing is heard in the queue
 pub find_behind : (paused : ℕ) (queue behind : List Coming) → find (hears paused) queue ≡ None → find (hears paused) (queue ++ behind) ≡ find (hears paused) behind
@@ -66,6 +69,9 @@ find_behind paused queue behind none =
 
 pub none_more : (paused : ℕ) (queue : List Coming) (c : Coming) → find (hears paused) queue ≡ None → hears paused c ≡ false → find (hears paused) (queue ++ c ∷ []) ≡ None
 none_more paused queue c none quiet = find_behind paused queue (c ∷ []) none ∙ ap (λ (b : Bool). if b then Some c else None) quiet
+
+pub place_behind : (paused : ℕ) (queue behind : List Coming) → find (hears paused) queue ≡ None → place_in (find (hears paused) behind) ≡ place_in (find (hears paused) (queue ++ behind))
+place_behind paused queue behind none = sym (ap place_in (find_behind paused queue behind none))
 
 -- whether a place that was found ends the life
 ends_at : (lines : List Planned) (next : Option Coming) (place : ℕ × ℕ) → Some place ≡ place_in next → is_last lines place.0 place.1 ≡ ends_life lines next

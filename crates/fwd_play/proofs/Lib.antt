@@ -8,3 +8,4 @@ pub mod Standing
 pub mod Coursing
 pub mod Handing
 pub mod Changing
+pub mod Placed

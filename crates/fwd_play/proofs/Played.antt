@@ -27,13 +27,22 @@ pub behind_append : (place : Place) (es more : List LoopEntry) → behind place 
 behind_append place [] more = refl
 behind_append place (e ∷ es) more = behind_append (after place e.call) es more
 
-played_append : (place : Place) (es more : List LoopEntry) → ArePlayed place es → ArePlayed (behind place es) more → ArePlayed place (es ++ more)
-played_append place [] more played then_played = then_played
-played_append place (e ∷ es) more played then_played = (played.0, played_append (after place e.call) es more played.1 then_played)
+-- calls that were played are played in two parts, and the other way round
+pub played_both : (place : Place) (es more : List LoopEntry) → ArePlayed place es → ArePlayed (behind place es) more → ArePlayed place (es ++ more)
+played_both place [] more first second = second
+played_both place (e ∷ es) more first second = (first.0, played_both (after place e.call) es more first.1 second)
 
-ahead_append : (ahead : List Coming) (es more : List LoopEntry) → ahead_behind ahead (es ++ more) ≡ ahead_behind (ahead_behind ahead es) more
-ahead_append ahead [] more = refl
-ahead_append ahead (e ∷ es) more = ahead_append (ahead_after ahead e.call) es more
+pub played_first : (place : Place) (es more : List LoopEntry) → ArePlayed place (es ++ more) → ArePlayed place es
+played_first place [] more played = tt
+played_first place (e ∷ es) more played = (played.0, played_first (after place e.call) es more played.1)
+
+pub played_second : (place : Place) (es more : List LoopEntry) → ArePlayed place (es ++ more) → ArePlayed (behind place es) more
+played_second place [] more played = played
+played_second place (e ∷ es) more played = played_second (after place e.call) es more played.1
+
+pub ahead_behind_append : (ahead : List Coming) (es more : List LoopEntry) → ahead_behind ahead (es ++ more) ≡ ahead_behind (ahead_behind ahead es) more
+ahead_behind_append ahead [] more = refl
+ahead_behind_append ahead (e ∷ es) more = ahead_behind_append (ahead_after ahead e.call) es more
 
 -- the happenings that are left are those ahead
 abbrev Agrees : List Coming → Place → Type 0
@@ -81,10 +90,10 @@ module _ (lines : List Planned) (answers : List Given) (notes : List LoopNote) (
       let place = beginning (given_in lines answers) in
       let entries : entries_of new ≡ entries_of notes ++ entry_of note ∷ [] = ap entries_of is ∙ map-append entry_of notes (note ∷ []) in
       record {
-        played = subst (λ (es : List LoopEntry). ArePlayed place es) (sym entries) (played_append place (entries_of notes) (entry_of note ∷ []) kept.played (answer, tt));
+        played = subst (λ (es : List LoopEntry). ArePlayed place es) (sym entries) (played_both place (entries_of notes) (entry_of note ∷ []) kept.played (answer, tt));
         ahead_is =
             goes ∙ ap (λ (l : List Coming). ahead_after l (entry_of note).call) kept.ahead_is
-            ∙ sym (ahead_append (coming 0 lines) (entries_of notes) (entry_of note ∷ []))
+            ∙ sym (ahead_behind_append (coming 0 lines) (entries_of notes) (entry_of note ∷ []))
             ∙ ap (λ (es : List LoopEntry). ahead_behind (coming 0 lines) es) (sym entries);
         stands = subst (λ (p : Place). Stands left2 p) (sym (behind_append place (entries_of notes) (entry_of note ∷ [])) ∙ ap (λ (es : List LoopEntry). behind place es) (sym entries)) stands;
       }

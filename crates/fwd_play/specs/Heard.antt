@@ -31,6 +31,10 @@ comes brought = true
 abbrev pub happening_of : Coming → Happening
 happening_of coming = coming.happening
 
+-- its line, and how many of that line stand behind it
+abbrev pub place_of : Coming → ℕ × ℕ
+place_of coming = (coming.line, coming.behind)
+
 abbrev pub hears : ℕ → Coming → Bool
 hears paused coming = is_heard paused coming.happening
 

@@ -12,7 +12,7 @@ use Rattle.fwd_script.specs.declared.schedule.Given.TheVariants.{Dial, Push, Rep
 use Rattle.fwd_script.specs.declared.schedule.PushWord.{PushWord}
 use Rattle.fwd_script.specs.declared.schedule.PushWord.TheVariants.{Took, Again, Broken}
 use Rattle.fwd_play.specs.declared.queue.Coming.{Coming}
-use Rattle.fwd_play.specs.Heard.{comes, happening_of}
+use Rattle.fwd_play.specs.Heard.{comes, happening_of, place_of}
 use Rattle.fwd_play.specs.First.{first_in}
 
 -- so many clock readings from the first on by the step; a reading above 2^64 - 1 counts as this
@@ -64,6 +64,7 @@ word_in (Word word) = Some word
 abbrev pub given_in : List Planned → List Given → LoopGiven
 given_in lines answers = record {
   happenings = map happening_of (coming 0 lines);
+  places = map place_of (coming 0 lines);
   dials = filter_map dial_in answers;
   pushes = filter_map push_in answers;
   replies = filter_map reply_in answers;
@@ -80,7 +81,7 @@ line_ahead lines (Some coming) = coming.line
 
 -- the place of a happening: its line, and how many clock readings of it stand behind
 abbrev pub place_in : Option Coming → Option (ℕ × ℕ)
-place_in next = option_map (λ coming. (coming.line, coming.behind)) next
+place_in next = option_map place_of next
 
 -- whether nothing of the life stands behind that place
 abbrev pub is_last : List Planned → ℕ → ℕ → Bool

@@ -4,7 +4,7 @@ ghost use Rattle.std.specs.Prelude.{◌≡◌, IfOk, find, map, false};
 ghost use Rattle.fwd_outside.specs.Loop.{MayCome};
 ghost use Rattle.fwd_play.specs.Heard.{happening_of, hears, next_happening};
 ghost use Rattle.fwd_play.specs.First.{IsFirst, without_first};
-ghost use Rattle.fwd_play.specs.Lines.{coming, ends_life, line_ahead};
+ghost use Rattle.fwd_play.specs.Lines.{coming, ends_life, line_ahead, place_in};
 ghost use Rattle.fwd_play.specs.Course.{Fetches, Finds, ahead_of};
 
 use crate::masks::is_heard;
@@ -117,6 +117,20 @@ impl Course {
                 None => unreachable!(),
             },
             None => Ok(self.unread.lines.len()),
+        }
+    }
+
+    /// The place of the first happening that is heard: its line, and how many of that line stand behind it. None where none
+    /// is left.
+    pub fn place_ahead(&self, paused: u64) -> Option<(usize, u64)>
+        ensures { result ≡ place_in (find (hears paused) (ahead_of self.now)) }
+    {
+        match self.queue.first_heard(paused) {
+            Some(at) => match self.queue.get(at) {
+                Some(coming) => Some((coming.line, coming.behind)),
+                None => None,
+            },
+            None => self.unread.next_heard(paused),
         }
     }
 

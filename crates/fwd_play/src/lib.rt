@@ -14,3 +14,4 @@ mod unread;
 
 pub use notes::LoopNote;
 pub use script::Script;
+pub use unread::is_last;

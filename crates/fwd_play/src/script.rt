@@ -11,8 +11,8 @@ ghost use Rattle.fwd_outside.specs.declared.answers.Dialed.TheVariants as dialed
 ghost use Rattle.fwd_outside.specs.declared.answers.Replied.TheVariants as replied;
 ghost use Rattle.fwd_play.specs.Counted.{counted, dial_fails, is_failure, push_fails, reply_fails, start_fails, wait_fails};
 ghost use Rattle.fwd_play.specs.Handed.{handed};
-ghost use Rattle.fwd_play.specs.Held.{change_in, changed, changes_between, changes_in, counts_of, is_before_crash, new_held, told_of};
-ghost use Rattle.fwd_play.specs.Lines.{given_in};
+ghost use Rattle.fwd_play.specs.Held.{change_in, changed, changes_between, changes_in, counts_of, is_before_crash, new_held, next_in, told_of};
+ghost use Rattle.fwd_play.specs.Lines.{given_in, place_in};
 ghost use Rattle.fwd_play.specs.Place.{IsPlayed};
 ghost use Rattle.fwd_play.specs.Told.{entries_of};
 
@@ -91,6 +91,14 @@ impl Script {
         let changes = changes_of(alloc, &self.course.unread.lines, self.changed, upto)?;
         self.changed = self.changed.max(upto);
         Ok(changes)
+    }
+
+    /// The place of the happening that `wait` would bring: its line, from 0, and how many of that line stand behind it. None
+    /// where it would bring the end.
+    pub fn place_ahead(&self, paused: u64) -> Option<(usize, u64)>
+        ensures { result ≡ place_in (next_in paused self.now) }
+    {
+        self.course.place_ahead(paused)
     }
 
     /// Whether the life has a cut and `wait` would bring its happening, which is the last of the life.

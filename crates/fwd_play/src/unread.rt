@@ -129,8 +129,15 @@ impl Unread {
     pub fn is_last(&self, line: usize, behind: u64) -> bool
         ensures { result ≡ is_last self.now.lines line behind }
     {
-        behind == 0 && is_silent_behind(&self.lines, line)
+        is_last(&self.lines, line, behind)
     }
+}
+
+/// Whether nothing of the lines stands behind that place.
+pub fn is_last(lines: &Plan, line: usize, behind: u64) -> bool
+    ensures { result ≡ is_last lines.now line behind }
+{
+    behind == 0 && is_silent_behind(lines, line)
 }
 
 /// A clock reading.

@@ -8,7 +8,5 @@ pub record FilesHeld : Type 0 where
   pub given : FilesGiven
   -- what was done, the oldest first
   pub notes : List FilesNote
-  -- the numbers of the calls that fail, from 1, in order
-  pub fails : List ℕ
   -- how often a call has failed
   pub faults : ℕ

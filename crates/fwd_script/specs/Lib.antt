@@ -1,4 +1,5 @@
 pub mod FilesHeld
+pub mod FilesPlayed
 pub mod MemFiles
 pub mod SinkHeld
 pub mod MemSink

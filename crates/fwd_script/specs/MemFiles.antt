@@ -1,5 +1,5 @@
 -- Files in memory: what was done to them, what they hold behind that, and what they answer.
-use Rattle.std.specs.Prelude.{◌≡◌, ℕ, ◌+◌, ◌-◌, ◌^◌, min, Bool, true, false, if◌then◌else◌, List, [], ◌∷◌, ◌++◌, take, count_by, Option, Some, None, unwrap_or, Result, Ok, Err}
+use Rattle.std.specs.Prelude.{◌≡◌, ℕ, ◌+◌, ◌-◌, ◌^◌, min, ◌==◌, if◌then◌else◌, List, [], ◌∷◌, ◌++◌, take, Option, Some, None, unwrap_or, Result, Ok, Err}
 use Rattle.std.specs.Option.{option_map}
 use Rattle.std.specs.Ordering.{nat_cmp}
 use Rattle.std.specs.List.{list_any}
@@ -11,10 +11,11 @@ use Rattle.fwd_outside.specs.declared.errors.FileErr.TheVariants as file_err
 use Rattle.fwd_outside.specs.Files.{FilesGiven, FilesEntry, FilesTold, Changed, found, files_behind, IsHonest}
 use Rattle.fwd_outside.specs.Files as files
 use Rattle.fwd_script.specs.declared.files.FilesNote.{FilesNote}
-use Rattle.fwd_script.specs.declared.files.FilesNote.TheVariants.{Length, ReadAt, Preset, Change}
+use Rattle.fwd_script.specs.declared.files.FilesNote.TheVariants.{Length, ReadAt, Preset, FailAt, Change}
 use Rattle.fwd_script.specs.declared.schedule.FileChange.{FileChange}
 use Rattle.fwd_script.specs.declared.schedule.FileChange.TheVariants.{Append, Cut}
 use Rattle.fwd_script.specs.FilesHeld.{FilesHeld}
+use Rattle.fwd_script.specs.FilesPlayed.{made_of, fails_of, readable_behind, IsPlayed}
 
 -- the path of a change
 abbrev pub path_of : FileChange → List ℕ
@@ -36,6 +37,7 @@ abbrev pub entries_of : FilesGiven → FilesNote → List FilesEntry
 entries_of at (Length path answer) = entry (files.Length path) answer ∷ []
 entries_of at (ReadAt path from most answer) = entry (files.ReadAt path from most) answer ∷ []
 entries_of at (Preset path bytes) = has_now path (Some bytes)
+entries_of at (FailAt call) = entry (files.FailAt call) tt ∷ []
 entries_of at (Change change) = has_now (path_of change) (changed change (found at (path_of change)))
 
 -- what notes tell
@@ -50,20 +52,9 @@ files_now given notes = files_behind given (entries_from given notes)
 abbrev pub told_of : FilesHeld → FilesTold
 told_of held = Some (held.given, entries_from held.given held.notes)
 
--- whether a note is of a call, and of no change
-abbrev pub is_call : FilesNote → Bool
-is_call (Length path answer) = true
-is_call (ReadAt path from most answer) = true
-is_call (Preset path bytes) = false
-is_call (Change change) = false
-
--- whether the next call is to fail
-abbrev pub fails_next : FilesHeld → Bool
-fails_next held = list_any (is_at (nat_cmp (count_by is_call held.notes + 1))) held.fails
-
 -- the bytes that the next call reads from; none where it fails
 abbrev pub readable : FilesHeld → List ℕ → Option (List ℕ)
-readable held path = if fails_next held then None else found (files_now held.given held.notes) path
+readable held path = readable_behind held.given (entries_from held.given held.notes) path
 
 abbrev pub noted : FilesHeld → FilesNote → FilesHeld
 noted held note = record held { notes = held.notes ++ note ∷ [] }
@@ -82,11 +73,14 @@ Answered (Err file_err.Memory) answer note old new = new ≡ old
 abbrev pub SameFiles : FilesGiven → FilesGiven → Type 0
 SameFiles a b = (path : List ℕ) → found a path ≡ found b path
 
--- What files in memory keep beside their notes: the bytes of each file as they are, and the count of calls.
-pub record IsKept (given now : FilesGiven) (notes : List FilesNote) (calls : ℕ) : Type 0 where
+-- What files in memory keep beside their notes: the bytes of each file as they are, the count of calls, and the numbers of
+-- those that are to fail.
+pub record IsKept (given now : FilesGiven) (notes : List FilesNote) (calls : ℕ) (fails : List ℕ) : Type 0 where
   pub same : SameFiles now (files_now given notes)
   pub honest : IsHonest given (entries_from given notes)
-  pub counted : calls ≡ count_by is_call notes
+  pub played : IsPlayed given [] (entries_from given notes)
+  pub counted : calls ≡ made_of (entries_from given notes)
+  pub failing : (number : ℕ) → list_any (is_at (nat_cmp number)) fails ≡ list_any (λ n. n == number) (fails_of (entries_from given notes))
 
 -- The file of that path has this content now, none where it isn't there, and the others have what they had.
 abbrev pub Has : List ℕ → Option (List ℕ) → FilesGiven → FilesGiven → Type 0

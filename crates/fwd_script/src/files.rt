@@ -2,8 +2,6 @@
 
 ghost use Rattle.std.specs.Prelude.{◌≡◌, ℕ, ◌+◌, ◌≤◌, List, [], ◌∷◌, ◌++◌, if◌then◌else◌, length, drop, position, take, unwrap_or, IsTrue, IfOk, OnOk, OnErr, IsErrOf, Some};
 ghost use Rattle.std.specs.Option.{option_map, option_copied};
-ghost use Rattle.std.specs.Ordering.{nat_cmp};
-ghost use Rattle.std.specs.BTreeSet.{insert_key};
 ghost use Rattle.std.specs.Str.{bytes_eq};
 ghost use Rattle.fwd_program.specs.Told.{Grew, asking};
 ghost use Rattle.fwd_program.specs.Cause.{HasCause};
@@ -11,6 +9,7 @@ ghost use Rattle.fwd_outside.specs.declared.errors.FileErr.TheVariants.{Failed};
 ghost use Rattle.fwd_outside.specs.Files as files;
 ghost use Rattle.fwd_outside.specs.Files.{FilesGiven, IsHonest, found, outcome};
 ghost use Rattle.fwd_script.specs.declared.files.FilesNote.TheVariants as note;
+ghost use Rattle.fwd_script.specs.FilesPlayed.{IsPlayed};
 ghost use Rattle.fwd_script.specs.MemFiles.{Answered, Has, SameFiles, changed, entries_from, files_now, noted, path_of, readable, told_of};
 
 use crate::FileChange;
@@ -40,6 +39,10 @@ pub enum FilesNote {
         path: Bytes,
         bytes: Bytes,
     },
+    /// The call of that number, from 1, is to fail.
+    FailAt {
+        call: u64,
+    },
     /// A change.
     Change(FileChange),
 }
@@ -61,17 +64,17 @@ impl Model for MemFiles {
 
     ghost Value = { FilesHeld };
 
-    ghost view = { λ m. record { given = m.given.items; notes = m.notes.items; fails = m.fails.keys; faults = m.faults } };
+    ghost view = { λ m. record { given = m.given.items; notes = m.notes.items; faults = m.faults } };
 
     ghost use Rattle.fwd_script.specs.MemFiles.{IsKept};
 
-    ghost invariant = { λ m. IsKept m.given.items m.current.items m.notes.items m.calls };
+    ghost invariant = { λ m. IsKept m.given.items m.current.items m.notes.items m.calls m.fails.keys };
 }
 
 impl MemFiles {
     /// No file, and no faults.
     pub fn new(alloc: Global) -> Self
-        ensures { result ≡ record { given = []; notes = []; fails = []; faults = 0 } }
+        ensures { result ≡ record { given = []; notes = []; faults = 0 } }
     {
         MemFiles {
             alloc,
@@ -87,6 +90,13 @@ impl MemFiles {
     /// Files that stood so at first give the answers that these gave.
     pub fn is_honest(&self)
         ensures { IsHonest self.now.given (entries_from self.now.given self.now.notes) }
+    {
+        let _ = &self.alloc;
+    }
+
+    /// Each answer is the one that the files, the number of the call and the numbers that are to fail give.
+    pub fn is_played(&self)
+        ensures { IsPlayed self.now.given [] (entries_from self.now.given self.now.notes) }
     {
         let _ = &self.alloc;
     }
@@ -113,10 +123,12 @@ impl MemFiles {
 
     /// The call of that number, from 1, fails. After `Err` nothing has changed.
     pub fn fail_at(&mut self, call: u64) -> Result<(), Memory>
-        ensures ok { OnOk result (self.new ≡ record self.old { fails = insert_key nat_cmp self.old.fails call }) }
+        ensures ok { OnOk result (self.new ≡ noted self.old (note.FailAt call)) }
         ensures err { OnErr result (self.new ≡ self.old) }
     {
+        self.notes.reserve(1)?;
         self.fails.insert(call)?;
+        self.notes.push_reserved(FilesNote::FailAt { call });
         Ok(())
     }
 
@@ -140,7 +152,6 @@ impl MemFiles {
     pub fn renewed(&self, alloc: Global) -> Result<MemFiles, Memory>
         ensures same { IfOk result (λ files. SameFiles (files_now self.now.given self.now.notes) (files_now files.given files.notes)) }
         ensures notes { IfOk result (λ files. files.notes ≡ []) }
-        ensures fails { IfOk result (λ files. files.fails ≡ []) }
         ensures faults { IfOk result (λ files. files.faults ≡ 0) }
     {
         Ok(MemFiles {
