@@ -120,7 +120,7 @@ links_polls_in : (d : Delivery) (p : Progress) (stage : Stage) → OnLinks (poll
 links_polls_in d p (Writing link) = links_writes d link p
 links_polls_in d p stage = tt
 
-links_polls : (d : Delivery) (p : Progress) → OnLinks (polls d p)
+pub links_polls : (d : Delivery) (p : Progress) → OnLinks (polls d p)
 unfolding polls
 links_polls d p = links_polls_in d p p.stage
 
@@ -128,7 +128,7 @@ links_backs_in : (d : Delivery) (bytes : List ℕ) (p : Progress) (stage : Stage
 links_backs_in d bytes p (AwaitingAck link) = links_confirms d link (heard d bytes p)
 links_backs_in d bytes p stage = tt
 
-links_backs : (d : Delivery) (bytes : List ℕ) (p : Progress) → OnLinks (backs d bytes p)
+pub links_backs : (d : Delivery) (bytes : List ℕ) (p : Progress) → OnLinks (backs d bytes p)
 unfolding backs
 links_backs d bytes p = links_backs_in d bytes p p.stage
 
@@ -136,7 +136,7 @@ links_breaks_in : (p : Progress) (link : Option LinkId) → OnLinks (breaks_in p
 links_breaks_in p (Some link) = (tt, λ _. tt)
 links_breaks_in p None = tt
 
-links_breaks : (p : Progress) → OnLinks (breaks p)
+pub links_breaks : (p : Progress) → OnLinks (breaks p)
 unfolding breaks
 links_breaks p = links_breaks_in p (link_in p.stage)
 

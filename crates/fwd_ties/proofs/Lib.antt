@@ -13,3 +13,4 @@ pub mod Longer
 pub mod Shutting
 pub mod Ended
 pub mod Becoming
+pub mod Waiting

@@ -7,3 +7,4 @@ pub mod Walked
 pub mod Brought
 pub mod Closes
 pub mod Becomes
+pub mod Waiting

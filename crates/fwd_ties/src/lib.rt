@@ -5,6 +5,7 @@
 //! in the subject's own words.
 #![tactic(auto)]
 
+mod awaiting;
 mod bringing;
 mod closing;
 mod completeness;
@@ -14,6 +15,7 @@ mod growing;
 mod owing;
 mod walking;
 
+pub use awaiting::{a_step_makes_no_wait, a_turn_waits_once, loading_makes_no_wait};
 pub use bringing::what_was_brought;
 pub use closing::chunks_close;
 pub use completeness::complete_batches_come;

@@ -1,0 +1,7 @@
+pub mod Giving
+pub mod Adding
+pub mod Calm
+pub mod Becoming
+pub mod Coming
+pub mod Living
+pub mod Keeping
