@@ -4,10 +4,11 @@
 
 mod started;
 
+ghost use Rattle.fwd_outside.specs.Disk.{DiskGiven};
 ghost use Rattle.fwd_outside.specs.Files.{FilesGiven};
 ghost use Rattle.fwd_outside.specs.Loop.{LoopGiven};
 
-use fwd_live::{FolderFiles, LiveLoop, StdSink};
+use fwd_live::{FolderDisk, FolderFiles, LiveLoop, StdSink};
 use fwd_top::{Status, log_forwarder, status_line};
 use started::{environment, words};
 use std::io::{self, ErrorKind, Write};
@@ -22,9 +23,9 @@ fn status_without_loop(error: &io::Error) -> Status {
     }
 }
 
-/// Who calls this picks the files that stand there, and what the loop is to bring.
+/// Who calls this picks the files that stand there, on the disk and beside it, and what the loop is to bring.
 fn run(rt: &HostRuntime, threads: &(impl Threads + Sync)) -> Status
-    ghost given: { FilesGiven × LoopGiven }
+    ghost given: { DiskGiven × (FilesGiven × LoopGiven) }
 {
     let words = match words(rt) {
         Ok(words) => words,
@@ -37,6 +38,7 @@ fn run(rt: &HostRuntime, threads: &(impl Threads + Sync)) -> Status
         Ok(outside) => outside,
         Err(error) => return status_without_loop(&error),
     };
+    let mut disk = FolderDisk::new(*rt);
     let mut files = FolderFiles::new(*rt);
     let mut out = StdSink::new(*rt);
     log_forwarder(
@@ -44,6 +46,7 @@ fn run(rt: &HostRuntime, threads: &(impl Threads + Sync)) -> Status
         rt.alloc(),
         &words,
         &env,
+        &mut disk,
         &mut files,
         &mut outside,
         &mut out,

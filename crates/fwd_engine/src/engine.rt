@@ -1,40 +1,49 @@
 //! The engine.
 
-ghost use Rattle.std.specs.Prelude.{◌≡◌, ◌≤◌, [], length, Err, IfOk};
+ghost use Rattle.std.specs.Prelude.{◌≡◌, ◌≤◌, Err};
 ghost use Rattle.fwd_program.specs.Cause.{HasCause};
-ghost use Rattle.fwd_base.specs.Limits.{most_inputs, most_outputs};
+ghost use Rattle.fwd_outside.specs.Loop.{WaitFails, waited};
+ghost use Rattle.fwd_settings.specs.Sound.{IsSound};
 ghost use Rattle.fwd_settings.specs.declared.chosen.AllSettings.{AllSettings};
-ghost use Rattle.fwd_trace.specs.Fact.{History};
-ghost use Rattle.fwd_trace.specs.World.{World};
-ghost use Rattle.fwd_history.specs.Clock.{stopped, ticked};
-ghost use Rattle.fwd_history.specs.Routes.{rows_of};
-ghost use Rattle.fwd_history.specs.Tallies.{tally_of};
-ghost use Rattle.fwd_run.specs.Run.{paused};
-ghost use Rattle.fwd_engine.specs.Heard.{FailsSo, HasHeard, IsUnheard, heard_by};
-ghost use Rattle.fwd_engine.specs.Meets.{telling};
-ghost use Rattle.fwd_engine.specs.Steps.{IsAt, Knows, Steps, Turns, is_failed, as_turn};
+ghost use Rattle.fwd_written.specs.Fact.{History};
+ghost use Rattle.fwd_written.specs.World.{World};
+ghost use Rattle.fwd_written.specs.Clock.{stopped, ticked};
+ghost use Rattle.fwd_written.specs.Limits.{paused};
+ghost use Rattle.fwd_written.specs.Routes.{rows_of};
+ghost use Rattle.fwd_written.specs.Tallies.{tally_of};
+ghost use Rattle.fwd_parts.specs.Acts.{with_disk, with_all};
+ghost use Rattle.fwd_parts.specs.Heard.{HasHeard, IsUnheard};
+ghost use Rattle.fwd_engine.specs.Steps.{BeginsSo, FailsSo, IsAt, Knows, Steps, Turns, Waits, as_turn, heard_by, is_failed};
+ghost use Rattle.fwd_engine.specs.declared.engine.BeginErr.TheVariants as begin_err;
 ghost use Rattle.fwd_engine.specs.declared.engine.EngineStop.TheVariants as stop;
 
-use crate::stepping::{is_finished, step};
-use fwd_book::Book;
-use fwd_outside::{Happening, Loop};
+use crate::setup::Setup;
+use fwd_base::Memory;
+use fwd_loading::{LoadErr, load};
+use fwd_outside::{Disk, Files, Happening, Loop};
+use fwd_parts::Parts;
 use fwd_settings::AllSettings;
-use fwd_setup::Setup;
+use fwd_stepping::{is_finished, step};
 use fwd_table::{Table, Tally};
 use std::alloc::Global;
 use std::thread::Threads;
+use thiserror::Error;
 
 /// Why an engine doesn't begin.
-#[derive(Clone, Copy, Debug, PartialEq, Eq)]
+#[derive(Clone, Copy, Debug, PartialEq, Eq, Error)]
 pub enum BeginErr {
+    #[error("the disk has failed")]
+    DiskFault,
+    #[error("out of memory")]
     Memory,
 }
 
 /// Why a step isn't made to its end.
-#[derive(Clone, Copy, Debug, PartialEq, Eq)]
+#[derive(Clone, Copy, Debug, PartialEq, Eq, Error)]
 pub enum EngineStop {
-    /// The outside can't go on.
+    #[error("the outside can't go on")]
     LoopFault,
+    #[error("out of memory")]
     Memory,
 }
 
@@ -50,7 +59,16 @@ fn is_failure(happening: &Happening) -> bool
 {
     match happening {
         Happening::Failed => true,
-        _ => false,
+        Happening::Tick { .. }
+        | Happening::Joined { .. }
+        | Happening::Piece { .. }
+        | Happening::Gone { .. }
+        | Happening::Room { .. }
+        | Happening::Back { .. }
+        | Happening::Broken { .. }
+        | Happening::InputEnd { .. }
+        | Happening::Stop
+        | Happening::End => false,
     }
 }
 
@@ -60,117 +78,168 @@ fn turn_of(over: bool) -> Turn
     if over { Turn::Over } else { Turn::More }
 }
 
-/// An engine: its settings, and the book of what happened.
+/// An engine: its settings, and what it keeps.
 #[derive(Drop)]
 pub struct Engine {
     setup: Setup,
-    book: Book,
+    parts: Parts,
 }
 
 impl Engine {
-    /// An engine before anything happened. The settings are those of a configuration: at most `MOST_INPUTS` inputs
-    /// and `MOST_OUTPUTS` outputs, and a base of at least one second.
-    pub fn begin(alloc: Global, settings: AllSettings) -> Result<Engine, BeginErr>
-        requires inputs { length settings.inputs ≤ most_inputs }
-        requires outputs { length settings.outputs ≤ most_outputs }
-        requires base { 1 ≤ settings.service.base }
-        ensures { IfOk result (λ engine. IsAt engine settings []) }
+    /// An engine at the beginning of a life. The settings are those of a configuration. Where they give a storage path, the
+    /// chunks below it are loaded. `DiskFault` comes only where a failure of the disk was counted.
+    pub fn begin<D: Disk>(
+        rt: &(impl Threads + Sync),
+        alloc: Global,
+        settings: AllSettings,
+        disk: &mut D,
+    ) -> Result<Engine, BeginErr>
+        requires { IsSound settings }
+        ensures begins { (others : World) → BeginsSo (with_disk (D.told disk.old) others) (with_disk (D.told disk.new) others) settings result }
+        ensures cause { HasCause (D.faults disk.old) (D.faults disk.new) (result ≡ Err begin_err.DiskFault) }
     {
-        let setup = Setup::new(settings);
-        match Book::new(alloc, setup.inputs(), setup.outputs()) {
-            Ok(book) => Ok(Engine { setup, book }),
-            Err(_) => Err(BeginErr::Memory),
+        let Ok(setup) = Setup::new(alloc, settings) else {
+            return Err(BeginErr::Memory);
+        };
+        match load(rt, alloc, setup.run(), disk) {
+            Ok(parts) => Ok(Engine { setup, parts }),
+            Err(LoadErr::DiskFailed) => Err(BeginErr::DiskFault),
+            Err(LoadErr::Memory) => Err(BeginErr::Memory),
         }
     }
 
-    /// Takes one happening. `LoopFault` comes exactly where it is `Failed`, and `Over` exactly where the run is over. After
-    /// `Err` the engine isn't to be used any more.
-    pub fn step<L: Loop>(
+    /// Takes one happening. `LoopFault` comes exactly where it is `Failed`, and the engine then stands as before. `Over` comes
+    /// exactly where the run is over. After `Memory` the engine isn't to be used any more.
+    pub fn step<L: Loop, D: Disk, F: Files>(
         &mut self,
         rt: &(impl Threads + Sync),
         happening: Happening,
+        disk: &mut D,
+        files: &mut F,
         outside: &mut L,
     ) -> Result<Turn, EngineStop>
-        ensures steps { (others : World) (s : AllSettings) (h : History) → IsAt self.old s h → Steps (telling others (L.told outside.old)) (telling others (L.told outside.new)) s h happening self.new result }
+        ensures steps { (others : World) (s : AllSettings) (h : History) → IsAt self.old s h
+            → Steps (with_all (L.told outside.old) (D.told disk.old) (F.told files.old) others) (with_all (L.told outside.new) (D.told disk.new) (F.told files.new) others) s h happening self.new result }
         ensures fails { FailsSo happening result }
         ensures unheard { IsUnheard (L.counts outside.old) (L.counts outside.new) }
         ensures later { L.faults outside.old ≤ L.faults outside.new }
+        ensures disk_later { D.faults disk.old ≤ D.faults disk.new }
+        ensures files_later { F.faults files.old ≤ F.faults files.new }
     {
-        self.take(rt, &happening, outside)
+        self.take(rt, &happening, disk, files, outside)
+    }
+
+    /// Waits for a happening until 250 milliseconds behind the clock; of the inputs that are paused none comes.
+    pub fn wait<L: Loop>(&self, outside: &mut L) -> Result<Happening, Memory>
+        ensures waits { (others : World) (s : AllSettings) (h : History) → IsAt self.now s h → Waits (record others { loop = L.told outside.old }) (record others { loop = L.told outside.new }) s h result }
+        ensures counted { L.counts outside.new ≡ waited (L.counts outside.old) result }
+        ensures cause { HasCause (L.faults outside.old) (L.faults outside.new) (WaitFails result) }
+    {
+        let until = self.parts.state.clock().saturating_add(250);
+        outside.wait(self.parts.state.alloc(), until, self.paused())
     }
 
     /// Waits for a happening, and takes it. `LoopFault` comes only where a failure of the loop was counted.
-    pub fn turn<L: Loop>(
+    pub fn turn<L: Loop, D: Disk, F: Files>(
         &mut self,
         rt: &(impl Threads + Sync),
+        disk: &mut D,
+        files: &mut F,
         outside: &mut L,
     ) -> Result<Turn, EngineStop>
-        ensures turns { (others : World) (s : AllSettings) (h : History) → IsAt self.old s h → Turns (telling others (L.told outside.old)) (telling others (L.told outside.new)) s h self.new result }
+        ensures turns { (others : World) (s : AllSettings) (h : History) → IsAt self.old s h
+            → Turns (with_all (L.told outside.old) (D.told disk.old) (F.told files.old) others) (with_all (L.told outside.new) (D.told disk.new) (F.told files.new) others) s h self.new result }
         ensures heard { HasHeard (heard_by result) (L.counts outside.old) (L.counts outside.new) }
         ensures cause { HasCause (L.faults outside.old) (L.faults outside.new) (result ≡ Err stop.LoopFault) }
+        ensures disk_later { D.faults disk.old ≤ D.faults disk.new }
+        ensures files_later { F.faults files.old ≤ F.faults files.new }
     {
-        let until = self.book.clock().saturating_add(250);
-        match outside.wait(self.book.alloc(), until, self.paused()) {
-            Ok(happening) => self.take(rt, &happening, outside),
+        match self.wait(outside) {
+            Ok(happening) => self.take(rt, &happening, disk, files, outside),
             Err(_) => Err(EngineStop::Memory),
         }
     }
 
-    fn take<L: Loop>(
+    fn take<L: Loop, D: Disk, F: Files>(
         &mut self,
         rt: &(impl Threads + Sync),
         happening: &Happening,
+        disk: &mut D,
+        files: &mut F,
         outside: &mut L,
     ) -> Result<Turn, EngineStop>
-        ensures steps { (others : World) (s : AllSettings) (h : History) → IsAt self.old s h → Steps (telling others (L.told outside.old)) (telling others (L.told outside.new)) s h happening.now self.new result }
+        ensures steps { (others : World) (s : AllSettings) (h : History) → IsAt self.old s h
+            → Steps (with_all (L.told outside.old) (D.told disk.old) (F.told files.old) others) (with_all (L.told outside.new) (D.told disk.new) (F.told files.new) others) s h happening.now self.new result }
         ensures fails { FailsSo happening.now result }
         ensures unheard { IsUnheard (L.counts outside.old) (L.counts outside.new) }
         ensures later { L.faults outside.old ≤ L.faults outside.new }
+        ensures disk_later { D.faults disk.old ≤ D.faults disk.new }
+        ensures files_later { F.faults files.old ≤ F.faults files.new }
     {
         if is_failure(happening) {
             return Err(EngineStop::LoopFault);
         }
-        match step(rt, &self.setup, &mut self.book, outside, happening) {
-            Ok(()) => Ok(turn_of(is_finished(&self.setup, &self.book, happening))),
+        let run = self.setup.run();
+        let limits = self.setup.limits();
+        match step(
+            rt,
+            run,
+            limits,
+            &mut self.parts,
+            outside,
+            disk,
+            files,
+            happening,
+        ) {
+            Ok(()) => Ok(turn_of(is_finished(run, &self.parts, happening))),
             Err(_) => Err(EngineStop::Memory),
         }
     }
 
-    /// The inputs that nothing is wanted of: after a stop all of them.
+    /// The inputs that nothing is wanted of, as a mask: those whose chunks in memory have reached their limit, and after a
+    /// stop all of them.
     pub fn paused(&self) -> u64
         ensures { Knows self.now (λ s h. result ≡ paused s h) }
     {
-        match self.book.stopped() {
-            Some(_) => self.setup.all_inputs(),
-            None => 0,
-        }
+        self.parts.state.paused(self.setup.limits())
     }
 
     /// The chunks that are owed to someone, each with its outputs, tries and due times, and no others.
     pub fn table(&self) -> &Table
         ensures { Knows self.now (λ s h. result.now.rows ≡ rows_of s h) }
     {
-        self.book.table()
+        self.parts.state.table()
     }
 
     /// The counts of the report.
     pub fn tally(&self) -> &Tally
         ensures { Knows self.now (λ s h. result.now ≡ tally_of s h) }
     {
-        self.book.tally()
+        self.parts.state.tally()
     }
 
-    /// The clock at Stop, where it came.
+    /// The clock at the stop, where it came.
     pub fn stopped(&self) -> Option<u64>
-        ensures { Knows self.now (λ s h. result ≡ stopped h) }
+        ensures { Knows self.now (λ s h. result ≡ stopped s h) }
     {
-        self.book.stopped()
+        self.parts.state.stopped()
     }
 
     /// How many readings of the clock were taken.
     pub fn ticks(&self) -> u64
         ensures { Knows self.now (λ s h. result ≡ ticked h) }
     {
-        self.book.ticked()
+        self.parts.state.ticked()
+    }
+
+    pub fn alloc(&self) -> Global {
+        self.parts.state.alloc()
+    }
+
+    /// Gives the settings back, for the next life. It takes no memory.
+    pub fn finish(self) -> AllSettings
+        ensures { (s : AllSettings) (h : History) → IsAt self s h → result ≡ s }
+    {
+        self.setup.into_settings()
     }
 }

@@ -1,14 +1,11 @@
-//! The engine: what happens outside is brought to it one thing at a time, and it does what the written run says.
+//! The engine: it begins with what stands on the disk, and what happens outside is brought to it one thing at a time. It
+//! does what the written run says, over a loop, a disk and files.
 //!
-//! Its clauses hold for every loop, whether it tells its calls or not: from each history that the engine shows, the calls
-//! on the loop are those of the act, and it then shows the history that the act gives.
+//! Its clauses hold for all of these devices, whether they tell their calls or not: from each history that the engine has
+//! come to, the calls are those of the step, and it then stands where the step leads.
 #![tactic(auto)]
 
-mod acceptance;
 mod engine;
-mod landing;
-mod stepping;
-mod streaming;
-mod walking;
+mod setup;
 
 pub use engine::{BeginErr, Engine, EngineStop, Turn};

@@ -10,12 +10,12 @@ use Rattle.fwd_written.specs.World.{World, Leads, Did, Began}
 use Rattle.fwd_written.proofs.Acting.{goes_on as leads_on, stays, inside, began_inside, began_after}
 use Rattle.fwd_written.specs.Steps.{step}
 use Rattle.fwd_written.specs.Run.{Lived, lived, Over, LoopFailed, TurnsSpent, goes_on, steps_on, is_last_reading, unless_last, brought, run, is_over}
-use Rattle.fwd_forwarder.specs.Steps.{IsAt, Steps, waits, is_failed, as_turn}
-use Rattle.fwd_forwarder.specs.declared.engine.Engine.{Engine}
-use Rattle.fwd_forwarder.specs.declared.engine.EngineStop.{EngineStop}
-use Rattle.fwd_forwarder.specs.declared.engine.EngineStop.TheVariants as stop
-use Rattle.fwd_forwarder.specs.declared.engine.Turn.{Turn}
-use Rattle.fwd_forwarder.specs.declared.engine.Turn.TheVariants as turn
+use Rattle.fwd_engine.specs.Steps.{IsAt, Steps, waits, is_failed, as_turn}
+use Rattle.fwd_engine.specs.declared.engine.Engine.{Engine}
+use Rattle.fwd_engine.specs.declared.engine.EngineStop.{EngineStop}
+use Rattle.fwd_engine.specs.declared.engine.EngineStop.TheVariants as stop
+use Rattle.fwd_engine.specs.declared.engine.Turn.{Turn}
+use Rattle.fwd_engine.specs.declared.engine.Turn.TheVariants as turn
 use Rattle.fwd_lives.specs.Runs.{GoesOn, Runs}
 use Rattle.fwd_lives.specs.declared.running.RunEnd.{RunEnd}
 

@@ -5,12 +5,12 @@ use Rattle.fwd_written.specs.Fact.{History}
 use Rattle.fwd_written.specs.Trace.{Act}
 use Rattle.fwd_written.specs.World.{World, Leads, Did, Began}
 use Rattle.fwd_written.specs.Run.{End, Over, LoopFailed, TurnsSpent, Lived, lived}
-use Rattle.fwd_forwarder.specs.Steps.{IsAt}
-use Rattle.fwd_forwarder.specs.declared.engine.Engine.{Engine}
-use Rattle.fwd_forwarder.specs.declared.engine.EngineStop.{EngineStop}
-use Rattle.fwd_forwarder.specs.declared.engine.EngineStop.TheVariants as stop
-use Rattle.fwd_forwarder.specs.declared.engine.Turn.{Turn}
-use Rattle.fwd_forwarder.specs.declared.engine.Turn.TheVariants as turn
+use Rattle.fwd_engine.specs.Steps.{IsAt}
+use Rattle.fwd_engine.specs.declared.engine.Engine.{Engine}
+use Rattle.fwd_engine.specs.declared.engine.EngineStop.{EngineStop}
+use Rattle.fwd_engine.specs.declared.engine.EngineStop.TheVariants as stop
+use Rattle.fwd_engine.specs.declared.engine.Turn.{Turn}
+use Rattle.fwd_engine.specs.declared.engine.Turn.TheVariants as turn
 use Rattle.fwd_lives.specs.declared.running.RunEnd.{RunEnd}
 use Rattle.fwd_lives.specs.declared.running.RunEnd.TheVariants as run_end
 

@@ -12,13 +12,13 @@ ghost use Rattle.fwd_written.specs.Run as written;
 ghost use Rattle.fwd_written.specs.Run.{Lived, is_tick};
 ghost use Rattle.fwd_parts.specs.Acts.{with_all};
 ghost use Rattle.fwd_parts.specs.Heard.{HasHeard, IsUnheard};
-ghost use Rattle.fwd_forwarder.specs.Steps.{IsAt, Knows, heard_by};
-ghost use Rattle.fwd_forwarder.specs.declared.engine.EngineStop.TheVariants as stop;
+ghost use Rattle.fwd_engine.specs.Steps.{IsAt, Knows, heard_by};
+ghost use Rattle.fwd_engine.specs.declared.engine.EngineStop.TheVariants as stop;
 ghost use Rattle.fwd_lives.specs.Runs.{GoesOn, Runs, heard_in};
 ghost use Rattle.fwd_lives.specs.declared.running.RunEnd.TheVariants as run_end;
 
 use fwd_base::Memory;
-use fwd_forwarder::{Engine, EngineStop, Turn};
+use fwd_engine::{Engine, EngineStop, Turn};
 use fwd_outside::{Begun, Disk, Ends, Files, Happening, Loop};
 use fwd_stepping::is_reading;
 use std::thread::Threads;

@@ -1,8 +1,9 @@
-pub mod Turns
 pub mod Masking
 pub mod Naming
-pub mod Replaying
-pub mod Tracing
 pub mod Linking
-pub mod Heard
+pub mod Coursing
+pub mod Turns
+pub mod Beginning
 pub mod Living
+pub mod Leaving
+pub mod Chaining

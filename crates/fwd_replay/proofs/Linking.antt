@@ -4,7 +4,7 @@ use Rattle.std.proofs.lemmas.List.{length-set}
 use Rattle.std.specs.Prelude.{if◌then◌else◌}
 use Rattle.fwd_outside.specs.Loop.{LoopCall, LoopAnswer, LoopEntry, Start, Wait, Dial, Push, Close, Reply, DropConn, Word}
 use Rattle.fwd_play.specs.Place.{Place, ArePlayed, answer_at, after, after_push_to, closed, linked_to, output_of}
-use Rattle.fwd_handing.specs.Own.{AreNew, IsNew, greatest_behind}
+use Rattle.fwd_verdicts.specs.Own.{AreNew, IsNew, greatest_behind}
 
 -- a dial gives a number one above those of before, or none
 dials_new : (b : Bool) (links : List (Option ℕ)) (output : ℕ) (tag : List ℕ) (answer : Option ℕ) → answer ≡ (if b then Some (length links + 1) else None)

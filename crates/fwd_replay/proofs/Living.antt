@@ -1,60 +1,107 @@
--- From a run over a loop to what comes of its life.
-use Rattle.std.proofs.Common.{◌≡◌, ℕ, ◌≤◌, List, Option, Result, Ok, Err, IfOk, IsErr, refl, subst, arith}
+-- A life that devices bring.
+use Rattle.std.proofs.Common.{◌≡◌, ℕ, ◌≤◌, List, [], Option, Some, None, Result, Ok, Err, IfOk, IsErr, refl, subst, arith}
 use Rattle.std.proofs.lemmas.Result.{MatchResult-from_err}
 use Rattle.fwd_program.specs.Program.{Return}
 use Rattle.fwd_program.specs.Cause.{HasCause}
-use Rattle.fwd_outside.specs.Loop.{LoopTold, LoopCounts}
+use Rattle.fwd_outside.specs.Loop.{LoopCounts}
 use Rattle.fwd_outside.specs.declared.ends.Ends.{Ends}
+use Rattle.fwd_base.specs.declared.memory.Memory.{Memory}
 use Rattle.fwd_settings.specs.Ends.{ends_of}
 use Rattle.fwd_settings.specs.declared.chosen.AllSettings.{AllSettings}
-use Rattle.fwd_trace.specs.World.{Did, Began}
-use Rattle.fwd_trace.proofs.Acting.{stays}
-use Rattle.fwd_run.specs.Run.{Lived, lived, life}
-use Rattle.fwd_engine.specs.Heard.{HasHeard}
+use Rattle.fwd_written.specs.Fact.{History}
+use Rattle.fwd_written.specs.World.{World, Did, Began, Leads}
+use Rattle.fwd_written.specs.Loading.{loads_in}
+use Rattle.fwd_written.specs.Run.{Lived, DiskFailed, lived, begun, life}
+use Rattle.fwd_written.proofs.Acting.{stays, goes_on, inside, began_inside, began_after}
+use Rattle.fwd_parts.specs.Heard.{HasHeard}
 use Rattle.fwd_engine.specs.declared.engine.Engine.{Engine}
-use Rattle.fwd_base.specs.declared.memory.Memory.{Memory}
-use Rattle.fwd_replay.specs.Live.{alone, BeginsLife, IsRunLive, IsLoopFailed, spent_in}
-use Rattle.fwd_replay.specs.Runs.{Ran, end_of, heard_in}
+use Rattle.fwd_lives.specs.Runs.{Ran, StandsAt, end_of}
+use Rattle.fwd_lives.specs.Runs as runs
+use Rattle.fwd_lives.specs.declared.running.RunEnd.{RunEnd}
+use Rattle.fwd_lives.specs.declared.running.RunEnd.TheVariants as run_end
+use Rattle.fwd_lives.proofs.Heard.{heard_all}
+use Rattle.fwd_replay.specs.Live.{BeginsLife, IsLived, ComesTo, heard_in, ending_of}
+use Rattle.fwd_replay.specs.Naming.{IsNamed, IsNamedUnlessFailed}
 use Rattle.fwd_replay.specs.Text.{report, told_by}
+use Rattle.fwd_replay.specs.declared.named.Named.{Named}
 use Rattle.fwd_replay.specs.declared.reported.Reported.{Reported}
-use Rattle.fwd_replay.specs.declared.reported.Reported.TheVariants as reported
-use Rattle.fwd_replay.specs.declared.running.RunEnd.{RunEnd}
-use Rattle.fwd_replay.specs.declared.running.RunEnd.TheVariants as run_end
-use Rattle.fwd_replay.proofs.Heard.{heard_all}
+use Rattle.fwd_replay.specs.declared.reported.Ending.TheVariants as ending
 
--- memory was wanting before a call
-pub begins_first : (s : AllSettings) (ticks : Option ℕ) (turns : ℕ) (told : LoopTold) → BeginsLife s ticks turns told told
-begins_first s ticks turns told = (life s (ends_of s) ticks turns, stays (alone told) (life s (ends_of s) ticks turns))
+-- an engine that stands where its run ended, by settings with these names
+pub named_unless : (named : Named) (engine : Engine) (s : AllSettings) (h : History) (end : RunEnd) → IsNamed named s → StandsAt engine s h end → IsNamedUnlessFailed named engine end
+named_unless named engine s h run_end.LoopFailed is at = tt
+named_unless named engine s h run_end.Over is at = record { settings = s; history = h; at = at; is = is }
+named_unless named engine s h run_end.TurnsSpent is at = record { settings = s; history = h; at = at; is = is }
 
-pub wanting_first : {E : Type 0} (s : AllSettings) (ticks : Option ℕ) (turns : ℕ) (told : LoopTold) (r : Result Reported E) → IsErr r → IsRunLive s ticks turns told told r
-wanting_first s ticks turns told r is = MatchResult-from_err r _ _ is (λ _. begins_first s ticks turns told)
+module _ (s : AllSettings) (ticks : Option ℕ) (turns : ℕ) where
+  pub wanting_memory : {E : Type 0} (a b : World) (r : Result Reported E) → IsErr r → BeginsLife s ticks turns a b → ComesTo s ticks turns a b r
+  wanting_memory a b r is begins = MatchResult-from_err r (λ reported. IsLived s ticks turns a b reported) (λ _. BeginsLife s ticks turns a b) is (λ _. begins)
 
--- what a run comes to
-abbrev whole : RunEnd → Result RunEnd Memory
-whole end = Ok end
+  -- memory was wanting before a call
+  pub begins_first : (w : World) → BeginsLife s ticks turns w w
+  begins_first w = (life s (ends_of s) ticks turns, stays w (life s (ends_of s) ticks turns))
 
-module _ (s : AllSettings) (ticks : Option ℕ) (turns : ℕ) (a b : LoopTold) (ends : Ends) (are : ends ≡ ends_of s) where
-  -- and while it ran
-  pub wanting_run : {E : Type 0} (r : Result Reported E) → IsErr r → Began (alone a) (alone b) (life s ends ticks turns) → IsRunLive s ticks turns a b r
-  wanting_run r is began = MatchResult-from_err r _ _ is (λ _. subst (λ (x : Ends). Began (alone a) (alone b) (life s x ticks turns)) are began)
+  -- and while what stands on the disk was loaded
+  pub begins_load : (a b : World) → Began a b (loads_in s) → BeginsLife s ticks turns a b
+  unfolding life
+  begins_load a b began = began_inside (begun s (ends_of s) ticks turns) began
 
-  pub lived_of : {E : Type 0} (engine : Engine) (end : RunEnd) (ran : Ran (alone a) (alone b) s (life s ends ticks turns) engine end) (r : Result Reported E)
-      → IfOk r (λ x. x ≡ told_by (report s ran.history) (end_of end)) → IsRunLive s ticks turns a b r
-  lived_of engine end ran (Ok x) is = record {
+  loaded : (a b : World) (found : Option History) → Did a b (loads_in s) found → Leads a b (life s (ends_of s) ticks turns) (begun s (ends_of s) ticks turns found)
+  unfolding life
+  loaded a b found did = inside (begun s (ends_of s) ticks turns) did
+
+  -- a call on the disk failed
+  pub disk_failed : (a b : World) (reported : Reported) → Did a b (loads_in s) None → reported ≡ record { text = []; ending = ending.DiskFailed } → IsLived s ticks turns a b reported
+  disk_failed a b reported did is = record { lived = lived [] DiskFailed; did = loaded a b None did; told = is }
+
+  -- memory was wanting while it ran
+  pub begins_run : (a b c : World) (ends : Ends) (h : History) → ends ≡ ends_of s → Did a b (loads_in s) (Some h) → Began b c (begun s ends ticks turns (Some h)) → BeginsLife s ticks turns a c
+  begins_run a b c ends h are did began = began_after (loaded a b (Some h) did) (subst (λ (x : Ends). Began b c (begun s x ticks turns (Some h))) are began)
+
+  whole_run : (a b c : World) (ends : Ends) (h : History) (lived : Lived) → ends ≡ ends_of s → Did a b (loads_in s) (Some h) → Did b c (begun s ends ticks turns (Some h)) lived → Did a c (life s (ends_of s) ticks turns) lived
+  whole_run a b c ends h lived are did ran = goes_on (loaded a b (Some h) did) (subst (λ (x : Ends). Did b c (begun s x ticks turns (Some h)) lived) are ran)
+
+  -- its run, to its end
+  pub lived_of : {E : Type 0} (a b c : World) (ends : Ends) (h : History) (engine : Engine) (end : RunEnd) → ends ≡ ends_of s → Did a b (loads_in s) (Some h) → (ran : Ran b c s (begun s ends ticks turns (Some h)) engine end)
+      → (r : Result Reported E) → IfOk r (λ x. x ≡ told_by (report s ran.history) (end_of end)) → ComesTo s ticks turns a c r
+  lived_of a b c ends h engine end are did ran (Ok x) is = record {
     lived = lived ran.history (end_of end);
-    did = subst (λ (y : Ends). Did (alone a) (alone b) (life s y ticks turns) (lived ran.history (end_of end))) are ran.did;
+    did = whole_run a b c ends h (lived ran.history (end_of end)) are did ran.did;
     told = is;
   }
-  lived_of engine end ran (Err e) is = (Return (lived ran.history (end_of end)), subst (λ (y : Ends). Did (alone a) (alone b) (life s y ticks turns) (lived ran.history (end_of end))) are ran.did)
+  lived_of a b c ends h engine end are did ran (Err e) is = (Return (lived ran.history (end_of end)), whole_run a b c ends h (lived ran.history (end_of end)) are did ran.did)
 
-pub heard_live : {E : Type 0} (a b : LoopCounts) (most : ℕ) (end : RunEnd) (text : List ℕ) (r : Result Reported E) → IfOk r (λ x. x ≡ told_by text (end_of end)) → HasHeard (heard_in most (whole end)) a b → HasHeard (spent_in most r) a b
+-- what a run comes to
+abbrev pub whole : RunEnd → Result RunEnd Memory
+whole end = Ok end
+
+pub heard_live : {E : Type 0} (a b : LoopCounts) (most : ℕ) (end : RunEnd) (text : List ℕ) (r : Result Reported E) → IfOk r (λ x. x ≡ told_by text (end_of end)) → HasHeard (runs.heard_in most (whole end)) a b
+    → HasHeard (heard_in most (ending_of r)) a b
 heard_live a b most run_end.Over text (Ok x) is heard = rw is heard
 heard_live a b most run_end.LoopFailed text (Ok x) is heard = rw is heard
 heard_live a b most run_end.TurnsSpent text (Ok x) is heard = rw is heard
-heard_live a b most end text (Err e) is heard = heard_all (heard_in most (whole end)) 0 (omega arith) heard
+heard_live a b most end text (Err e) is heard = heard_all (runs.heard_in most (whole end)) 0 (omega arith) heard
 
-pub cause_live : {E : Type 0} (before now : ℕ) (end : RunEnd) (text : List ℕ) (r : Result Reported E) → IfOk r (λ x. x ≡ told_by text (end_of end)) → HasCause before now (whole end ≡ whole run_end.LoopFailed) → HasCause before now (IsLoopFailed r)
-cause_live before now run_end.Over text (Ok x) is cause = record { later = cause.later; cause = λ failed. absurd (rw is at failed) }
-cause_live before now run_end.LoopFailed text (Ok x) is cause = record { later = cause.later; cause = λ failed. cause.cause refl }
-cause_live before now run_end.TurnsSpent text (Ok x) is cause = record { later = cause.later; cause = λ failed. absurd (rw is at failed) }
-cause_live before now end text (Err e) is cause = record { later = cause.later; cause = λ failed. absurd failed }
+-- a run ends for want of the loop only where one was counted
+pub loop_cause_live : {E : Type 0} (before now : ℕ) (end : RunEnd) (text : List ℕ) (r : Result Reported E) → IfOk r (λ x. x ≡ told_by text (end_of end)) → HasCause before now (whole end ≡ whole run_end.LoopFailed)
+    → HasCause before now (ending_of r ≡ ending.LoopFailed)
+loop_cause_live before now run_end.Over text (Ok x) is cause = record { later = cause.later; cause = λ failed. let no : ending.Over ≡ ending.LoopFailed = rw is at failed in absurd (cc no) }
+loop_cause_live before now run_end.LoopFailed text (Ok x) is cause = record { later = cause.later; cause = λ failed. cause.cause refl }
+loop_cause_live before now run_end.TurnsSpent text (Ok x) is cause = record { later = cause.later; cause = λ failed. let no : ending.TurnsSpent ≡ ending.LoopFailed = rw is at failed in absurd (cc no) }
+loop_cause_live before now end text (Err e) is cause = record { later = cause.later; cause = λ failed. absurd (cc failed) }
+
+-- and never for want of the disk
+pub disk_cause_live : {E : Type 0} (before now : ℕ) (end : RunEnd) (text : List ℕ) (r : Result Reported E) → IfOk r (λ x. x ≡ told_by text (end_of end)) → before ≤ now → HasCause before now (ending_of r ≡ ending.DiskFailed)
+disk_cause_live before now run_end.Over text (Ok x) is later = record { later = later; cause = λ failed. let no : ending.Over ≡ ending.DiskFailed = rw is at failed in absurd (cc no) }
+disk_cause_live before now run_end.LoopFailed text (Ok x) is later = record { later = later; cause = λ failed. let no : ending.LoopFailed ≡ ending.DiskFailed = rw is at failed in absurd (cc no) }
+disk_cause_live before now run_end.TurnsSpent text (Ok x) is later = record { later = later; cause = λ failed. let no : ending.TurnsSpent ≡ ending.DiskFailed = rw is at failed in absurd (cc no) }
+disk_cause_live before now end text (Err e) is later = record { later = later; cause = λ failed. absurd (cc failed) }
+
+-- where memory was wanting, nothing has failed
+pub loop_cause_wanting : {E : Type 0} (before now : ℕ) (r : Result Reported E) → IsErr r → before ≤ now → HasCause before now (ending_of r ≡ ending.LoopFailed)
+loop_cause_wanting before now (Ok x) is later = absurd (cc is)
+loop_cause_wanting before now (Err e) is later = record { later = later; cause = λ failed. absurd (cc failed) }
+
+pub disk_cause_wanting : {E : Type 0} (before now : ℕ) (r : Result Reported E) → IsErr r → before ≤ now → HasCause before now (ending_of r ≡ ending.DiskFailed)
+disk_cause_wanting before now (Ok x) is later = absurd (cc is)
+disk_cause_wanting before now (Err e) is later = record { later = later; cause = λ failed. absurd (cc failed) }

@@ -5,8 +5,8 @@ use Rattle.fwd_table.specs.declared.tally.Tally.{Tally}
 use Rattle.fwd_settings.specs.declared.chosen.AllSettings.{AllSettings}
 use Rattle.fwd_settings.specs.declared.chosen.InputSet.{InputSet}
 use Rattle.fwd_settings.specs.declared.chosen.OutputSet.{OutputSet}
-use Rattle.fwd_trace.specs.Fact.{History}
-use Rattle.fwd_history.specs.Tallies.{each_from, input_tally, output_tally, tally_of}
+use Rattle.fwd_written.specs.Fact.{History}
+use Rattle.fwd_written.specs.Tallies.{each_from, input_tally, output_tally, tally_of}
 use Rattle.fwd_replay.specs.Text.{input_names, output_names}
 
 each_length : {T : Type 0} (f : ℕ → T) (n k : ℕ) → length (each_from f n k) ≡ k

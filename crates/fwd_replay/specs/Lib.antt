@@ -1,4 +1,6 @@
-pub mod Runs
 pub mod Text
+pub mod Changing
+pub mod Lives
 pub mod Naming
 pub mod Live
+pub mod Stage

@@ -1,45 +1,40 @@
--- What comes of a life that a loop brings.
-use Rattle.std.specs.Prelude.{◌≡◌, ℕ, List, [], Option, Some, None, Result, Ok, Err, MatchResult}
-use Rattle.fwd_outside.specs.Loop.{LoopTold}
+-- What comes of a life that devices bring.
+use Rattle.std.specs.Prelude.{◌≡◌, ◌⊎◌, ℕ, Option, Result, Ok, Err, MatchResult}
 use Rattle.fwd_settings.specs.Ends.{ends_of}
 use Rattle.fwd_settings.specs.declared.chosen.AllSettings.{AllSettings}
-use Rattle.fwd_trace.specs.World.{World, Did, Began}
-use Rattle.fwd_run.specs.Run.{Lived, life}
-use Rattle.fwd_engine.specs.Meets.{telling}
-use Rattle.fwd_replay.specs.Text.{report, told_by}
+use Rattle.fwd_written.specs.World.{World, Did, Began}
+use Rattle.fwd_written.specs.Run.{Lived, life}
+use Rattle.fwd_replay.specs.Text.{report, told_by, wanting}
 use Rattle.fwd_replay.specs.declared.reported.Reported.{Reported}
-use Rattle.fwd_replay.specs.declared.reported.Reported.TheVariants as reported
+use Rattle.fwd_replay.specs.declared.reported.Ending.{Ending}
+use Rattle.fwd_replay.specs.declared.reported.Ending.TheVariants as ending
 
--- a disk and files that tell, and weren't asked anything
-abbrev pub quiet : World
-quiet = record { loop = None; disk = Some (record { files = [] }, []); files = Some ([], []) }
-
--- a world in which the loop alone is asked, and tells this
-abbrev pub alone : LoopTold → World
-alone told = telling quiet told
-
--- The calls on the loop, told or not, were those of the written run to its end, no other device was called, and the text is
--- the report of its history.
-pub record IsLived (s : AllSettings) (ticks : Option ℕ) (turns : ℕ) (old new : LoopTold) (text : Reported) : Type 0 where
+-- the calls on the devices, told or not, were those of the written run to its end, and the text is the report of its history
+pub record IsLived (s : AllSettings) (ticks : Option ℕ) (turns : ℕ) (old new : World) (reported : Reported) : Type 0 where
   pub lived : Lived
-  pub did : Did (alone old) (alone new) (life s (ends_of s) ticks turns) lived
-  pub told : text ≡ told_by (report s lived.history) lived.end
+  pub did : Did old new (life s (ends_of s) ticks turns) lived
+  pub told : reported ≡ told_by (report s lived.history) lived.end
 
--- the calls on the loop were the first ones of the written run
-abbrev pub BeginsLife : AllSettings → Option ℕ → ℕ → LoopTold → LoopTold → Type 0
-BeginsLife s ticks turns old new = Began (alone old) (alone new) (life s (ends_of s) ticks turns)
+-- they were the first ones of the written run
+abbrev pub BeginsLife : AllSettings → Option ℕ → ℕ → World → World → Type 0
+BeginsLife s ticks turns old new = Began old new (life s (ends_of s) ticks turns)
 
--- to its end, or a part where memory was wanting
-abbrev pub IsRunLive : {E : Type 0} → AllSettings → Option ℕ → ℕ → LoopTold → LoopTold → Result Reported E → Type 0
-IsRunLive s ticks turns old new result = MatchResult result (λ text. IsLived s ticks turns old new text) (λ _. BeginsLife s ticks turns old new)
+-- to its end; or a beginning, where memory was wanting, and then nothing is written
+abbrev pub IsRunLive : AllSettings → Option ℕ → ℕ → World → World → Reported → Type 0
+IsRunLive s ticks turns old new reported = IsLived s ticks turns old new reported ⊎ (BeginsLife s ticks turns old new × (reported ≡ wanting))
 
--- how many happenings a life was given that ended so
-abbrev pub spent_in : {E : Type 0} → ℕ → Result Reported E → ℕ
-spent_in most (Ok (reported.TurnsSpent text)) = most
-spent_in most (Ok text) = 0
-spent_in most (Err e) = 0
+-- how many happenings a life was given at least that ended so
+abbrev pub heard_in : ℕ → Ending → ℕ
+heard_in most ending.TurnsSpent = most
+heard_in most ending.Over = 0
+heard_in most ending.DiskFailed = 0
+heard_in most ending.LoopFailed = 0
+heard_in most ending.Memory = 0
 
-abbrev pub IsLoopFailed : {E : Type 0} → Result Reported E → Type 0
-IsLoopFailed (Ok reported.LoopFailed) = Unit {0}
-IsLoopFailed (Ok text) = ⊥
-IsLoopFailed (Err e) = ⊥
+-- to its end, or where memory was wanting
+abbrev pub ComesTo : {E : Type 0} → AllSettings → Option ℕ → ℕ → World → World → Result Reported E → Type 0
+ComesTo s ticks turns old new result = MatchResult result (λ reported. IsLived s ticks turns old new reported) (λ _. BeginsLife s ticks turns old new)
+
+abbrev pub ending_of : {E : Type 0} → Result Reported E → Ending
+ending_of (Ok reported) = reported.ending
+ending_of (Err e) = ending.Memory

@@ -1,24 +1,21 @@
 -- The text of a life: what its standard outputs took, and its report.
-use Rattle.std.specs.Prelude.{◌≡◌, ℕ, ◌+◌, ◌-◌, ◌*◌, ◌==◌, Bool, true, false, if◌then◌else◌, List, [], ◌∷◌, ◌++◌, length, map, slice_index, None}
-use Rattle.fwd_program.specs.Program.{Return, Way}
-use Rattle.fwd_settings.specs.Ends.{ends_of}
+use Rattle.std.specs.Prelude.{ℕ, ◌+◌, ◌-◌, ◌*◌, ◌==◌, Bool, true, false, if◌then◌else◌, List, [], ◌∷◌, ◌++◌, length, map, slice_index, codes, decimal}
 use Rattle.fwd_settings.specs.declared.chosen.AllSettings.{AllSettings}
 use Rattle.fwd_settings.specs.declared.chosen.InputSet.{InputSet}
 use Rattle.fwd_settings.specs.declared.chosen.OutputSet.{OutputSet}
 use Rattle.fwd_settings.specs.declared.chosen.OutputKind.{OutputKind}
 use Rattle.fwd_settings.specs.declared.chosen.OutputKind.TheVariants.{Stdout}
-use Rattle.fwd_script.specs.declared.schedule.Life.{Life}
-use Rattle.fwd_play.specs.Lines.{given_of}
-use Rattle.fwd_play.specs.Place.{IsPlayed}
+use Rattle.fwd_script.specs.declared.schedule.Cut.{Cut}
 use Rattle.fwd_play.specs.Handed.{handed}
-use Rattle.fwd_trace.specs.Fact.{History}
-use Rattle.fwd_trace.specs.Trace.{TraceEntry, loop_part, disk_part, files_part}
-use Rattle.fwd_history.specs.Routes.{rows_of}
-use Rattle.fwd_history.specs.Tallies.{tally_of}
-use Rattle.fwd_run.specs.Run.{End, Over, LoopFailed, TurnsSpent, Lived, life}
+use Rattle.fwd_written.specs.Fact.{History}
+use Rattle.fwd_written.specs.Trace.{TraceEntry, loop_part}
+use Rattle.fwd_written.specs.Routes.{rows_of}
+use Rattle.fwd_written.specs.Tallies.{tally_of}
+use Rattle.fwd_written.specs.Run.{End, Over, DiskFailed, LoopFailed, TurnsSpent}
 use Rattle.fwd_report.specs.Report.{report_of}
 use Rattle.fwd_replay.specs.declared.reported.Reported.{Reported}
-use Rattle.fwd_replay.specs.declared.reported.Reported.TheVariants as replayed
+use Rattle.fwd_replay.specs.declared.reported.Ending.{Ending}
+use Rattle.fwd_replay.specs.declared.reported.Ending.TheVariants as ending
 
 abbrev pub input_names : List InputSet → List (List ℕ)
 input_names inputs = map (λ (set : InputSet). set.name) inputs
@@ -49,23 +46,26 @@ report s h = report_of (input_names s.inputs) (output_names s.outputs) (rows_of 
 abbrev pub life_text : AllSettings → List TraceEntry → History → List ℕ
 life_text s trace h = with_line_end (handed (stdout_mask s.outputs) [] (loop_part trace)) ++ report s h
 
--- The joined trace of a life: the calls and facts of the written run with so many turns, where the loop answers what the
--- life gives, and neither a disk nor files are called.
-pub record IsTraceOf (s : AllSettings) (turns : ℕ) (planned : Life) (trace : List TraceEntry) (lived : Lived) : Type 0 where
-  pub way : Way (life s (ends_of s) None turns) trace (Return lived)
-  pub played : IsPlayed (given_of planned) (loop_part trace)
-  pub no_disk : disk_part trace ≡ []
-  pub no_files : files_part trace ≡ []
-
--- what comes of a life that ended so
+-- what is written of a run that ended so
 abbrev pub told_by : List ℕ → End → Reported
-told_by text Over = replayed.Over text
-told_by text TurnsSpent = replayed.TurnsSpent text
-told_by text LoopFailed = replayed.LoopFailed
+told_by text Over = record { text = text; ending = ending.Over }
+told_by text DiskFailed = record { text = []; ending = ending.DiskFailed }
+told_by text LoopFailed = record { text = []; ending = ending.LoopFailed }
+told_by text TurnsSpent = record { text = text; ending = ending.TurnsSpent }
 
--- what comes of a life, by its joined trace
-pub record IsReplayed (s : AllSettings) (turns : ℕ) (planned : Life) (replayed : Reported) : Type 0 where
-  pub trace : List TraceEntry
-  pub lived : Lived
-  pub is : IsTraceOf s turns planned trace lived
-  pub told : replayed ≡ told_by (life_text s trace lived.history) lived.end
+-- for want of memory nothing is
+abbrev pub wanting : Reported
+wanting = record { text = []; ending = ending.Memory }
+
+-- the line between the texts of two lives
+abbrev pub crash_line : Cut → List ℕ
+crash_line cut = codes "crash " ++ decimal cut.calls ++ codes " " ++ decimal cut.pick ++ codes "\n"
+
+-- it stands where there is a text behind it
+abbrev pub behind_crash : Cut → List ℕ → List ℕ
+behind_crash cut [] = []
+behind_crash cut (byte ∷ bytes) = crash_line cut ++ byte ∷ bytes
+
+-- the text of a life that was cut, and what is written of those behind it
+abbrev pub joined : List ℕ → Cut → Reported → Reported
+joined text cut rest = record { text = text ++ behind_crash cut rest.text; ending = rest.ending }

@@ -1,16 +1,19 @@
-//! The engine runs over a loop, for a life: one of a schedule, which is replayed, or one that a machine brings. What is
-//! written of it is its text: the report, and of a life that is replayed what its standard outputs took before it.
+//! The engine runs over a life: the lives of a schedule, which are replayed over a disk and files in memory, or one that
+//! devices bring. What is written of it is its text: the report, and of a life that is replayed what its standard outputs
+//! took before it.
 #![tactic(auto)]
 
+mod going;
 mod laws;
 mod life;
 mod live;
 mod named;
+mod replaying;
 mod reported;
-mod running;
+mod starting;
+mod turning;
 
-pub use laws::{a_life_has_one_text, flights_of_a_life};
-pub use life::replay;
+pub use laws::what_is_run_keeps_the_promise;
 pub use live::run_live;
-pub use reported::Reported;
-pub use running::{RunEnd, run};
+pub use replaying::replay;
+pub use reported::{Ending, Reported};

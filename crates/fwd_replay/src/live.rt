@@ -1,22 +1,25 @@
-//! A life that a loop brings, from its settings to its report.
+//! A life that devices bring, from its settings to its report.
 
-ghost use Rattle.std.specs.Prelude.{◌≡◌, ◌≤◌, length, IfOk};
-ghost use Rattle.fwd_base.specs.Limits.{most_inputs, most_outputs};
+ghost use Rattle.std.specs.Prelude.{◌≡◌, ◌≤◌, [], IfOk};
 ghost use Rattle.fwd_program.specs.Cause.{HasCause};
+ghost use Rattle.fwd_settings.specs.Sound.{IsSound};
 ghost use Rattle.fwd_settings.specs.declared.chosen.AllSettings.{AllSettings};
-ghost use Rattle.fwd_trace.specs.Fact.{History};
-ghost use Rattle.fwd_engine.specs.Heard.{HasHeard};
-ghost use Rattle.fwd_replay.specs.Live.{IsLoopFailed, IsRunLive, spent_in};
+ghost use Rattle.fwd_written.specs.Fact.{History};
+ghost use Rattle.fwd_written.specs.World.{World};
+ghost use Rattle.fwd_parts.specs.Acts.{with_all};
+ghost use Rattle.fwd_parts.specs.Heard.{HasHeard};
+ghost use Rattle.fwd_lives.specs.Runs.{StandsAt, end_of};
+ghost use Rattle.fwd_replay.specs.Live.{ComesTo, IsRunLive, ending_of, heard_in};
 ghost use Rattle.fwd_replay.specs.Naming.{IsNamed, IsNamedUnlessFailed};
-ghost use Rattle.fwd_replay.specs.Runs.{end_of, StandsAt};
 ghost use Rattle.fwd_replay.specs.Text.{report, told_by};
+ghost use Rattle.fwd_replay.specs.declared.reported.Ending.TheVariants as ending;
 
 use crate::named::Named;
-use crate::reported::{Reported, report_text};
-use crate::running::{RunEnd, run};
-use fwd_base::Memory;
-use fwd_engine::Engine;
-use fwd_outside::Loop;
+use crate::reported::{Ending, Reported, report_text};
+use fwd_base::{Bytes, Memory};
+use fwd_engine::{BeginErr, Engine};
+use fwd_lives::{RunEnd, run};
+use fwd_outside::{Disk, Files, Loop};
 use fwd_settings::{AllSettings, ends};
 use std::alloc::Global;
 use std::thread::Threads;
@@ -26,37 +29,76 @@ fn reported(alloc: Global, named: &Named, engine: &Engine, end: RunEnd) -> Resul
     requires { IsNamedUnlessFailed named.now engine.now end }
     ensures { (s : AllSettings) (h : History) → StandsAt engine.now s h end → IsNamed named.now s → IfOk result (λ reported. reported ≡ told_by (report s h) (end_of end)) }
 {
-    match end {
-        RunEnd::Over => Ok(Reported::Over(report_text(alloc, named, engine)?)),
-        RunEnd::TurnsSpent => Ok(Reported::TurnsSpent(report_text(alloc, named, engine)?)),
-        RunEnd::LoopFailed => Ok(Reported::LoopFailed),
+    let (text, ending) = match end {
+        RunEnd::Over => (report_text(alloc, named, engine)?, Ending::Over),
+        RunEnd::TurnsSpent => (report_text(alloc, named, engine)?, Ending::TurnsSpent),
+        RunEnd::LoopFailed => (Bytes::new(alloc), Ending::LoopFailed),
+    };
+    Ok(Reported { text, ending })
+}
+
+/// Nothing is written, and it ended so.
+fn unwritten(alloc: Global, ending: Ending) -> Reported
+    ensures { result ≡ record { text = []; ending = ending } }
+{
+    Reported {
+        text: Bytes::new(alloc),
+        ending,
     }
 }
 
-/// Runs the engine over a loop with the settings of a configuration, which have no more inputs and outputs than one may
-/// have and a base of at least one second, for at most so many happenings. Where a number of readings of the clock is
-/// given, the run is stopped behind the last of them. The text is the report. `LoopFailed` comes only where a failure of
-/// the loop was counted, and `TurnsSpent` only where it gave so many happenings. The only error is want of memory.
-pub fn run_live<L: Loop>(
+/// What comes of the life.
+fn lived<L: Loop, D: Disk, F: Files>(
     rt: &(impl Threads + Sync),
     alloc: Global,
     settings: AllSettings,
     ticks: Option<u64>,
+    disk: &mut D,
+    files: &mut F,
     outside: &mut L,
     most: u64,
 ) -> Result<Reported, Memory>
-    requires inputs { length settings.inputs ≤ most_inputs }
-    requires outputs { length settings.outputs ≤ most_outputs }
-    requires base { 1 ≤ settings.service.base }
-    ensures life { IsRunLive settings ticks most (L.told outside.old) (L.told outside.new) result }
-    ensures heard { HasHeard (spent_in most result) (L.counts outside.old) (L.counts outside.new) }
-    ensures cause { HasCause (L.faults outside.old) (L.faults outside.new) (IsLoopFailed result) }
+    requires { IsSound settings }
+    ensures life { (others : World) → ComesTo settings ticks most (with_all (L.told outside.old) (D.told disk.old) (F.told files.old) others) (with_all (L.told outside.new) (D.told disk.new) (F.told files.new) others) result }
+    ensures heard { HasHeard (heard_in most (ending_of result)) (L.counts outside.old) (L.counts outside.new) }
+    ensures loop_cause { HasCause (L.faults outside.old) (L.faults outside.new) (ending_of result ≡ ending.LoopFailed) }
+    ensures disk_cause { HasCause (D.faults disk.old) (D.faults disk.new) (ending_of result ≡ ending.DiskFailed) }
+    ensures files_later { F.faults files.old ≤ F.faults files.new }
 {
     let named = Named::of(alloc, &settings)?;
     let ends = ends(alloc, &settings)?;
-    let Ok(mut engine) = Engine::begin(alloc, settings) else {
-        return Err(Memory);
+    let mut engine = match Engine::begin(rt, alloc, settings, disk) {
+        Ok(engine) => engine,
+        Err(BeginErr::DiskFault) => return Ok(unwritten(alloc, Ending::DiskFailed)),
+        Err(BeginErr::Memory) => return Err(Memory),
     };
-    let end = run(rt, &mut engine, &ends, ticks, outside, most)?;
+    let end = run(rt, &mut engine, &ends, ticks, disk, files, outside, most)?;
     reported(alloc, &named, &engine, end)
+}
+
+/// Runs the engine over devices with the settings of a configuration, for at most so many happenings: what stands on the disk
+/// is loaded, and then comes what the loop brings. Where a number of readings of the clock is given, the run is stopped behind
+/// the last of them. The text is the report. `DiskFailed` and `LoopFailed` come only where a failure of the disk or the loop
+/// was counted, and `TurnsSpent` only where the loop gave so many happenings.
+pub fn run_live<L: Loop, D: Disk, F: Files>(
+    rt: &(impl Threads + Sync),
+    alloc: Global,
+    settings: AllSettings,
+    ticks: Option<u64>,
+    disk: &mut D,
+    files: &mut F,
+    outside: &mut L,
+    most: u64,
+) -> Reported
+    requires { IsSound settings }
+    ensures life { (others : World) → IsRunLive settings ticks most (with_all (L.told outside.old) (D.told disk.old) (F.told files.old) others) (with_all (L.told outside.new) (D.told disk.new) (F.told files.new) others) result }
+    ensures heard { HasHeard (heard_in most result.ending) (L.counts outside.old) (L.counts outside.new) }
+    ensures loop_cause { HasCause (L.faults outside.old) (L.faults outside.new) (result.ending ≡ ending.LoopFailed) }
+    ensures disk_cause { HasCause (D.faults disk.old) (D.faults disk.new) (result.ending ≡ ending.DiskFailed) }
+    ensures files_later { F.faults files.old ≤ F.faults files.new }
+{
+    match lived(rt, alloc, settings, ticks, disk, files, outside, most) {
+        Ok(reported) => reported,
+        Err(Memory) => unwritten(alloc, Ending::Memory),
+    }
 }

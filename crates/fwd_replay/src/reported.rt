@@ -1,8 +1,8 @@
-//! How a life ended, with what is written of it.
+//! How a run or a replay ended, with what is written of it.
 
 ghost use Rattle.std.specs.Prelude.{◌≡◌, IfOk};
 ghost use Rattle.fwd_settings.specs.declared.chosen.AllSettings.{AllSettings};
-ghost use Rattle.fwd_trace.specs.Fact.{History};
+ghost use Rattle.fwd_written.specs.Fact.{History};
 ghost use Rattle.fwd_engine.specs.Steps.{IsAt};
 ghost use Rattle.fwd_replay.specs.Naming.{IsNamed, IsNamedOf};
 ghost use Rattle.fwd_replay.specs.Text.{report};
@@ -13,15 +13,27 @@ use fwd_engine::Engine;
 use fwd_report::report;
 use std::alloc::Global;
 
-/// How a life ended, and its text.
-#[derive(Debug, Drop, PartialEq, Eq)]
-pub enum Reported {
-    /// The life is over.
-    Over(Bytes),
-    /// All turns are taken: this is the text so far.
-    TurnsSpent(Bytes),
+/// How a run or a replay ended.
+#[derive(Clone, Copy, Debug, PartialEq, Eq)]
+pub enum Ending {
+    /// Nothing more is to be done.
+    Over,
+    /// All turns are taken.
+    TurnsSpent,
+    /// A call on the disk failed while a life began.
+    DiskFailed,
     /// The outside couldn't go on.
     LoopFailed,
+    /// Memory was wanting.
+    Memory,
+}
+
+/// What is written of a run or of the lives of a replay, and how it ended. A life that ended for want of the disk, the loop
+/// or memory has no text.
+#[derive(Debug, Drop, PartialEq, Eq)]
+pub struct Reported {
+    pub text: Bytes,
+    pub ending: Ending,
 }
 
 /// The report of an engine.

@@ -1,9 +1,9 @@
 -- Over files that give what stands there, the case is that of the bytes that stand there.
 use Rattle.std.specs.Prelude.{◌≢◌}
-use Rattle.std.proofs.Common.{◌≡◌, ℕ, List, ◌++◌, Option, Some, None, Result, Ok, Err, String, map, string_bytes, refl, sym, subst, ap, ◌∙◌}
-use Rattle.std.specs.Prelude.{true, false, Bool}
+use Rattle.std.proofs.Common.{◌≡◌, inl, inr, ℕ, List, [], ◌++◌, Option, Some, None, Result, Ok, Err, String, map, string_bytes, refl, sym, subst, ap, ◌∙◌}
 use Rattle.fwd_program.specs.Program.{Return, Ask, bind, Way}
-use Rattle.fwd_program.specs.Told.{Did}
+use Rattle.fwd_program.specs.Told.{Grew}
+use Rattle.fwd_program.proofs.Grown.{grew_none, grew_trans}
 use Rattle.fwd_outside.specs.Files.{FilesTold, FilesGiven, FilesEntry, IsHonest, found, files_behind, reads_whole}
 use Rattle.fwd_outside.proofs.Honest.{whole_is_found}
 use Rattle.fwd_config.specs.Variables.{Values}
@@ -15,12 +15,18 @@ use Rattle.fwd_config.specs.declared.fault.ConfigKind.TheVariants.{FileFault}
 use Rattle.fwd_config.proofs.Standing.{Ends, ends_loads, way_parts, honest_parts, ended, grown_by}
 use Rattle.fwd_settings.specs.Reading.{Checked}
 use Rattle.fwd_settings.specs.declared.chosen.AllSettings.{AllSettings}
+use Rattle.fwd_written.specs.Trace.{files_part}
+use Rattle.fwd_replay.specs.Live.{IsRunLive}
+use Rattle.fwd_replay.specs.declared.reported.Reported.{Reported}
 use Rattle.fwd_top.specs.Words.{Command, Run, Replay, ListFolder, Generate, command_of}
-use Rattle.fwd_top.specs.Built.{is_built}
-use Rattle.fwd_top.specs.Asked.{Case, Refuses, Wanted, ToRun, ToReplay, Asked, asked, refused_by, refused_config, wanted_by, with_settings, with_sections, of_config, of_command}
-use Rattle.fwd_top.specs.Answered.{Verdict, Says, Ends as EndsSo, Devices, Answers, Comes, IsVerdict, IsVerdictOf, IsOfTheFiles, Wrote}
+use Rattle.fwd_top.specs.Asked.{Case, Replays, Runs, Lists, Refuses, Wanted, ToRun, ToReplay, Asked, asked, refused_by, refused_config, wanted_by, with_settings, with_sections, of_config, of_command}
+use Rattle.fwd_top.specs.Answered.{Verdict, says, of_reported, Outside, outside_of, world, ComesTo, IsVerdict, Devices, Asks, IsVerdictOf, IsOfTheFiles}
+use Rattle.fwd_top.specs.Judged.{IsRefusal, Tells, of_job, unless_memory}
+use Rattle.fwd_top.specs.declared.asking.Job.{Job}
+use Rattle.fwd_top.specs.declared.asking.Job.TheVariants as job
 use Rattle.fwd_top.specs.declared.status.Status.{Status}
 use Rattle.fwd_top.specs.declared.status.Status.TheVariants as status
+use Rattle.fwd_top.proofs.Telling.{in_case, written}
 
 -- it ends by this where a file can't be read
 abbrev EndsThere : Reading Asked → Type 0
@@ -46,11 +52,7 @@ by_wanted loaded s (ToReplay schedule) = ((loaded, refl), λ bytes. tt)
 
 by_settings : (loaded : Option (List Section)) (wanted : Wanted) (checked : Checked AllSettings) → EndsThere (with_settings loaded wanted checked)
 by_settings loaded wanted (Err fault) = tt
-by_settings loaded wanted (Ok s) = by (is_built s) refl
-  where
-    by : (b : Bool) → is_built s ≡ b → EndsThere (with_settings loaded wanted (Ok s))
-    by true is = rw is (by_wanted loaded s wanted)
-    by false is = rw is tt
+by_settings loaded wanted (Ok s) = by_wanted loaded s wanted
 
 by_config : (checked : Checked AllSettings) (config : List ℕ) (wanted : Wanted) (env : Values) → EndsThere (of_config checked config wanted env)
 by_config checked config wanted env = behind checked wanted (loads env config) (ends_loads env config) (λ sections. by_settings (Some sections) wanted checked)
@@ -80,48 +82,75 @@ module _ (files : FilesGiven) where
       let stands = subst (λ (f : FilesGiven). IsHonest f second) same.1 honest2 in
       ap (λ (content : Option (List ℕ)). given (found files) (go content)) same.0 ∙ says bytes second x read stands way2
 
-  says : (p : Reading Asked) → EndsThere p → SaysSo p
-  says (Return y) ends es x read honest way = sym (ended es way)
-  says (Ask path go) ends es x read honest way =
+  gives : (p : Reading Asked) → EndsThere p → SaysSo p
+  gives (Return y) ends es x read honest way = sym (ended es way)
+  gives (Ask path go) ends es x read honest way =
       let parts = way_parts (reads_whole path) (λ content. reads_files (go content)) es x way in
       let both = honest_parts files parts.0 parts.1 (subst (λ (l : List FilesEntry). IsHonest files l) parts.3 honest) in
-      read_then path go ends (λ bytes. says (go (Some bytes)) (ends.1 bytes)) parts.0 parts.1 parts.2 x read both.0 both.1 parts.4 parts.5
+      read_then path go ends (λ bytes. gives (go (Some bytes)) (ends.1 bytes)) parts.0 parts.1 parts.2 x read both.0 both.1 parts.4 parts.5
 
-says_what_stands : (old new : FilesTold) (checked : Checked AllSettings) (command : Option Command) (env : Values) (x : Asked) → IsRead x → Did old new (reads_files (of_command checked command env)) x
-    → (standing : FilesGiven) (before made : List FilesEntry) → old ≡ Some (standing, before) → new ≡ Some (standing, before ++ made) → IsHonest (files_behind standing before) made
-    → given (found (files_behind standing before)) (of_command checked command env) ≡ x
-says_what_stands old new checked command env x read did standing before made was is honest =
-    let made_is = grown_by old new standing before made did.entries was is did.grew in
-    says (files_behind standing before) (of_command checked command env) (ends_there checked command env) did.entries x read (subst (λ (l : List FilesEntry). IsHonest (files_behind standing before) l) made_is honest) did.way
+-- ---- the calls behind those for the configuration
+
+-- what was asked of the files for a case
+asked_for : (turns : ℕ) (case : Case) (old new : Outside) (verdict : Verdict) → IsVerdict turns case old new verdict → (entries : List FilesEntry) × Grew old.files new.files entries
+asked_for turns (Replays s lives) old new verdict is = ([], is.1.1.files)
+asked_for turns (Runs s ticks) old new verdict is = run is.1
+  where
+    run : IsRunLive s ticks turns (world old) (world new) is.0 → (entries : List FilesEntry) × Grew old.files new.files entries
+    run (inl lived) = (files_part lived.did.entries, lived.did.asked.files)
+    run (inr begun) = (files_part begun.0.1.entries, begun.0.1.asked.files)
+asked_for turns (Lists root) old new verdict is = ([], is.1.1.0)
+asked_for turns (Refuses other) old new verdict is = ([], is.1.files)
+
+module _ (old read new : FilesTold) (standing : FilesGiven) (before made first second : List FilesEntry) where
+  -- of calls that were answered as it stands there, the first ones were
+  first_honest : Grew old read first → Grew read new second → old ≡ Some (standing, before) → new ≡ Some (standing, before ++ made) → IsHonest (files_behind standing before) made → IsHonest (files_behind standing before) first
+  first_honest grew more was now_is honest =
+      let is = grown_by old new standing before made (first ++ second) was now_is (grew_trans old read new first second grew more) in
+      (honest_parts (files_behind standing before) first second (subst (λ (l : List FilesEntry). IsHonest (files_behind standing before) l) is honest)).0
 
 module _ {Y : Type 0} (words : List (String Y)) (env : Values) (turns : ℕ) (old new : Devices) where
-  unread : (case : Case) (verdict : Verdict) → IsVerdict turns case old.loop new.loop verdict → verdict ≢ EndsSo status.FileFault → case ≢ Refuses status.FileFault
-  unread case verdict is other same =
-      let refused : IsVerdict turns (Refuses status.FileFault) old.loop new.loop verdict = subst (λ (c : Case). IsVerdict turns c old.loop new.loop verdict) same is in
-      other refused.0
-
-  verdict_of : (verdict : Verdict) → verdict ≢ EndsSo status.FileFault → Comes words env turns old new verdict
+  verdict_of : (case : Case) (read : FilesTold) (verdict : Verdict) → Asks words env old.files read (Some case) → IsVerdict turns case (outside_of old.disk read old.loop) (outside_of new.disk new.files new.loop) verdict
+      → case ≢ Refuses status.FileFault
       → (standing : FilesGiven) (before made : List FilesEntry) → old.files ≡ Some (standing, before) → new.files ≡ Some (standing, before ++ made) → IsHonest (files_behind standing before) made
-      → IsVerdictOf words env turns (files_behind standing before) old.loop new.loop verdict
-  verdict_of verdict other comes standing before made was now_is honest = record {
-    checked = comes.asks.checked;
-    loaded = comes.asks.loaded;
-    are = comes.asks.are;
-    case = comes.case;
+      → IsVerdictOf words env turns (files_behind standing before) old new verdict
+  verdict_of case read verdict asks is other standing before made was now_is honest = record {
+    checked = asks.checked;
+    loaded = asks.loaded;
+    are = asks.are;
+    case = case;
     given =
-        says_what_stands old.files new.files comes.asks.checked (command_of (map string_bytes words)) env (asked comes.asks.loaded comes.case) (unread comes.case verdict comes.is other) comes.asks.makes standing before made was now_is honest;
-    is = comes.is;
+        let did = asks.makes in
+        let more = asked_for turns case (outside_of old.disk read old.loop) (outside_of new.disk new.files new.loop) verdict is in
+        gives (files_behind standing before) (of_command asks.checked (command_of (map string_bytes words)) env) (ends_there asks.checked (command_of (map string_bytes words)) env) did.entries (asked asks.loaded case) other
+        (first_honest old.files read new.files standing before made did.entries more.0 did.grew more.1 was now_is honest) did.way;
+    read = read;
+    is = is;
   }
 
-  by_status : (Holds : Verdict → Type 0) → ((verdict : Verdict) → verdict ≢ EndsSo status.FileFault → Comes words env turns old new verdict → Holds verdict)
-      → (result : Status) → Answers words env turns old new result → result ≢ status.FileFault → Wrote Holds old.sink new.sink result
-  by_status Holds of status.Done answers read = (answers.0, of (Says answers.0 status.Done) (λ is. cc is) answers.1, answers.2)
-  by_status Holds of status.TurnsSpent answers read = (answers.0, of (Says answers.0 status.TurnsSpent) (λ is. cc is) answers.1, answers.2)
-  by_status Holds of status.OutFault answers read = (answers.0, answers.1, of (Says answers.0 answers.1) (λ is. cc is) answers.2, answers.3)
-  by_status Holds of status.Memory answers read = tt
-  by_status Holds of status.FileFault answers read = absurd (read refl)
-  by_status Holds of other answers read = (of (EndsSo other) (λ is. cc is) answers.0, answers.1)
+  -- a job was done, and what came of it told
+  pub done_files : (case : Case) (read : FilesTold) (r : Reported) (result : Status) → case ≢ Refuses status.FileFault → Asks words env old.files read (Some case)
+      → ComesTo turns case (outside_of old.disk read old.loop) (outside_of new.disk new.files new.loop) r → Tells old.sink new.sink (of_reported r) result → IsOfTheFiles words env turns old new result
+  done_files case read r result other asks is tells standing before made was now_is honest known =
+      let verdict = in_case turns case (outside_of old.disk read old.loop) (outside_of new.disk new.files new.loop) r is in
+      written (IsVerdictOf words env turns (files_behind standing before) old new) old.sink new.sink r.text r.ending result
+      (verdict_of case read (of_reported r) asks verdict other standing before made was now_is honest) tells
 
-  pub of_the_files : (result : Status) → Answers words env turns old new result → IsOfTheFiles words env turns old new result
-  of_the_files result answers standing before made was now_is honest read =
-      by_status (IsVerdictOf words env turns (files_behind standing before) old.loop new.loop) (λ verdict other comes. verdict_of verdict other comes standing before made was now_is honest) result answers read
+  -- there was nothing to do
+  pub refused_files : (result : Status) → IsRefusal result → Asks words env old.files new.files (unless_memory result) → Grew old.disk new.disk [] → Grew old.loop new.loop [] → Grew old.sink new.sink []
+      → IsOfTheFiles words env turns old new result
+  refused_files status.Done is asks disk loop sink standing before made was now_is honest known = absurd is
+  refused_files status.TurnsSpent is asks disk loop sink standing before made was now_is honest known = absurd is
+  refused_files status.OutFault is asks disk loop sink standing before made was now_is honest known = absurd is
+  refused_files status.LoopFault is asks disk loop sink standing before made was now_is honest known = absurd is
+  refused_files status.DiskFault is asks disk loop sink standing before made was now_is honest known = absurd is
+  refused_files status.FileFault is asks disk loop sink standing before made was now_is honest known = absurd (known refl)
+  refused_files status.Memory is asks disk loop sink standing before made was now_is honest known = tt
+  refused_files other is asks disk loop sink standing before made was now_is honest known =
+      ([], verdict_of (Refuses other) new.files (says [] other) asks (refl, record { disk = disk; files = grew_none new.files; loop = loop }) (λ same. cc same) standing before made was now_is honest, sink)
+
+-- a job refuses nothing
+pub no_refusal : (j : Job) → of_job j ≢ Refuses status.FileFault
+no_refusal (job.Run s ticks) is = absurd (cc is)
+no_refusal (job.Replay s schedule) is = absurd (cc is)
+no_refusal (job.List folder) is = absurd (cc is)

@@ -1,3 +1,3 @@
 pub mod Topping
-pub mod Found
 pub mod Telling
+pub mod Found

@@ -1,110 +1,107 @@
 -- What was asked and written, by status.
-use Rattle.std.proofs.Common.{◌≡◌, ◌⊎◌, inl, inr, ℕ, Bool, true, false, List, [], map, String, string_bytes, Some, None, Result, Ok, Err, refl, sym, subst, ◌∙◌, arith}
-use Rattle.fwd_program.specs.Program.{Return}
+use Rattle.std.specs.Prelude.{◌≢◌}
+use Rattle.std.proofs.Common.{◌≡◌, inl, inr, ℕ, ◌≤◌, Bool, true, false, List, [], map, String, string_bytes, Some, refl, sym, ◌∙◌, arith}
 use Rattle.fwd_program.specs.Told.{Grew}
 use Rattle.fwd_program.specs.Cause.{HasCause}
+use Rattle.fwd_program.proofs.Grown.{grew_none}
 use Rattle.fwd_outside.specs.Files.{FilesTold}
-use Rattle.fwd_outside.specs.Loop.{LoopTold, LoopCounts}
+use Rattle.fwd_outside.specs.Loop.{LoopCounts}
 use Rattle.fwd_outside.specs.Sink.{SinkTold}
-use Rattle.fwd_engine.specs.Heard.{HasHeard}
-use Rattle.fwd_replay.specs.Live.{IsLoopFailed, spent_in}
-use Rattle.fwd_replay.proofs.Heard.{heard_all}
+use Rattle.fwd_parts.specs.Heard.{HasHeard}
 use Rattle.fwd_config.specs.Variables.{Values}
+use Rattle.fwd_replay.specs.Live.{heard_in}
+use Rattle.fwd_replay.specs.declared.reported.Ending.{Ending}
+use Rattle.fwd_replay.specs.declared.reported.Ending.TheVariants as ending
 use Rattle.fwd_replay.specs.declared.reported.Reported.{Reported}
-use Rattle.fwd_replay.specs.declared.reported.Reported.TheVariants as reported
-use Rattle.fwd_top.specs.Asked.{Case, Replays, Runs, Refuses}
-use Rattle.fwd_top.specs.Answered.{Verdict, Says, Ends, Devices, of_reported, ComesTo, Asks, Comes, IsBegun, IsVerdict, Answers, WroteABeginning, is_run, IsLoopFault, spent, spent_by}
-use Rattle.fwd_top.specs.Judged.{IsRefusal, IsOwnRefusal, IsDone, IsRunFailed, Tells, WritesSo, given_by, is_to_run, unless_memory}
+use Rattle.fwd_top.specs.Asked.{Case, Replays, Runs, Lists, Refuses}
+use Rattle.fwd_top.specs.Answered.{Verdict, says, status_of, of_reported, Outside, outside_of, IsStill, ComesTo, IsVerdict, Devices, Asks, Comes, Wrote, Answers, is_over_disk, is_run, IsLoopFault, IsDiskFault, spent, spent_by}
+use Rattle.fwd_top.specs.Judged.{HasDiskFailed, HasLoopFailed, IsRefusal, Tells, WritesSo, given_by, is_to_run, takes_disk, unless_memory}
 use Rattle.fwd_top.specs.Words.{command_of}
 use Rattle.fwd_top.specs.declared.asking.Job.{Job}
 use Rattle.fwd_top.specs.declared.asking.Job.TheVariants as job
 use Rattle.fwd_top.specs.declared.status.Status.{Status}
 use Rattle.fwd_top.specs.declared.status.Status.TheVariants as status
 
-module _ (turns : ℕ) (loop now : LoopTold) where
-  -- what was come to was begun
-  begun_by : (case : Case) (r : Reported) → ComesTo turns case loop now r → IsBegun turns case loop now
-  begun_by (Replays s life) r is = is.1
-  begun_by (Runs s ticks) r is = (Return is.lived, is.did)
-  begun_by (Refuses other) r is = absurd is
+pub still : (o : Outside) → IsStill o o
+still o = record { disk = grew_none o.disk; files = grew_none o.files; loop = grew_none o.loop }
 
-  begun_of : (case : Case) (verdict : Verdict) → IsVerdict turns case loop now verdict → IsBegun turns case loop now
-  begun_of (Replays s life) verdict is = begun_by (Replays s life) is.0 is.1
-  begun_of (Runs s ticks) verdict is = begun_by (Runs s ticks) is.0 is.1
-  begun_of (Refuses other) verdict is = is.1
+-- ---- what was asked and written
 
-  in_case : (case : Case) (r : Reported) → ComesTo turns case loop now r → IsVerdict turns case loop now (of_reported r)
-  in_case (Replays s life) r is = (r, is, refl)
-  in_case (Runs s ticks) r is = (r, is, refl)
-  in_case (Refuses other) r is = absurd is
+-- what came of a case gives its verdict
+pub in_case : (turns : ℕ) (case : Case) (old new : Outside) (r : Reported) → ComesTo turns case old new r → IsVerdict turns case old new (of_reported r)
+in_case turns (Replays s lives) old new r is = (r, is, refl)
+in_case turns (Runs s ticks) old new r is = (r, is, refl)
+in_case turns (Lists root) old new r is = (r, is, refl)
+in_case turns (Refuses other) old new r is = absurd is
 
 module _ {Y : Type 0} (words : List (String Y)) (env : Values) (turns : ℕ) (old new : Devices) where
-  written : (text : List ℕ) (end result : Status) → (WritesSo old.sink new.sink text end result) → Comes words env turns old new (Says text end) → ((result ≡ end) → (result ≡ status.Done) ⊎ (result ≡ status.TurnsSpent))
+  -- a job was done
+  comes_of : (case : Case) (read : FilesTold) (r : Reported) → Asks words env old.files read (Some case) → ComesTo turns case (outside_of old.disk read old.loop) (outside_of new.disk new.files new.loop) r → Comes words env turns old new (of_reported r)
+  comes_of case read r asks is = record { case = case; read = read; asks = asks; is = in_case turns case (outside_of old.disk read old.loop) (outside_of new.disk new.files new.loop) r is }
+
+  -- there was nothing to do
+  comes_refused : (other : Status) → Asks words env old.files new.files (Some (Refuses other)) → Grew old.disk new.disk [] → Grew old.loop new.loop [] → Comes words env turns old new (says [] other)
+  comes_refused other asks disk loop = record { case = Refuses other; read = new.files; asks = asks; is = (refl, record { disk = disk; files = grew_none new.files; loop = loop }) }
+
+-- what was written for a verdict of which this holds
+pub written : (Holds : Verdict → Type 0) (a b : SinkTold) (text : List ℕ) (end : Ending) (result : Status) → Holds (says text (status_of end)) → WritesSo a b text (status_of end) result → Wrote Holds a b result
+written Holds a b text ending.Over result holds (inl wrote) = rw wrote.0 (text, holds, wrote.1)
+written Holds a b text ending.TurnsSpent result holds (inl wrote) = rw wrote.0 (text, holds, wrote.1)
+written Holds a b text ending.DiskFailed result holds (inl wrote) = rw wrote.0 (text, holds, wrote.1)
+written Holds a b text ending.LoopFailed result holds (inl wrote) = rw wrote.0 (text, holds, wrote.1)
+written Holds a b text ending.Memory result holds (inl wrote) = rw wrote.0 tt
+written Holds a b text end result holds (inr (inl wrote)) = rw wrote.0 (text, status_of end, holds, wrote.1)
+written Holds a b text end result holds (inr (inr wrote)) = rw wrote.0 tt
+
+module _ {Y : Type 0} (words : List (String Y)) (env : Values) (turns : ℕ) (old new : Devices) where
+  -- what came of a job was told
+  told : (text : List ℕ) (end : Ending) (result : Status) → Comes words env turns old new (says text (status_of end)) → WritesSo old.sink new.sink text (status_of end) result → Answers words env turns old new result
+  told text ending.Over result comes (inl wrote) = rw wrote.0 (text, comes, wrote.1)
+  told text ending.TurnsSpent result comes (inl wrote) = rw wrote.0 (text, comes, wrote.1)
+  told text ending.DiskFailed result comes (inl wrote) = rw wrote.0 (text, comes, wrote.1)
+  told text ending.LoopFailed result comes (inl wrote) = rw wrote.0 (text, comes, wrote.1)
+  told text ending.Memory result comes (inl wrote) = rw wrote.0 (inr (inl (text, comes, wrote.1)))
+  told text end result comes (inr (inl wrote)) = rw wrote.0 (text, status_of end, comes, wrote.1)
+  told text end result comes (inr (inr wrote)) = rw wrote.0 (inr (inr (text, status_of end, comes, wrote.1)))
+
+  -- there was nothing to do
+  pub refused : (result : Status) → IsRefusal result → Asks words env old.files new.files (unless_memory result) → Grew old.disk new.disk [] → Grew old.loop new.loop [] → Grew old.sink new.sink []
       → Answers words env turns old new result
-  written text end result (inl wrote) comes ends = by (ends wrote.0)
-    where
-      by : (result ≡ status.Done) ⊎ (result ≡ status.TurnsSpent) → Answers words env turns old new result
-      by (inl is) = rw is (text, subst (λ (e : Status). Comes words env turns old new (Says text e)) (sym wrote.0 ∙ is) comes, wrote.1)
-      by (inr is) = rw is (text, subst (λ (e : Status). Comes words env turns old new (Says text e)) (sym wrote.0 ∙ is) comes, wrote.1)
-  written text end result (inr (inl wrote)) comes ends = rw wrote.0 (text, end, comes, wrote.1)
-  written text end result (inr (inr wrote)) comes ends = rw wrote.0 (by wrote.1)
-    where
-      by : Grew old.sink new.sink [] ⊎ WroteABeginning old.sink new.sink text → Answers words env turns old new status.Memory
-      by (inl none) = inl (inr (comes.case, comes.asks, begun_of turns old.loop new.loop comes.case (Says text end) comes.is), none)
-      by (inr some) = inr (text, end, comes, some)
-
-  -- what came of a life was told
-  pub told : (r : Reported) (result : Status) → Comes words env turns old new (of_reported r) → Tells old.sink new.sink (of_reported r) result → Answers words env turns old new result
-  told (reported.Over text) result comes tells = written text status.Done result tells comes (λ is. inl is)
-  told (reported.TurnsSpent text) result comes tells = written text status.TurnsSpent result tells comes (λ is. inr is)
-  told reported.LoopFailed result comes tells = rw tells.0 (comes, tells.1)
-
-  -- there was none
-  pub refused : (result : Status) → IsRefusal result → Asks words env old.files new.files (unless_memory result) → Grew old.loop new.loop [] → Grew old.sink new.sink [] → Answers words env turns old new result
-  refused status.Done is asks still none = absurd is
-  refused status.TurnsSpent is asks still none = absurd is
-  refused status.OutFault is asks still none = absurd is
-  refused status.LoopFault is asks still none = absurd is
-  refused status.Memory is asks still none = inl (inl (asks, still), none)
-  refused other is asks still none = (record { case = Refuses other; asks = asks; is = (refl, still) }, none)
+  refused status.Done is asks disk loop sink = absurd is
+  refused status.TurnsSpent is asks disk loop sink = absurd is
+  refused status.OutFault is asks disk loop sink = absurd is
+  refused status.LoopFault is asks disk loop sink = absurd is
+  refused status.DiskFault is asks disk loop sink = absurd is
+  refused status.Memory is asks disk loop sink = inl (record { asks = asks; disk = disk; loop = loop }, sink)
+  refused other is asks disk loop sink = ([], comes_refused words env turns old new other asks disk loop, sink)
 
   -- a job was done
-  pub done : (case : Case) (r : Reported) (result : Status) → Asks words env old.files new.files (Some case) → IsDone turns case old.loop new.loop (Ok r) → Tells old.sink new.sink (of_reported r) result → Answers words env turns old new result
-  done case r result asks is tells = told r result (record { case = case; asks = asks; is = in_case turns old.loop new.loop case r is }) tells
+  pub done : (case : Case) (read : FilesTold) (r : Reported) (result : Status) → Asks words env old.files read (Some case) → ComesTo turns case (outside_of old.disk read old.loop) (outside_of new.disk new.files new.loop) r → Tells old.sink new.sink (of_reported r) result
+      → Answers words env turns old new result
+  done case read r result asks is tells = told r.text r.ending result (comes_of words env turns old new case read r asks is) tells
 
-  refused_in : (case : Case) (other : Status) → Asks words env old.files new.files (Some case) → case ≡ Refuses other → Grew old.loop new.loop [] → Comes words env turns old new (Ends other)
-  refused_in case other asks is still = record { case = Refuses other; asks = subst (λ (c : Case). Asks words env old.files new.files (Some c)) is asks; is = (refl, still) }
+-- ---- what is counted
 
-  -- there was none, or memory was wanting
-  pub undone : (case : Case) (other : Status) → Asks words env old.files new.files (Some case) → IsDone turns case old.loop new.loop (Err other) → IsOwnRefusal other → Grew old.sink new.sink [] → Answers words env turns old new other
-  undone case status.Done asks is own none = absurd own
-  undone case status.TurnsSpent asks is own none = absurd own
-  undone case status.OutFault asks is own none = absurd own
-  undone case status.LoopFault asks is own none = absurd own
-  undone case status.FileFault asks is own none = absurd own
-  undone case status.Memory asks is own none = inl (inr (case, asks, is), none)
-  undone case other asks is own none = (refused_in case other asks is.0 is.1, none)
+-- a text is told by its status, or one of two others
+told_by_one : (text : List ℕ) (a b : SinkTold) (end result other : Status) → WritesSo a b text end result → end ≢ other → status.OutFault ≢ other → status.Memory ≢ other → result ≢ other
+told_by_one text a b end result other (inl wrote) one two three is = one (sym wrote.0 ∙ is)
+told_by_one text a b end result other (inr (inl wrote)) one two three is = two (sym wrote.0 ∙ is)
+told_by_one text a b end result other (inr (inr wrote)) one two three is = three (sym wrote.0 ∙ is)
 
--- ---- what is counted of the loop
+heard_all : {a b : LoopCounts} (n most : ℕ) → most ≤ n → HasHeard n a b → HasHeard most a b
+heard_all n most least heard = record { happenings = let x = heard.happenings in grind arith; greatest = heard.greatest; endless = heard.endless }
 
--- what came of a job
-abbrev pub ran : Reported → Result Reported Status
-ran r = Ok r
+pub heard_none : (a : LoopCounts) → HasHeard 0 a a
+heard_none a = record { happenings = omega arith; greatest = omega arith; endless = refl }
 
 -- by another status no turns are spent
-spent_none : (runs : Bool) (turns : ℕ) (result : Status) → (result ≡ status.TurnsSpent → ⊥) → spent_by result runs turns ≡ 0
+spent_none : (runs : Bool) (turns : ℕ) (result : Status) → result ≢ status.TurnsSpent → spent_by result runs turns ≡ 0
 spent_none runs turns status.TurnsSpent other = absurd (other refl)
 spent_none runs turns result other = refl
 
 spent_unrun : (turns : ℕ) (result : Status) → spent_by result false turns ≡ 0
 spent_unrun turns status.TurnsSpent = refl
 spent_unrun turns result = refl
-
--- a text is told by its status, or one of two others
-told_by_one : (text : List ℕ) (a b : SinkTold) (end result other : Status) → WritesSo a b text end result → (end ≡ other → ⊥) → (status.OutFault ≡ other → ⊥) → (status.Memory ≡ other → ⊥) → result ≡ other → ⊥
-told_by_one text a b end result other (inl wrote) one two three is = one (sym wrote.0 ∙ is)
-told_by_one text a b end result other (inr (inl wrote)) one two three is = two (sym wrote.0 ∙ is)
-told_by_one text a b end result other (inr (inr wrote)) one two three is = three (sym wrote.0 ∙ is)
 
 module _ {Y : Type 0} (words : List (String Y)) (turns : ℕ) (before after : LoopCounts) where
   abbrev runs : Bool
@@ -118,43 +115,89 @@ module _ {Y : Type 0} (words : List (String Y)) (turns : ℕ) (before after : Lo
   spent_all text a b result run (inr (inl wrote)) heard = unspent turns result (rw wrote.0 refl) heard
   spent_all text a b result run (inr (inr wrote)) heard = unspent turns result (rw wrote.0 refl) heard
 
-  ran_heard : (r : Reported) (a b : SinkTold) (result : Status) → runs ≡ true → Tells a b (of_reported r) result → HasHeard (spent_in turns (ran r)) before after → HasHeard (spent words turns result) before after
-  ran_heard (reported.Over text) a b result run tells heard =
-      unspent 0 result (spent_none runs turns result (told_by_one text a b status.Done result status.TurnsSpent tells (λ is. cc is) (λ is. cc is) (λ is. cc is))) heard
-  ran_heard (reported.TurnsSpent text) a b result run tells heard = spent_all text a b result run tells heard
-  ran_heard reported.LoopFailed a b result run tells heard = unspent 0 result (rw tells.0 refl) heard
+  none_spent : (n : ℕ) (text : List ℕ) (a b : SinkTold) (end result : Status) → WritesSo a b text end result → end ≢ status.TurnsSpent → HasHeard n before after → HasHeard (spent words turns result) before after
+  none_spent n text a b end result tells other heard = unspent n result (spent_none runs turns result (told_by_one text a b end result status.TurnsSpent tells other (λ is. cc is) (λ is. cc is))) heard
+
+  ran_heard : (text : List ℕ) (end : Ending) (a b : SinkTold) (result : Status) → runs ≡ true → WritesSo a b text (status_of end) result → HasHeard (heard_in turns end) before after → HasHeard (spent words turns result) before after
+  ran_heard text ending.TurnsSpent a b result run tells heard = spent_all text a b result run tells heard
+  ran_heard text ending.Over a b result run tells heard = none_spent 0 text a b status.Done result tells (λ is. cc is) heard
+  ran_heard text ending.DiskFailed a b result run tells heard = none_spent 0 text a b status.DiskFault result tells (λ is. cc is) heard
+  ran_heard text ending.LoopFailed a b result run tells heard = none_spent 0 text a b status.LoopFault result tells (λ is. cc is) heard
+  ran_heard text ending.Memory a b result run tells heard = none_spent 0 text a b status.Memory result tells (λ is. cc is) heard
 
   -- what came of a job was told
-  pub done_heard : (j : Job) (r : Reported) (a b : SinkTold) (result : Status) → runs ≡ is_to_run j → Tells a b (of_reported r) result → HasHeard (given_by j turns (ran r)) before after → HasHeard (spent words turns result) before after
-  done_heard (job.Run s ticks) r a b result run tells heard = ran_heard r a b result run tells heard
+  pub done_heard : (j : Job) (r : Reported) (a b : SinkTold) (result : Status) → runs ≡ is_to_run j → Tells a b (of_reported r) result → HasHeard (given_by j turns r) before after → HasHeard (spent words turns result) before after
+  done_heard (job.Run s ticks) r a b result run tells heard = ran_heard r.text r.ending a b result run tells heard
   done_heard (job.Replay s schedule) r a b result run tells heard = unspent 0 result (rw run (spent_unrun turns result)) heard
+  done_heard (job.List folder) r a b result run tells heard = unspent 0 result (rw run (spent_unrun turns result)) heard
 
-  -- nothing came of it
-  pub undone_heard : (n : ℕ) (result : Status) → IsOwnRefusal result → HasHeard n before after → HasHeard (spent words turns result) before after
-  undone_heard n status.TurnsSpent own heard = absurd own
-  undone_heard n result own heard = unspent n result refl heard
+-- there was nothing to do
+pub refused_heard : {Y : Type 0} (words : List (String Y)) (turns : ℕ) (a : LoopCounts) (result : Status) → IsRefusal result → HasHeard (spent words turns result) a a
+refused_heard words turns a status.TurnsSpent is = absurd is
+refused_heard words turns a result is = heard_none a
 
-module _ {Y : Type 0} (words : List (String Y)) (before now : ℕ) where
-  ran_cause : (r : Reported) (a b : SinkTold) (result : Status) → Tells a b (of_reported r) result → HasCause before now (IsLoopFailed (ran r)) → HasCause before now (IsLoopFault words result)
-  ran_cause (reported.Over text) a b result tells cause =
-      record { later = cause.later; cause = λ fault. absurd (told_by_one text a b status.Done result status.LoopFault tells (λ is. cc is) (λ is. cc is) (λ is. cc is) fault.1) }
-  ran_cause (reported.TurnsSpent text) a b result tells cause =
-      record { later = cause.later; cause = λ fault. absurd (told_by_one text a b status.TurnsSpent result status.LoopFault tells (λ is. cc is) (λ is. cc is) (λ is. cc is) fault.1) }
-  ran_cause reported.LoopFailed a b result tells cause = record { later = cause.later; cause = λ fault. cause.cause tt }
+-- ---- causes
 
-  pub done_cause : (j : Job) (r : Reported) (a b : SinkTold) (result : Status) → is_run (command_of (map string_bytes words)) ≡ is_to_run j → Tells a b (of_reported r) result → HasCause before now (IsRunFailed j (ran r)) → HasCause before now (IsLoopFault words result)
-  done_cause (job.Run s ticks) r a b result run tells cause = ran_cause r a b result tells cause
-  done_cause (job.Replay s schedule) r a b result run tells cause = record { later = cause.later; cause = λ fault. absurd (cc (sym run ∙ fault.0)) }
+pub no_cause : {F : Type 0} (n : ℕ) → (F → ⊥) → HasCause n n F
+no_cause n none = record { later = omega arith; cause = λ failed. absurd (none failed) }
 
-  pub undone_cause : {F : Type 0} (result : Status) → IsRefusal result → HasCause before now F → HasCause before now (IsLoopFault words result)
-  undone_cause status.LoopFault own cause = absurd own
-  undone_cause result own cause = record { later = cause.later; cause = λ fault. absurd (cc fault.1) }
+-- a job that has this status ended so
+loop_failed : (end : Ending) → status_of end ≡ status.LoopFault → end ≡ ending.LoopFailed
+loop_failed ending.LoopFailed is = refl
+loop_failed end is = absurd (cc is)
 
--- for another cause than a file
-pub is_refusal : (result : Status) → IsOwnRefusal result → IsRefusal result
-is_refusal status.FileFault own = absurd own
-is_refusal result own = own
+disk_failed : (end : Ending) → status_of end ≡ status.DiskFault → end ≡ ending.DiskFailed
+disk_failed ending.DiskFailed is = refl
+disk_failed end is = absurd (cc is)
 
--- a loop that wasn't asked
-pub no_cause : (n : ℕ) → HasCause n n ⊥
-no_cause n = record { later = omega arith; cause = λ failed. absurd failed }
+no_file_failed : (end : Ending) → status_of end ≢ status.FileFault
+no_file_failed ending.Over is = absurd (cc is)
+no_file_failed end is = absurd (cc is)
+
+-- a status that is told and isn't one of the two is that of the end
+end_told : (text : List ℕ) (a b : SinkTold) (end result other : Status) → WritesSo a b text end result → status.OutFault ≢ other → status.Memory ≢ other → result ≡ other → end ≡ other
+end_told text a b end result other (inl wrote) two three is = sym wrote.0 ∙ is
+end_told text a b end result other (inr (inl wrote)) two three is = absurd (two (sym wrote.0 ∙ is))
+end_told text a b end result other (inr (inr wrote)) two three is = absurd (three (sym wrote.0 ∙ is))
+
+module _ {Y : Type 0} (words : List (String Y)) (before after : ℕ) (a b : SinkTold) (result : Status) where
+  pub done_loop_cause : (j : Job) (r : Reported) → is_run (command_of (map string_bytes words)) ≡ is_to_run j → Tells a b (of_reported r) result → HasCause before after (HasLoopFailed j r) → HasCause before after (IsLoopFault words result)
+  done_loop_cause (job.Run s ticks) r run tells cause = record {
+    later = cause.later;
+    cause = λ fault. cause.cause (loop_failed r.ending (end_told r.text a b (status_of r.ending) result status.LoopFault tells (λ is. cc is) (λ is. cc is) fault.1));
+  }
+  done_loop_cause (job.Replay s schedule) r run tells cause = record { later = cause.later; cause = λ fault. absurd (cc (sym run ∙ fault.0)) }
+  done_loop_cause (job.List folder) r run tells cause = record { later = cause.later; cause = λ fault. absurd (cc (sym run ∙ fault.0)) }
+
+  over_disk : (r : Reported) → Tells a b (of_reported r) result → HasCause before after (r.ending ≡ ending.DiskFailed) → HasCause before after (IsDiskFault words result)
+  over_disk r tells cause = record {
+    later = cause.later;
+    cause = λ fault. cause.cause (disk_failed r.ending (end_told r.text a b (status_of r.ending) result status.DiskFault tells (λ is. cc is) (λ is. cc is) fault.1));
+  }
+
+  pub done_disk_cause : (j : Job) (r : Reported) → is_over_disk (command_of (map string_bytes words)) ≡ takes_disk j → Tells a b (of_reported r) result → HasCause before after (HasDiskFailed j r) → HasCause before after (IsDiskFault words result)
+  done_disk_cause (job.Run s ticks) r over tells cause = over_disk r tells cause
+  done_disk_cause (job.Replay s schedule) r over tells cause = record { later = cause.later; cause = λ fault. absurd (cc (sym over ∙ fault.0)) }
+  done_disk_cause (job.List folder) r over tells cause = over_disk r tells cause
+
+-- what was told is no fault of a file
+pub no_file_fault : (r : Reported) (a b : SinkTold) (result : Status) → Tells a b (of_reported r) result → result ≢ status.FileFault
+no_file_fault r a b result tells = told_by_one r.text a b (status_of r.ending) result status.FileFault tells (no_file_failed r.ending) (λ is. cc is) (λ is. cc is)
+
+-- a refusal is no fault of the loop, the disk or the sink
+module _ {Y : Type 0} (words : List (String Y)) where
+  pub refused_loop : (result : Status) → IsRefusal result → IsLoopFault words result → ⊥
+  refused_loop status.LoopFault is fault = is
+  refused_loop result is fault = absurd (cc fault.1)
+
+  pub refused_disk : (result : Status) → IsRefusal result → IsDiskFault words result → ⊥
+  refused_disk status.DiskFault is fault = is
+  refused_disk result is fault = absurd (cc fault.1)
+
+pub refused_out : (result : Status) → IsRefusal result → result ≢ status.OutFault
+refused_out status.OutFault is same = is
+refused_out result is same = absurd (cc same)
+
+-- a count that rose twice, for no failure
+pub goes_later : {F : Type 0} {a b c : ℕ} → a ≤ b → b ≤ c → (F → ⊥) → HasCause a c F
+goes_later first second none = record { later = omega arith; cause = λ failed. absurd (none failed) }

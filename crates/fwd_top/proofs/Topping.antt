@@ -1,6 +1,6 @@
 -- From the calls of the parts to those of the whole.
-use Rattle.std.proofs.Common.{◌≡◌, ℕ, true, false, List, [], Option, Some, None, Result, Ok, Err, String, map, string_bytes, inl, inr, refl, sym, subst, ◌∙◌}
-use Rattle.std.specs.Prelude.{option_map}
+use Rattle.std.proofs.Common.{◌≡◌, ℕ, List, [], Option, Some, None, Result, Ok, Err, String, map, string_bytes, inl, inr, refl, subst}
+use Rattle.std.specs.Prelude.{option_map, IfOk, IfErr}
 use Rattle.fwd_program.specs.Program.{Program, Return, Ask, bind}
 use Rattle.fwd_program.specs.Told.{Did, Makes}
 use Rattle.fwd_program.proofs.Leading.{stays, inside, began_inside, makes_bind}
@@ -20,12 +20,12 @@ use Rattle.fwd_settings.specs.Reading.{Checked, Comes}
 use Rattle.fwd_settings.specs.Settings.{AreOf, settings_of}
 use Rattle.fwd_settings.specs.declared.fault.SettingFault.{SettingFault}
 use Rattle.fwd_settings.specs.declared.chosen.AllSettings.{AllSettings}
-use Rattle.fwd_top.specs.Built.{is_built}
-use Rattle.fwd_top.specs.Asked.{Case, Runs, Refuses, Wanted, ToRun, ToReplay, Asked, asked, of_file, wanted_by, of_config, of_command, with_settings, with_sections}
+use Rattle.fwd_top.specs.Asked.{Case, Runs, Lists, Refuses, Wanted, ToRun, ToReplay, Asked, asked, of_file, wanted_by, of_config, of_command, with_sections}
 use Rattle.fwd_top.specs.Answered.{Asks}
-use Rattle.fwd_top.specs.Words.{Command, command_of}
+use Rattle.fwd_top.specs.Words.{Command, ListFolder, command_of}
 use Rattle.fwd_top.specs.Judged.{case_of, unless_memory, IsJudged, AreSettings, AsksFor, AsksBehind, config_status, setting_status}
 use Rattle.fwd_top.specs.declared.asking.Job.{Job}
+use Rattle.fwd_top.specs.declared.asking.Job.TheVariants as job
 use Rattle.fwd_top.specs.declared.status.Status.{Status}
 use Rattle.fwd_top.specs.declared.status.Status.TheVariants as status
 
@@ -73,25 +73,9 @@ module _ (a b : FilesTold) (sections : List Section) (wanted : Wanted) where
   abbrev loaded : Option (List Section)
   loaded = Some sections
 
-  -- they are run
-  pub settings_run : (s : AllSettings) (case : Option Case) → is_built s ≡ true → AreSettings sections (Ok s) case → Makes a b (reads_files (wanted_by loaded s wanted)) (option_map (asked loaded) case) → AsksBehind sections wanted a b case
-  settings_run s case built are makes = record {
-    checked = Ok s;
-    are = are;
-    makes =
-        let is : reads_files (with_settings loaded wanted (Ok s)) ≡ reads_files (wanted_by loaded s wanted) = rw built refl in
-        subst (λ (p : FilesProgram Asked). Makes a b p (option_map (asked loaded) case)) (sym is) makes;
-  }
-
-  -- they aren't
-  pub not_run : (s : AllSettings) → is_built s ≡ false → Comes (settings_of sections) (Ok s) → AsksBehind sections wanted a a (Some (Refuses status.NotBuilt))
-  not_run s other comes = record {
-    checked = Ok s;
-    are = comes;
-    makes =
-        let is : reads_files (with_settings loaded wanted (Ok s)) ≡ Return (asked loaded (Refuses status.NotBuilt)) = rw other refl in
-        subst (λ (p : FilesProgram Asked). Did a a p (asked loaded (Refuses status.NotBuilt))) (sym is) (stays a (Return (asked loaded (Refuses status.NotBuilt))));
-  }
+  -- there are settings
+  pub settings_run : (s : AllSettings) (case : Option Case) → AreSettings sections (Ok s) case → Makes a b (reads_files (wanted_by loaded s wanted)) (option_map (asked loaded) case) → AsksBehind sections wanted a b case
+  settings_run s case are makes = record { checked = Ok s; are = are; makes = makes }
 
   -- there are none
   refused_so : (kind : SettingKind) (place : Place) → AreOf sections (Err (record { kind = kind; place = place })) → AsksBehind sections wanted a a (unless_memory (setting_status kind place))
@@ -155,6 +139,22 @@ module _ {Y : Type 0} (words : List (String Y)) (env : Values) (a b : FilesTold)
     are = tt;
     makes = rw (is, none nothing_checked) (stays a (Return (asked None (Refuses why))));
   }
+
+  -- they ask for a listing
+  pub folder_words : (folder : List ℕ) (result : Result Job Status) → IfOk result (λ made. made ≡ job.List folder) → IfErr result (λ other. other ≡ status.Memory) → command_of (map string_bytes words) ≡ Some (ListFolder folder)
+      → Asks words env a a (case_of result)
+  folder_words folder (Ok made) is_made wanting is = record {
+    checked = nothing_checked;
+    loaded = None;
+    are = tt;
+    makes = rw (is, is_made) (stays a (Return (asked None (Lists folder))));
+  }
+  folder_words folder (Err other) is_made wanting is = rw wanting (record {
+    checked = nothing_checked;
+    loaded = None;
+    are = tt;
+    makes = rw is (_, stays a (Return (asked None (Lists folder))));
+  })
 
   -- they ask for a configuration
   pub asks_of : (command : Command) (config : List ℕ) (wanted : Wanted) (case : Option Case) → command_of (map string_bytes words) ≡ Some command

@@ -1,6 +1,6 @@
 -- What the program is to run or to replay: a function of its words, the environment and the bytes of its files, and of what its
 -- sections have for settings.
-use Rattle.std.specs.Prelude.{ℕ, if◌then◌else◌, List, map, String, string_bytes, Option, Some, None, Result, Ok, Err}
+use Rattle.std.specs.Prelude.{ℕ, List, map, String, string_bytes, Option, Some, None, Result, Ok, Err}
 use Rattle.fwd_program.specs.Program.{Return, Ask, bind}
 use Rattle.fwd_config.specs.Variables.{Values}
 use Rattle.fwd_config.specs.Reading.{Reading, loads}
@@ -18,16 +18,16 @@ use Rattle.fwd_script.specs.declared.schedule.Life.{Life}
 use Rattle.fwd_script.specs.declared.refused.ScheduleRefused.{ScheduleRefused}
 use Rattle.fwd_script.specs.Schedule.{schedule_of}
 use Rattle.fwd_top.specs.Words.{Command, Run, Replay, ListFolder, Generate, command_of}
-use Rattle.fwd_top.specs.Built.{is_built, built_life}
 use Rattle.fwd_top.specs.declared.status.ConfigRefusal.TheVariants.{Load, Setting}
 use Rattle.fwd_top.specs.declared.status.Status.{Status}
 use Rattle.fwd_top.specs.declared.status.Status.TheVariants as status
 
--- A life of a schedule is to be replayed by settings; or they are to be run, stopped behind so many readings where their
--- number is given; or nothing is, for this reason.
+-- The lives of a schedule are to be replayed by settings; or they are to be run, stopped behind so many readings where their
+-- number is given; or the files of chunks under a folder are to be listed; or nothing is done, for this reason.
 pub data Case : Type 0 where
-  Replays : AllSettings → Life → Case
+  Replays : AllSettings → List Life → Case
   Runs : AllSettings → (ticks : Option ℕ) → Case
+  Lists : (root : List ℕ) → Case
   Refuses : Status → Case
 
 -- what is to be done by the settings of a configuration
@@ -54,12 +54,8 @@ refused_config fault = refused_by fault.kind fault.place
 abbrev pub refused_settings : SettingFault → Status
 refused_settings fault = status.ConfigRefused (Setting fault.kind) fault.place
 
-abbrev pub of_life : AllSettings → Option Life → Case
-of_life s (Some life) = Replays s life
-of_life s None = Refuses status.NotBuilt
-
 abbrev pub of_schedule : AllSettings → Result Schedule ScheduleRefused → Case
-of_schedule s (Ok schedule) = of_life s (built_life schedule.lives)
+of_schedule s (Ok schedule) = Replays s schedule.lives
 of_schedule s (Err refused) = Refuses (status.ScheduleRefused refused.kind refused.line)
 
 -- of the schedule's file
@@ -67,13 +63,13 @@ abbrev pub of_file : AllSettings → Option (List ℕ) → Case
 of_file s (Some bytes) = of_schedule s (schedule_of bytes)
 of_file s None = Refuses status.FileFault
 
--- behind settings that are run, the schedule is read where there is to be one
+-- behind settings, the schedule is read where there is to be one
 abbrev pub wanted_by : Option (List Section) → AllSettings → Wanted → Reading Asked
 wanted_by loaded s (ToRun ticks) = Return (asked loaded (Runs s ticks))
 wanted_by loaded s (ToReplay schedule) = Ask schedule (λ bytes. Return (asked loaded (of_file s bytes)))
 
 abbrev pub with_settings : Option (List Section) → Wanted → Checked AllSettings → Reading Asked
-with_settings loaded wanted (Ok s) = if is_built s then wanted_by loaded s wanted else Return (asked loaded (Refuses status.NotBuilt))
+with_settings loaded wanted (Ok s) = wanted_by loaded s wanted
 with_settings loaded wanted (Err fault) = Return (asked loaded (Refuses (refused_settings fault)))
 
 -- behind the sections come their settings
@@ -84,12 +80,12 @@ with_sections checked wanted (Err fault) = Return (asked None (Refuses (refused_
 abbrev pub of_config : Checked AllSettings → (config : List ℕ) → Wanted → Values → Reading Asked
 of_config checked config wanted env = bind (loads env config) (with_sections checked wanted)
 
--- a listing and a generated load aren't built yet
+-- a generated load isn't built yet
 abbrev pub of_command : Checked AllSettings → Option Command → Values → Reading Asked
 of_command checked None env = Return (asked None (Refuses status.Usage))
 of_command checked (Some (Run config ticks)) env = of_config checked config (ToRun ticks) env
 of_command checked (Some (Replay config schedule)) env = of_config checked config (ToReplay schedule) env
-of_command checked (Some (ListFolder folder)) env = Return (asked None (Refuses status.NotBuilt))
+of_command checked (Some (ListFolder folder)) env = Return (asked None (Lists folder))
 of_command checked (Some (Generate count)) env = Return (asked None (Refuses status.NotBuilt))
 
 -- The program asks for the configuration's files as each is reached, and then for the schedule of a replay, where the

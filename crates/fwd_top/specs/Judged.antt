@@ -2,7 +2,6 @@
 use Rattle.std.specs.Prelude.{◌≡◌, ◌⊎◌, ℕ, Bool, true, false, List, [], Option, Some, None, Result, Ok, Err, IsErrAnd, option_map}
 use Rattle.fwd_program.specs.Told.{Grew, Makes}
 use Rattle.fwd_outside.specs.Files.{FilesTold}
-use Rattle.fwd_outside.specs.Loop.{LoopTold}
 use Rattle.fwd_outside.specs.Sink.{SinkTold}
 use Rattle.fwd_config.specs.Variables.{Values}
 use Rattle.fwd_config.specs.Reading.{reads_files}
@@ -14,14 +13,15 @@ use Rattle.fwd_choices.specs.declared.kind.SettingKind.{SettingKind}
 use Rattle.fwd_choices.specs.declared.kind.SettingKind.TheVariants as setting_kind
 use Rattle.fwd_settings.specs.Reading.{Checked, Comes}
 use Rattle.fwd_settings.specs.Settings.{settings_of}
+use Rattle.fwd_settings.specs.Sound.{IsSound}
 use Rattle.fwd_settings.specs.declared.chosen.AllSettings.{AllSettings}
 use Rattle.fwd_script.specs.declared.refused.ScheduleKind.{ScheduleKind}
 use Rattle.fwd_script.specs.declared.refused.ScheduleKind.TheVariants as schedule_kind
-use Rattle.fwd_replay.specs.Live.{spent_in, IsLoopFailed}
+use Rattle.fwd_replay.specs.Live.{heard_in}
+use Rattle.fwd_replay.specs.declared.reported.Ending.TheVariants as ending
 use Rattle.fwd_replay.specs.declared.reported.Reported.{Reported}
-use Rattle.fwd_top.specs.Built.{built_life}
-use Rattle.fwd_top.specs.Asked.{Case, Runs, Refuses, Wanted, ToRun, ToReplay, AreSettingsOf, asked, of_config, of_life, refused_by, with_settings}
-use Rattle.fwd_top.specs.Answered.{Verdict, Says, Ends, ComesTo, IsBegun, WroteIt, WroteABeginning}
+use Rattle.fwd_top.specs.Asked.{Case, Runs, Refuses, Wanted, ToRun, ToReplay, AreSettingsOf, Replays, Lists, asked, of_config, refused_by, with_settings}
+use Rattle.fwd_top.specs.Answered.{Verdict, WroteIt, WroteABeginning}
 use Rattle.fwd_top.specs.declared.asking.Job.{Job}
 use Rattle.fwd_top.specs.declared.asking.Job.TheVariants as job
 use Rattle.fwd_top.specs.declared.status.ConfigRefusal.TheVariants.{Setting}
@@ -35,15 +35,30 @@ unless_memory other = Some (Refuses other)
 -- the case of a job
 abbrev pub of_job : Job → Case
 of_job (job.Run s ticks) = Runs s ticks
-of_job (job.Replay s schedule) = of_life s (built_life schedule.lives)
+of_job (job.Replay s schedule) = Replays s schedule.lives
+of_job (job.List folder) = Lists folder
 
-abbrev pub settings_in : Job → AllSettings
-settings_in (job.Run s ticks) = s
-settings_in (job.Replay s schedule) = s
+-- the settings of a job, which a listing has none of
+abbrev pub settings_in : Job → Option AllSettings
+settings_in (job.Run s ticks) = Some s
+settings_in (job.Replay s schedule) = Some s
+settings_in (job.List folder) = None
+
+-- an engine can have them
+abbrev pub AreSound : Option AllSettings → Type 0
+AreSound (Some s) = IsSound s
+AreSound None = Unit {0}
 
 abbrev pub is_to_run : Job → Bool
 is_to_run (job.Run s ticks) = true
 is_to_run (job.Replay s schedule) = false
+is_to_run (job.List folder) = false
+
+-- whether a job is done over the disk
+abbrev pub takes_disk : Job → Bool
+takes_disk (job.Run s ticks) = true
+takes_disk (job.Replay s schedule) = false
+takes_disk (job.List folder) = true
 
 abbrev pub is_run_wanted : Wanted → Bool
 is_run_wanted (ToRun ticks) = true
@@ -66,6 +81,7 @@ IsRefusal status.Done = ⊥
 IsRefusal status.TurnsSpent = ⊥
 IsRefusal status.OutFault = ⊥
 IsRefusal status.LoopFault = ⊥
+IsRefusal status.DiskFault = ⊥
 IsRefusal other = Unit {0}
 
 -- a refusal for another cause than a file
@@ -107,20 +123,21 @@ pub record AsksBehind (sections : List Section) (wanted : Wanted) (old new : Fil
   pub are : AreSettings sections checked case
   pub makes : Makes old new (reads_files (with_settings (Some sections) wanted checked)) (option_map (asked (Some sections)) case)
 
--- what came of a case
-abbrev pub IsDone : ℕ → Case → LoopTold → LoopTold → Result Reported Status → Type 0
-IsDone turns case loop now (Ok text) = ComesTo turns case loop now text
-IsDone turns case loop now (Err status.Memory) = IsBegun turns case loop now
-IsDone turns case loop now (Err other) = (case ≡ Refuses other) × Grew loop now []
+-- how many happenings the loop gave at least, and that the loop couldn't go on or the disk failed
+abbrev pub given_by : Job → ℕ → Reported → ℕ
+given_by (job.Run s ticks) turns reported = heard_in turns reported.ending
+given_by (job.Replay s schedule) turns reported = 0
+given_by (job.List folder) turns reported = 0
 
--- how many happenings the loop gave at least, and that it couldn't go on
-abbrev pub given_by : Job → ℕ → Result Reported Status → ℕ
-given_by (job.Run s ticks) turns result = spent_in turns result
-given_by (job.Replay s schedule) turns result = 0
+abbrev pub HasLoopFailed : Job → Reported → Type 0
+HasLoopFailed (job.Run s ticks) reported = reported.ending ≡ ending.LoopFailed
+HasLoopFailed (job.Replay s schedule) reported = ⊥
+HasLoopFailed (job.List folder) reported = ⊥
 
-abbrev pub IsRunFailed : Job → Result Reported Status → Type 0
-IsRunFailed (job.Run s ticks) result = IsLoopFailed result
-IsRunFailed (job.Replay s schedule) result = ⊥
+abbrev pub HasDiskFailed : Job → Reported → Type 0
+HasDiskFailed (job.Run s ticks) reported = reported.ending ≡ ending.DiskFailed
+HasDiskFailed (job.Replay s schedule) reported = ⊥
+HasDiskFailed (job.List folder) reported = reported.ending ≡ ending.DiskFailed
 
 -- what was written of a text
 abbrev pub Writes : {T : Type 0} → SinkTold → SinkTold → List ℕ → Result T Status → Type 0
@@ -138,5 +155,4 @@ WritesSo old new text end result =
 
 -- what was written for a verdict, and the status then
 abbrev pub Tells : SinkTold → SinkTold → Verdict → Status → Type 0
-Tells old new (Says text end) result = WritesSo old new text end result
-Tells old new (Ends end) result = (result ≡ end) × Grew old new []
+Tells old new verdict result = WritesSo old new verdict.text verdict.status result

@@ -1,6 +1,5 @@
 pub mod Words
 pub mod Status
-pub mod Built
 pub mod Asked
 pub mod Answered
 pub mod Judged

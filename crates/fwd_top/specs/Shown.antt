@@ -1,5 +1,4 @@
 -- How the definitions see what words and files gave.
-use Rattle.std.specs.Prelude.{ℕ, List, Option, option_map}
 use Rattle.fwd_top.specs.Words.{Command, Run, Replay, ListFolder, Generate}
 use Rattle.fwd_top.specs.Asked.{Wanted, ToRun, ToReplay}
 use Rattle.fwd_top.specs.declared.asking.Wanted.{Wanted as WantedSo}

@@ -8,24 +8,24 @@ ghost use Rattle.fwd_outside.specs.Files.{reads_whole};
 ghost use Rattle.fwd_config.specs.Variables.{environment};
 ghost use Rattle.fwd_config.specs.Reading.{reads_files};
 ghost use Rattle.fwd_config.specs.declared.section.Section.{Section};
-ghost use Rattle.fwd_settings.specs.Sound.{IsSound};
 ghost use Rattle.fwd_top.specs.Words.{command_of};
 ghost use Rattle.fwd_top.specs.Shown.{wanted_of};
 ghost use Rattle.fwd_top.specs.Asked.{asked, of_file, wanted_by};
-ghost use Rattle.fwd_top.specs.Answered.{Asks, is_run};
-ghost use Rattle.fwd_top.specs.Judged.{AsksBehind, AsksFor, IsFileFault, IsJudged, IsOwnRefusal, IsRefusal, case_of, config_status, is_run_wanted, is_to_run, schedule_status, setting_status, settings_in};
+ghost use Rattle.fwd_top.specs.Answered.{Asks, is_over_disk, is_run};
+ghost use Rattle.fwd_top.specs.declared.asking.Job.TheVariants as job;
+ghost use Rattle.fwd_top.specs.declared.status.Status.TheVariants as status;
+ghost use Rattle.fwd_top.specs.Judged.{AreSound, AsksBehind, AsksFor, IsFileFault, IsJudged, IsOwnRefusal, IsRefusal, case_of, config_status, is_run_wanted, is_to_run, schedule_status, setting_status, settings_in, takes_disk};
 
-use crate::built::is_built;
 use crate::status::{ConfigRefusal, Status};
 use crate::words::{Command, read_words};
 use fwd_choices::SettingKind;
 use fwd_config::{ConfigFault, ConfigKind, Sections, load};
-use fwd_outside::{FileErr, Files, read_whole};
+use fwd_outside::{Bytes, FileErr, Files, Memory, read_whole};
 use fwd_script::{Schedule, ScheduleKind, ScheduleRefused, read_schedule};
 use fwd_settings::{AllSettings, SettingFault, settings};
 use std::alloc::Global;
 
-/// What the program is to do by the settings of a configuration.
+/// What the program is to do: by the settings of a configuration, or with a folder.
 #[derive(Drop)]
 pub enum Job {
     /// They are run, and stopped behind so many readings of the clock where their number is given.
@@ -37,6 +37,10 @@ pub enum Job {
     Replay {
         settings: AllSettings,
         schedule: Schedule,
+    },
+    /// The files of chunks under a folder are listed.
+    List {
+        folder: Bytes,
     },
 }
 
@@ -111,8 +115,9 @@ fn refused_schedule(refused: ScheduleRefused) -> Status
 
 /// The schedule of a text, by these settings.
 fn job_of_text(alloc: Global, bytes: &[u8], settings: AllSettings) -> Result<Job, Status>
-    ensures same { IfOk result (λ job. settings_in job ≡ settings) }
+    ensures same { IfOk result (λ job. settings_in job ≡ Some settings) }
     ensures kind { IfOk result (λ job. is_to_run job ≡ false) }
+    ensures disk { IfOk result (λ job. takes_disk job ≡ false) }
     ensures judged { IsJudged (of_file settings (Some bytes.now)) result }
     ensures refusal { IfErr result IsOwnRefusal }
 {
@@ -129,8 +134,9 @@ fn job_of_file<F: Files>(
     path: &[u8],
     settings: AllSettings,
 ) -> Result<Job, Status>
-    ensures same { IfOk result (λ job. settings_in job ≡ settings) }
+    ensures same { IfOk result (λ job. settings_in job ≡ Some settings) }
     ensures kind { IfOk result (λ job. is_to_run job ≡ false) }
+    ensures disk { IfOk result (λ job. takes_disk job ≡ false) }
     ensures calls { Makes (F.told files.old) (F.told files.new) (bind (reads_whole path.now) (λ bytes. Return (of_file settings bytes))) (case_of result) }
     ensures cause { HasCause (F.faults files.old) (F.faults files.new) (IsFileFault result) }
     ensures refusal { IfErr result IsRefusal }
@@ -149,11 +155,12 @@ fn job_of_settings<F: Files>(
     wanted: Wanted<'_>,
     settings: AllSettings,
 ) -> Result<Job, Status>
-    ensures same { IfOk result (λ job. settings_in job ≡ settings) }
+    ensures same { IfOk result (λ job. settings_in job ≡ Some settings) }
     ensures calls { (loaded : Option (List Section)) → Makes (F.told files.old) (F.told files.new) (reads_files (wanted_by loaded settings (wanted_of wanted.entry))) (option_map (asked loaded) (case_of result)) }
     ensures cause { HasCause (F.faults files.old) (F.faults files.new) (IsFileFault result) }
     ensures refusal { IfErr result IsRefusal }
     ensures kind { IfOk result (λ job. is_to_run job ≡ is_run_wanted (wanted_of wanted.entry)) }
+    ensures disk { IfOk result (λ job. takes_disk job ≡ is_run_wanted (wanted_of wanted.entry)) }
 {
     match wanted {
         Wanted::ToRun { ticks } => Ok(Job::Run { settings, ticks }),
@@ -168,20 +175,15 @@ fn job_of_sections<F: Files>(
     wanted: Wanted<'_>,
     sections: &Sections,
 ) -> Result<Job, Status>
-    ensures sound { IfOk result (λ job. IsSound (settings_in job)) }
+    ensures sound { IfOk result (λ job. AreSound (settings_in job)) }
     ensures asks { AsksBehind sections.now (wanted_of wanted.entry) (F.told files.old) (F.told files.new) (case_of result) }
     ensures cause { HasCause (F.faults files.old) (F.faults files.new) (IsFileFault result) }
     ensures refusal { IfErr result IsRefusal }
     ensures kind { IfOk result (λ job. is_to_run job ≡ is_run_wanted (wanted_of wanted.entry)) }
+    ensures disk { IfOk result (λ job. takes_disk job ≡ is_run_wanted (wanted_of wanted.entry)) }
 {
     match settings(alloc, sections) {
-        Ok(settings) => {
-            if is_built(&settings) {
-                job_of_settings(alloc, files, wanted, settings)
-            } else {
-                Err(Status::NotBuilt)
-            }
-        }
+        Ok(settings) => job_of_settings(alloc, files, wanted, settings),
         Err(fault) => Err(refused_settings(fault)),
     }
 }
@@ -194,11 +196,12 @@ fn job_of_config<F: Files>(
     env: &[(String, String)],
     files: &mut F,
 ) -> Result<Job, Status>
-    ensures sound { IfOk result (λ job. IsSound (settings_in job)) }
+    ensures sound { IfOk result (λ job. AreSound (settings_in job)) }
     ensures asks { AsksFor config.now (wanted_of wanted.entry) (environment env.now) (F.told files.old) (F.told files.new) (case_of result) }
     ensures cause { HasCause (F.faults files.old) (F.faults files.new) (IsFileFault result) }
     ensures refusal { IfErr result IsRefusal }
     ensures kind { IfOk result (λ job. is_to_run job ≡ is_run_wanted (wanted_of wanted.entry)) }
+    ensures disk { IfOk result (λ job. takes_disk job ≡ is_run_wanted (wanted_of wanted.entry)) }
 {
     match load(alloc, files, config, env) {
         Ok(sections) => job_of_sections(alloc, files, wanted, &sections),
@@ -206,19 +209,32 @@ fn job_of_config<F: Files>(
     }
 }
 
+/// A folder that is to be listed.
+fn job_of_folder(alloc: Global, folder: &[u8]) -> Result<Job, Status>
+    ensures job { IfOk result (λ made. made ≡ job.List folder.now) }
+    ensures refusal { IfErr result (λ other. other ≡ status.Memory) }
+{
+    match Bytes::from_slice(alloc, folder) {
+        Ok(folder) => Ok(Job::List { folder }),
+        Err(Memory) => Err(Status::Memory),
+    }
+}
+
 /// What the words ask for: the configuration is read, its settings are checked, and then the schedule of a replay is read.
-/// The first of these that is refused says why there is nothing to do. A listing and a generated load aren't built yet.
+/// The first of these that is refused says why there is nothing to do. A listing asks for no file. A generated load isn't
+/// built yet.
 pub fn read_job<F: Files>(
     alloc: Global,
     words: &[String],
     env: &[(String, String)],
     files: &mut F,
 ) -> Result<Job, Status>
-    ensures sound { IfOk result (λ job. IsSound (settings_in job)) }
+    ensures sound { IfOk result (λ job. AreSound (settings_in job)) }
     ensures asks { Asks words.now (environment env.now) (F.told files.old) (F.told files.new) (case_of result) }
     ensures cause { HasCause (F.faults files.old) (F.faults files.new) (IsFileFault result) }
     ensures refusal { IfErr result IsRefusal }
     ensures kind { IfOk result (λ job. is_run (command_of (map string_bytes words.now)) ≡ is_to_run job) }
+    ensures disk { IfOk result (λ job. is_over_disk (command_of (map string_bytes words.now)) ≡ takes_disk job) }
 {
     match read_words(words) {
         Some(Command::Run { config, ticks }) => {
@@ -227,7 +243,7 @@ pub fn read_job<F: Files>(
         Some(Command::Replay { config, schedule }) => {
             job_of_config(alloc, config, Wanted::ToReplay { schedule }, env, files)
         }
-        Some(Command::List { .. }) => Err(Status::NotBuilt),
+        Some(Command::List { folder }) => job_of_folder(alloc, folder),
         Some(Command::Generate { .. }) => Err(Status::NotBuilt),
         None => Err(Status::Usage),
     }

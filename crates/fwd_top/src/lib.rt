@@ -1,8 +1,8 @@
-//! The top call: `log_forwarder` does all that the program does, over the files, the loop and the sink that are handed in.
+//! The top call: `log_forwarder` does all that the program does, over the disk, the files, the loop and the sink that are handed
+//! in.
 #![tactic(auto)]
 
 mod asking;
-mod built;
 mod status;
 mod top;
 mod words;

@@ -28,6 +28,8 @@ pub enum Status {
     ConfigRefused { kind: ConfigRefusal, place: Place },
     /// A file can't be read.
     FileFault,
+    /// A call on the disk failed while what stands there was loaded.
+    DiskFault,
     /// The schedule is refused, at this line.
     ScheduleRefused { kind: ScheduleKind, line: u64 },
     /// The text can't be written.
@@ -52,6 +54,7 @@ impl Status {
             Status::Usage => 1,
             Status::ConfigRefused { .. } => 2,
             Status::FileFault => 3,
+            Status::DiskFault => 4,
             Status::ScheduleRefused { .. } => 5,
             Status::OutFault => 6,
             Status::TurnsSpent => 7,
@@ -172,6 +175,7 @@ pub fn status_line(alloc: Global, status: &Status) -> Result<Bytes, Memory>
             push_config_refused(&mut text, *kind, place)?;
         }
         Status::FileFault => text.extend_from_slice(b"file fault")?,
+        Status::DiskFault => text.extend_from_slice(b"disk fault")?,
         Status::ScheduleRefused { kind, line } => push_schedule_refused(&mut text, *kind, *line)?,
         Status::OutFault => text.extend_from_slice(b"output fault")?,
         Status::TurnsSpent => text.extend_from_slice(b"turns spent")?,

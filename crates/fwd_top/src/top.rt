@@ -1,94 +1,81 @@
-//! The top call: from words, environment and files, and the loop of a run, to a text and a status.
+//! The top call: from words, environment and files, and the devices of a run, to a text and a status.
 
-ghost use Rattle.std.specs.Prelude.{◌≡◌, IfErr, IsErrOf};
+ghost use Rattle.std.specs.Prelude.{◌≡◌, ◌≤◌, IsErrOf};
 ghost use Rattle.fwd_program.specs.Cause.{HasCause};
-ghost use Rattle.fwd_outside.specs.Loop.{LoopTold};
 ghost use Rattle.fwd_config.specs.Variables.{environment};
-ghost use Rattle.fwd_settings.specs.Sound.{IsSound};
-ghost use Rattle.fwd_engine.specs.Heard.{HasHeard};
-ghost use Rattle.fwd_replay.specs.Live.{IsLoopFailed, spent_in};
-ghost use Rattle.fwd_top.specs.Built.{built_life};
-ghost use Rattle.fwd_top.specs.Asked.{Runs, of_life};
-ghost use Rattle.fwd_top.specs.Answered.{Answers, IsLoopFault, IsOfTheFiles, devices, of_reported, spent};
-ghost use Rattle.fwd_top.specs.Judged.{IsDone, IsOwnRefusal, IsRunFailed, Tells, Writes, given_by, of_job, settings_in};
+ghost use Rattle.fwd_parts.specs.Heard.{HasHeard};
+ghost use Rattle.fwd_top.specs.Answered.{Answers, ComesTo, IsDiskFault, IsListed, IsLoopFault, IsOfTheFiles, devices, of_reported, outside_of, spent, status_of};
+ghost use Rattle.fwd_replay.specs.declared.reported.Ending.TheVariants as ending;
+ghost use Rattle.fwd_top.specs.Judged.{AreSound, HasDiskFailed, HasLoopFailed, Tells, Writes, given_by, of_job, settings_in};
 
 use crate::asking::{Job, read_job};
-use crate::built::built_life;
 use crate::status::Status;
-use fwd_outside::{Bytes, Files, Loop, Memory, Sink, SinkErr};
-use fwd_replay::{Reported, replay, run_live};
-use fwd_script::Schedule;
-use fwd_settings::AllSettings;
+use fwd_listing::{ListErr, listing};
+use fwd_outside::{Bytes, Disk, Files, Loop, Sink, SinkErr};
+use fwd_replay::{Ending, Reported, replay, run_live};
 use std::alloc::Global;
 use std::thread::Threads;
 
-/// Runs settings over a loop.
-fn ran_by<L: Loop>(
+/// Lists the files of chunks under a folder.
+fn listed<D: Disk>(
     rt: &(impl Threads + Sync),
     alloc: Global,
-    settings: AllSettings,
-    ticks: Option<u64>,
-    outside: &mut L,
-    turns: u64,
-) -> Result<Reported, Status>
-    requires { IsSound settings }
-    ensures done { IsDone turns (Runs settings ticks) (L.told outside.old) (L.told outside.new) result }
-    ensures refusal { IfErr result IsOwnRefusal }
-    ensures heard { HasHeard (spent_in turns result) (L.counts outside.old) (L.counts outside.new) }
-    ensures cause { HasCause (L.faults outside.old) (L.faults outside.new) (IsLoopFailed result) }
+    folder: &[u8],
+    disk: &mut D,
+) -> Reported
+    ensures lists { IsListed folder.now (D.told disk.old) (D.told disk.new) result.text result.ending }
+    ensures cause { HasCause (D.faults disk.old) (D.faults disk.new) (result.ending ≡ ending.DiskFailed) }
 {
-    match run_live(rt, alloc, settings, ticks, outside, turns) {
-        Ok(reported) => Ok(reported),
-        Err(Memory) => Err(Status::Memory),
+    match listing(rt, alloc, disk, folder) {
+        Ok(text) => Reported {
+            text,
+            ending: Ending::Over,
+        },
+        Err(ListErr::DiskFailed) => Reported {
+            text: Bytes::new(alloc),
+            ending: Ending::DiskFailed,
+        },
+        Err(ListErr::Memory) => Reported {
+            text: Bytes::new(alloc),
+            ending: Ending::Memory,
+        },
     }
 }
 
-/// Replays the life of a schedule, without the loop.
-fn replayed_by(
-    rt: &(impl Threads + Sync),
-    alloc: Global,
-    settings: AllSettings,
-    schedule: &Schedule,
-    turns: u64,
-) -> Result<Reported, Status>
-    requires { IsSound settings }
-    ensures done { (loop : LoopTold) → IsDone turns (of_life settings (built_life schedule.now.lives)) loop loop result }
-    ensures refusal { IfErr result IsOwnRefusal }
-{
-    let Some(life) = built_life(&schedule.lives) else {
-        return Err(Status::NotBuilt);
-    };
-    match replay(rt, alloc, settings, life, turns) {
-        Ok(reported) => Ok(reported),
-        Err(Memory) => Err(Status::Memory),
-    }
-}
-
-/// Does a job.
-fn done_by<L: Loop>(
+/// Does a job. A schedule is replayed without the devices, and a folder is listed over the disk alone.
+fn done_by<D: Disk, F: Files, L: Loop>(
     rt: &(impl Threads + Sync),
     alloc: Global,
     job: Job,
+    disk: &mut D,
+    files: &mut F,
     outside: &mut L,
     turns: u64,
-) -> Result<Reported, Status>
-    requires { IsSound (settings_in job) }
-    ensures done { IsDone turns (of_job job) (L.told outside.old) (L.told outside.new) result }
-    ensures refusal { IfErr result IsOwnRefusal }
+) -> Reported
+    requires { AreSound (settings_in job) }
+    ensures comes { ComesTo turns (of_job job) (outside_of (D.told disk.old) (F.told files.old) (L.told outside.old)) (outside_of (D.told disk.new) (F.told files.new) (L.told outside.new)) result }
     ensures heard { HasHeard (given_by job turns result) (L.counts outside.old) (L.counts outside.new) }
-    ensures cause { HasCause (L.faults outside.old) (L.faults outside.new) (IsRunFailed job result) }
+    ensures loop_cause { HasCause (L.faults outside.old) (L.faults outside.new) (HasLoopFailed job result) }
+    ensures disk_cause { HasCause (D.faults disk.old) (D.faults disk.new) (HasDiskFailed job result) }
+    ensures files_later { F.faults files.old ≤ F.faults files.new }
 {
     match job {
-        Job::Run { settings, ticks } => ran_by(rt, alloc, settings, ticks, outside, turns),
-        Job::Replay { settings, schedule } => replayed_by(rt, alloc, settings, &schedule, turns),
+        Job::Run { settings, ticks } => {
+            run_live(rt, alloc, settings, ticks, disk, files, outside, turns)
+        }
+        Job::Replay { settings, schedule } => replay(rt, alloc, settings, &schedule.lives, turns),
+        Job::List { folder } => listed(rt, alloc, folder.as_slice(), disk),
     }
 }
 
-/// Writes a text to its end.
+/// Writes a text to its end. One that is empty isn't written.
 fn write<S: Sink>(out: &mut S, text: &Bytes) -> Result<(), Status>
     ensures writes { Writes (S.told out.old) (S.told out.new) text.now result }
     ensures cause { HasCause (S.faults out.old) (S.faults out.new) (IsErrOf result Status.OutFault) }
 {
+    if text.is_empty() {
+        return Ok(());
+    }
     match out.write(text.as_slice()) {
         Ok(()) => Ok(()),
         Err(SinkErr::Failed) => Err(Status::OutFault),
@@ -96,73 +83,65 @@ fn write<S: Sink>(out: &mut S, text: &Bytes) -> Result<(), Status>
     }
 }
 
-/// Writes what came of a life, and says how the program ended.
+/// The status of what ended so.
+fn status_of(ending: Ending) -> Status
+    ensures { result ≡ status_of ending }
+{
+    match ending {
+        Ending::Over => Status::Done,
+        Ending::TurnsSpent => Status::TurnsSpent,
+        Ending::DiskFailed => Status::DiskFault,
+        Ending::LoopFailed => Status::LoopFault,
+        Ending::Memory => Status::Memory,
+    }
+}
+
+/// Writes what came of a job, and says how the program ended.
 fn tell<S: Sink>(out: &mut S, reported: &Reported) -> Status
     ensures tells { Tells (S.told out.old) (S.told out.new) (of_reported reported.now) result }
     ensures cause { HasCause (S.faults out.old) (S.faults out.new) (result ≡ Status.OutFault) }
 {
-    let (text, end) = match reported {
-        Reported::Over(text) => (text, Status::Done),
-        Reported::TurnsSpent(text) => (text, Status::TurnsSpent),
-        Reported::LoopFailed => return Status::LoopFault,
-    };
-    match write(out, text) {
-        Ok(()) => end,
-        Err(status) => status,
-    }
-}
-
-/// The job is read and done, and what came of it is written.
-fn answer<F: Files, L: Loop, S: Sink>(
-    rt: &(impl Threads + Sync),
-    alloc: Global,
-    words: &[String],
-    env: &[(String, String)],
-    files: &mut F,
-    outside: &mut L,
-    out: &mut S,
-    turns: u64,
-) -> Status
-    ensures answers { Answers words.now (environment env.now) turns (devices (F.told files.old) (L.told outside.old) (S.told out.old)) (devices (F.told files.new) (L.told outside.new) (S.told out.new)) result }
-    ensures file_cause { HasCause (F.faults files.old) (F.faults files.new) (result ≡ Status.FileFault) }
-    ensures loop_cause { HasCause (L.faults outside.old) (L.faults outside.new) (IsLoopFault words.now result) }
-    ensures heard { HasHeard (spent words.now turns result) (L.counts outside.old) (L.counts outside.new) }
-    ensures out_cause { HasCause (S.faults out.old) (S.faults out.new) (result ≡ Status.OutFault) }
-{
-    match read_job(alloc, words, env, files) {
-        Ok(job) => match done_by(rt, alloc, job, outside, turns) {
-            Ok(reported) => tell(out, &reported),
-            Err(status) => status,
-        },
+    match write(out, &reported.text) {
+        Ok(()) => status_of(reported.ending),
         Err(status) => status,
     }
 }
 
 /// Does all that the program does. The words `run -c FILE [-n TICKS]` name a configuration, which is read and run over the
-/// loop that is handed in; where TICKS are given, it is stopped behind so many readings of the clock. The words `replay -c
-/// FILE -s FILE` name a schedule too, which is run over in the loop's place. The text of the run is written: its report, and
-/// before it, of a replay, what the links of standard outputs took, with a line feed where that isn't empty and doesn't end
-/// in one. At most so many happenings are taken.
-pub fn log_forwarder<F: Files, L: Loop, S: Sink>(
+/// devices that are handed in: what stands on the disk is loaded, and then comes what the loop brings; where TICKS are given,
+/// it is stopped behind so many readings of the clock. The words `replay -c FILE -s FILE` name a schedule too, whose lives are
+/// run over a loop, a disk and files in memory. The text is written: the report of a run; of each life that is replayed what
+/// the links of standard outputs took, a line feed where that isn't empty and doesn't end in one, and the report, and between
+/// two lives the line of the crash. The words `list -p FOLDER` list the files of chunks under a folder of the disk, each with
+/// what stands in it. At most so many happenings are taken.
+pub fn log_forwarder<D: Disk, F: Files, L: Loop, S: Sink>(
     rt: &(impl Threads + Sync),
     alloc: Global,
     words: &[String],
     env: &[(String, String)],
+    disk: &mut D,
     files: &mut F,
     outside: &mut L,
     out: &mut S,
     turns: u64,
 ) -> Status
-    // The calls on the files are those of the program's asking, those on the loop are those of the written run, and what is
-    // written is its text.
-    ensures answers { Answers words.now (environment env.now) turns (devices (F.told files.old) (L.told outside.old) (S.told out.old)) (devices (F.told files.new) (L.told outside.new) (S.told out.new)) result }
-    ensures text { IsOfTheFiles words.now (environment env.now) turns (devices (F.told files.old) (L.told outside.old) (S.told out.old)) (devices (F.told files.new) (L.told outside.new) (S.told out.new)) result }
+    // The calls on the files are those of the program's asking, and then those on all devices are those of the written run,
+    // or on the disk those of loading for a listing; what is written is its text.
+    ensures answers { Answers words.now (environment env.now) turns (devices (D.told disk.old) (F.told files.old) (L.told outside.old) (S.told out.old)) (devices (D.told disk.new) (F.told files.new) (L.told outside.new) (S.told out.new)) result }
+    ensures text { IsOfTheFiles words.now (environment env.now) turns (devices (D.told disk.old) (F.told files.old) (L.told outside.old) (S.told out.old)) (devices (D.told disk.new) (F.told files.new) (L.told outside.new) (S.told out.new)) result }
     ensures file_cause { HasCause (F.faults files.old) (F.faults files.new) (result ≡ Status.FileFault) }
-    // A run answers `LoopFault` only where a failure of its loop was counted, and `TurnsSpent` only where it gave so many
-    // happenings.
+    // A run answers `DiskFault` or `LoopFault` only where a failure of its disk or its loop was counted, and `TurnsSpent`
+    // only where the loop gave so many happenings; a listing answers `DiskFault` only where a failure of the disk was.
+    ensures disk_cause { HasCause (D.faults disk.old) (D.faults disk.new) (IsDiskFault words.now result) }
     ensures loop_cause { HasCause (L.faults outside.old) (L.faults outside.new) (IsLoopFault words.now result) }
     ensures heard { HasHeard (spent words.now turns result) (L.counts outside.old) (L.counts outside.new) }
     ensures out_cause { HasCause (S.faults out.old) (S.faults out.new) (result ≡ Status.OutFault) }
 {
-    answer(rt, alloc, words, env, files, outside, out, turns)
+    match read_job(alloc, words, env, files) {
+        Ok(job) => {
+            let reported = done_by(rt, alloc, job, disk, files, outside, turns);
+            tell(out, &reported)
+        }
+        Err(status) => status,
+    }
 }

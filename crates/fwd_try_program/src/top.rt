@@ -1,7 +1,8 @@
-//! Runs of the program over files, a loop and a sink in memory.
+//! Runs of the program over a disk, files, a loop and a sink in memory.
 
 use crate::texts::{between, times};
 use fwd_base::{Bytes, Memory};
+use fwd_disk_mem::MemDisk;
 use fwd_play::Script;
 use fwd_script::{Life, MemFiles, MemSink, Schedule, read_schedule};
 use fwd_top::{
@@ -12,6 +13,10 @@ use std::thread::Threads;
 
 const CONFIG: &[u8] =
     b"[SERVICE]\n    Flush 1\n[INPUT]\n    Name tcp\n    Format none\n    Tag app\n[OUTPUT]\n    Name stdout\n    Match *\n";
+
+/// Chunks that are stored in files, on the disk.
+const STORED: &[u8] =
+    b"[SERVICE]\n    Flush 1\n    storage.path S\n    storage.sync full\n[INPUT]\n    Name tcp\n    Format none\n    Tag app\n    storage.type filesystem\n[OUTPUT]\n    Name stdout\n    Match *\n";
 
 const REPLAY: &[&str] = &["replay", "-c", "c", "-s", "s"];
 
@@ -61,11 +66,13 @@ fn ends_over(
     out: &mut MemSink,
     ends: Ends,
 ) -> bool {
+    let mut disk = MemDisk::new(alloc);
     let status = log_forwarder(
         rt,
         alloc,
         asked.words,
         asked.env,
+        &mut disk,
         files,
         outside,
         out,
@@ -195,9 +202,21 @@ fn what_came_by_the_last_turn_is_told(rt: HostRuntime) {
     assert!(rt; matches!(is, Ok(true)));
 }
 
+/// A life that is cut inside an append, and the one behind it.
+const CUT: &[u8] = b"joined 0 1\npiece 0 1 t:one\\n\ncrash 4 1\npiece 0 1 t:two\\n\ntick 1000\n";
+
+const CUT_TEXT: &[u8] =
+    b"input tcp.0: batches 1 events 1 refused 0\noutput stdout.0: ok 0 retry 0 error 0 spent 0 lost 0 taken 0\nloaded 0 unrouted 0 left 0 faults 0\nowed 1\nchunk 1 \"app\" 22 stdout.0\ncrash 4 1\n{\"date\":0.000000000,\"log\":\"one\"}\n{\"date\":0.000000000,\"log\":\"two\"}\ninput tcp.0: batches 0 events 0 refused 0\noutput stdout.0: ok 1 retry 0 error 0 spent 0 lost 0 taken 66\nloaded 1 unrouted 0 left 0 faults 0\nowed 0\n";
+
+#[test]
+fn a_crash_parts_two_lives(rt: HostRuntime) {
+    let ends = done(Text::Is(CUT_TEXT));
+    let is = answers(&rt, rt.alloc(), REPLAY, STORED, CUT, ends);
+    assert!(rt; matches!(is, Ok(true)));
+}
+
 /// Configurations and schedules that come to no text, with the number and the line of each.
 const FAULTS: &[(&[u8], &[u8], u8, &[u8])] = &[
-    (b"[INPUT]\nName tail\nPath /a\n", b"", 10, b"not built yet"),
     (
         b"Flush 1\n",
         b"",
@@ -217,8 +236,7 @@ const FAULTS: &[(&[u8], &[u8], u8, &[u8])] = &[
         b"schedule refused: BadNumber at line 2",
     ),
     (CONFIG, b"failed\n", 9, b"loop fault"),
-    (CONFIG, b"cut /a 0\n", 10, b"not built yet"),
-    (CONFIG, b"crash 0 0\nstop\n", 10, b"not built yet"),
+    (STORED, b"disk 1\n", 4, b"disk fault"),
 ];
 
 #[test]
@@ -257,7 +275,14 @@ const WORDS: &[(&[&str], Ends)] = &[
     (&["run", "-c", "-n", "-n", "1"], NO_WORDS),
     (&["run", "-s", "s", "-c", "c"], NO_WORDS),
     (&["run", "-c", "x"], FILE_FAULT),
-    (&["list", "-p", "S"], NOT_BUILT),
+    (
+        &["list", "-p", "S"],
+        Ends {
+            number: 0,
+            line: b"",
+            text: Text::Is(b"files 0\n"),
+        },
+    ),
     (&["list", "-p", ""], NO_WORDS),
     (&["gen", "-n", "200000"], NOT_BUILT),
     (&["gen", "-n", "200001"], NO_WORDS),
@@ -532,6 +557,7 @@ const PLAIN: &[(u8, &[u8])] = &[
     (0, b""),
     (1, USAGE),
     (3, b"file fault"),
+    (4, b"disk fault"),
     (6, b"output fault"),
     (7, b"turns spent"),
     (8, b"out of memory"),
@@ -544,6 +570,7 @@ fn plain(number: u8) -> Status {
         0 => Status::Done,
         1 => Status::Usage,
         3 => Status::FileFault,
+        4 => Status::DiskFault,
         6 => Status::OutFault,
         7 => Status::TurnsSpent,
         8 => Status::Memory,

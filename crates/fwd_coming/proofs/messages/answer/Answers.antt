@@ -1,6 +1,8 @@
-use Rattle.std.proofs.Common.{◌≡◌, List, ℕ, Some, sym, ap, ◌∙◌}
+use Rattle.std.proofs.Common.{◌≡◌, List, ℕ, Some, None, sym, ap, ◌∙◌}
 use Rattle.std.specs.Prelude.{option_copied}
 use Rattle.fwd_written.specs.Coming.{hangs_up}
+use Rattle.fwd_written.proofs.Acting.{stays}
+use Rattle.fwd_coming.specs.Answered.{with_loop}
 use Rattle.fwd_coming.proofs.Answering.{went_end}
 use Rattle.fwd_coming.proofs.messages.answer.Goals as goal
 
@@ -12,3 +14,9 @@ pub returns-in-Some-clause-acts : goal.returns-in-Some-clause-acts
 returns-in-Some-clause-acts g c s others h next shows =
     let asked : option_copied c.args.asked ≡ Some c.as_slice.result.now = ap option_copied c.in-Some.is ∙ ap (λ (l : List ℕ). Some l) (sym c.as_slice.ensures) in
     rw (c.if-not-taken.false, asked) (c.reply.ensures.acts s others h next shows)
+
+-- nothing is answered, and what follows is heard
+pub returns-in-None-clause-acts : goal.returns-in-None-clause-acts
+returns-in-None-clause-acts g c s others h next shows =
+    let asked : option_copied c.args.asked ≡ None = ap option_copied c.in-None.is in
+    rw (c.if-not-taken.false, asked) (h, shows, stays (with_loop (g.L.Loop.told c.args.outside.now) others) (next h))

@@ -2,8 +2,8 @@ use Rattle.std.proofs.Common.{Ok, Err, sym}
 use Rattle.fwd_written.specs.World.{World}
 use Rattle.fwd_written.specs.Run.{brought, unless_last}
 use Rattle.fwd_parts.specs.Acts.{with_all}
-use Rattle.fwd_forwarder.specs.Steps.{Steps}
-use Rattle.fwd_forwarder.specs.declared.engine.Turn.TheVariants as turn
+use Rattle.fwd_engine.specs.Steps.{Steps}
+use Rattle.fwd_engine.specs.declared.engine.Turn.TheVariants as turn
 use Rattle.fwd_lives.proofs.Turns.{took_more, took_over, took_so, goes_after}
 use Rattle.fwd_lives.proofs.running.take.Goals as goal
 

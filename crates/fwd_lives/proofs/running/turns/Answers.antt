@@ -5,8 +5,8 @@ use Rattle.fwd_written.specs.World.{World, Leads}
 use Rattle.fwd_written.proofs.Acting.{goes_on, began_after, stays}
 use Rattle.fwd_written.specs.Run.{run}
 use Rattle.fwd_parts.specs.Acts.{with_all}
-use Rattle.fwd_forwarder.specs.declared.engine.EngineStop.TheVariants as stop
-use Rattle.fwd_forwarder.specs.declared.engine.Turn.TheVariants as turn
+use Rattle.fwd_engine.specs.declared.engine.EngineStop.TheVariants as stop
+use Rattle.fwd_engine.specs.declared.engine.Turn.TheVariants as turn
 use Rattle.fwd_lives.specs.Runs.{GoesOn}
 use Rattle.fwd_lives.proofs.Heard.{heard_first, heard_more}
 use Rattle.fwd_lives.proofs.Turns.{left, none_left, spent}

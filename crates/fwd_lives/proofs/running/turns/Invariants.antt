@@ -5,7 +5,7 @@ use Rattle.fwd_written.specs.World.{World, Leads}
 use Rattle.fwd_written.specs.Run.{run}
 use Rattle.fwd_parts.specs.Heard.{HasHeard}
 use Rattle.fwd_parts.specs.Acts.{with_all}
-use Rattle.fwd_forwarder.specs.Steps.{IsAt}
+use Rattle.fwd_engine.specs.Steps.{IsAt}
 use Rattle.fwd_lives.proofs.running.turns.Given as goal
 
 -- so many happenings came, and the engine stands somewhere in the run, with the turns left that weren't taken

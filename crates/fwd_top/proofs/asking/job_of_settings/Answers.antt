@@ -1,5 +1,3 @@
-use Rattle.std.proofs.Common.{List, Option}
-use Rattle.fwd_config.specs.declared.section.Section.{Section}
 use Rattle.fwd_top.specs.Judged.{case_of}
 use Rattle.fwd_top.proofs.Topping.{schedule_asked}
 use Rattle.fwd_top.proofs.asking.job_of_settings.Goals as goal

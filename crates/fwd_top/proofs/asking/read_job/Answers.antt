@@ -1,13 +1,13 @@
 use Rattle.std.proofs.Common.{◌≡◌, Option, Some, None, map, string_bytes, refl, sym, ap, ◌∙◌}
 use Rattle.std.specs.Prelude.{option_map}
 use Rattle.fwd_config.specs.Variables.{environment}
-use Rattle.fwd_top.specs.Words.{Command, Run, Replay, ListFolder, Generate, command_of}
+use Rattle.fwd_top.specs.Words.{Command, Run, Replay, command_of}
 use Rattle.fwd_top.specs.Asked.{ToRun, ToReplay}
 use Rattle.fwd_top.specs.Judged.{case_of}
 use Rattle.fwd_top.specs.Shown.{command}
 use Rattle.fwd_top.specs.declared.words.Command.{Command as Words}
 use Rattle.fwd_top.specs.declared.status.Status.TheVariants as status
-use Rattle.fwd_top.proofs.Topping.{other_words, asks_of}
+use Rattle.fwd_top.proofs.Topping.{other_words, folder_words, asks_of}
 use Rattle.fwd_top.proofs.asking.read_job.Goals as goal
 
 -- what the words were read as
@@ -26,8 +26,8 @@ returns-in-Some-Replay-clause-asks g c =
 
 pub returns-in-Some-List-clause-asks : goal.returns-in-Some-List-clause-asks
 returns-in-Some-List-clause-asks g c =
-    other_words c.args.words.now (environment c.args.env.now) (g.F.Files.told c.args.files.now) (g.F.Files.told c.args.files.now) _ status.NotBuilt
-    (sym c.read_words.ensures ∙ ap seen c.in-Some-List.is ∙ ap (λ (w : Words). Some (command w)) c.in-Some-List.field-0-is) (λ checked. refl)
+    folder_words c.args.words.now (environment c.args.env.now) (g.F.Files.told c.args.files.now) (g.F.Files.told c.args.files.now) c.in-Some-List.folder.now c.job_of_folder.result c.job_of_folder.ensures.job c.job_of_folder.ensures.refusal
+    (sym c.read_words.ensures ∙ ap seen c.in-Some-List.is ∙ ap (λ (w : Words). Some (command w)) c.in-Some-List.field-0-is)
 
 pub returns-in-Some-Generate-clause-asks : goal.returns-in-Some-Generate-clause-asks
 returns-in-Some-Generate-clause-asks g c =

@@ -1,4 +1,32 @@
+use Rattle.std.proofs.Common.{None}
+use Rattle.fwd_program.proofs.Grown.{grew_none}
+use Rattle.fwd_top.specs.Answered.{outside_of, world}
+use Rattle.fwd_top.proofs.Telling.{still, heard_none, no_cause}
 use Rattle.fwd_top.proofs.top.done_by.Goals as goal
 
-pub returns-in-Replay-clause-done : goal.returns-in-Replay-clause-done
-returns-in-Replay-clause-done g c = rw c.in-Replay.is (c.replayed_by.ensures.done (g.L.Loop.told c.args.outside.now))
+pub returns-in-Run-clause-comes : goal.returns-in-Run-clause-comes
+returns-in-Run-clause-comes g c = rw c.in-Run.is (c.run_live.ensures.life (world (outside_of None None None)))
+
+pub returns-in-Run-clause-heard : goal.returns-in-Run-clause-heard
+returns-in-Run-clause-heard g c = rw c.in-Run.is c.run_live.ensures.heard
+
+pub returns-in-Run-clause-loop_cause : goal.returns-in-Run-clause-loop_cause
+returns-in-Run-clause-loop_cause g c = rw c.in-Run.is c.run_live.ensures.loop_cause
+
+pub returns-in-Run-clause-disk_cause : goal.returns-in-Run-clause-disk_cause
+returns-in-Run-clause-disk_cause g c = rw c.in-Run.is c.run_live.ensures.disk_cause
+
+pub returns-in-Replay-clause-comes : goal.returns-in-Replay-clause-comes
+returns-in-Replay-clause-comes g c = rw c.in-Replay.is (c.replay.ensures, still (outside_of (g.D.Disk.told c.args.disk.now) (g.F.Files.told c.args.files.now) (g.L.Loop.told c.args.outside.now)))
+
+pub returns-in-Replay-clause-heard : goal.returns-in-Replay-clause-heard
+returns-in-Replay-clause-heard g c = rw c.in-Replay.is (heard_none (g.L.Loop.counts c.args.outside.now))
+
+pub returns-in-Replay-clause-loop_cause : goal.returns-in-Replay-clause-loop_cause
+returns-in-Replay-clause-loop_cause g c = rw c.in-Replay.is (no_cause (g.L.Loop.faults c.args.outside.now) (λ none. none))
+
+pub returns-in-Replay-clause-disk_cause : goal.returns-in-Replay-clause-disk_cause
+returns-in-Replay-clause-disk_cause g c = rw c.in-Replay.is (no_cause (g.D.Disk.faults c.args.disk.now) (λ none. none))
+
+pub returns-in-List-clause-comes : goal.returns-in-List-clause-comes
+returns-in-List-clause-comes g c = rw c.in-List.is (rw c.as_slice.ensures at c.listed.ensures.lists, (grew_none (g.F.Files.told c.args.files.now), grew_none (g.L.Loop.told c.args.outside.now)))

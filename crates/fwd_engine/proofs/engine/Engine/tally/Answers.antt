@@ -2,4 +2,4 @@ use Rattle.std.proofs.Common.{None}
 use Rattle.fwd_engine.proofs.engine.Engine.tally.Goals as goal
 
 pub returns : goal.returns
-returns c s h at = c.tally.ensures s h None at.shows
+returns c s h at = c.tally.ensures s h None at.shows.state

@@ -1,7 +1,0 @@
-use Rattle.std.proofs.Common.{None, ◌∙◌, ap, map}
-use Rattle.fwd_settings.specs.declared.chosen.AllSettings.{AllSettings}
-use Rattle.fwd_settings.specs.declared.chosen.InputSet.{InputSet}
-use Rattle.fwd_forwarder.proofs.engine.Engine.paused.Goals as goal
-
-pub returns : goal.returns
-returns c s h at = c.paused.ensures s h None at.shows.state (c.limits.ensures.value ∙ ap (λ (x : AllSettings). map (λ (set : InputSet). set.mem_limit) x.inputs) at.settings)

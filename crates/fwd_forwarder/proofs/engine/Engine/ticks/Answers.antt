@@ -1,5 +1,0 @@
-use Rattle.std.proofs.Common.{None}
-use Rattle.fwd_forwarder.proofs.engine.Engine.ticks.Goals as goal
-
-pub returns : goal.returns
-returns c s h at = c.ticked.ensures s h None at.shows.state

@@ -1,9 +1,0 @@
-pub mod Members
-pub mod Resolving
-pub mod Agreeing
-pub mod Dialling
-pub mod Turning
-pub mod Stepping
-pub mod Keeping
-pub mod Becoming
-pub mod Completing

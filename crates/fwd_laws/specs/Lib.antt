@@ -1,4 +1,0 @@
-pub mod Resolved
-pub mod Given
-pub mod Walked
-pub mod Becomes

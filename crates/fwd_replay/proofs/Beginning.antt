@@ -1,0 +1,305 @@
+-- How a life starts.
+use Rattle.std.proofs.Common.{◌≡◌, ℕ, ◌+◌, Bool, true, false, ◌&&◌, is_some, List, [], ◌∷◌, ◌++◌, map, Option, Some, None, refl, Result, Ok, Err, OnOk, sym, ◌∙◌, ap, subst, arith}
+use Rattle.std.proofs.lemmas.List.{append-nil}
+use Rattle.fwd_program.specs.Program.{entry, Return, Way}
+use Rattle.fwd_program.specs.Told.{Grew}
+use Rattle.fwd_program.proofs.Leading.{way_bind, way_trans}
+use Rattle.fwd_outside.specs.Files.{FilesEntry, FilesGiven, found}
+use Rattle.fwd_outside.specs.Loop.{LoopEntry, LoopGiven, Start as Starting, Wait}
+use Rattle.fwd_outside.specs.declared.ends.Ends.{Ends}
+use Rattle.fwd_disk_mem.specs.declared.told.Told.{Told}
+use Rattle.fwd_disk_mem.specs.declared.told.Told.TheVariants as told
+use Rattle.fwd_disk_mem.specs.Seen.{Seen}
+use Rattle.fwd_disk_mem.specs.Told as disk
+use Rattle.fwd_disk_mem.proofs.Telling.{split_told, played_behind}
+use Rattle.fwd_settings.specs.Ends.{ends_of}
+use Rattle.fwd_settings.specs.declared.chosen.AllSettings.{AllSettings}
+use Rattle.fwd_script.specs.FilesHeld.{FilesHeld}
+use Rattle.fwd_script.specs.FilesPlayed.{fails_of, made_of}
+use Rattle.fwd_script.specs.MemFiles.{entries_from, files_now}
+use Rattle.fwd_script.specs.declared.files.FilesNote.{FilesNote}
+use Rattle.fwd_script.specs.declared.files.FilesNote.TheVariants as note
+use Rattle.fwd_script.specs.declared.schedule.Life.{Life}
+use Rattle.fwd_script.specs.declared.schedule.Stored.{Stored}
+use Rattle.fwd_play.specs.Held.{new_held, told_of}
+use Rattle.fwd_play.specs.Lines.{given_in, given_of}
+use Rattle.fwd_play.specs.Place as place
+use Rattle.fwd_play.specs.ScriptHeld.{ScriptHeld}
+use Rattle.fwd_play.specs.Told.{entries_of}
+use Rattle.fwd_written.specs.Fact.{History}
+use Rattle.fwd_written.specs.Trace.{Call, Answer, TraceEntry, OnLoop, OnDisk, OnFiles, OnKeeper, Note, loop_entry, files_entry, loop_part, disk_part, files_part}
+use Rattle.fwd_written.specs.World.{World, Did}
+use Rattle.fwd_written.specs.Loading.{loads_in}
+use Rattle.fwd_written.specs.Run.{DiskFailed, LoopFailed, lived, run, started, begun, life}
+use Rattle.fwd_written.proofs.Growing.{loop_append, disk_append}
+use Rattle.fwd_parts.specs.Acts.{with_disk}
+use Rattle.fwd_engine.specs.Steps.{IsAt}
+use Rattle.fwd_ties.specs.Waiting.{is_wait, waits_in}
+use Rattle.fwd_replay.specs.Changing.{Course, behind_call, behind, IsAnswer, FilesAnswered, brings_last, has_last}
+use Rattle.fwd_replay.specs.Lives.{Start, disk_of, course_of, has_cut}
+use Rattle.fwd_replay.specs.Stage.{FilesStand, Finds, IsUnderWay, EndedSo}
+use Rattle.fwd_replay.specs.declared.going.Going.{Going}
+
+-- ---- what disk and files are told first
+
+pub told_disk : (start : Start) (planned : Life) (old stored all : Seen) → old.calls ≡ start.disk → stored ≡ record old { calls = old.calls ++ map (λ (file : Stored). told.Preset file.name file.bytes) planned.store }
+    → all ≡ record stored { calls = stored.calls ++ map (λ (number : ℕ). told.FailAt number) planned.disk_fails } → all.calls ≡ disk_of start planned
+told_disk start planned old stored all finds store fail =
+    let presets : List Told = map (λ (file : Stored). told.Preset file.name file.bytes) planned.store in
+    let fails : List Told = map (λ (number : ℕ). told.FailAt number) planned.disk_fails in
+    ap (λ (seen : Seen). seen.calls) fail ∙ ap (λ (seen : Seen). seen.calls ++ fails) store ∙ ap (λ (calls : List Told). (calls ++ presets) ++ fails) finds
+
+abbrev fails_told : List ℕ → List FilesNote
+fails_told numbers = map (λ (number : ℕ). note.FailAt number) numbers
+
+still_there : (given : FilesGiven) (numbers : List ℕ) → files_now given (fails_told numbers) ≡ given
+still_there given [] = refl
+still_there given (number ∷ numbers) = still_there given numbers
+
+none_made : (given : FilesGiven) (numbers : List ℕ) → made_of (entries_from given (fails_told numbers)) ≡ 0
+none_made given [] = refl
+none_made given (number ∷ numbers) = rw (none_made given numbers) refl
+
+fails_so : (given : FilesGiven) (numbers : List ℕ) → fails_of (entries_from given (fails_told numbers)) ≡ numbers
+fails_so given [] = refl
+fails_so given (number ∷ numbers) = ap (λ (l : List ℕ). number ∷ l) (fails_so given numbers)
+
+-- files that were asked nothing, behind the numbers of the calls that are to fail
+pub files_begin : (start : Start) (planned : Life) (seen : Seen) (old new : FilesHeld) → Finds start seen old → new ≡ record old { notes = old.notes ++ fails_told planned.file_fails }
+    → FilesStand new (course_of start planned).files
+files_begin start planned seen old new finds is =
+    let notes : new.notes ≡ fails_told planned.file_fails = ap (λ (held : FilesHeld). held.notes) is ∙ ap (λ (l : List FilesNote). l ++ fails_told planned.file_fails) finds.unasked in
+    let given : new.given ≡ old.given = ap (λ (held : FilesHeld). held.given) is in
+    let now : files_now new.given new.notes ≡ files_now old.given old.notes =
+    ap (λ (l : List FilesNote). files_now new.given l) notes ∙ still_there new.given planned.file_fails ∙ given ∙ ap (λ (l : List FilesNote). files_now old.given l) (sym finds.unasked) in
+    record {
+      has = λ path. ap (λ (all : FilesGiven). found all path) now ∙ finds.has path;
+      made = ap (λ (l : List FilesNote). made_of (entries_from new.given l)) notes ∙ none_made new.given planned.file_fails;
+      fails = ap (λ (l : List FilesNote). fails_of (entries_from new.given l)) notes ∙ fails_so new.given planned.file_fails;
+    }
+
+pub on_ok : {T E : Type 0} {P Q : Type 0} (r : Result T E) → (P → Q) → OnOk r P → OnOk r Q
+on_ok (Ok x) f p = f p
+on_ok (Err e) f p = tt
+
+-- ---- calls that leave a life where it has come to
+
+-- neither a wait nor one on the files
+abbrev IsStill : Call → Type 0
+IsStill (OnLoop (Wait until paused)) = ⊥
+IsStill (OnLoop call) = Unit {0}
+IsStill (OnDisk call) = Unit {0}
+IsStill (OnFiles call) = ⊥
+IsStill (OnKeeper call) = Unit {0}
+IsStill (Note fact) = Unit {0}
+
+abbrev AreStill : List TraceEntry → Type 0
+AreStill [] = Unit {0}
+AreStill (e ∷ es) = IsStill e.call × AreStill es
+
+still_call : (call : Call) (answer : Answer call) (loop : List LoopEntry) (asked : List FilesEntry) → loop_entry call answer ++ loop ≡ [] → files_entry call answer ++ asked ≡ []
+    → IsStill call × (loop ≡ []) × (asked ≡ [])
+still_call (OnLoop call) answer loop asked none no_file = absurd (cc none)
+still_call (OnDisk call) answer loop asked none no_file = (tt, none, no_file)
+still_call (OnFiles call) answer loop asked none no_file = absurd (cc no_file)
+still_call (OnKeeper call) answer loop asked none no_file = (tt, none, no_file)
+still_call (Note fact) answer loop asked none no_file = (tt, none, no_file)
+
+-- calls of which none is on the loop or the files
+still_of : (es : List TraceEntry) → loop_part es ≡ [] → files_part es ≡ [] → AreStill es
+still_of [] none no_file = tt
+still_of (e ∷ es) none no_file =
+    let first = still_call e.call e.answer (loop_part es) (files_part es) none no_file in
+    (first.0, still_of es first.1 first.2)
+
+still_both : (es more : List TraceEntry) → AreStill es → AreStill more → AreStill (es ++ more)
+still_both [] more first second = second
+still_both (e ∷ es) more first second = (first.0, still_both es more first.1 second)
+
+no_wait : (call : Call) → IsStill call → is_wait call ≡ false
+no_wait (OnLoop (Wait until paused)) still = absurd still
+no_wait (OnLoop call) still = refl
+no_wait (OnDisk call) still = refl
+no_wait (OnFiles call) still = refl
+no_wait (OnKeeper call) still = refl
+no_wait (Note fact) still = refl
+
+no_waits : (es : List TraceEntry) → AreStill es → waits_in es ≡ 0
+no_waits [] still = refl
+no_waits (e ∷ es) still = rw (no_wait e.call still.0) (no_waits es still.1)
+
+stays_behind_call : (course : Course) (call : Call) → IsStill call → behind_call call course ≡ course
+stays_behind_call course (OnLoop (Wait until paused)) still = absurd still
+stays_behind_call course (OnLoop call) still = refl
+stays_behind_call course (OnDisk call) still = refl
+stays_behind_call course (OnFiles call) still = absurd still
+stays_behind_call course (OnKeeper call) still = refl
+stays_behind_call course (Note fact) still = refl
+
+stays_behind : (course : Course) (es : List TraceEntry) → AreStill es → behind course es ≡ course
+stays_behind course [] still = refl
+stays_behind course (e ∷ es) still = ap (λ (c : Course). behind c es) (stays_behind_call course e.call still.0) ∙ stays_behind course es still.1
+
+answer_of : (course : Course) (call : Call) (answer : Answer call) → IsStill call → IsAnswer course call answer
+answer_of course (OnLoop call) answer still = tt
+answer_of course (OnDisk call) answer still = tt
+answer_of course (OnFiles call) answer still = absurd still
+answer_of course (OnKeeper call) answer still = tt
+answer_of course (Note fact) answer still = tt
+
+answers_of : (course : Course) (es : List TraceEntry) → AreStill es → FilesAnswered course es
+answers_of course [] still = tt
+answers_of course (e ∷ es) still = (answer_of course e.call e.answer still.0, answers_of (behind_call e.call course) es still.1)
+
+not_last : (course : Course) (call : Call) → IsStill call → brings_last call course ≡ false
+not_last course (OnLoop (Wait until paused)) still = absurd still
+not_last course (OnLoop call) still = refl
+not_last course (OnDisk call) still = refl
+not_last course (OnFiles call) still = refl
+not_last course (OnKeeper call) still = refl
+not_last course (Note fact) still = refl
+
+none_last : (course : Course) (es : List TraceEntry) → AreStill es → has_last course es ≡ false
+none_last course [] still = refl
+none_last course (e ∷ es) still = rw (not_last course e.call still.0) (none_last (behind_call e.call course) es still.1)
+
+and_false : (b : Bool) → (b && false) ≡ false
+and_false true = refl
+and_false false = refl
+
+no_cut : (start : Start) (planned : Life) (es : List TraceEntry) → AreStill es → has_cut start planned es ≡ false
+no_cut start planned es still = ap (λ (b : Bool). is_some planned.cut && b) (none_last (course_of start planned) es still) ∙ and_false (is_some planned.cut)
+
+-- ---- the calls of a beginning
+
+-- a world that was asked nothing, beside its disk
+abbrev pub quiet : Life → World
+quiet planned = record { loop = Some (given_of planned, []); disk = None; files = Some ([], []); keeper = Some ([], []) }
+
+abbrev pub seen_in : Life → List Told → World
+seen_in planned calls = with_disk (disk.told_of calls) (quiet planned)
+
+-- what was loaded, and what the disk was asked for it
+pub record Loaded (s : AllSettings) (start : Start) (planned : Life) (calls : List Told) (result : Option History) : Type 0 where
+  trace : List TraceEntry
+  way : Way (loads_in s) trace (Return result)
+  unasked : loop_part trace ≡ []
+  still : AreStill trace
+  asked : List Told
+  disk_is : calls ≡ disk_of start planned ++ asked
+  are : disk.entries_of asked ≡ disk_part trace
+
+pub loaded_so : (s : AllSettings) (start : Start) (planned : Life) (old new : List Told) (result : Option History) → old ≡ disk_of start planned
+    → Did (seen_in planned old) (seen_in planned new) (loads_in s) result → Loaded s start planned new result
+loaded_so s start planned old new result told did =
+    let made = split_told old new (disk_part did.entries) did.asked.disk.1 in
+    record {
+      trace = did.entries;
+      way = did.way;
+      unasked = sym did.asked.loop.1;
+      still = still_of did.entries (sym did.asked.loop.1) (sym did.asked.files.1);
+      asked = made.0;
+      disk_is = made.1 ∙ ap (λ (calls : List Told). calls ++ made.0) told;
+      are = made.2;
+    }
+
+all_left : (more : ℕ) → more ≡ 0 + more
+all_left more = omega arith
+
+module _ (s : AllSettings) (turns : ℕ) where
+  loads_on : (result : Option History) (trace : List TraceEntry) → Way (loads_in s) trace (Return result) → Way (life s (ends_of s) None turns) trace (begun s (ends_of s) None turns result)
+  unfolding life
+  loads_on result trace way = way_bind (loads_in s) (Return result) trace (begun s (ends_of s) None turns) way
+
+  starts_on : (h : History) (trace : List TraceEntry) (answer : Option (Unit {0})) → Way (loads_in s) trace (Return (Some h))
+      → Way (life s (ends_of s) None turns) (trace ++ entry (OnLoop (Starting (ends_of s))) answer ∷ []) (started s None turns h answer)
+  starts_on h trace answer way =
+      way_trans (life s (ends_of s) None turns) (begun s (ends_of s) None turns (Some h)) (started s None turns h answer) trace (entry (OnLoop (Starting (ends_of s))) answer ∷ []) (loads_on (Some h) trace way) (answer, refl, refl)
+
+-- what a loop in memory tells that was started
+pub told_start : (planned : Life) (old new : ScriptHeld) (ends : Ends) (answer : Option (Unit {0})) → old ≡ new_held planned → Grew (told_of old) (told_of new) (entry (Starting ends) answer ∷ [])
+    → (given_in new.lines new.answers ≡ given_of planned) × (entries_of new.notes ≡ entry (Starting ends) answer ∷ [])
+told_start planned old new ends answer is grew =
+    let at : Grew (told_of (new_held planned)) (told_of new) (entry (Starting ends) answer ∷ []) = subst (λ (held : ScriptHeld). Grew (told_of held) (told_of new) (entry (Starting ends) answer ∷ [])) is grew in
+    (at.0, at.1)
+
+module _ (s : AllSettings) (start : Start) (planned : Life) (calls : List Told) where
+  -- a call on the disk failed
+  pub disk_failed : Loaded s start planned calls None → disk.IsPlayed [] calls → EndedSo s start planned (lived [] DiskFailed)
+  disk_failed loaded played = record {
+    trace = loaded.trace;
+    is = λ turns. record {
+      way = loads_on s turns None loaded.trace loaded.way;
+      asked = loaded.asked;
+      answered = record {
+        loop = subst (λ (es : List LoopEntry). place.IsPlayed (given_of planned) es) (sym loaded.unasked) tt;
+        disk = played_behind (disk_of start planned) loaded.asked (subst (λ (told : List Told). disk.IsPlayed [] told) loaded.disk_is played);
+        are = loaded.are;
+        files = answers_of (course_of start planned) loaded.trace loaded.still;
+      };
+      uncut = no_cut start planned loaded.trace loaded.still;
+    };
+  }
+
+  module _ (h : History) (loaded : Loaded s start planned calls (Some h)) (answer : Option (Unit {0})) where
+    abbrev whole : List TraceEntry
+    whole = loaded.trace ++ entry (OnLoop (Starting (ends_of s))) answer ∷ []
+
+    whole_still : AreStill whole
+    whole_still = still_both loaded.trace (entry (OnLoop (Starting (ends_of s))) answer ∷ []) loaded.still (tt, tt)
+
+    whole_loop : loop_part whole ≡ entry (Starting (ends_of s)) answer ∷ []
+    whole_loop =
+        loop_append loaded.trace (entry (OnLoop (Starting (ends_of s))) answer ∷ []) ∙ ap (λ (es : List LoopEntry). es ++ entry (Starting (ends_of s)) answer ∷ []) loaded.unasked
+
+    whole_disk : disk.entries_of loaded.asked ≡ disk_part whole
+    whole_disk = loaded.are ∙ sym (append-nil (disk_part loaded.trace)) ∙ sym (disk_append loaded.trace (entry (OnLoop (Starting (ends_of s))) answer ∷ []))
+
+  -- the loop couldn't start
+  pub loop_failed : (h : History) → Loaded s start planned calls (Some h) → disk.IsPlayed [] calls → (old new : ScriptHeld) (ends : Ends) → old ≡ new_held planned → ends ≡ ends_of s
+      → Grew (told_of old) (told_of new) (entry (Starting ends) None ∷ []) → place.IsPlayed (given_in new.lines new.answers) (entries_of new.notes) → EndedSo s start planned (lived h LoopFailed)
+  loop_failed h loaded played old new ends new_is are grew played_loop =
+      let told = told_start planned old new (ends_of s) None new_is (subst (λ (x : Ends). Grew (told_of old) (told_of new) (entry (Starting x) None ∷ [])) are grew) in
+      let given : place.IsPlayed (given_of planned) (entries_of new.notes) = subst (λ (g : LoopGiven). place.IsPlayed g (entries_of new.notes)) told.0 played_loop in
+      record {
+        trace = whole h loaded None;
+        is = λ turns. record {
+          way = starts_on s turns h loaded.trace None loaded.way;
+          asked = loaded.asked;
+          answered = record {
+            loop = subst (λ (es : List LoopEntry). place.IsPlayed (given_of planned) es) (told.1 ∙ sym (whole_loop h loaded None)) given;
+            disk = played_behind (disk_of start planned) loaded.asked (subst (λ (all : List Told). disk.IsPlayed [] all) loaded.disk_is played);
+            are = whole_disk h loaded None;
+            files = answers_of (course_of start planned) (whole h loaded None) (whole_still h loaded None);
+          };
+          uncut = no_cut start planned (whole h loaded None) (whole_still h loaded None);
+        };
+      }
+
+  -- it has started
+  pub under_way : (h : History) → Loaded s start planned calls (Some h) → (seen : Seen) (held : FilesHeld) (going : Going) (old : ScriptHeld) (ends : Ends) → seen.calls ≡ calls
+      → FilesStand held (course_of start planned).files → IsAt going.engine s h → old ≡ new_held planned → ends ≡ ends_of s
+      → Grew (told_of old) (told_of going.script) (entry (Starting ends) (Some tt) ∷ []) → going.changed ≡ 0 → going.taken ≡ 0 → IsUnderWay s start planned going seen held
+  under_way h loaded seen held going old ends seen_is stand at new_is are grew unchanged untaken =
+      let new = going.script in
+      let told = told_start planned old new (ends_of s) (Some tt) new_is (subst (λ (x : Ends). Grew (told_of old) (told_of new) (entry (Starting x) (Some tt) ∷ [])) are grew) in
+      let trace = whole h loaded (Some tt) in
+      let stays : behind (course_of start planned) trace ≡ course_of start planned = stays_behind (course_of start planned) trace (whole_still h loaded (Some tt)) in
+      record {
+        history = h;
+        at = at;
+        trace = trace;
+        stands = record {
+          way = λ more. rw untaken (subst (λ (n : ℕ). Way (life s (ends_of s) None n) trace (run s None more h)) (all_left more) (starts_on s more h loaded.trace (Some tt) loaded.way));
+          waits = no_waits trace (whole_still h loaded (Some tt)) ∙ sym untaken;
+          uncut = no_cut start planned trace (whole_still h loaded (Some tt));
+          loop =
+              ap (λ (g : LoopGiven). Some (g, entries_of new.notes)) told.0 ∙ ap (λ (es : List LoopEntry). Some (given_of planned, es)) (told.1 ∙ sym (whole_loop h loaded (Some tt)));
+          asked = loaded.asked;
+          disk_is = seen_is ∙ loaded.disk_is;
+          are = whole_disk h loaded (Some tt);
+          answered = answers_of (course_of start planned) trace (whole_still h loaded (Some tt));
+          files_stand = subst (λ (c : Course). FilesStand held c.files) (sym stays) stand;
+        };
+        changed = unchanged ∙ sym (ap (λ (c : Course). c.changed) stays);
+      }

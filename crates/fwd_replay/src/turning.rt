@@ -1,0 +1,71 @@
+//! The turns of a life.
+
+ghost use Rattle.std.specs.Prelude.{◌≡◌, ◌<◌, ◌≤◌, ◌+◌, ◌-◌, ◌^◌, None, IfOk};
+ghost use Rattle.fwd_settings.specs.declared.chosen.AllSettings.{AllSettings};
+ghost use Rattle.fwd_script.specs.declared.schedule.Life.{Life};
+ghost use Rattle.fwd_replay.specs.Lives.{Start};
+ghost use Rattle.fwd_replay.specs.Stage.{Ended, IsReady, IsUnderWay, Turned};
+
+use crate::going::{Going, prepare};
+use fwd_base::Memory;
+use fwd_disk_mem::MemDisk;
+use fwd_engine::{EngineStop, Turn};
+use fwd_script::{Cut, Life, MemFiles};
+use std::thread::Threads;
+
+/// How the turns of a life ended.
+#[derive(Clone, Copy, Debug, PartialEq, Eq)]
+pub enum TurnsEnd {
+    /// The life is over.
+    Over,
+    /// It is to be cut by this crash in its next turn, whose changes are made.
+    Cut(Cut),
+    /// The loop couldn't go on.
+    LoopFailed,
+    /// All turns are taken.
+    TurnsSpent,
+}
+
+/// Takes a turn in which the life isn't cut. The turn is counted, whatever comes of it.
+fn take(
+    rt: &(impl Threads + Sync),
+    going: &mut Going,
+    disk: &mut MemDisk,
+    files: &mut MemFiles,
+) -> Result<Turn, EngineStop>
+    requires { going.old.taken < 2 ^ 64 - 1 }
+    ensures turned { (s : AllSettings) (start : Start) (planned : Life) → IsReady s start planned going.old disk.old files.old None → Turned s start planned going.new disk.new files.new result }
+    ensures taken { going.new.taken ≡ going.old.taken + 1 }
+{
+    going.taken += 1;
+    let turn = going.engine.turn(rt, disk, files, &mut going.script);
+    files.is_played();
+    turn
+}
+
+/// Takes at most so many turns, until the life is over or is to be cut.
+pub fn take_turns(
+    rt: &(impl Threads + Sync),
+    going: &mut Going,
+    life: &Life,
+    disk: &mut MemDisk,
+    files: &mut MemFiles,
+    most: u64,
+) -> Result<TurnsEnd, Memory>
+    requires { going.old.taken ≡ 0 }
+    ensures ended { (s : AllSettings) (start : Start) → IsUnderWay s start life.now going.old disk.old files.old → IfOk result (Ended s start life.now most going.new disk.new files.new) }
+    ensures taken { going.new.taken ≤ most }
+{
+    for _ in 0..most {
+        if let Some(cut) = prepare(going, life, files)? {
+            return Ok(TurnsEnd::Cut(cut));
+        }
+        match take(rt, going, disk, files) {
+            Ok(Turn::More) => {}
+            Ok(Turn::Over) => return Ok(TurnsEnd::Over),
+            Err(EngineStop::LoopFault) => return Ok(TurnsEnd::LoopFailed),
+            Err(EngineStop::Memory) => return Err(Memory),
+        }
+    }
+    Ok(TurnsEnd::TurnsSpent)
+}

@@ -1,4 +1,0 @@
-pub mod Noting
-pub mod Telling
-pub mod Living
-pub mod Row

@@ -1,2 +1,0 @@
-mod Matching
-mod Owing

@@ -1,7 +1,0 @@
-use Rattle.std.proofs.Common.{◌≡◌, drop}
-use Rattle.std.specs.List.{list_all}
-use Rattle.fwd_top.specs.Built.{is_built_output}
-use Rattle.fwd_top.proofs.built.are_built_outputs.Given as goal
-
-abbrev pub invariant-loop-set : goal.invariant-loop-set
-invariant-loop-set l = list_all is_built_output l.outputs ≡ list_all is_built_output (drop l.set-index l.outputs)

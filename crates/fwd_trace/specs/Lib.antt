@@ -1,4 +1,0 @@
-pub mod Fact
-pub mod Trace
-pub mod World
-pub mod Parts

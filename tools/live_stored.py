@@ -1,0 +1,175 @@
+"""Live runs with chunks in files: the program is killed and started again, and files are followed."""
+import os
+import random
+import re
+import signal
+import socket
+import threading
+import time
+
+from live_room import HOST, PATIENCE, Collector, Program, free_port, holds, until
+
+KILLS = int(os.environ.get("FWD_LIVE_KILLS", "12"))
+
+STORED = """[SERVICE]
+    Flush 0.2
+    Grace 10
+    storage.path chunks
+    storage.sync full
+    scheduler.base 1
+    scheduler.cap 1
+[INPUT]
+    Name forward
+    Listen 127.0.0.1
+    Port {port}
+    storage.type filesystem
+[OUTPUT]
+    Name tcp
+    Match *
+    Host 127.0.0.1
+    Port {collector}
+    Format json_lines
+    Retry_Limit no_limits
+"""
+
+
+def spelled(text):
+    """A short text in MessagePack."""
+    return bytes([0xA0 + len(text)]) + text.encode()
+
+
+def message_of(number):
+    """A message of one event that asks for an acknowledgement."""
+    event = b"\x92" + b"\xce" + (1_000 + number).to_bytes(4, "big") + b"\x81" + spelled("n") + b"\xce" + number.to_bytes(4, "big")
+    return b"\x93" + spelled("app") + b"\x91" + event + b"\x81" + spelled("chunk") + spelled(f"id{number}")
+
+
+def answer_of(number):
+    return b"\x81" + spelled("ack") + spelled(f"id{number}")
+
+
+class Sender:
+    """A forward peer that sends numbered messages, one behind the other, each until it is acknowledged."""
+
+    def __init__(self, port):
+        self.port = port
+        self.acknowledged = 0
+        self.stopping = False
+        self.thread = threading.Thread(target=self.work, daemon=True)
+        self.thread.start()
+
+    def work(self):
+        while not self.stopping:
+            try:
+                with socket.create_connection((HOST, self.port), timeout=2) as link:
+                    while not self.stopping:
+                        self.one(link)
+            except OSError:
+                time.sleep(0.02)
+
+    def one(self, link):
+        number = self.acknowledged
+        link.sendall(message_of(number))
+        wanted, got = answer_of(number), b""
+        while len(got) < len(wanted):
+            part = link.recv(len(wanted) - len(got))
+            if not part:
+                raise OSError("the connection ended")
+            got += part
+        holds(got == wanted, f"another acknowledgement came: {got!r}")
+        self.acknowledged = number + 1
+
+    def stop(self):
+        self.stopping = True
+        self.thread.join(PATIENCE)
+        return self.acknowledged
+
+
+NUMBERED = re.compile(rb'\{"date":[0-9]+\.[0-9]{9},"n":([0-9]+)\}')
+
+
+def numbers_of(collector):
+    """The numbers that came whole, over all links; what a kill cut off isn't looked at."""
+    lines = [line for stream in list(collector.streams) for line in bytes(stream).split(b"\n")[:-1]]
+    found = [NUMBERED.fullmatch(line) for line in lines]
+    holds(all(found), f"a line came that nobody sent: {lines[found.index(None)][:200]!r}" if None in found else "")
+    return {int(one[1]) for one in found}
+
+
+def killed(program):
+    program.process.send_signal(signal.SIGKILL)
+    program.process.wait(PATIENCE)
+
+
+def killed_and_started_again(room):
+    """Whatever was acknowledged comes to the collector, at least once, however often the program is killed."""
+    collector, port = Collector(free_port()), free_port()
+    configuration = STORED.format(port=port, collector=collector.port)
+    sender, chance = Sender(port), random.Random(7)
+    for turn in range(KILLS):
+        listens = turn % 3 != 0
+        if listens:
+            collector.open(pause=0.002 * (turn % 2))
+        with Program(room, "killed", configuration) as program:
+            program.connect(port).close()
+            time.sleep(0.1 + 0.6 * chance.random())
+            killed(program)
+        if listens:
+            collector.close()
+    collector.open()
+    with Program(room, "killed", configuration) as program:
+        program.connect(port).close()
+        time.sleep(0.5)
+        acknowledged = sender.stop()
+        holds(acknowledged > KILLS, f"{acknowledged} messages were acknowledged in {KILLS} runs")
+        until(lambda: numbers_of(collector) >= set(range(acknowledged)), f"the collector has all {acknowledged} acknowledged messages", 30)
+        until(lambda: not chunks_in(program), "no file of a chunk is left", 30)
+        killed(program)
+    collector.close()
+
+
+def chunks_in(program):
+    """The files of chunks that are there."""
+    return [os.path.join(at, name) for at, _, names in os.walk(program.path("chunks")) for name in names if name.endswith(".flb")]
+
+
+FOLLOWED = """[SERVICE]
+    Flush 0.2
+    Grace 10
+[INPUT]
+    Name tail
+    Path followed.log
+    Read_from_Head On
+    Tag app
+[OUTPUT]
+    Name file
+    Match *
+    Path .
+    File out
+    Format json_lines
+"""
+
+LOGGED = re.compile(rb'\{"date":[0-9]+\.[0-9]{9},"log":"([a-z]+ [0-9]+)"\}')
+
+
+def logged(program):
+    found = [LOGGED.fullmatch(line) for line in program.lines("out")]
+    holds(all(found), "a line came out that nobody wrote")
+    return [one[1].decode() for one in found]
+
+
+def a_followed_file_is_cut(room):
+    """Lines that are appended come out, also behind a cut."""
+    with Program(room, "followed", FOLLOWED, files={"followed.log": "first 1\nfirst 2\nfir"}) as program:
+        until(lambda: logged(program) == ["first 1", "first 2"], "the lines that stood there come out", 10)
+        with open(program.path("followed.log"), "a") as log:
+            log.write("st 3\n")
+        until(lambda: logged(program)[2:] == ["first 3"], "a line comes out when its end is there", 10)
+        with open(program.path("followed.log"), "w") as log:
+            log.write("next 1\n")
+        until(lambda: logged(program)[3:] == ["next 1"], "what is written behind a cut comes out", 10)
+        holds(program.process.poll() is None, "the program runs on")
+        killed(program)
+
+
+CASES = (killed_and_started_again, a_followed_file_is_cut)
