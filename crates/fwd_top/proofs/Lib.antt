@@ -1,3 +1,4 @@
 pub mod Topping
 pub mod Telling
 pub mod Found
+pub mod Promising

@@ -4,3 +4,4 @@ pub mod Asked
 pub mod Answered
 pub mod Judged
 pub mod Shown
+pub mod Promised

@@ -3,6 +3,7 @@
 #![tactic(auto)]
 
 mod asking;
+mod promise;
 mod status;
 mod top;
 mod words;

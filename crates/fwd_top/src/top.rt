@@ -4,11 +4,15 @@ ghost use Rattle.std.specs.Prelude.{◌≡◌, ◌≤◌, IsErrOf};
 ghost use Rattle.fwd_program.specs.Cause.{HasCause};
 ghost use Rattle.fwd_config.specs.Variables.{environment};
 ghost use Rattle.fwd_parts.specs.Heard.{HasHeard};
-ghost use Rattle.fwd_top.specs.Answered.{Answers, ComesTo, IsDiskFault, IsListed, IsLoopFault, IsOfTheFiles, devices, of_reported, outside_of, spent, status_of};
+ghost use Rattle.fwd_top.specs.Answered.{Answers, ComesTo, IsDiskFault, IsListed, IsLoopFault, IsOfTheFiles, Outside, devices, of_reported, outside_of, spent, status_of};
 ghost use Rattle.fwd_replay.specs.declared.reported.Ending.TheVariants as ending;
+ghost use Rattle.fwd_replay.specs.declared.reported.Reported.{Reported};
+ghost use Rattle.fwd_top.specs.Asked.{Case};
+ghost use Rattle.fwd_top.specs.Promised.{Keeps};
 ghost use Rattle.fwd_top.specs.Judged.{AreSound, HasDiskFailed, HasLoopFailed, Tells, Writes, given_by, of_job, settings_in};
 
 use crate::asking::{Job, read_job};
+use crate::promise::what_comes_keeps_the_promise;
 use crate::status::Status;
 use fwd_listing::{ListErr, listing};
 use fwd_outside::{Bytes, Disk, Files, Loop, Sink, SinkErr};
@@ -136,7 +140,13 @@ pub fn log_forwarder<D: Disk, F: Files, L: Loop, S: Sink>(
     ensures loop_cause { HasCause (L.faults outside.old) (L.faults outside.new) (IsLoopFault words.now result) }
     ensures heard { HasHeard (spent words.now turns result) (L.counts outside.old) (L.counts outside.new) }
     ensures out_cause { HasCause (S.faults out.old) (S.faults out.new) (result ≡ Status.OutFault) }
+    // Each life of what comes of a case, as `answers` has it, keeps the promise: what came in complete is accepted, or refused
+    // and counted, or stood behind the drop of its connection; each chunk is, for each output that it is for, delivered whole,
+    // failed, spent, lost, recorded before, or still owed and in the report; over each link a beginning was handed over of
+    // what its flight was begun with.
+    ensures promise { (case : Case) (before behind : Outside) (reported : Reported) (comes : ComesTo turns case before behind reported) → Keeps turns case before behind reported comes }
 {
+    what_comes_keeps_the_promise();
     match read_job(alloc, words, env, files) {
         Ok(job) => {
             let reported = done_by(rt, alloc, job, disk, files, outside, turns);
