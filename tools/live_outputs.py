@@ -121,9 +121,9 @@ def a_server_is_busy_and_refuses(room):
     server = Server(at, ["503 Busy", None, "204 No Content", "404 Not Found"])
     with Program(room, "http", TO_SERVER.format(port=port, server=at)) as program:
         program.send(port, b'{"n":1}\n')
-        until(lambda: len(server.bodies) == 3, "the line is posted three times", 20)
+        until(lambda: len(server.bodies) == 3, "the line is posted three times", 60)
         program.send(port, b'{"n":2}\n')
-        until(lambda: len(server.bodies) == 4, "the other line is posted", 20)
+        until(lambda: len(server.bodies) == 4, "the other line is posted", 60)
         holds(program.stop() == 0, "the program ends well")
     first, second = [body for _, body in server.bodies[:3]], server.bodies[3][1]
     holds(all(line == b"POST /in HTTP/1.1" for line, _ in server.bodies), "a request has another first line")
