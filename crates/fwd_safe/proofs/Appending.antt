@@ -1,0 +1,282 @@
+-- A batch is put behind what an open chunk has: each moment of that is safe, and all is in order behind it.
+use Rattle.std.proofs.Common.{◌≡◌, inr, ℕ, ◌+◌, ◌≤◌, Bool, true, false, List, ◌∷◌, ◌++◌, length, Option, Some, None, IsSome, refl, sym, ◌∙◌, ap, subst, arith}
+use Rattle.std.specs.Prelude.{Contains, ◌==◌, nat_le, IsUtf8}
+use Rattle.std.specs.Str.{bytes_eq}
+use Rattle.std.proofs.lemmas.Bool.{leb-true, eq-eqb, cond-true, and_parts}
+use Rattle.std.proofs.lemmas.Slice.Eq.{bytes_eq-Decides}
+use Rattle.fwd_base.specs.Limits.{full_chunk, largest_batch, longest_file, longest_tag}
+use Rattle.fwd_program.specs.Program.{bind}
+use Rattle.fwd_program.specs.Moments.{Holds}
+use Rattle.fwd_program.proofs.Holding.{holds_bind}
+use Rattle.fwd_outside.specs.declared.home.Home.TheVariants.{Disk}
+use Rattle.fwd_image.specs.File.{FileState, IsImage, whole}
+use Rattle.fwd_image.specs.Disk.{Files}
+use Rattle.fwd_image.specs.Disk as disk
+use Rattle.fwd_image.specs.Crash.{Images, SameBut}
+use Rattle.fwd_image.proofs.Sound.{sound_whole, sound_image}
+use Rattle.fwd_chunk.specs.declared.append.ChunkHead.{ChunkHead}
+use Rattle.fwd_chunk.specs.Layout.{new_meta}
+use Rattle.fwd_chunk.specs.Append.{KeepsEither, SettledIn, committed_head}
+use Rattle.fwd_chunk.proofs.Creating.{length-new_meta, are_short}
+use Rattle.fwd_kept.specs.declared.kept.Kept.{Kept as Held}
+use Rattle.fwd_kept.specs.declared.kept.Kept.TheVariants.{InFile, Adopted, InMemory}
+use Rattle.fwd_kept.specs.Kept.{file_held, appends as appends_kept}
+use Rattle.fwd_store.specs.Store.{appends_to}
+use Rattle.fwd_safe.proofs.Calls.{holds_appends}
+use Rattle.fwd_settings.specs.declared.chosen.AllSettings.{AllSettings}
+use Rattle.fwd_settings.specs.Sound.{IsSound}
+use Rattle.fwd_written.specs.Fact.{History, Batch, Behind, NotStored, Offers, Accepted, Refused, Shut, Faulted}
+use Rattle.fwd_written.specs.Trace.{Act, Note}
+use Rattle.fwd_written.specs.Parts.{on_disk}
+use Rattle.fwd_written.specs.Setup.{names_for}
+use Rattle.fwd_written.specs.Chunks.{ChunkOf, chunks_of, open_chunks, open_chunk, is_from, is_shut, content, size, extra, spelled}
+use Rattle.fwd_written.specs.Held.{kept_of}
+use Rattle.fwd_written.specs.Routes.{route, home_of}
+use Rattle.fwd_written.specs.Noting.{noting}
+use Rattle.fwd_written.specs.Closing.{fills, shuts}
+use Rattle.fwd_written.specs.Accepting.{Accepting, taken, given_up, appended, appends}
+use Rattle.fwd_ties.specs.Past.{Past, noted}
+use Rattle.fwd_ties.specs.Due.{Due, IsToStore}
+use Rattle.fwd_ties.specs.Sound.{Sound}
+use Rattle.fwd_ties.proofs.Members.{from_find}
+use Rattle.fwd_ties.proofs.Sounding.{sound as sound_past}
+use Rattle.fwd_safe.specs.Moment.{Moment, moment, Passes}
+use Rattle.fwd_safe.specs.Recorded.{is_recorded}
+use Rattle.fwd_safe.specs.Whole.{IsWhole}
+use Rattle.fwd_safe.specs.Safe.{IsHeld, IsSafe}
+use Rattle.fwd_safe.proofs.Ordered.{head_of, NamesAll, IsOpen, IsFiled, InOrder, HaveRoom}
+use Rattle.fwd_safe.proofs.Small.{same_head, one_chunk}
+use Rattle.fwd_safe.proofs.Safely.{local_safe, order_safe, changed_order}
+use Rattle.fwd_safe.proofs.Facts.{plain_order, plain_room, offers_order, offers_room}
+use Rattle.fwd_safe.proofs.Filed.{settled_image}
+use Rattle.fwd_safe.proofs.Rooms.{RoomBut, room_all, room_shut, room_grown, open_of}
+use Rattle.fwd_safe.proofs.Writable.{IsWritable, writable_are}
+use Rattle.fwd_safe.proofs.Outputs.{names_are}
+use Rattle.fwd_safe.proofs.Growing.{grown_order, grown_memory, either_whole}
+use Rattle.fwd_safe.proofs.Stepping.{after, TakenBy}
+use Rattle.fwd_safe.proofs.Units.{IsBehind, with_all, Ordered, Safe, Kept, Came, safe_now, runs, notes}
+
+module _ (s : AllSettings) (settings : IsSound s) (full : s.service.full ≡ true) (first : Files) (b : Batch) (c : ChunkOf) (m : Moment) (store : IsToStore s b) (writable : IsWritable b)
+    (found : open_chunk (noted m.past) b.input b.tag ≡ Some c) (kept : Kept s first m) where
+  abbrev h : History
+  h = noted m.past
+
+  abbrev n : ℕ
+  n = c.number
+
+  abbrev g : History
+  g = Offers n b ∷ h
+
+  abbrev Took : Accepting → Moment → Type 0
+  Took a end = (a.history ≡ noted end.past) × Kept s first end
+
+  abbrev Taken : Moment → Act Accepting → Type 0
+  Taken at p = TakenBy (Safe s first) (Kept s first) at p
+
+  abbrev Fills : Type 0
+  Fills =
+      (end : Moment) → Safe s first end → (nat_le full_chunk (size (noted end.past) n) ≡ false → Kept s first end) → ((answer : Unit {0}) → Kept s first (after end (Note (Shut n)) answer))
+      → Taken end (bind (fills s n (noted end.past)) taken)
+
+  abbrev Shuts : Type 0
+  Shuts = (end : Moment) → Safe s first end → ((answer : Unit {0}) → Kept s first (after end (Note (Shut n)) answer)) → Taken end (bind (shuts s n (noted end.past)) given_up)
+
+  among_open : Contains (open_chunks h) c
+  among_open = (from_find _ (open_chunks h) c found).0
+
+  among : Contains (chunks_of h) c
+  among = (open_of h c among_open).0
+
+  off : is_shut h n ≡ false
+  off = (open_of h c among_open).1
+
+  same_tag : c.tag ≡ b.tag
+  same_tag = (bytes_eq-Decides c.tag b.tag).0 (and_parts (is_from b.input c.input) (bytes_eq c.tag b.tag) (from_find _ (open_chunks h) c found).1).1
+
+  short_tag : length c.tag ≤ longest_tag
+  short_tag = subst (λ (tag : List ℕ). length tag ≤ longest_tag) (sym same_tag) writable.short
+
+  text_of : IsUtf8 c.tag
+  text_of = subst IsUtf8 (sym same_tag) writable.text
+
+  module _ (fills_on : Fills) (shuts_on : Shuts) (offered : Unit {0}) where
+    abbrev at : Moment
+    at = after m (Note (Offers n b)) offered
+
+    record Here : Type 0 where
+      sound : Sound s h
+      was : Ordered s first h m.files
+      order : InOrder s first g m.files
+
+    here_now : Due s m.past → Here
+    here_now due =
+        let sound = sound_past s m.past due in
+        let was = kept due in
+        record { sound = sound; was = was; order = offers_order s first h m.files n b sound was.0 (inr (c, among_open, refl)) }
+
+    accepted : (end : Moment) → noted end.past ≡ g → Safe s first end → (Due s end.past → Due s m.past × InOrder s first (Accepted b (Behind n) ∷ g) end.files)
+        → Taken end (appended s b n g (Some tt))
+    accepted end same safe behind =
+        notes s first Took (Accepted b (Behind n)) g end (λ k. bind (fills s n k) taken) same safe
+        (λ answer.
+        let last : Moment = after end (Note (Accepted b (Behind n))) answer in
+        let k : History = Accepted b (Behind n) ∷ noted end.past in
+        let order : Due s last.past → InOrder s first k end.files = λ due. subst (λ (x : History). InOrder s first (Accepted b (Behind n) ∷ x) end.files) (sym same) (behind due.1).1 in
+        fills_on last (λ due. order_safe s first last.past end.files (order due))
+        (λ small due. (order due, room_all n k (subst (λ (x : History). RoomBut n (Accepted b (Behind n) ∷ x)) (sym same) (room_grown n b h (kept (behind due.1).0).1)) small))
+        (λ more due.
+        (plain_order s first (Shut n) k end.files tt (order due.1), room_shut n k (subst (λ (x : History). RoomBut n (Accepted b (Behind n) ∷ x)) (sym same) (room_grown n b h (kept (behind due.1.1).0).1)))))
+
+    -- ---- in memory
+
+    in_memory : head_of (kept_of s h n) ≡ None → Taken at (appended s b n g (Some tt))
+    in_memory none =
+        accepted at refl (λ due. order_safe s first at.past m.files (here_now due.1).order)
+        (λ due. let x = here_now due.1 in (due.1, grown_memory s first h b c m.files x.sound x.was.0 found none))
+
+    -- ---- in a file
+
+    module _ (head : ChunkHead) (held : head_of (kept_of s h n) ≡ Some head) where
+      home_disk : Here → home_of s c.input ≡ Disk
+      home_disk x =
+          let home = x.was.0.home n head held in
+          subst (λ (d : ChunkOf). home_of s d.input ≡ Disk) (one_chunk s h home.of c x.sound home.among among home.is) home.home
+
+      filed : (x : Here) → IsFiled s h c m.files
+      filed x = x.was.0.owed c among (x.sound.owed c among_open) (home_disk x)
+
+      open_head : (x : Here) → IsOpen s h c head m.files
+      open_head x = subst (λ (one : ChunkHead). IsOpen s h c one m.files) (same_head (kept_of s h n) (filed x).head head (filed x).held held) ((filed x).at_work off)
+
+    module _ (head : ChunkHead) (in_it : kept_of s h n ≡ Some (InFile head)) where
+      held : head_of (kept_of s h n) ≡ Some head
+      held = ap head_of in_it
+
+      abbrev meta : List ℕ
+      meta = new_meta c.tag (names_for s c.tag)
+
+      abbrev batch : List ℕ
+      batch = spelled b.events
+
+      abbrev Going : Files → Type 0
+      Going now = KeepsEither head meta (content h n) (content h n ++ batch) m.files now
+
+      abbrev Ended : Option (Unit {0}) → Files → Type 0
+      Ended answer last = IsSome answer → SettledIn (committed_head head (head.size + length batch)) meta (content h n ++ batch) last
+
+      abbrev Over : Option (Unit {0}) → Files → Type 0
+      Over answer last = IsBehind Going Ended answer last
+
+      images_of : (x : Here) → Images head.name (IsWhole s h c) m.files
+      images_of x = subst (λ (one : ChunkHead). Images one.name (IsWhole s h c) m.files) (same_head (kept_of s h n) (filed head held x).head head (filed head held x).held held) (filed head held x).images
+
+      extra_now : extra g n ≡ b.events
+      extra_now = cond-true (n == n) b.events (extra h n) (eq-eqb n n refl)
+
+      -- a history that says of the chunk what this one says with the batch being put into it
+      abbrev Recordings : History → Type 0
+      Recordings k = (output : ℕ) → is_recorded s k (route n output) ≡ is_recorded s h (route n output)
+
+      both : Here → (k : History) → content k n ≡ content h n → extra k n ≡ b.events → Recordings k → (now : Files) → Going now → Images head.name (IsWhole s k c) now × Images head.name (NamesAll head) now
+      both x k has more same now going = either_whole s h k b c head m.files (names_are s settings c.tag) text_of short_tag (writable_are b writable store.fits).written_as (writable_are b writable store.fits).are (open_head head held x) (images_of x) has more same now going.0
+
+      safe_at : Here → (k : History) (past : Past) (now : Files) → noted past ≡ k → InOrder s first k m.files → kept_of s k n ≡ Some (InFile head) → ((d : ChunkOf) → Contains (chunks_of k) d → d.number ≡ n → d ≡ c)
+          → Images head.name (IsWhole s k c) now → SameBut head.name m.files now → IsSafe s first (moment past now)
+      safe_at x k past now same order in_file_now only images but =
+          let held_now : file_held (kept_of s k n) ≡ Some head.name = ap file_held in_file_now in
+          local_safe s first past m.files now head.name (subst (λ (y : History). InOrder s first y m.files) (sym same) order) but
+          (λ d d_among owed home d_held image is.
+          let number : d.number ≡ n = order.differ d.number n head.name (subst (λ (y : History). file_held (kept_of s y d.number) ≡ Some head.name) same d_held) held_now in
+          let one : d ≡ c = only d (subst (λ (y : History). Contains (chunks_of y) d) same d_among) number in
+          subst (λ (y : History). IsWhole s y d image) (sym same) (subst (λ (e : ChunkOf). IsWhole s k e image) (sym one) (images image is)))
+          (λ bytes is. IsHeld n (subst (λ (y : History). file_held (kept_of s y n) ≡ Some head.name) (sym same) held_now))
+
+      only_one : (x : Here) (d : ChunkOf) → Contains (chunks_of h) d → d.number ≡ n → d ≡ c
+      only_one x d d_among number = one_chunk s h d c x.sound d_among among number
+
+      offers_safe : Due s m.past → (past : Past) (now : Files) → noted past ≡ g → Going now → IsSafe s first (moment past now)
+      offers_safe due past now same going =
+          let x = here_now due in
+          safe_at x g past now same x.order in_it (only_one x) (both x g refl extra_now (λ output. refl) now going).0 going.1
+
+      fits : (x : Here) → 24 + head.meta + head.size + length batch ≤ longest_file
+      fits x =
+          let at_work = open_head head held x in
+          let file = at_work.settled in
+          let image = settled_image head meta (content h n) m.files file (Some file.bytes) (subst (λ (f : FileState). IsImage f (Some file.bytes)) (sym file.state) (sound_image (whole file.bytes) (sound_whole file.bytes))) in
+          let outputs = names_are s settings c.tag in
+          let small = x.was.1 c among_open in
+          omega (arith, leb-true (length batch) largest_batch store.fits, image.3, image.4, small, length-new_meta c.tag (names_for s c.tag) short_tag outputs.few (are_short (names_for s c.tag) outputs))
+
+      calls : Due s at.past → Holds disk.Steps Going Over m.files (appends_kept (InFile head) batch s.service.full)
+      calls due =
+          let x = here_now due.1 in
+          subst (λ (f : Bool). Holds disk.Steps Going Over m.files (appends_kept (InFile head) batch f)) (sym full)
+          (with_all Going Ended (appends_kept (InFile head) batch true) m.files x.was.0.sound (holds_appends head meta (content h n) batch m.files (fits x) (open_head head held x).settled))
+
+      -- behind an append that failed
+      abbrev failed : History
+      failed = Refused b NotStored ∷ Faulted ∷ g
+
+      behind : (answer : Option (Unit {0})) (end : Moment) → Came s first at Over answer end → Taken end (appended s b n g answer)
+      behind (Some done) end came =
+          accepted end came.0 (λ due. let is = came.1 due in offers_safe is.0.1 end.past end.files came.0 is.1.going)
+          (λ due.
+          let is = came.1 due in
+          let x = here_now is.0.1 in
+          (is.0.1, grown_order s first settings h b c m.files end.files head x.sound x.was.0 found writable.text writable.short (writable_are b writable store.fits) in_it is.1.going.1 (is.1.ended refl) is.1.sound))
+      behind None end came =
+          notes s first Took Faulted g end (λ k. noting (Refused b NotStored) k (λ last. bind (shuts s n last) given_up)) came.0 (λ due. let is = came.1 due in offers_safe is.0.1 end.past end.files came.0 is.1.going)
+          (λ answer.
+          let faulted : Moment = after end (Note Faulted) answer in
+          let faulted_is : noted faulted.past ≡ Faulted ∷ g = ap (λ (y : History). Faulted ∷ y) came.0 in
+          notes s first Took (Refused b NotStored) (noted faulted.past) faulted (λ last. bind (shuts s n last) given_up) refl
+          (λ due.
+          let is = came.1 due.1 in
+          let x = here_now is.0.1 in
+          safe_at x (Faulted ∷ g) faulted.past end.files faulted_is (plain_order s first Faulted g m.files tt x.order) in_it (only_one x) (both x (Faulted ∷ g) refl extra_now (λ output. refl) end.files is.1.going).0 is.1.going.1)
+          (λ more.
+          let refused : Moment = after faulted (Note (Refused b NotStored)) more in
+          let refused_is : noted refused.past ≡ failed = ap (λ (y : History). Refused b NotStored ∷ y) faulted_is in
+          let order : (x : Here) → InOrder s first failed m.files = λ x. plain_order s first (Refused b NotStored) (Faulted ∷ g) m.files tt (plain_order s first Faulted g m.files tt x.order) in
+          shuts_on refused
+          (λ due.
+          let is = came.1 due.1.1 in
+          let x = here_now is.0.1 in
+          safe_at x failed refused.past end.files refused_is (order x) in_it (only_one x) (both x failed refl extra_now (λ output. refl) end.files is.1.going).0 is.1.going.1)
+          (λ last due.
+          let is = came.1 due.1.1.1 in
+          let x = here_now is.0.1 in
+          let closed : InOrder s first (Shut n ∷ failed) m.files = plain_order s first (Shut n) failed m.files tt (order x) in
+          let images = both x (Shut n ∷ failed) refl extra_now (λ output. refl) end.files is.1.going in
+          let room : HaveRoom (Shut n ∷ failed) = plain_room (Shut n) failed tt (plain_room (Refused b NotStored) (Faulted ∷ g) tt (plain_room Faulted g tt (offers_room h n b x.was.1))) in
+          let sound : Sound s (Shut n ∷ failed) = subst (Sound s) (ap (λ (y : History). Shut n ∷ y) refused_is) (sound_past s (after refused (Note (Shut n)) last).past due) in
+          subst (λ (y : History). Ordered s first (Shut n ∷ y) end.files) (sym refused_is)
+          (changed_order s first (Shut n ∷ failed) m.files end.files c head sound closed among (cond-true (n == n) true (is_shut failed n) (eq-eqb n n refl)) held is.1.going.1 is.1.sound images.0 images.1, room))))
+
+      in_file : Taken at (bind (on_disk (appends_kept (InFile head) batch s.service.full)) (appended s b n g))
+      in_file =
+          holds_bind Passes (Safe s first) (Came s first at Over) Took at (on_disk (appends_kept (InFile head) batch s.service.full)) (appended s b n g)
+          (runs s first at Going Over (λ due past now same going. offers_safe due.1 past now same going) (appends_kept (InFile head) batch s.service.full) calls) behind
+
+    -- one that was found takes no batches
+    not_found : (head : ChunkHead) → kept_of s h n ≡ Some (Adopted head) → Here → ⊥
+    not_found head is x =
+        let at_work = open_head head (ap head_of is) x in
+        absurd (cc (sym is ∙ at_work.kept))
+
+    found_one : (head : ChunkHead) → kept_of s h n ≡ Some (Adopted head) → Taken at (appended s b n g (Some tt))
+    found_one head is =
+        accepted at refl (λ due. absurd (not_found head is (here_now due.1))) (λ due. absurd (not_found head is (here_now due.1)))
+
+    by_kept : (held : Option Held) → kept_of s h n ≡ held → Taken at (bind (on_disk (appends_to held (spelled b.events) s.service.full)) (appended s b n g))
+    by_kept None is = in_memory (ap head_of is)
+    by_kept (Some (InMemory content)) is = in_memory (ap head_of is)
+    by_kept (Some (InFile head)) is = in_file head is
+    by_kept (Some (Adopted head)) is = found_one head is
+
+  pub appends_well : Fills → Shuts → Taken m (appends s b n h)
+  unfolding appends
+  appends_well fills_on shuts_on =
+      notes s first Took (Offers n b) h m (λ k. bind (on_disk (appends_to (kept_of s h n) (spelled b.events) s.service.full)) (appended s b n k)) refl (safe_now s first m kept)
+      (λ answer. by_kept fills_on shuts_on answer (kept_of s h n) refl)

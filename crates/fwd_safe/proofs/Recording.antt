@@ -1,0 +1,296 @@
+-- Order while the outcome of an output is recorded in a chunk's file, and behind it.
+use Rattle.std.proofs.Common.{◌≡◌, ◌≢◌, ◌⊎◌, inl, inr, ⊎_elim, ℕ, ◌+◌, ◌<◌, ◌≤◌, ◌||◌, if◌then◌else◌, Bool, true, false, List, [], ◌∷◌, ◌++◌, Option, Some, None, refl, sym, ◌∙◌, ap, subst, le_refl}
+use Rattle.std.specs.Prelude.{Contains, ◌==◌}
+use Rattle.std.specs.Str.{bytes_eq}
+use Rattle.std.proofs.lemmas.Bool.{ne_eqb, and_left, and_right}
+use Rattle.std.proofs.lemmas.Slice.Eq.{bytes_eq-Decides}
+use Rattle.fwd_base.specs.Limits.{past_numbers}
+use Rattle.fwd_outside.specs.declared.home.Home.TheVariants.{Disk}
+use Rattle.fwd_image.specs.File.{FileState, IsImage}
+use Rattle.fwd_image.specs.Disk.{Files}
+use Rattle.fwd_image.specs.Crash.{Images, SameBut}
+use Rattle.fwd_image.proofs.Sound.{AllSound}
+use Rattle.fwd_image.proofs.Keeps.{whole_image}
+use Rattle.fwd_image.proofs.OneByte.{read_image}
+use Rattle.fwd_chunk.specs.declared.append.ChunkHead.{ChunkHead}
+use Rattle.fwd_chunk.specs.Layout.{Named}
+use Rattle.fwd_chunk.specs.Settle.{named_length, bytes_from, place_before, outcome_place, with_outcome, SettlesOne, KeepsOtherOutcomes, RecordedIn}
+use Rattle.fwd_kept.specs.Kept.{file_held}
+use Rattle.fwd_settings.specs.declared.chosen.AllSettings.{AllSettings}
+use Rattle.fwd_written.specs.Fact.{History, Route, Recorded}
+use Rattle.fwd_written.specs.Setup.{outputs_for, output_name}
+use Rattle.fwd_written.specs.Found.{has_done}
+use Rattle.fwd_written.specs.Chunks.{ChunkOf, chunks_of, next, is_shut, content, extra, spelled}
+use Rattle.fwd_written.specs.Held.{kept_of, name_for}
+use Rattle.fwd_written.specs.Routes.{route, same_route, is_resolved, is_owed, home_of}
+use Rattle.fwd_ties.specs.Sound.{Sound}
+use Rattle.fwd_ties.proofs.Members.{here, deeper}
+use Rattle.fwd_safe.specs.Recorded.{is_recorded, may_be_recorded}
+use Rattle.fwd_safe.specs.Whole.{HoldsWhole, IsWhole}
+use Rattle.fwd_safe.specs.Safe.{IsOf, IsHeld}
+use Rattle.fwd_safe.proofs.Ordered.{head_of, NamesAll, IsFiled, IsAtHome, InOrder}
+use Rattle.fwd_safe.proofs.Small.{held_of, same_head, one_chunk}
+use Rattle.fwd_safe.proofs.Filed.{IsSettledAs, settled_holds}
+use Rattle.fwd_safe.proofs.Alike.{one_name, Alike, content_alike, of_behind, moved_order}
+
+-- ---- a place for an outcome is that of an output among the head's
+
+among_names : (output : List ℕ) (names : List (List ℕ)) (count : ℕ) → bytes_from output names ≡ Some count → Contains names output
+among_names output [] count is = absurd (cc is)
+among_names output (name ∷ names) count is = by (bytes_eq name output) refl is (among_names output names count)
+  where
+    by : (b : Bool) → bytes_eq name output ≡ b → (if b then Some (named_length (name ∷ names)) else bytes_from output names) ≡ Some count → (bytes_from output names ≡ Some count → Contains names output) → Contains (name ∷ names) output
+    by true same at more = subst (λ (x : List ℕ). Contains (name ∷ names) x) ((bytes_eq-Decides name output).0 same) (here name names)
+    by false same at more = deeper name names output (more at)
+
+pub placed_among : (head : ChunkHead) (output : List ℕ) (place : ℕ) → outcome_place head output ≡ Some place → Contains head.outputs output
+placed_among head output place is = by (head.mark == 2) (bytes_from output head.outputs) refl is
+  where
+    by : (b : Bool) (count : Option ℕ) → bytes_from output head.outputs ≡ count → (if b then place_before (24 + head.meta) count else None) ≡ Some place → Contains head.outputs output
+    by true None at never = absurd (cc never)
+    by true (Some count) at is = among_names output head.outputs count at
+    by false count at never = absurd (cc never)
+
+-- ---- what an image with one more outcome holds
+
+-- the chunk of a route has no other output of the route's output's name
+abbrev pub IsApart : AllSettings → ChunkOf → Route → Type 0
+IsApart s c r = (output : ℕ) → Contains (outputs_for s c.tag) output → output_name s output ≡ output_name s r.output → output ≡ r.output
+
+module _ (s : AllSettings) (c : ChunkOf) (r : Route) (of_it : c.number ≡ r.chunk) (apart : IsApart s c r) where
+  abbrev its_name : List ℕ
+  its_name = output_name s r.output
+
+  -- an output of the name is that of the route
+  its_route : (output : ℕ) → Contains (outputs_for s c.tag) output → output_name s output ≡ its_name → route c.number output ≡ r
+  its_route output has same = ap (λ (o : ℕ). route c.number o) (apart output has same) ∙ ap (λ (n : ℕ). route n r.output) of_it
+
+  -- from one history to the next the route's outcome alone may have come to be recorded
+  record Recording (h g : History) : Type 0 where
+    has : content g c.number ≡ content h c.number
+    more : extra g c.number ≡ extra h c.number
+    begun : (output : ℕ) → may_be_recorded s g (route c.number output) ≡ may_be_recorded s h (route c.number output)
+    ended : (output : ℕ) → is_resolved s g (route c.number output) ≡ is_resolved s h (route c.number output)
+    others : (output : ℕ) → output_name s output ≢ its_name → is_recorded s g (route c.number output) ≡ true → is_recorded s h (route c.number output) ≡ true
+
+  module _ (h g : History) (recording : Recording h g) (may_be : may_be_recorded s h r ≡ true) (resolved : is_resolved s h r ≡ true) (was bytes : List ℕ) (held : HoldsWhole s h c was)
+      (outputs : List Named) (x : ℕ) (settled : IsSettledAs its_name outputs x held.chunk bytes)
+      (its : (output : ℕ) → Contains (outputs_for s c.tag) output → output_name s output ≡ its_name → is_recorded s g (route c.number output) ≡ true → has_done its_name (Some settled.new) ≡ true) where
+    its_done : (output : ℕ) → Contains (outputs_for s c.tag) output → is_recorded s g (route c.number output) ≡ true → has_done (output_name s output) (Some settled.new) ≡ true
+    its_done output has is =
+        ⊎_elim (λ (same : output_name s output ≡ its_name). subst (λ (n : List ℕ). has_done n (Some settled.new) ≡ true) (sym same) (its output has same is))
+        (λ (ne : output_name s output ≢ its_name). settled.others (output_name s output) ne ∙ held.recorded output has (recording.others output ne is)) (one_name (output_name s output) its_name)
+
+    no_more : (output : ℕ) → Contains (outputs_for s c.tag) output → has_done (output_name s output) (Some settled.new) ≡ true
+        → (may_be_recorded s g (route c.number output) ≡ true) × (is_resolved s g (route c.number output) ≡ true)
+    no_more output has is =
+        let old : (may_be_recorded s h (route c.number output) ≡ true) × (is_resolved s h (route c.number output) ≡ true) =
+        ⊎_elim (λ (same : output_name s output ≡ its_name). route_of (its_route output has same)) (λ (ne : output_name s output ≢ its_name). held.no_other output has (sym (settled.others (output_name s output) ne) ∙ is)) (one_name (output_name s output) its_name) in
+        (recording.begun output ∙ old.0, recording.ended output ∙ old.1)
+      where
+        route_of : route c.number output ≡ r → (may_be_recorded s h (route c.number output) ≡ true) × (is_resolved s h (route c.number output) ≡ true)
+        route_of same = (ap (may_be_recorded s h) same ∙ may_be, ap (is_resolved s h) same ∙ resolved)
+
+    holds_settled : HoldsWhole s g c bytes
+    holds_settled = record {
+      chunk = settled.new;
+      found = settled.found;
+      tag = settled.tag ∙ held.tag;
+      content = content_alike h g c.number settled.new.content recording.has recording.more (same_content held.content);
+      recorded = its_done;
+      no_other = no_more;
+    }
+      where
+        same_content : (held.chunk.content ≡ content h c.number) ⊎ (held.chunk.content ≡ content h c.number ++ spelled (extra h c.number)) → (settled.new.content ≡ content h c.number) ⊎ (settled.new.content ≡ content h c.number ++ spelled (extra h c.number))
+        same_content (inl is) = inl (settled.content ∙ is)
+        same_content (inr is) = inr (settled.content ∙ is)
+
+  -- ---- while it is being recorded
+
+  module _ (h : History) (head : ChunkHead) (files now : Files) (images : Images head.name (IsWhole s h c) files) (may_be : may_be_recorded s h r ≡ true) (resolved : is_resolved s h r ≡ true) (not_yet : is_recorded s h r ≡ false) where
+    unchanged : Recording h h
+    unchanged = record { has = refl; more = refl; begun = λ _. refl; ended = λ _. refl; others = λ output ne is. is }
+
+    none_its : (output : ℕ) → Contains (outputs_for s c.tag) output → output_name s output ≡ its_name → is_recorded s h (route c.number output) ≡ true → ⊥
+    none_its output has same is = absurd (cc (sym (ap (is_recorded s h) (its_route output has same) ∙ not_yet) ∙ is))
+
+    settles_one : (image : Option (List ℕ)) → SettlesOne head its_name (files head.name) image → IsWhole s h c image
+    settles_one None settles = settles
+    settles_one (Some bytes) settles =
+        let was = settles.0 in
+        let held : HoldsWhole s h c was = images (Some was) settles.5 in
+        holds_settled h h unchanged may_be resolved was bytes held settles.2 settles.4
+        (settled_holds head settles.1 settles.2 settles.3 was bytes its_name settles.4 held.chunk settles.6 held.found settles.7)
+        (λ output has same is. absurd (none_its output has same is))
+
+  settles_names : (head : ChunkHead) (before : FileState) (image : Option (List ℕ)) → SettlesOne head its_name before image → NamesAll head image
+  settles_names head before None settles = λ mark. settles
+  settles_names head before (Some bytes) settles = λ mark. (settles.1, with_outcome its_name settles.4 settles.2, settles.3, settles.7)
+
+  pub settles_whole : (h : History) (files now : Files) (head : ChunkHead) → Images head.name (IsWhole s h c) files → may_be_recorded s h r ≡ true → is_resolved s h r ≡ true → is_recorded s h r ≡ false
+      → Images head.name (SettlesOne head (output_name s r.output) (files head.name)) now → Images head.name (IsWhole s h c) now × Images head.name (NamesAll head) now
+  settles_whole h files now head images may_be resolved not_yet settles =
+      (λ image is. settles_one h head files now images may_be resolved not_yet image (settles image is), λ image is. settles_names head (files head.name) image (settles image is))
+
+-- ---- behind it
+
+-- a file that is there at each image can't be gone
+pub there_at : (P : Option (List ℕ) → Type 0) (file : FileState) → (P None → ⊥) → ((image : Option (List ℕ)) → IsImage file image → P image) → file.may_go ≡ false
+there_at P file never images = by file.may_go refl
+  where
+    by : (b : Bool) → file.may_go ≡ b → file.may_go ≡ false
+    by true is = absurd (never (images None is))
+    by false is = is
+
+-- A chunk that is held in a file is held in it still, and the file alone changed.
+module _ (s : AllSettings) (first : Files) (h g : History) (files now : Files) (c : ChunkOf) (head : ChunkHead) (sound : Sound s h) (order : InOrder s first h files) (among : Contains (chunks_of h) c) (held : head_of (kept_of s h c.number) ≡ Some head)
+    (same : SameBut head.name files now) (all : AllSound now) (chunks : chunks_of g ≡ chunks_of h) (number : next g ≡ next h) (kept : (m : ℕ) → kept_of s g m ≡ kept_of s h m) (alike : (m : ℕ) → m ≢ c.number → Alike s h g m)
+    (still : (name bytes : List ℕ) → IsOf s first h name bytes → IsOf s first g name bytes) (filed : is_owed s g c ≡ true → home_of s c.input ≡ Disk → IsFiled s g c now) where
+  abbrev IsIts : List ℕ → Type 0
+  IsIts other = other ≡ head.name
+
+  in_file : file_held (kept_of s h c.number) ≡ Some head.name
+  in_file = held_of (kept_of s h c.number) head held
+
+  before : (d : ChunkOf) → Contains (chunks_of g) d → Contains (chunks_of h) d
+  before d has = subst (λ (cs : List ChunkOf). Contains cs d) chunks has
+
+  its_apart : (m : ℕ) (other : List ℕ) → m ≢ c.number → file_held (kept_of s h m) ≡ Some other → IsIts other → ⊥
+  its_apart m other ne is one = ne (order.differ m c.number head.name (is ∙ ap (λ (l : List ℕ). Some l) one) in_file)
+
+  its_held : (other : List ℕ) → file_held (kept_of s g c.number) ≡ Some other → IsIts other
+  its_held other is = let both : Some other ≡ Some head.name = sym is ∙ ap file_held (kept c.number) ∙ in_file in cc both
+
+  its_home : (at : ChunkHead) → head_of (kept_of s g c.number) ≡ Some at → IsAtHome s g c.number
+  its_home at is =
+      let old = order.home c.number at (sym (ap head_of (kept c.number)) ∙ is) in
+      record { of = old.of; among = subst (λ (cs : List ChunkOf). Contains cs old.of) (sym chunks) old.among; is = old.is; home = old.home }
+
+  its_filed : (d : ChunkOf) → Contains (chunks_of g) d → d.number ≡ c.number → is_owed s g d ≡ true → home_of s d.input ≡ Disk → IsFiled s g d now
+  its_filed d has one is home =
+      let equal : d ≡ c = one_chunk s h d c sound (before d has) among one in
+      subst (λ (x : ChunkOf). IsFiled s g x now) (sym equal) (filed (subst (λ (x : ChunkOf). is_owed s g x ≡ true) equal is) (subst (λ (x : ChunkOf). home_of s x.input ≡ Disk) equal home))
+
+  its_free : (root : List ℕ) → s.service.path ≡ Some root → (input chunk : ℕ) → next g ≤ chunk → chunk < past_numbers → IsIts (name_for s input chunk) → ⊥
+  its_free root under input chunk le lt one = (order.free root under input chunk (subst (λ (k : ℕ). k ≤ chunk) number le) lt).unheld c.number (in_file ∙ ap (λ (l : List ℕ). Some l) (sym one))
+
+  its_others : (other bytes : List ℕ) → IsImage (now other) (Some bytes) → IsOf s first g other bytes
+  its_others other bytes is =
+      ⊎_elim (λ (one : other ≡ head.name). IsHeld c.number (ap file_held (kept c.number) ∙ in_file ∙ ap (λ (l : List ℕ). Some l) (sym one)))
+      (λ (ne : other ≢ head.name). still other bytes (order.others other bytes (subst (λ (f : FileState). IsImage f (Some bytes)) (same other ne) is))) (one_name other head.name)
+
+  pub settled_order : InOrder s first g now
+  settled_order =
+      moved_order s first h g files now c.number IsIts (record {
+        sound = all;
+        same = same;
+        apart = its_apart;
+        was = λ d has ne. before d has;
+        stays = λ d has. subst (λ (cs : List ChunkOf). Contains cs d) (sym chunks) has;
+        alike = alike;
+        kept = λ m ne. kept m;
+        held = its_held;
+        home = its_home;
+        filed = its_filed;
+        later = subst (λ (k : ℕ). next h ≤ k) (sym number) (le_refl (next h));
+        free = its_free;
+        others = its_others;
+      }) order
+
+module _ (s : AllSettings) (first : Files) (h : History) (files now : Files) (c : ChunkOf) (r : Route) (head : ChunkHead) (sound : Sound s h) (order : InOrder s first h files) (among : Contains (chunks_of h) c) (of_it : c.number ≡ r.chunk)
+    (apart : IsApart s c r) (shut : is_shut h r.chunk ≡ true) (held : head_of (kept_of s h r.chunk) ≡ Some head) (place : ℕ) (placed : outcome_place head (output_name s r.output) ≡ Some place)
+    (may_be : may_be_recorded s h r ≡ true) (resolved : is_resolved s h r ≡ true) where
+  held_here : head_of (kept_of s h c.number) ≡ Some head
+  held_here = subst (λ (n : ℕ). head_of (kept_of s h n) ≡ Some head) (sym of_it) held
+
+  shut_here : is_shut h c.number ≡ true
+  shut_here = subst (λ (n : ℕ). is_shut h n ≡ true) (sym of_it) shut
+
+  -- its file as it was
+  module _ (owed : is_owed s h c ≡ true) (home : home_of s c.input ≡ Disk) where
+    filed : IsFiled s h c files
+    filed = order.owed c among owed home
+
+    same : filed.head ≡ head
+    same = same_head (kept_of s h c.number) filed.head head filed.held held_here
+
+    was_whole : Images head.name (IsWhole s h c) files
+    was_whole = subst (λ (x : ChunkHead). Images x.name (IsWhole s h c) files) same filed.images
+
+    -- with what its images are now
+    filed_as : (g : History) → kept_of s g c.number ≡ kept_of s h c.number → is_shut g c.number ≡ is_shut h c.number → Images head.name (IsWhole s g c) now → Images head.name (NamesAll head) now → IsFiled s g c now
+    filed_as g kept closed images names = record {
+      root = filed.root;
+      path = filed.path;
+      under = filed.under;
+      named = filed.named;
+      head = head;
+      held = ap head_of kept ∙ held_here;
+      name = ap (λ (x : ChunkHead). x.name) (sym same) ∙ filed.name;
+      images = images;
+      names = names;
+      at_work = λ off. absurd (cc (sym (closed ∙ shut_here) ∙ off));
+    }
+
+  -- ---- the recording failed, or is under way
+
+  pub unrecorded_order : is_recorded s h r ≡ false → KeepsOtherOutcomes head (output_name s r.output) files now → AllSound now → InOrder s first h now
+  unrecorded_order not_yet keeps all =
+      settled_order s first h h files now c head sound order among held_here keeps.1 all refl refl (λ m. refl) (λ m ne. record { has = refl; more = refl; closed = refl; done = λ _. refl; begun = λ _. refl; ended = λ _. refl }) (λ name bytes is. is)
+      (λ owed home. let both = settles_whole s c r of_it apart h files now head (was_whole owed home) may_be resolved not_yet keeps.0 in filed_as owed home h refl refl both.0 both.1)
+
+  -- ---- it is recorded
+
+  abbrev behind : History
+  behind = Recorded r ∷ h
+
+  other_output : (output : ℕ) → output_name s output ≢ output_name s r.output → same_route r (route c.number output) ≡ false
+  other_output output ne = and_right (r.chunk == c.number) (r.output == output) (ne_eqb r.output output (λ e. ne (ap (output_name s) (sym e))))
+
+  recording_now : Recording s c r of_it apart h behind
+  recording_now = record {
+    has = refl;
+    more = refl;
+    begun = λ _. refl;
+    ended = λ _. refl;
+    others = λ output ne is. sym (ap (λ (b : Bool). b || is_recorded s h (route c.number output)) (other_output output ne)) ∙ is;
+  }
+
+  recorded_alike : (m : ℕ) → m ≢ c.number → Alike s h behind m
+  recorded_alike m ne = record {
+    has = refl;
+    more = refl;
+    closed = refl;
+    done = λ output. ap (λ (b : Bool). b || is_recorded s h (route m output)) (and_left (r.chunk == m) (r.output == output) (ne_eqb r.chunk m (λ e. ne (sym e ∙ sym of_it))));
+    begun = λ _. refl;
+    ended = λ _. refl;
+  }
+
+  module _ (recorded : RecordedIn head (output_name s r.output) files now) (owed : is_owed s h c ≡ true) (home : home_of s c.input ≡ Disk) where
+    read_before : IsImage (files head.name) (Some (files head.name).bytes)
+    read_before = read_image (files head.name) (order.sound head.name) (there_at (IsWhole s h c) (files head.name) (λ no. no) (was_whole owed home))
+
+    held_before : HoldsWhole s h c (files head.name).bytes
+    held_before = was_whole owed home (Some (files head.name).bytes) read_before
+
+    settled : IsSettledAs (output_name s r.output) recorded.outputs 68 held_before.chunk recorded.bytes
+    settled = settled_holds head recorded.tag recorded.outputs recorded.content (files head.name).bytes recorded.bytes (output_name s r.output) 68 held_before.chunk recorded.was held_before.found recorded.is
+
+    is_done : has_done (output_name s r.output) (Some settled.new) ≡ true
+    is_done = settled.done refl (subst (λ (l : List (List ℕ)). Contains l (output_name s r.output)) recorded.was.names (placed_among head (output_name s r.output) place placed))
+
+    holds_now : HoldsWhole s behind c recorded.bytes
+    holds_now = holds_settled s c r of_it apart h behind recording_now may_be resolved (files head.name).bytes recorded.bytes held_before recorded.outputs 68 settled (λ output has one is. is_done)
+
+    only_image : (image : Option (List ℕ)) → IsImage (now head.name) image → image ≡ Some recorded.bytes
+    only_image image is = whole_image recorded.bytes image (subst (λ (f : FileState). IsImage f image) recorded.state is)
+
+    filed_now : IsFiled s behind c now
+    filed_now =
+        filed_as owed home behind refl refl (λ image is. subst (IsWhole s behind c) (sym (only_image image is)) holds_now)
+        (λ image is. subst (NamesAll head) (sym (only_image image is)) (λ two. (recorded.tag, with_outcome (output_name s r.output) 68 recorded.outputs, recorded.content, recorded.is)))
+
+  pub recorded_order : RecordedIn head (output_name s r.output) files now → SameBut head.name files now → AllSound now → InOrder s first (Recorded r ∷ h) now
+  recorded_order recorded but all =
+      settled_order s first h behind files now c head sound order among held_here but all refl refl (λ m. refl) recorded_alike (λ name bytes is. of_behind s first (Recorded r) h name bytes refl (λ chunk at. IsHeld chunk at) is)
+      (λ owed home. filed_now recorded owed home)

@@ -1,0 +1,204 @@
+-- A chunk begins with a batch: each moment of that is safe, and all is in order behind it.
+use Rattle.std.proofs.Common.{◌≡◌, ◌≢◌, inl, inr, ℕ, ◌≤◌, ◌<◌, nat_lt, true, false, List, ◌∷◌, length, Option, Some, None, IsSome, refl, sym, subst, arith}
+use Rattle.std.specs.Prelude.{Contains, nat_le}
+use Rattle.std.proofs.lemmas.Bool.{leb-true, ltb-true}
+use Rattle.fwd_base.specs.Limits.{past_numbers, full_chunk, largest_batch}
+use Rattle.fwd_program.specs.Program.{bind}
+use Rattle.fwd_program.specs.Moments.{Holds}
+use Rattle.fwd_program.proofs.Holding.{holds_bind}
+use Rattle.fwd_outside.specs.declared.home.Home.{Home}
+use Rattle.fwd_outside.specs.declared.home.Home.TheVariants.{Disk, Ram}
+use Rattle.fwd_image.specs.File.{whole}
+use Rattle.fwd_image.specs.Disk.{Files}
+use Rattle.fwd_image.specs.Disk as disk
+use Rattle.fwd_image.specs.Crash.{WholeOrGone}
+use Rattle.fwd_chunk.specs.Layout.{new_meta, new_file}
+use Rattle.fwd_chunk.specs.Append.{ComesWhole, SettledIn, new_head}
+use Rattle.fwd_chunk.proofs.Creating.{length-new_meta, are_short}
+use Rattle.fwd_kept.specs.Kept.{file_held}
+use Rattle.fwd_store.specs.Store.{begins_as}
+use Rattle.fwd_safe.proofs.Calls.{holds_begins, placed_settled}
+use Rattle.fwd_settings.specs.declared.chosen.AllSettings.{AllSettings}
+use Rattle.fwd_settings.specs.Sound.{IsSound}
+use Rattle.fwd_written.specs.Fact.{History, Batch, First, NotStored, Offers, Accepted, Refused, Shut, Faulted}
+use Rattle.fwd_written.specs.Trace.{Act, Note}
+use Rattle.fwd_written.specs.Parts.{on_disk}
+use Rattle.fwd_written.specs.Setup.{home_at, names_for}
+use Rattle.fwd_written.specs.Chunks.{chunk_at, open_chunk, next, size, spelled}
+use Rattle.fwd_written.specs.Held.{kept_of, name_for}
+use Rattle.fwd_written.specs.Closing.{fills}
+use Rattle.fwd_written.specs.Accepting.{Accepting, taken, given_up, placed, refuses, begins_chunk}
+use Rattle.fwd_ties.specs.Past.{Past, noted}
+use Rattle.fwd_ties.specs.Due.{Due, IsToStore}
+use Rattle.fwd_ties.specs.Sound.{Sound}
+use Rattle.fwd_ties.proofs.Members.{here}
+use Rattle.fwd_ties.proofs.Sounding.{sound as sound_past}
+use Rattle.fwd_safe.specs.Moment.{Moment, moment, Passes}
+use Rattle.fwd_safe.specs.Safe.{IsOf, IsPlaced, IsSafe}
+use Rattle.fwd_safe.proofs.Ordered.{InOrder, HaveRoom}
+use Rattle.fwd_safe.proofs.Safely.{local_safe, order_safe}
+use Rattle.fwd_safe.proofs.Facts.{plain_order, plain_room, offers_order, offers_room}
+use Rattle.fwd_safe.proofs.Rooms.{RoomBut, room_all, room_shut, room_begun, no_chunk}
+use Rattle.fwd_safe.proofs.Writable.{IsWritable, writable_are}
+use Rattle.fwd_safe.proofs.Stored.{stored_under}
+use Rattle.fwd_safe.proofs.Outputs.{names_are}
+use Rattle.fwd_safe.proofs.Beginning.{begun_order, begun_memory, unplaced_order}
+use Rattle.fwd_safe.proofs.Stepping.{after, TakenBy}
+use Rattle.fwd_safe.proofs.Units.{IsBehind, with_all, Ordered, Safe, Kept, Came, safe_now, runs, notes}
+
+storable_is : (n m : ℕ) → nat_le n m ≡ true → n ≤ m
+storable_is n m is = leb-true n m is
+
+module _ (s : AllSettings) (settings : IsSound s) (first : Files) (b : Batch) (m : Moment) (store : IsToStore s b) (writable : IsWritable b)
+    (none : open_chunk (noted m.past) b.input b.tag ≡ None) (left : nat_lt (next (noted m.past)) past_numbers ≡ true) (kept : Kept s first m) where
+  abbrev h : History
+  h = noted m.past
+
+  abbrev n : ℕ
+  n = next h
+
+  abbrev name : List ℕ
+  name = name_for s b.input n
+
+  abbrev names : List (List ℕ)
+  names = names_for s b.tag
+
+  abbrev bytes : List ℕ
+  bytes = new_file b.tag (spelled b.events) names
+
+  abbrev g : History
+  g = Offers n b ∷ h
+
+  abbrev Took : Accepting → Moment → Type 0
+  Took a end = (a.history ≡ noted end.past) × Kept s first end
+
+  abbrev Taken : Moment → Act Accepting → Type 0
+  Taken at p = TakenBy (Safe s first) (Kept s first) at p
+
+  abbrev Fills : Type 0
+  Fills =
+      (end : Moment) → Safe s first end → (nat_le full_chunk (size (noted end.past) n) ≡ false → Kept s first end) → ((answer : Unit {0}) → Kept s first (after end (Note (Shut n)) answer))
+      → Taken end (bind (fills s n (noted end.past)) taken)
+
+  module _ (fills_on : Fills) (offered : Unit {0}) where
+    abbrev at : Moment
+    at = after m (Note (Offers n b)) offered
+
+    record Here : Type 0 where
+      sound : Sound s h
+      was : Ordered s first h m.files
+      order : InOrder s first g m.files
+
+    here_now : Due s m.past → Here
+    here_now due =
+        let sound = sound_past s m.past due in
+        let was = kept due in
+        record { sound = sound; was = was; order = offers_order s first h m.files n b sound was.0 (inl refl) }
+
+    at_kept : Kept s first at
+    at_kept due = let x = here_now due.1 in (x.order, offers_room h n b x.was.1)
+
+    -- behind the acceptance
+    accepted : (end : Moment) → noted end.past ≡ g → Safe s first end → (Due s end.past → Due s m.past × InOrder s first (Accepted b (First n) ∷ g) end.files)
+        → Taken end (placed s b n g (Some tt))
+    accepted end same safe behind =
+        notes s first Took (Accepted b (First n)) g end (λ k. bind (fills s n k) taken) same safe
+        (λ answer.
+        let last : Moment = after end (Note (Accepted b (First n))) answer in
+        let k : History = Accepted b (First n) ∷ noted end.past in
+        let order : Due s last.past → InOrder s first k end.files = λ due. subst (λ (x : History). InOrder s first (Accepted b (First n) ∷ x) end.files) (sym same) (behind due.1).1 in
+        fills_on last (λ due. order_safe s first last.past end.files (order due))
+        (λ small due. (order due, room_all n k (subst (λ (x : History). RoomBut n (Accepted b (First n) ∷ x)) (sym same) (room_begun n b h (kept (behind due.1).0).1)) small))
+        (λ more due.
+        (plain_order s first (Shut n) k end.files tt (order due.1), room_shut n k (subst (λ (x : History). RoomBut n (Accepted b (First n) ∷ x)) (sym same) (room_begun n b h (kept (behind due.1.1).0).1)))))
+
+    -- ---- in memory
+
+    in_memory : home_at s b.input ≡ Ram → Taken at (placed s b n g (Some tt))
+    in_memory ram =
+        accepted at refl (safe_now s first at at_kept)
+        (λ due. let x = here_now due.1 in (due.1, begun_memory s first h b m.files x.sound x.was.0 ram))
+
+    -- ---- in a file
+
+    module _ (disk_home : home_at s b.input ≡ Disk) where
+      root : (root : List ℕ) × (s.service.path ≡ Some root)
+      root = stored_under s settings b.input disk_home
+
+      lt : n < past_numbers
+      lt = ltb-true n past_numbers left
+
+      abbrev Going : Files → Type 0
+      Going now = ComesWhole name bytes m.files now
+
+      abbrev Ended : Option (Unit {0}) → Files → Type 0
+      Ended answer last = IsSome answer → last name ≡ whole bytes
+
+      abbrev Behind : Option (Unit {0}) → Files → Type 0
+      Behind answer last = IsBehind Going Ended answer last
+
+      safe_at : (k : History) (past : Past) (now : Files) → Sound s h → noted past ≡ k → InOrder s first k m.files → Contains k (Offers n b) → chunk_at k n ≡ None → ((chunk : ℕ) → file_held (kept_of s k chunk) ≢ Some name) → Going now → IsSafe s first (moment past now)
+      safe_at k past now sound same order offers unbegun unheld going =
+          local_safe s first past m.files now name (subst (λ (x : History). InOrder s first x m.files) (sym same) order) going.1
+          (λ c among owed home held image is. absurd (unheld c.number (subst (λ (x : History). file_held (kept_of s x c.number) ≡ Some name) same held)))
+          (λ left_bytes is. subst (λ (x : History). IsOf s first x name left_bytes) (sym same) (by left_bytes (going.0 (Some left_bytes) is)))
+        where
+          by : (left_bytes : List ℕ) → WholeOrGone bytes (Some left_bytes) → IsOf s first k name left_bytes
+          by left_bytes (inl is) = IsPlaced n b offers unbegun refl (cc is)
+          by left_bytes (inr is) = absurd (cc is)
+
+      offers_safe : Due s m.past → (past : Past) (now : Files) → noted past ≡ g → Going now → IsSafe s first (moment past now)
+      offers_safe due past now same going =
+          let x = here_now due in
+          safe_at g past now x.sound same x.order (here (Offers n b) h) (no_chunk s h n x.sound (omega arith)) (x.was.0.free root.0 root.1 b.input n (omega arith) lt).unheld going
+
+      calls : Due s at.past → Holds disk.Steps Going Behind m.files (begins_as name b.tag Disk (spelled b.events) names)
+      calls due =
+          let x = here_now due.1 in
+          with_all Going Ended (begins_as name b.tag Disk (spelled b.events) names) m.files x.was.0.sound
+          (holds_begins name b.tag (spelled b.events) names m.files (x.was.0.free root.0 root.1 b.input n (omega arith) lt).none)
+
+      settled : (last : Files) → last name ≡ whole bytes → SettledIn (new_head name b.tag (spelled b.events) names) (new_meta b.tag names) (spelled b.events) last
+      settled last is =
+          let outputs = names_are s settings b.tag in
+          placed_settled name b.tag (spelled b.events) names last writable.short outputs
+          (omega (arith, storable_is (length (spelled b.events)) largest_batch store.fits, length-new_meta b.tag names writable.short outputs.few (are_short names outputs))) is
+
+      behind : (answer : Option (Unit {0})) (end : Moment) → Came s first at Behind answer end → Taken end (placed s b n g answer)
+      behind (Some done) end came =
+          accepted end came.0 (λ due. let is = came.1 due in offers_safe is.0.1 end.past end.files came.0 is.1.going)
+          (λ due.
+          let is = came.1 due in
+          let x = here_now is.0.1 in
+          (is.0.1, begun_order s first settings h b m.files x.sound x.was.0 left end.files store writable.text writable.short (writable_are b writable store.fits) disk_home is.1.going.1 (settled end.files (is.1.ended refl)) is.1.sound))
+      behind None end came =
+          notes s first Took Faulted g end (λ k. refuses b NotStored k) came.0 (λ due. let is = came.1 due in offers_safe is.0.1 end.past end.files came.0 is.1.going)
+          (λ answer.
+          let order : Due s end.past → InOrder s first (noted end.past) end.files = λ due.
+          let is = came.1 due in
+          let x = here_now is.0.1 in
+          subst (λ (y : History). InOrder s first y end.files) (sym came.0) (unplaced_order s first settings h b m.files x.sound x.was.0 left end.files disk_home is.1.going.1 is.1.going.0 is.1.sound) in
+          let room : Due s end.past → HaveRoom (noted end.past) = λ due. subst HaveRoom (sym came.0) (offers_room h n b (kept (came.1 due).0.1).1) in
+          let faulted : Moment = after end (Note Faulted) answer in
+          let faulted_kept : Kept s first faulted = λ due. (plain_order s first Faulted (noted end.past) end.files tt (order due.1), plain_room Faulted (noted end.past) tt (room due.1)) in
+          notes s first Took (Refused b NotStored) (noted faulted.past) faulted given_up refl (safe_now s first faulted faulted_kept)
+          (λ more.
+          let refused : Kept s first (after faulted (Note (Refused b NotStored)) more) = λ due.
+          let was = faulted_kept due.1 in
+          (plain_order s first (Refused b NotStored) (noted faulted.past) end.files tt was.0, plain_room (Refused b NotStored) (noted faulted.past) tt was.1) in
+          (safe_now s first (after faulted (Note (Refused b NotStored)) more) refused, (refl, refused))))
+
+      in_file : Taken at (bind (on_disk (begins_as name b.tag Disk (spelled b.events) names)) (placed s b n g))
+      in_file =
+          holds_bind Passes (Safe s first) (Came s first at Behind) Took at (on_disk (begins_as name b.tag Disk (spelled b.events) names)) (placed s b n g)
+          (runs s first at Going Behind (λ due past now same going. offers_safe due.1 past now same going) (begins_as name b.tag Disk (spelled b.events) names) calls) behind
+
+    by_home : (home : Home) → home_at s b.input ≡ home → Taken at (bind (on_disk (begins_as name b.tag home (spelled b.events) names)) (placed s b n g))
+    by_home Ram is = in_memory is
+    by_home Disk is = in_file is
+
+  pub begins_well : Fills → Taken m (begins_chunk s b n h)
+  unfolding begins_chunk
+  begins_well fills_on =
+      notes s first Took (Offers n b) h m (λ k. bind (on_disk (begins_as name b.tag (home_at s b.input) (spelled b.events) names)) (placed s b n k)) refl (safe_now s first m kept)
+      (λ answer. by_home fills_on answer (home_at s b.input) refl)

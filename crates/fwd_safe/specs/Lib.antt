@@ -1,0 +1,5 @@
+pub mod Moment
+pub mod Recorded
+pub mod Whole
+pub mod Safe
+pub mod Again

@@ -1,0 +1,39 @@
+//! The laws.
+
+ghost use Rattle.std.specs.Prelude.{◌≡◌, ℕ, true, List, [], Contains, Option, Some};
+ghost use Rattle.fwd_program.specs.Program.{Return, Way};
+ghost use Rattle.fwd_program.specs.Moments.{Ends, Moments};
+ghost use Rattle.fwd_outside.specs.declared.ends.Ends.{Ends as InputEnds};
+ghost use Rattle.fwd_outside.specs.declared.home.Home.TheVariants.{Disk};
+ghost use Rattle.fwd_image.specs.File.{IsImage, content};
+ghost use Rattle.fwd_image.specs.Disk.{Files};
+ghost use Rattle.fwd_backlog.specs.Found.{IsFresh};
+ghost use Rattle.fwd_settings.specs.declared.chosen.AllSettings.{AllSettings};
+ghost use Rattle.fwd_settings.specs.Sound.{IsSound};
+ghost use Rattle.fwd_written.specs.Fact.{History};
+ghost use Rattle.fwd_written.specs.Trace.{Act, TraceEntry};
+ghost use Rattle.fwd_written.specs.Chunks.{ChunkOf, chunks_of};
+ghost use Rattle.fwd_written.specs.Routes.{is_owed, home_of};
+ghost use Rattle.fwd_written.specs.Loading.{loads_in};
+ghost use Rattle.fwd_written.specs.Run.{Lived, life};
+ghost use Rattle.fwd_ties.specs.Past.{noted};
+ghost use Rattle.fwd_safe.specs.Moment.{Moment, moment, Passes};
+ghost use Rattle.fwd_safe.specs.Safe.{IsSafe};
+ghost use Rattle.fwd_safe.specs.Again.{IsFoundAgain};
+
+/// Each moment of a life is safe, however far it has come and whatever was answered: between two calls, and inside a call on the
+/// disk. The life began with a disk on which nothing was in doubt, and its appends are synced.
+pub fn each_moment_is_safe()
+    ensures { (s : AllSettings) (ends : InputEnds) (ticks : Option ℕ) (turns : ℕ) (first : Files) (entries : List TraceEntry) (left : Act Lived)
+        → IsSound s → s.service.full ≡ true → IsFresh first → Way (life s ends ticks turns) entries left → Moments Passes (IsSafe s first) (moment [] first) entries }
+{}
+
+/// After a crash at a safe moment each chunk that is kept in a file and owed to someone is found again, whole, and owed to the
+/// outputs that it was owed to still: by a life that begins with whatever the crash left, unless a call on the disk fails in
+/// its loading.
+pub fn what_is_safe_is_found()
+    ensures { (s : AllSettings) (first : Files) (m last : Moment) (image : Files) (entries : List TraceEntry) (h : History) (c : ChunkOf)
+        → IsSafe s first m → IsFresh image → ((name : List ℕ) → IsImage (m.files name) (content (image name)))
+        → Way (loads_in s) entries (Return (Some h)) → Ends Passes (moment [] image) entries last
+        → Contains (chunks_of (noted m.past)) c → is_owed s (noted m.past) c ≡ true → home_of s c.input ≡ Disk → IsFoundAgain s (noted m.past) h c }
+{}

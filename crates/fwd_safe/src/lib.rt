@@ -1,0 +1,9 @@
+//! What a crash leaves is safe.
+//!
+//! At every moment of a life whose appends are synced, inside a call on the disk too, whatever a crash then leaves of the disk
+//! has the file of each chunk that is owed to someone still, whole; and the next life finds it and owes it to the same outputs.
+#![tactic(auto)]
+
+mod laws;
+
+pub use laws::{each_moment_is_safe, what_is_safe_is_found};
