@@ -92,6 +92,7 @@ filed_alike s h g files now c alike kept stays filed =
       head = filed.head;
       held = ap head_of kept ∙ filed.held;
       name = filed.name;
+      sized = filed.sized ∙ ap (λ (l : List ℕ). length l) (sym alike.has);
       images = images_stay (IsWhole s g c) filed.head.name files now same (λ image is. whole_alike s h g c image alike (filed.images image is));
       names = images_stay (NamesAll filed.head) filed.head.name files now same filed.names;
       at_work = λ off. open_alike s h g files now c filed.head alike kept same (filed.at_work (sym alike.closed ∙ off));

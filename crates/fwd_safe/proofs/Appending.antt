@@ -43,6 +43,7 @@ use Rattle.fwd_ties.proofs.Sounding.{sound as sound_past}
 use Rattle.fwd_safe.specs.Moment.{Moment, moment, Passes}
 use Rattle.fwd_safe.specs.Recorded.{is_recorded}
 use Rattle.fwd_safe.specs.Whole.{IsWhole}
+use Rattle.fwd_safe.specs.Handed.{EachHandsItsChunk}
 use Rattle.fwd_safe.specs.Safe.{IsHeld, IsSafe}
 use Rattle.fwd_safe.proofs.Ordered.{head_of, NamesAll, IsOpen, IsFiled, InOrder, HaveRoom}
 use Rattle.fwd_safe.proofs.Small.{same_head, one_chunk}
@@ -112,7 +113,7 @@ module _ (s : AllSettings) (settings : IsSound s) (full : s.service.full ≡ tru
     here_now due =
         let sound = sound_past s m.past due in
         let was = kept due in
-        record { sound = sound; was = was; order = offers_order s first h m.files n b sound was.0 (inr (c, among_open, refl)) }
+        record { sound = sound; was = was; order = offers_order s first h m.files n b sound was.order (inr (c, among_open, refl)) }
 
     accepted : (end : Moment) → noted end.past ≡ g → Safe s first end → (Due s end.past → Due s m.past × InOrder s first (Accepted b (Behind n) ∷ g) end.files)
         → Taken end (appended s b n g (Some tt))
@@ -121,29 +122,30 @@ module _ (s : AllSettings) (settings : IsSound s) (full : s.service.full ≡ tru
         (λ answer.
         let last : Moment = after end (Note (Accepted b (Behind n))) answer in
         let k : History = Accepted b (Behind n) ∷ noted end.past in
+        let hands_at : Due s m.past → EachHandsItsChunk s (noted end.past) = λ due. subst (EachHandsItsChunk s) (sym same) (kept due).hands in
         let order : Due s last.past → InOrder s first k end.files = λ due. subst (λ (x : History). InOrder s first (Accepted b (Behind n) ∷ x) end.files) (sym same) (behind due.1).1 in
         fills_on last (λ due. order_safe s first last.past end.files (order due))
-        (λ small due. (order due, room_all n k (subst (λ (x : History). RoomBut n (Accepted b (Behind n) ∷ x)) (sym same) (room_grown n b h (kept (behind due.1).0).1)) small))
+        (λ small due. record { order = order due; room = room_all n k (subst (λ (x : History). RoomBut n (Accepted b (Behind n) ∷ x)) (sym same) (room_grown n b h (kept (behind due.1).0).room)) small; hands = hands_at (behind due.1).0 })
         (λ more due.
-        (plain_order s first (Shut n) k end.files tt (order due.1), room_shut n k (subst (λ (x : History). RoomBut n (Accepted b (Behind n) ∷ x)) (sym same) (room_grown n b h (kept (behind due.1.1).0).1)))))
+        record { order = plain_order s first (Shut n) k end.files tt (order due.1); room = room_shut n k (subst (λ (x : History). RoomBut n (Accepted b (Behind n) ∷ x)) (sym same) (room_grown n b h (kept (behind due.1.1).0).room)); hands = hands_at (behind due.1.1).0 }))
 
     -- ---- in memory
 
     in_memory : head_of (kept_of s h n) ≡ None → Taken at (appended s b n g (Some tt))
     in_memory none =
         accepted at refl (λ due. order_safe s first at.past m.files (here_now due.1).order)
-        (λ due. let x = here_now due.1 in (due.1, grown_memory s first h b c m.files x.sound x.was.0 found none))
+        (λ due. let x = here_now due.1 in (due.1, grown_memory s first h b c m.files x.sound x.was.order found none))
 
     -- ---- in a file
 
     module _ (head : ChunkHead) (held : head_of (kept_of s h n) ≡ Some head) where
       home_disk : Here → home_of s c.input ≡ Disk
       home_disk x =
-          let home = x.was.0.home n head held in
+          let home = x.was.order.home n head held in
           subst (λ (d : ChunkOf). home_of s d.input ≡ Disk) (one_chunk s h home.of c x.sound home.among among home.is) home.home
 
       filed : (x : Here) → IsFiled s h c m.files
-      filed x = x.was.0.owed c among (x.sound.owed c among_open) (home_disk x)
+      filed x = x.was.order.owed c among (x.sound.owed c among_open) (home_disk x)
 
       open_head : (x : Here) → IsOpen s h c head m.files
       open_head x = subst (λ (one : ChunkHead). IsOpen s h c one m.files) (same_head (kept_of s h n) (filed x).head head (filed x).held held) ((filed x).at_work off)
@@ -205,14 +207,14 @@ module _ (s : AllSettings) (settings : IsSound s) (full : s.service.full ≡ tru
           let file = at_work.settled in
           let image = settled_image head meta (content h n) m.files file (Some file.bytes) (subst (λ (f : FileState). IsImage f (Some file.bytes)) (sym file.state) (sound_image (whole file.bytes) (sound_whole file.bytes))) in
           let outputs = names_are s settings c.tag in
-          let small = x.was.1 c among_open in
+          let small = x.was.room c among_open in
           omega (arith, leb-true (length batch) largest_batch store.fits, image.3, image.4, small, length-new_meta c.tag (names_for s c.tag) short_tag outputs.few (are_short (names_for s c.tag) outputs))
 
       calls : Due s at.past → Holds disk.Steps Going Over m.files (appends_kept (InFile head) batch s.service.full)
       calls due =
           let x = here_now due.1 in
           subst (λ (f : Bool). Holds disk.Steps Going Over m.files (appends_kept (InFile head) batch f)) (sym full)
-          (with_all Going Ended (appends_kept (InFile head) batch true) m.files x.was.0.sound (holds_appends head meta (content h n) batch m.files (fits x) (open_head head held x).settled))
+          (with_all Going Ended (appends_kept (InFile head) batch true) m.files x.was.order.sound (holds_appends head meta (content h n) batch m.files (fits x) (open_head head held x).settled))
 
       -- behind an append that failed
       abbrev failed : History
@@ -224,7 +226,7 @@ module _ (s : AllSettings) (settings : IsSound s) (full : s.service.full ≡ tru
           (λ due.
           let is = came.1 due in
           let x = here_now is.0.1 in
-          (is.0.1, grown_order s first settings h b c m.files end.files head x.sound x.was.0 found writable.text writable.short (writable_are b writable store.fits) in_it is.1.going.1 (is.1.ended refl) is.1.sound))
+          (is.0.1, grown_order s first settings h b c m.files end.files head x.sound x.was.order found writable.text writable.short (writable_are b writable store.fits) in_it is.1.going.1 (is.1.ended refl) is.1.sound))
       behind None end came =
           notes s first Took Faulted g end (λ k. noting (Refused b NotStored) k (λ last. bind (shuts s n last) given_up)) came.0 (λ due. let is = came.1 due in offers_safe is.0.1 end.past end.files came.0 is.1.going)
           (λ answer.
@@ -249,10 +251,10 @@ module _ (s : AllSettings) (settings : IsSound s) (full : s.service.full ≡ tru
           let x = here_now is.0.1 in
           let closed : InOrder s first (Shut n ∷ failed) m.files = plain_order s first (Shut n) failed m.files tt (order x) in
           let images = both x (Shut n ∷ failed) refl extra_now (λ output. refl) end.files is.1.going in
-          let room : HaveRoom (Shut n ∷ failed) = plain_room (Shut n) failed tt (plain_room (Refused b NotStored) (Faulted ∷ g) tt (plain_room Faulted g tt (offers_room h n b x.was.1))) in
+          let room : HaveRoom (Shut n ∷ failed) = plain_room (Shut n) failed tt (plain_room (Refused b NotStored) (Faulted ∷ g) tt (plain_room Faulted g tt (offers_room h n b x.was.room))) in
           let sound : Sound s (Shut n ∷ failed) = subst (Sound s) (ap (λ (y : History). Shut n ∷ y) refused_is) (sound_past s (after refused (Note (Shut n)) last).past due) in
           subst (λ (y : History). Ordered s first (Shut n ∷ y) end.files) (sym refused_is)
-          (changed_order s first (Shut n ∷ failed) m.files end.files c head sound closed among (cond-true (n == n) true (is_shut failed n) (eq-eqb n n refl)) held is.1.going.1 is.1.sound images.0 images.1, room))))
+          (record { order = changed_order s first (Shut n ∷ failed) m.files end.files c head sound closed among (cond-true (n == n) true (is_shut failed n) (eq-eqb n n refl)) held is.1.going.1 is.1.sound images.0 images.1; room = room; hands = x.was.hands }))))
 
       in_file : Taken at (bind (on_disk (appends_kept (InFile head) batch s.service.full)) (appended s b n g))
       in_file =

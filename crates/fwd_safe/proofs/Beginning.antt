@@ -35,6 +35,7 @@ use Rattle.fwd_ties.proofs.Members.{here, deeper, either}
 use Rattle.fwd_safe.specs.Whole.{HoldsWhole, IsWhole}
 use Rattle.fwd_safe.specs.Safe.{IsOf, IsHeld, IsPlaced}
 use Rattle.fwd_safe.proofs.Ordered.{head_of, NamesAll, IsFiled, InOrder}
+use Rattle.fwd_safe.proofs.Headed.{fits_head}
 use Rattle.fwd_safe.proofs.Outputs.{names_are}
 use Rattle.fwd_safe.proofs.Stored.{stored_under}
 use Rattle.fwd_safe.proofs.Streams.{new_path}
@@ -230,7 +231,7 @@ module _ (s : AllSettings) (first : Files) (h : History) (b : Batch) (files : Fi
       its_names : Images its_name (NamesAll its_head) now
       its_names image is =
           let one = settled_image its_head (new_meta b.tag (names_for s b.tag)) (spelled b.events) now settled image is in
-          subst (NamesAll its_head) (sym one.1) (λ two. (b.tag, unrecorded (names_for s b.tag), spelled b.events, new_named its_head b.tag (names_for s b.tag) (spelled b.events) one.0 one.2 one.3 refl))
+          subst (NamesAll its_head) (sym one.1) (fits_head its_head b.tag (unrecorded (names_for s b.tag)) (spelled b.events) one.0 (new_named its_head b.tag (names_for s b.tag) (spelled b.events) one.0 one.2 one.3 refl))
 
       filed_new : IsFiled s begun new now
       filed_new = record {
@@ -241,6 +242,7 @@ module _ (s : AllSettings) (first : Files) (h : History) (b : Batch) (files : Fi
         head = its_head;
         held = ap head_of in_file;
         name = is_path;
+        sized = ap (λ (l : List ℕ). length l) (sym content_now);
         images = its_images;
         names = its_names;
         at_work = λ off. record {

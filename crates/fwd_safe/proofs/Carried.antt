@@ -1,5 +1,5 @@
 -- A history that says the same of the chunks and their files leaves all in order.
-use Rattle.std.proofs.Common.{◌≡◌, ℕ, ◌≤◌, true, false, List, ◌∷◌, Option, Some, None, sym, ◌∙◌, ap, subst, arith}
+use Rattle.std.proofs.Common.{◌≡◌, ℕ, ◌≤◌, true, false, List, ◌∷◌, Option, Some, None, sym, ◌∙◌, ap, subst, arith, length}
 use Rattle.std.specs.Prelude.{Contains, find, ◌==◌}
 use Rattle.fwd_event.specs.Event.{AreEvents}
 use Rattle.fwd_image.specs.File.{IsImage}
@@ -60,6 +60,7 @@ module _ (s : AllSettings) (first : Files) (h new : History) (files : Files) (sa
     head = filed.head;
     held = subst (λ (k : Option Kept). head_of k ≡ Some filed.head) (sym (same.kept c.number)) filed.held;
     name = filed.name;
+    sized = filed.sized ∙ ap (λ (l : List ℕ). length l) (sym (same.holds c.number));
     images = λ image is. whole image is (filed.images image is);
     names = filed.names;
     at_work = λ off. carried_open c filed.head (filed.at_work (same.shut c.number off));

@@ -175,6 +175,13 @@ settled_holds head tag outputs content was now output x chunk before found after
 
 -- ---- a file that was found
 
+-- the length of its metadata, and where its content stands
+pub found_meta : (bytes : List ℕ) (chunk : Chunk) → found_in bytes ≡ Some chunk → chunk.meta ≡ meta_length bytes
+found_meta bytes chunk found = ap (λ (c : Chunk). c.meta) (read_of bytes chunk found).stand.5
+
+pub found_content : (bytes : List ℕ) (chunk : Chunk) → found_in bytes ≡ Some chunk → (n : ℕ) × (chunk.content ≡ part bytes (24 + meta_length bytes) n)
+found_content bytes chunk found = let read = read_of bytes chunk found in (read.stand.2, ap (λ (c : Chunk). c.content) read.stand.5)
+
 pub found_named : (head : ChunkHead) (chunk : Chunk) (bytes : List ℕ) → found_in bytes ≡ Some chunk → head.meta ≡ chunk.meta → head.outputs ≡ chunk.outputs → head.mark ≡ chunk.mark → head.mark ≡ 2 → NamesThem head (Some bytes)
 found_named head chunk bytes found long outputs mark two =
     let read = read_of bytes chunk found in

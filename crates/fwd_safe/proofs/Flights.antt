@@ -1,11 +1,12 @@
 -- Settling, closing and flights, walked through.
-use Rattle.std.proofs.Common.{◌≡◌, ℕ, ◌-◌, true, false, List, [], ◌∷◌, Option, Some, None, refl}
+use Rattle.std.proofs.Common.{◌≡◌, ℕ, ◌-◌, true, false, List, [], ◌∷◌, Option, Some, None, refl, subst}
 use Rattle.std.specs.Prelude.{nat_le}
 use Rattle.std.proofs.lemmas.Bool.{eq-eqb}
 use Rattle.fwd_base.specs.Limits.{full_chunk}
 use Rattle.fwd_event.specs.declared.event.Event.{Event}
 use Rattle.fwd_event.specs.Whole.{events_in}
 use Rattle.fwd_program.specs.Program.{Return, Ask, bind}
+use Rattle.fwd_program.proofs.Holding.{holds_bind}
 use Rattle.fwd_outside.specs.Loop.{LoopProgram, Word}
 use Rattle.fwd_table.specs.Answers.{may_retry}
 use Rattle.fwd_table.specs.declared.answer.Answer.{Answer as Answered}
@@ -33,11 +34,21 @@ use Rattle.fwd_written.specs.Settling.{drops, records, settles}
 use Rattle.fwd_written.specs.Closing.{loses, shuts, fills, closes, closes_all}
 use Rattle.fwd_written.specs.Flying.{retries, answers_by, stands_in, stands, lands, begins_with, is_whole, read_behind, begins_as, begins, turn, turns, walk, goes_on, resumes, has_room, comes_back, has_broken}
 use Rattle.fwd_ties.specs.Past.{noted}
-use Rattle.fwd_safe.specs.Moment.{Moment}
-use Rattle.fwd_safe.proofs.Stepping.{after, TellsBy, CanWalk, holds_ask, holds_if, deed, nothing, only, ask, loop_rests, tells_then, rests_then}
+use Rattle.fwd_safe.specs.Moment.{Moment, Passes}
+use Rattle.fwd_safe.proofs.Simple.{IsSimple}
+use Rattle.fwd_safe.proofs.Stepping.{after, TellsBy, CanWalk, holds_ask, holds_if, deed, nothing, only, ask, loop_rests, tells_then, rests_then, MayBeginBy, ReadsBy}
 
 resolved_now : (s : AllSettings) (r : Route) (outcome : Outcome) (h : History) → resolves outcome ≡ true → is_resolved s (OnRoute r outcome ∷ h) r ≡ true
 resolved_now s r outcome h is = rw (eq-eqb r.chunk r.chunk refl, eq-eqb r.output r.output refl, is) refl
+
+simple_resolves : (r : Route) (outcome : Outcome) → resolves outcome ≡ true → IsSimple (OnRoute r outcome)
+simple_resolves r (Begun events) is = absurd (cc is)
+simple_resolves r (Flies progress) is = tt
+simple_resolves r (Retries word) is = tt
+simple_resolves r Delivered is = tt
+simple_resolves r Failed is = tt
+simple_resolves r Spent is = tt
+simple_resolves r Lost is = tt
 
 module _ (s : AllSettings) (P K : Moment → Type 0) (can : CanWalk s P K) where
   abbrev Tells : Moment → Act History → Type 0
@@ -57,7 +68,7 @@ module _ (s : AllSettings) (P K : Moment → Type 0) (can : CanWalk s P K) where
   -- what resolves a route is noted, and then it is settled
   settled : (r : Route) (outcome : Outcome) (m : Moment) → resolves outcome ≡ true → K m → Tells m (noting (OnRoute r outcome) (noted m.past) (settles s r))
   settled r outcome m is kept =
-      deed s P K can Told (OnRoute r outcome) m (settles s r) tt kept
+      deed s P K can Told (OnRoute r outcome) m (settles s r) (simple_resolves r outcome is) kept
       (λ answer then. tells_settles r (after m (Note (OnRoute r outcome)) answer) (resolved_now s r outcome (noted m.past) is) then)
 
   pub tells_loses : (rs : List Route) (m : Moment) → K m → Tells m (loses s rs (noted m.past))
@@ -124,41 +135,43 @@ module _ (s : AllSettings) (P K : Moment → Type 0) (can : CanWalk s P K) where
       deed s P K can Told (Handed r.output (progress.taken - before)) m (stands s r progress) tt kept
       (λ answer then. tells_stands r progress (after m (Note (Handed r.output (progress.taken - before))) answer) then)
 
-  tells_begins_with : (r : Route) (events : List Event) (m : Moment) → K m → Tells m (begins_with s r events (noted m.past))
+  tells_begins_with : (r : Route) (events : List Event) (m : Moment) → K m → MayBeginBy K r events m → Tells m (begins_with s r events (noted m.past))
   unfolding begins_with
-  tells_begins_with r events m kept =
-      deed s P K can Told (OnRoute r (Begun events)) m (λ at. bind (on_loop (starts (delivery s at r) r.output (tag_for at r.chunk) unopened)) (λ progress. lands s r 0 progress at)) tt kept
-      (λ answer then.
+  tells_begins_with r events m kept begun =
+      holds_ask P Told m (Note (OnRoute r (Begun events)))
+      (λ _. bind (on_loop (starts (delivery s (OnRoute r (Begun events) ∷ noted m.past) r) r.output (tag_for (OnRoute r (Begun events) ∷ noted m.past) r.chunk) unopened)) (λ progress. lands s r 0 progress (OnRoute r (Begun events) ∷ noted m.past))) tt (can.now m kept)
+      (λ answer.
       let at : Moment = after m (Note (OnRoute r (Begun events))) answer in
       let dials : LoopProgram Progress = starts (delivery s (noted at.past) r) r.output (tag_for (noted at.past) r.chunk) unopened in
-      rests_then s P K can Told at (on_loop dials) (λ progress h. lands s r 0 progress h) (loop_rests s P K can dials at (noted at.past) refl then)
+      rests_then s P K can Told at (on_loop dials) (λ progress h. lands s r 0 progress h) (loop_rests s P K can dials at (noted at.past) refl (begun answer))
       (λ progress end same last. tells_lands r 0 progress end last))
 
-  tells_read_behind : (r : Route) (kept_size : ℕ) (bytes : Option (List ℕ)) (m : Moment) → K m → Tells m (read_behind s r kept_size (noted m.past) bytes)
-  tells_read_behind r kept_size None m kept = only s P K can Faulted m tt kept
-  tells_read_behind r kept_size (Some bytes) m kept =
+  tells_read_behind : (r : Route) (kept_size : ℕ) (bytes : Option (List ℕ)) (m : Moment) → K m → ((read : List ℕ) → bytes ≡ Some read → MayBeginBy K r (events_in read).0 m) → Tells m (read_behind s r kept_size (noted m.past) bytes)
+  tells_read_behind r kept_size None m kept begun = only s P K can Faulted m tt kept
+  tells_read_behind r kept_size (Some bytes) m kept begun =
       holds_if P Told (is_whole kept_size bytes) m (begins_with s r (events_in bytes).0 (noted m.past)) (Return (noted m.past))
-      (λ whole. tells_begins_with r (events_in bytes).0 m kept) (λ not_whole. nothing s P K can m kept)
+      (λ whole. tells_begins_with r (events_in bytes).0 m kept (begun bytes refl)) (λ not_whole. nothing s P K can m kept)
 
-  tells_begins_read : (r : Route) (held : Kept) (m : Moment) → K m → Tells m (bind (on_disk (reads_content held)) (read_behind s r (size_of held) (noted m.past)))
-  tells_begins_read r held m kept =
-      rests_then s P K can Told m (on_disk (reads_content held)) (λ bytes h. read_behind s r (size_of held) h bytes) (can.reads held m kept)
-      (λ bytes end same then. tells_read_behind r (size_of held) bytes end then)
+  tells_begins_read : (r : Route) (held : Kept) (m : Moment) → ReadsBy P K r m held → Tells m (bind (on_disk (reads_content held)) (read_behind s r (size_of held) (noted m.past)))
+  tells_begins_read r held m reads =
+      holds_bind Passes P (λ bytes end. (noted end.past ≡ noted m.past) × (K end × ((read : List ℕ) → bytes ≡ Some read → MayBeginBy K r (events_in read).0 end))) Told m (on_disk (reads_content held))
+      (read_behind s r (size_of held) (noted m.past)) reads
+      (λ bytes end is. subst (λ (h : History). Tells end (read_behind s r (size_of held) h bytes)) is.0 (tells_read_behind r (size_of held) bytes end is.1.0 is.1.1))
 
-  tells_begins_as : (r : Route) (held : Option Kept) (m : Moment) → K m → Tells m (begins_as s r held (noted m.past))
-  tells_begins_as r None m kept = nothing s P K can m kept
-  tells_begins_as r (Some (InMemory content)) m kept = tells_begins_with r (records_of (noted m.past) r.chunk) m kept
-  tells_begins_as r (Some (InFile head)) m kept = tells_begins_read r (InFile head) m kept
-  tells_begins_as r (Some (Adopted head)) m kept = tells_begins_read r (Adopted head) m kept
+  tells_begins_as : (r : Route) (held : Option Kept) (m : Moment) → kept_of s (noted m.past) r.chunk ≡ held → may_start s (noted m.past) r ≡ true → K m → Tells m (begins_as s r held (noted m.past))
+  tells_begins_as r None m is may kept = nothing s P K can m kept
+  tells_begins_as r (Some (InMemory content)) m is may kept = tells_begins_with r (records_of (noted m.past) r.chunk) m kept (can.memory r content m is kept)
+  tells_begins_as r (Some (InFile head)) m is may kept = tells_begins_read r (InFile head) m (can.reads r head m may is kept)
+  tells_begins_as r (Some (Adopted head)) m is may kept = tells_begins_read r (Adopted head) m (can.finds r head m may is kept)
 
-  tells_begins : (r : Route) (m : Moment) → K m → Tells m (begins s r (noted m.past))
+  tells_begins : (r : Route) (m : Moment) → may_start s (noted m.past) r ≡ true → K m → Tells m (begins s r (noted m.past))
   unfolding begins
-  tells_begins r m kept = tells_begins_as r (kept_of s (noted m.past) r.chunk) m kept
+  tells_begins r m may kept = tells_begins_as r (kept_of s (noted m.past) r.chunk) m refl may kept
 
   tells_turn : (r : Route) (m : Moment) → K m → Tells m (turn s r (noted m.past))
   unfolding turn
   tells_turn r m kept =
-      holds_if P Told (may_start s (noted m.past) r) m (begins s r (noted m.past)) (Return (noted m.past)) (λ may. tells_begins r m kept) (λ no. nothing s P K can m kept)
+      holds_if P Told (may_start s (noted m.past) r) m (begins s r (noted m.past)) (Return (noted m.past)) (λ may. tells_begins r m may kept) (λ no. nothing s P K can m kept)
 
   tells_turns : (rs : List Route) (m : Moment) → K m → Tells m (turns s rs (noted m.past))
   tells_turns [] m kept = nothing s P K can m kept

@@ -1,5 +1,5 @@
 -- Order while a batch is put behind what an open chunk has, and behind it.
-use Rattle.std.proofs.Common.{◌≡◌, ◌≢◌, ◌⊎◌, inl, inr, ⊎_elim, ℕ, ◌+◌, ◌<◌, ◌≤◌, ◌&&◌, Bool, true, false, not, cond, List, [], ◌∷◌, ◌++◌, append-nil, length, Option, Some, None, refl, sym, ◌∙◌, ap, subst, arith}
+use Rattle.std.proofs.Common.{◌≡◌, ◌≢◌, ◌⊎◌, inl, inr, ⊎_elim, ℕ, ◌+◌, ◌<◌, ◌≤◌, ◌&&◌, Bool, true, false, not, cond, List, [], ◌∷◌, ◌++◌, append-nil, length, Option, Some, None, refl, sym, ◌∙◌, ap, subst, arith, length-append}
 use Rattle.std.specs.Prelude.{Contains, ◌==◌, IsUtf8}
 use Rattle.std.specs.Str.{bytes_eq}
 use Rattle.std.proofs.lemmas.Bool.{cond-true, cond-false, eq-eqb, ne_eqb, and_parts}
@@ -37,6 +37,7 @@ use Rattle.fwd_safe.specs.Safe.{IsOf, IsHeld}
 use Rattle.fwd_safe.proofs.Ordered.{head_of, NamesAll, IsOpen, IsFiled, InOrder}
 use Rattle.fwd_safe.proofs.Small.{head_held, same_head, one_chunk}
 use Rattle.fwd_safe.proofs.Outcomes.{done_unrecorded, is_among}
+use Rattle.fwd_safe.proofs.Headed.{fits_head}
 use Rattle.fwd_safe.proofs.Outputs.{names_are}
 use Rattle.fwd_safe.proofs.Spelled.{AreWritten}
 use Rattle.fwd_safe.proofs.Filed.{IsNewChunk, new_holds, new_named, settled_image, parts_were}
@@ -127,12 +128,8 @@ module _ (s : AllSettings) (h0 h : History) (b : Batch) (c : ChunkOf) (head : Ch
       (inr (sym (ap (λ (l : List ℕ). l ++ spelled (extra h c.number)) has ∙ ap (λ (es : List Event). old ++ spelled es) more))) none_since
 
   one_named : (bytes all : List ℕ) → HasParts head.mark bytes new_metadata all → NamesAll head (Some bytes)
-  one_named bytes all parts = λ two. (
-    c.tag,
-    unrecorded (names_for s c.tag),
-    all,
-    new_named head c.tag (names_for s c.tag) all bytes (of_mark bytes all parts) (long_meta s h0 c head files at_work before) at_work.outputs,
-  )
+  one_named bytes all parts =
+      fits_head head c.tag (unrecorded (names_for s c.tag)) all bytes (new_named head c.tag (names_for s c.tag) all bytes (of_mark bytes all parts) (long_meta s h0 c head files at_work before) at_work.outputs)
 
   either_named : (image : Option (List ℕ)) → LeavesEither head.mark new_metadata old (old ++ spelled b.events) image → NamesAll head image
   either_named None either_one = absurd either_one
@@ -324,10 +321,11 @@ module _ (s : AllSettings) (first : Files) (h : History) (b : Batch) (c : ChunkO
         head = now_head;
         held = ap head_of in_file;
         name = ap (λ (x : ChunkHead). x.name) (sym same_one) ∙ filed.name;
+        sized = ap (λ (k : ℕ). k + length (spelled b.events)) (ap (λ (x : ChunkHead). x.size) (sym same_one) ∙ filed.sized) ∙ sym (length-append (content h n) (spelled b.events)) ∙ ap (λ (l : List ℕ). length l) (sym content_now);
         images = λ image is. let one = settled_image now_head meta_of content_of now settled image is in subst (IsWhole s grown c) (sym one.1) (holds_now one.0 one.2);
         names = λ image is.
             let one = settled_image now_head meta_of content_of now settled image is in
-            subst (NamesAll now_head) (sym one.1) (λ two. (c.tag, unrecorded (names_for s c.tag), content_of, new_named now_head c.tag (names_for s c.tag) content_of one.0 (two_of one.0 one.2) one.3 open_at_work.outputs));
+            subst (NamesAll now_head) (sym one.1) (fits_head now_head c.tag (unrecorded (names_for s c.tag)) content_of one.0 (new_named now_head c.tag (names_for s c.tag) content_of one.0 (two_of one.0 one.2) one.3 open_at_work.outputs));
         at_work = λ off. record {
           kept = in_file;
           mark = open_at_work.mark;

@@ -1,4 +1,5 @@
 pub mod Ordered
+pub mod Headed
 pub mod Small
 pub mod Reading
 pub mod Outcomes
@@ -14,6 +15,7 @@ pub mod Safely
 pub mod Content
 pub mod Carried
 pub mod Facts
+pub mod Simple
 pub mod Alike
 pub mod Dropping
 pub mod Recording
@@ -25,6 +27,7 @@ pub mod Stepping
 pub mod Flights
 pub mod Coming
 pub mod Units
+pub mod Handing
 pub mod Removing
 pub mod Records
 pub mod Calls
@@ -37,4 +40,10 @@ pub mod Gathered
 pub mod Finding
 pub mod Loading
 pub mod Again
+pub mod Completing
 pub mod Walking
+pub mod Handed
+pub mod Apart
+pub mod Lasting
+pub mod Running
+pub mod Onward

@@ -11,7 +11,6 @@ use Rattle.fwd_image.specs.Disk.{Files}
 use Rattle.fwd_image.specs.Crash.{Images}
 use Rattle.fwd_image.proofs.Keeps.{whole_image, gone_image}
 use Rattle.fwd_chunk.specs.declared.append.ChunkHead.{ChunkHead}
-use Rattle.fwd_chunk.specs.Settle.{NamesThem}
 use Rattle.fwd_found.specs.declared.chunk.Chunk.{Chunk}
 use Rattle.fwd_found.specs.declared.metadata.Metadata.{Metadata}
 use Rattle.fwd_found.specs.declared.refusal.NotAChunk.{NotAChunk}
@@ -33,9 +32,10 @@ use Rattle.fwd_settings.specs.Sound.{IsSound}
 use Rattle.fwd_written.specs.Fact.{History, Found}
 use Rattle.fwd_written.specs.Setup.{output_name}
 use Rattle.fwd_written.specs.Found.{found_in, whole_of, has_done}
-use Rattle.fwd_written.specs.Chunks.{ChunkOf, chunks_of, is_shut, next}
+use Rattle.fwd_written.specs.Chunks.{ChunkOf, chunks_of, is_shut, next, size}
 use Rattle.fwd_written.specs.Held.{adopted, kept_of, name_for}
 use Rattle.fwd_written.specs.Loading.{loads_in}
+use Rattle.fwd_ties.specs.Due.{IsLoading}
 use Rattle.fwd_ties.specs.Past.{noted}
 use Rattle.fwd_ties.proofs.Members.{from_filter, off_where_not}
 use Rattle.fwd_safe.specs.Moment.{Moment, moment, Passes}
@@ -44,7 +44,7 @@ use Rattle.fwd_safe.specs.Safe.{StoodThere, IsOf, IsSafe}
 use Rattle.fwd_safe.proofs.Ordered.{head_of, NamesAll, IsFiled, IsAtHome, IsFree, InOrder, HaveRoom}
 use Rattle.fwd_safe.proofs.Places.{same_file}
 use Rattle.fwd_safe.proofs.Streams.{new_path}
-use Rattle.fwd_safe.proofs.Filed.{found_named}
+use Rattle.fwd_safe.proofs.Filed.{found_meta, found_named}
 use Rattle.fwd_safe.proofs.Fresh.{sound_fresh}
 use Rattle.fwd_safe.proofs.Gathered.{at_file, IsReadOf, Gathered, gathered_loading, was_read, same_number, next_above, IsKnown, known, found_chunk, found_head, IsFileOf, chunk_file, file_chunk, held_file}
 use Rattle.fwd_safe.proofs.Finding.{AllNoted, Along, LoadedTo, goes_loading}
@@ -231,16 +231,20 @@ module _ (s : AllSettings) (first : Files) (fresh : IsFresh first) where
 -- what loading came to: nothing was noted, or what was found is in order
 abbrev pub LoadedAs : AllSettings → Files → Option History → Moment → Type 0
 LoadedAs s first None m = noted m.past ≡ []
-LoadedAs s first (Some h) m = (h ≡ noted m.past) × InOrder s first h first × HaveRoom h
+LoadedAs s first (Some h) m = (h ≡ noted m.past) × InOrder s first h first × HaveRoom h × IsLoading h
 
 module _ (s : AllSettings) (first : Files) (sound : IsSound s) (fresh : IsFresh first) where
   names_there : (h : History) (c : ChunkOf) (there : IsThere s first fresh h c) → Images (path_of there.read.root (at_file there.file.stream there.file.name))
       (NamesAll (found_head (path_of there.read.root (at_file there.file.stream there.file.name)) there.file.chunk)) first
-  names_there h c there image at mark =
+  names_there h c there image at =
       let path : List ℕ = path_of there.read.root (at_file there.file.stream there.file.name) in
       let head : ChunkHead = found_head path there.file.chunk in
       let only : image ≡ Some there.file.bytes = whole_image there.file.bytes image (subst (λ (x : FileState). IsImage x image) there.whole at) in
-      subst (NamesThem head) (sym only) (found_named head there.file.chunk there.file.bytes there.file.found refl refl refl mark)
+      subst (NamesAll head) (sym only) (record { meta = found_meta there.file.bytes there.file.chunk there.file.found; named = λ mark. found_named head there.file.chunk there.file.bytes there.file.found refl refl refl mark })
+
+  sized_there : (h : History) (c : ChunkOf) (there : IsThere s first fresh h c) → length there.file.chunk.content ≡ size h c.number
+  sized_there h c there =
+      ap (λ (l : List ℕ). length l) (sym (there.known.content ∙ ap (λ (o : Option Chunk). option_map_or (λ (chunk : Chunk). chunk.content) o []) there.file.found))
 
   filed : (h : History) (c : ChunkOf) → Gathered s first h → Contains (chunks_of h) c → IsFiled s h c first
   filed h c gathered has =
@@ -253,6 +257,7 @@ module _ (s : AllSettings) (first : Files) (sound : IsSound s) (fresh : IsFresh 
         head = found_head (path_of there.read.root (at_file there.file.stream there.file.name)) there.file.chunk;
         held = ap head_of (kept_there s first fresh h c there);
         name = refl;
+        sized = sized_there h c there;
         images = images_there s first fresh h c there first refl;
         names = names_there h c there;
         at_work = λ open_now. let no : true ≡ false = sym there.known.shut ∙ open_now in absurd (cc no);
@@ -298,7 +303,7 @@ module _ (s : AllSettings) (first : Files) (sound : IsSound s) (fresh : IsFresh 
 
   loaded_as : (result : Option History) (m : Moment) → LoadedTo s first result m → (m.files ≡ first) × LoadedAs s first result m
   loaded_as None m loaded = (loaded.0, loaded.1)
-  loaded_as (Some h) m loaded = (loaded.0, (loaded.1, in_order h loaded.2 loaded.3, have_room s first fresh h loaded.2))
+  loaded_as (Some h) m loaded = (loaded.0, (loaded.1, in_order h loaded.2 loaded.3, have_room s first fresh h loaded.2, gathered_loading s first h loaded.2))
 
   pub loading_holds : Holds Passes (IsSafe s first) (λ (result : Option History) (m : Moment). (m.files ≡ first) × LoadedAs s first result m) (moment [] first) (loads_in s)
   loading_holds =

@@ -10,7 +10,7 @@ use Rattle.fwd_image.specs.Disk.{Files}
 use Rattle.fwd_image.specs.Crash.{Images}
 use Rattle.fwd_image.proofs.Sound.{AllSound}
 use Rattle.fwd_chunk.specs.declared.append.ChunkHead.{ChunkHead}
-use Rattle.fwd_chunk.specs.Layout.{new_meta}
+use Rattle.fwd_chunk.specs.Layout.{meta_length, new_meta}
 use Rattle.fwd_chunk.specs.Append.{SettledIn}
 use Rattle.fwd_chunk.specs.Settle.{NamesThem}
 use Rattle.fwd_kept.specs.declared.kept.Kept.{Kept}
@@ -37,9 +37,14 @@ abbrev pub head_of : Option Kept → Option ChunkHead
 head_of None = None
 head_of (Some kept) = head_in kept
 
--- an image of a file of mark 2 names the head's outputs, in their order
+-- Bytes of a file have metadata as long as the head says, and in a file of mark 2 these name the head's outputs, in order.
+pub record FitsHead (head : ChunkHead) (bytes : List ℕ) : Type 0 where
+  pub meta : head.meta ≡ meta_length bytes
+  pub named : head.mark ≡ 2 → NamesThem head (Some bytes)
+
 abbrev pub NamesAll : ChunkHead → Option (List ℕ) → Type 0
-NamesAll head image = head.mark ≡ 2 → NamesThem head image
+NamesAll head None = ⊥
+NamesAll head (Some bytes) = FitsHead head bytes
 
 -- The file of an open chunk, which began in this life: nothing of it is in doubt, and it has all that was accepted.
 pub record IsOpen (s : AllSettings) (h : History) (c : ChunkOf) (head : ChunkHead) (files : Files) : Type 0 where
@@ -59,6 +64,7 @@ pub record IsFiled (s : AllSettings) (h : History) (c : ChunkOf) (files : Files)
   pub head : ChunkHead
   pub held : head_of (kept_of s h c.number) ≡ Some head
   pub name : head.name ≡ path_of root path
+  pub sized : head.size ≡ size h c.number
   pub images : Images head.name (IsWhole s h c) files
   pub names : Images head.name (NamesAll head) files
   pub at_work : is_shut h c.number ≡ false → IsOpen s h c head files

@@ -1,5 +1,5 @@
 -- Order while the outcome of an output is recorded in a chunk's file, and behind it.
-use Rattle.std.proofs.Common.{◌≡◌, ◌≢◌, ◌⊎◌, inl, inr, ⊎_elim, ℕ, ◌+◌, ◌<◌, ◌≤◌, ◌||◌, if◌then◌else◌, Bool, true, false, List, [], ◌∷◌, ◌++◌, Option, Some, None, refl, sym, ◌∙◌, ap, subst, le_refl}
+use Rattle.std.proofs.Common.{◌≡◌, ◌≢◌, ◌⊎◌, inl, inr, ⊎_elim, ℕ, ◌+◌, ◌<◌, ◌≤◌, ◌||◌, if◌then◌else◌, Bool, true, false, List, [], ◌∷◌, ◌++◌, Option, Some, None, refl, sym, ◌∙◌, ap, subst, le_refl, length}
 use Rattle.std.specs.Prelude.{Contains, ◌==◌}
 use Rattle.std.specs.Str.{bytes_eq}
 use Rattle.std.proofs.lemmas.Bool.{ne_eqb, and_left, and_right}
@@ -28,6 +28,7 @@ use Rattle.fwd_ties.proofs.Members.{here, deeper}
 use Rattle.fwd_safe.specs.Recorded.{is_recorded, may_be_recorded}
 use Rattle.fwd_safe.specs.Whole.{HoldsWhole, IsWhole}
 use Rattle.fwd_safe.specs.Safe.{IsOf, IsHeld}
+use Rattle.fwd_safe.proofs.Headed.{fits_head}
 use Rattle.fwd_safe.proofs.Ordered.{head_of, NamesAll, IsFiled, IsAtHome, InOrder}
 use Rattle.fwd_safe.proofs.Small.{held_of, same_head, one_chunk}
 use Rattle.fwd_safe.proofs.Filed.{IsSettledAs, settled_holds}
@@ -124,8 +125,8 @@ module _ (s : AllSettings) (c : ChunkOf) (r : Route) (of_it : c.number ≡ r.chu
         (λ output has same is. absurd (none_its output has same is))
 
   settles_names : (head : ChunkHead) (before : FileState) (image : Option (List ℕ)) → SettlesOne head its_name before image → NamesAll head image
-  settles_names head before None settles = λ mark. settles
-  settles_names head before (Some bytes) settles = λ mark. (settles.1, with_outcome its_name settles.4 settles.2, settles.3, settles.7)
+  settles_names head before None settles = settles
+  settles_names head before (Some bytes) settles = fits_head head settles.1 (with_outcome its_name settles.4 settles.2) settles.3 bytes settles.7
 
   pub settles_whole : (h : History) (files now : Files) (head : ChunkHead) → Images head.name (IsWhole s h c) files → may_be_recorded s h r ≡ true → is_resolved s h r ≡ true → is_recorded s h r ≡ false
       → Images head.name (SettlesOne head (output_name s r.output) (files head.name)) now → Images head.name (IsWhole s h c) now × Images head.name (NamesAll head) now
@@ -218,8 +219,8 @@ module _ (s : AllSettings) (first : Files) (h : History) (files now : Files) (c 
     was_whole = subst (λ (x : ChunkHead). Images x.name (IsWhole s h c) files) same filed.images
 
     -- with what its images are now
-    filed_as : (g : History) → kept_of s g c.number ≡ kept_of s h c.number → is_shut g c.number ≡ is_shut h c.number → Images head.name (IsWhole s g c) now → Images head.name (NamesAll head) now → IsFiled s g c now
-    filed_as g kept closed images names = record {
+    filed_as : (g : History) → kept_of s g c.number ≡ kept_of s h c.number → content g c.number ≡ content h c.number → is_shut g c.number ≡ is_shut h c.number → Images head.name (IsWhole s g c) now → Images head.name (NamesAll head) now → IsFiled s g c now
+    filed_as g kept has closed images names = record {
       root = filed.root;
       path = filed.path;
       under = filed.under;
@@ -227,6 +228,7 @@ module _ (s : AllSettings) (first : Files) (h : History) (files now : Files) (c 
       head = head;
       held = ap head_of kept ∙ held_here;
       name = ap (λ (x : ChunkHead). x.name) (sym same) ∙ filed.name;
+      sized = ap (λ (x : ChunkHead). x.size) (sym same) ∙ filed.sized ∙ ap (λ (l : List ℕ). length l) (sym has);
       images = images;
       names = names;
       at_work = λ off. absurd (cc (sym (closed ∙ shut_here) ∙ off));
@@ -237,7 +239,7 @@ module _ (s : AllSettings) (first : Files) (h : History) (files now : Files) (c 
   pub unrecorded_order : is_recorded s h r ≡ false → KeepsOtherOutcomes head (output_name s r.output) files now → AllSound now → InOrder s first h now
   unrecorded_order not_yet keeps all =
       settled_order s first h h files now c head sound order among held_here keeps.1 all refl refl (λ m. refl) (λ m ne. record { has = refl; more = refl; closed = refl; done = λ _. refl; begun = λ _. refl; ended = λ _. refl }) (λ name bytes is. is)
-      (λ owed home. let both = settles_whole s c r of_it apart h files now head (was_whole owed home) may_be resolved not_yet keeps.0 in filed_as owed home h refl refl both.0 both.1)
+      (λ owed home. let both = settles_whole s c r of_it apart h files now head (was_whole owed home) may_be resolved not_yet keeps.0 in filed_as owed home h refl refl refl both.0 both.1)
 
   -- ---- it is recorded
 
@@ -287,8 +289,8 @@ module _ (s : AllSettings) (first : Files) (h : History) (files now : Files) (c 
 
     filed_now : IsFiled s behind c now
     filed_now =
-        filed_as owed home behind refl refl (λ image is. subst (IsWhole s behind c) (sym (only_image image is)) holds_now)
-        (λ image is. subst (NamesAll head) (sym (only_image image is)) (λ two. (recorded.tag, with_outcome (output_name s r.output) 68 recorded.outputs, recorded.content, recorded.is)))
+        filed_as owed home behind refl refl refl (λ image is. subst (IsWhole s behind c) (sym (only_image image is)) holds_now)
+        (λ image is. subst (NamesAll head) (sym (only_image image is)) (fits_head head recorded.tag (with_outcome (output_name s r.output) 68 recorded.outputs) recorded.content recorded.bytes recorded.is))
 
   pub recorded_order : RecordedIn head (output_name s r.output) files now → SameBut head.name files now → AllSound now → InOrder s first (Recorded r ∷ h) now
   recorded_order recorded but all =

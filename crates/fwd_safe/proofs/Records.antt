@@ -36,7 +36,9 @@ use Rattle.fwd_ties.proofs.Sounding.{sound as sound_past}
 use Rattle.fwd_safe.specs.Moment.{Moment, moment, Passes}
 use Rattle.fwd_safe.specs.Recorded.{is_recorded, may_be_recorded}
 use Rattle.fwd_safe.specs.Whole.{IsWhole}
+use Rattle.fwd_safe.specs.Handed.{EachHandsItsChunk}
 use Rattle.fwd_safe.specs.Safe.{IsSafe, IsHeld}
+use Rattle.fwd_safe.proofs.Headed.{named_of}
 use Rattle.fwd_safe.proofs.Ordered.{head_of, NamesAll, IsFiled, InOrder, HaveRoom}
 use Rattle.fwd_safe.proofs.Small.{held_of, same_head, one_chunk}
 use Rattle.fwd_safe.proofs.Safely.{local_safe}
@@ -128,6 +130,7 @@ module _ (s : AllSettings) (settings : IsSound s) (full : s.service.full ≡ tru
       shut : is_shut h r.chunk ≡ true
       order : InOrder s first g m.files
       room : HaveRoom g
+      hands : EachHandsItsChunk s g
       c : ChunkOf
       among : Contains (chunks_of h) c
       number : c.number ≡ r.chunk
@@ -140,15 +143,16 @@ module _ (s : AllSettings) (settings : IsSound s) (full : s.service.full ≡ tru
         let was = at_kept due in
         let sound = sound_past s m.past due.1 in
         let own = owed_chunk s h r.chunk owed in
-        let home = was.0.home r.chunk head held in
+        let home = was.order.home r.chunk head held in
         let one : home.of ≡ own.0 = one_chunk s h home.of own.0 sound home.among own.1 (home.is ∙ sym own.2) in
-        let filed = was.0.owed own.0 own.1 own.3 (subst (λ (c : ChunkOf). home_of s c.input ≡ Disk) one home.home) in
+        let filed = was.order.owed own.0 own.1 own.3 (subst (λ (c : ChunkOf). home_of s c.input ≡ Disk) one home.home) in
         record {
           sound = sound;
           sound_now = sound_past s at.past due;
           shut = due.0;
-          order = was.0;
-          room = was.1;
+          order = was.order;
+          room = was.room;
+          hands = was.hands;
           c = own.0;
           among = own.1;
           number = own.2;
@@ -164,7 +168,7 @@ module _ (s : AllSettings) (settings : IsSound s) (full : s.service.full ≡ tru
     names_of x = subst (λ (one : ChunkHead). Images one.name (NamesAll one) m.files) x.is_head x.filed.names
 
     names_in : (x : Here) → NamesIn head m.files
-    names_in x image is = names_of x image is x.mark
+    names_in x image is = named_of head image (names_of x image is) x.mark
 
     abbrev Going : Files → Type 0
     Going now = KeepsOtherOutcomes head output m.files now
@@ -208,11 +212,13 @@ module _ (s : AllSettings) (settings : IsSound s) (full : s.service.full ≡ tru
         (λ answer due.
         let is = came.1 due.1 in
         let x = here is.0 in
-        subst (λ (y : History). Ordered s first (Recorded r ∷ y) end.files) (sym came.0) (
-          recorded_order s first g m.files end.files x.c r head x.sound_now x.order x.among x.number (apart_of x) x.shut held place is_place (begun_now s r h) resolved
-              (is.1.ended.0 (by is.1.ended.1) full) is.1.going.1 is.1.sound,
-          x.room,
-        ))
+        subst (λ (y : History). Ordered s first (Recorded r ∷ y) end.files) (sym came.0)
+        (record {
+          order = recorded_order s first g m.files end.files x.c r head x.sound_now x.order x.among x.number (apart_of x) x.shut held place is_place (begun_now s r h) resolved
+              (is.1.ended.0 (by is.1.ended.1) full) is.1.going.1 is.1.sound;
+          room = x.room;
+          hands = x.hands;
+        }))
       where
         by : (Some said ≡ Some true) ⊎ (Some said ≡ None) → Some said ≡ Some true
         by (inl is) = is
@@ -223,7 +229,7 @@ module _ (s : AllSettings) (settings : IsSound s) (full : s.service.full ≡ tru
         let is = came.1 due.1 in
         let x = here is.0 in
         let order = unrecorded_order s first g m.files end.files x.c r head x.sound_now x.order x.among x.number (apart_of x) x.shut held place is_place (begun_now s r h) resolved (open_now s r h) is.1.going is.1.sound in
-        subst (λ (y : History). Ordered s first (Faulted ∷ y) end.files) (sym came.0) (plain_order s first Faulted g end.files tt order, x.room))
+        subst (λ (y : History). Ordered s first (Faulted ∷ y) end.files) (sym came.0) (record { order = plain_order s first Faulted g end.files tt order; room = x.room; hands = x.hands }))
 
     records_it : TellsBy (Safe s first) (Kept s first) at (bind (on_disk (settles head output s.service.full)) (recorded r g))
     records_it =

@@ -43,7 +43,7 @@ module _ (s : AllSettings) (first : Files) (chunk : ℕ) (m : Moment) (done : ow
   in_memory : file_held (kept_of s h chunk) ≡ None → TellsBy (Safe s first) (Kept s first) m (note (Dropped chunk) h)
   in_memory none =
       notes_last s first (Dropped chunk) h m refl (safe_now s first m kept)
-      (λ answer due. let was = kept due.1 in (dropped_memory s first h chunk m.files (sound_past s m.past due.1) was.0 done none, was.1))
+      (λ answer due. let was = kept due.1 in record { order = dropped_memory s first h chunk m.files (sound_past s m.past due.1) was.order done none; room = was.room; hands = was.hands })
 
   module _ (name : List ℕ) (held : file_held (kept_of s h chunk) ≡ Some name) where
     abbrev Going : Files → Type 0
@@ -71,7 +71,7 @@ module _ (s : AllSettings) (first : Files) (chunk : ℕ) (m : Moment) (done : ow
     nobody sound order c among owed at = not_owed s h chunk c sound done among owed (order.differ c.number chunk name at held)
 
     here : Due s m.past → (past : Past) (now : Files) → noted past ≡ h → Going now → IsSafe s first (moment past now)
-    here due past now same going = let sound = sound_past s m.past due in let order = (kept due).0 in going_safe sound h past now same order (nobody sound order) going
+    here due past now same going = let sound = sound_past s m.past due in let order = (kept due).order in going_safe sound h past now same order (nobody sound order) going
 
     -- behind the call
     behind : (answer : Option (Unit {0})) (end : Moment) → Came s first m Gone answer end → TellsBy (Safe s first) (Kept s first) end (dropped chunk h answer)
@@ -81,7 +81,7 @@ module _ (s : AllSettings) (first : Files) (chunk : ℕ) (m : Moment) (done : ow
         let is = came.1 due.1 in
         let was = kept is.0 in
         subst (λ (x : History). Ordered s first (Dropped chunk ∷ x) end.files) (sym came.0)
-        (dropped_order s first h chunk m.files end.files name (sound_past s m.past is.0) was.0 done held is.1.going.same (is.1.ended.done refl) is.1.sound, was.1))
+        (record { order = dropped_order s first h chunk m.files end.files name (sound_past s m.past is.0) was.order done held is.1.going.same (is.1.ended.done refl) is.1.sound; room = was.room; hands = was.hands }))
     behind None end came =
         notes s first (Told s first) Faulted h end (λ x. note (Left chunk) x) came.0 (λ due. let is = came.1 due in here is.0 end.past end.files came.0 is.1.going)
         (λ answer.
@@ -90,18 +90,18 @@ module _ (s : AllSettings) (first : Files) (chunk : ℕ) (m : Moment) (done : ow
         (λ due.
         let is = came.1 due.1 in
         let was = kept is.0 in
-        let order = plain_order s first Faulted h m.files tt was.0 in
-        going_safe (sound_past s m.past is.0) (Faulted ∷ h) at.past end.files (ap (λ (x : History). Faulted ∷ x) came.0) order (nobody (sound_past s m.past is.0) was.0) is.1.going)
+        let order = plain_order s first Faulted h m.files tt was.order in
+        going_safe (sound_past s m.past is.0) (Faulted ∷ h) at.past end.files (ap (λ (x : History). Faulted ∷ x) came.0) order (nobody (sound_past s m.past is.0) was.order) is.1.going)
         (λ more due.
         let is = came.1 due.1.1 in
         let was = kept is.0 in
         subst (λ (x : History). Ordered s first (Left chunk ∷ Faulted ∷ x) end.files) (sym came.0)
-        (left_order s first h chunk m.files end.files name (sound_past s m.past is.0) was.0 done held is.1.going.same is.1.going.here is.1.sound, was.1)))
+        (record { order = left_order s first h chunk m.files end.files name (sound_past s m.past is.0) was.order done held is.1.going.same is.1.going.here is.1.sound; room = was.room; hands = was.hands })))
 
     in_file : TellsBy (Safe s first) (Kept s first) m (bind (on_disk (removes name)) (dropped chunk h))
     in_file =
         holds_bind Passes (Safe s first) (Came s first m Gone) (Told s first) m (on_disk (removes name)) (dropped chunk h)
-        (runs s first m Going Gone here (removes name) (λ due. with_all Going (LocalThen name m.files (AllImages (GoneOrBefore (m.files name))) (λ s. s ≡ gone)) (removes name) m.files (kept due).0.sound (remove_keeps name m.files)))
+        (runs s first m Going Gone here (removes name) (λ due. with_all Going (LocalThen name m.files (AllImages (GoneOrBefore (m.files name))) (λ s. s ≡ gone)) (removes name) m.files (kept due).order.sound (remove_keeps name m.files)))
         behind
 
   drops_by : (held : Option Held) → kept_of s h chunk ≡ held → TellsBy (Safe s first) (Kept s first) m (bind (on_disk (removals_for held)) (dropped chunk h))

@@ -50,6 +50,7 @@ filed_still s h c files now filed same = record {
   head = filed.head;
   held = filed.held;
   name = filed.name;
+  sized = filed.sized;
   images = images_still (IsWhole s h c) filed.head.name files now same filed.images;
   names = images_still (NamesAll filed.head) filed.head.name files now same filed.names;
   at_work = λ off. open_still s h c filed.head files now same (filed.at_work off);
@@ -121,6 +122,7 @@ module _ (s : AllSettings) (first : Files) where
         head = head;
         held = held;
         name = ap (λ (x : ChunkHead). x.name) (same_head (kept_of s h c.number) head filed.head held filed.held) ∙ filed.name;
+        sized = ap (λ (x : ChunkHead). x.size) (same_head (kept_of s h c.number) head filed.head held filed.held) ∙ filed.sized;
         images = whole;
         names = names;
         at_work = λ off. absurd (cc (sym shut ∙ off));

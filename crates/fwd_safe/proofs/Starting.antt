@@ -34,6 +34,7 @@ use Rattle.fwd_ties.specs.Sound.{Sound}
 use Rattle.fwd_ties.proofs.Members.{here}
 use Rattle.fwd_ties.proofs.Sounding.{sound as sound_past}
 use Rattle.fwd_safe.specs.Moment.{Moment, moment, Passes}
+use Rattle.fwd_safe.specs.Handed.{EachHandsItsChunk}
 use Rattle.fwd_safe.specs.Safe.{IsOf, IsPlaced, IsSafe}
 use Rattle.fwd_safe.proofs.Ordered.{InOrder, HaveRoom}
 use Rattle.fwd_safe.proofs.Safely.{local_safe, order_safe}
@@ -93,10 +94,10 @@ module _ (s : AllSettings) (settings : IsSound s) (first : Files) (b : Batch) (m
     here_now due =
         let sound = sound_past s m.past due in
         let was = kept due in
-        record { sound = sound; was = was; order = offers_order s first h m.files n b sound was.0 (inl refl) }
+        record { sound = sound; was = was; order = offers_order s first h m.files n b sound was.order (inl refl) }
 
     at_kept : Kept s first at
-    at_kept due = let x = here_now due.1 in (x.order, offers_room h n b x.was.1)
+    at_kept due = let x = here_now due.1 in record { order = x.order; room = offers_room h n b x.was.room; hands = x.was.hands }
 
     -- behind the acceptance
     accepted : (end : Moment) → noted end.past ≡ g → Safe s first end → (Due s end.past → Due s m.past × InOrder s first (Accepted b (First n) ∷ g) end.files)
@@ -106,18 +107,19 @@ module _ (s : AllSettings) (settings : IsSound s) (first : Files) (b : Batch) (m
         (λ answer.
         let last : Moment = after end (Note (Accepted b (First n))) answer in
         let k : History = Accepted b (First n) ∷ noted end.past in
+        let hands_at : Due s m.past → EachHandsItsChunk s (noted end.past) = λ due. subst (EachHandsItsChunk s) (sym same) (kept due).hands in
         let order : Due s last.past → InOrder s first k end.files = λ due. subst (λ (x : History). InOrder s first (Accepted b (First n) ∷ x) end.files) (sym same) (behind due.1).1 in
         fills_on last (λ due. order_safe s first last.past end.files (order due))
-        (λ small due. (order due, room_all n k (subst (λ (x : History). RoomBut n (Accepted b (First n) ∷ x)) (sym same) (room_begun n b h (kept (behind due.1).0).1)) small))
+        (λ small due. record { order = order due; room = room_all n k (subst (λ (x : History). RoomBut n (Accepted b (First n) ∷ x)) (sym same) (room_begun n b h (kept (behind due.1).0).room)) small; hands = hands_at (behind due.1).0 })
         (λ more due.
-        (plain_order s first (Shut n) k end.files tt (order due.1), room_shut n k (subst (λ (x : History). RoomBut n (Accepted b (First n) ∷ x)) (sym same) (room_begun n b h (kept (behind due.1.1).0).1)))))
+        record { order = plain_order s first (Shut n) k end.files tt (order due.1); room = room_shut n k (subst (λ (x : History). RoomBut n (Accepted b (First n) ∷ x)) (sym same) (room_begun n b h (kept (behind due.1.1).0).room)); hands = hands_at (behind due.1.1).0 }))
 
     -- ---- in memory
 
     in_memory : home_at s b.input ≡ Ram → Taken at (placed s b n g (Some tt))
     in_memory ram =
         accepted at refl (safe_now s first at at_kept)
-        (λ due. let x = here_now due.1 in (due.1, begun_memory s first h b m.files x.sound x.was.0 ram))
+        (λ due. let x = here_now due.1 in (due.1, begun_memory s first h b m.files x.sound x.was.order ram))
 
     -- ---- in a file
 
@@ -150,13 +152,13 @@ module _ (s : AllSettings) (settings : IsSound s) (first : Files) (b : Batch) (m
       offers_safe : Due s m.past → (past : Past) (now : Files) → noted past ≡ g → Going now → IsSafe s first (moment past now)
       offers_safe due past now same going =
           let x = here_now due in
-          safe_at g past now x.sound same x.order (here (Offers n b) h) (no_chunk s h n x.sound (omega arith)) (x.was.0.free root.0 root.1 b.input n (omega arith) lt).unheld going
+          safe_at g past now x.sound same x.order (here (Offers n b) h) (no_chunk s h n x.sound (omega arith)) (x.was.order.free root.0 root.1 b.input n (omega arith) lt).unheld going
 
       calls : Due s at.past → Holds disk.Steps Going Behind m.files (begins_as name b.tag Disk (spelled b.events) names)
       calls due =
           let x = here_now due.1 in
-          with_all Going Ended (begins_as name b.tag Disk (spelled b.events) names) m.files x.was.0.sound
-          (holds_begins name b.tag (spelled b.events) names m.files (x.was.0.free root.0 root.1 b.input n (omega arith) lt).none)
+          with_all Going Ended (begins_as name b.tag Disk (spelled b.events) names) m.files x.was.order.sound
+          (holds_begins name b.tag (spelled b.events) names m.files (x.was.order.free root.0 root.1 b.input n (omega arith) lt).none)
 
       settled : (last : Files) → last name ≡ whole bytes → SettledIn (new_head name b.tag (spelled b.events) names) (new_meta b.tag names) (spelled b.events) last
       settled last is =
@@ -170,22 +172,23 @@ module _ (s : AllSettings) (settings : IsSound s) (first : Files) (b : Batch) (m
           (λ due.
           let is = came.1 due in
           let x = here_now is.0.1 in
-          (is.0.1, begun_order s first settings h b m.files x.sound x.was.0 left end.files store writable.text writable.short (writable_are b writable store.fits) disk_home is.1.going.1 (settled end.files (is.1.ended refl)) is.1.sound))
+          (is.0.1, begun_order s first settings h b m.files x.sound x.was.order left end.files store writable.text writable.short (writable_are b writable store.fits) disk_home is.1.going.1 (settled end.files (is.1.ended refl)) is.1.sound))
       behind None end came =
           notes s first Took Faulted g end (λ k. refuses b NotStored k) came.0 (λ due. let is = came.1 due in offers_safe is.0.1 end.past end.files came.0 is.1.going)
           (λ answer.
           let order : Due s end.past → InOrder s first (noted end.past) end.files = λ due.
           let is = came.1 due in
           let x = here_now is.0.1 in
-          subst (λ (y : History). InOrder s first y end.files) (sym came.0) (unplaced_order s first settings h b m.files x.sound x.was.0 left end.files disk_home is.1.going.1 is.1.going.0 is.1.sound) in
-          let room : Due s end.past → HaveRoom (noted end.past) = λ due. subst HaveRoom (sym came.0) (offers_room h n b (kept (came.1 due).0.1).1) in
+          subst (λ (y : History). InOrder s first y end.files) (sym came.0) (unplaced_order s first settings h b m.files x.sound x.was.order left end.files disk_home is.1.going.1 is.1.going.0 is.1.sound) in
+          let room : Due s end.past → HaveRoom (noted end.past) = λ due. subst HaveRoom (sym came.0) (offers_room h n b (kept (came.1 due).0.1).room) in
+          let hands : Due s end.past → EachHandsItsChunk s (noted end.past) = λ due. subst (EachHandsItsChunk s) (sym came.0) (kept (came.1 due).0.1).hands in
           let faulted : Moment = after end (Note Faulted) answer in
-          let faulted_kept : Kept s first faulted = λ due. (plain_order s first Faulted (noted end.past) end.files tt (order due.1), plain_room Faulted (noted end.past) tt (room due.1)) in
+          let faulted_kept : Kept s first faulted = λ due. record { order = plain_order s first Faulted (noted end.past) end.files tt (order due.1); room = plain_room Faulted (noted end.past) tt (room due.1); hands = hands due.1 } in
           notes s first Took (Refused b NotStored) (noted faulted.past) faulted given_up refl (safe_now s first faulted faulted_kept)
           (λ more.
           let refused : Kept s first (after faulted (Note (Refused b NotStored)) more) = λ due.
           let was = faulted_kept due.1 in
-          (plain_order s first (Refused b NotStored) (noted faulted.past) end.files tt was.0, plain_room (Refused b NotStored) (noted faulted.past) tt was.1) in
+          record { order = plain_order s first (Refused b NotStored) (noted faulted.past) end.files tt was.order; room = plain_room (Refused b NotStored) (noted faulted.past) tt was.room; hands = was.hands } in
           (safe_now s first (after faulted (Note (Refused b NotStored)) more) refused, (refl, refused))))
 
       in_file : Taken at (bind (on_disk (begins_as name b.tag Disk (spelled b.events) names)) (placed s b n g))

@@ -1,5 +1,5 @@
 -- How a life is walked through, call by call, with the files of the disk.
-use Rattle.std.proofs.Common.{◌≡◌, ℕ, Bool, true, false, cond, ◌∷◌, Some, None, refl, sym, subst}
+use Rattle.std.proofs.Common.{◌≡◌, ℕ, Bool, true, false, cond, ◌∷◌, Some, None, refl, sym, subst, List}
 use Rattle.std.specs.Prelude.{nat_le, nat_lt}
 use Rattle.fwd_base.specs.Limits.{full_chunk, past_numbers}
 use Rattle.fwd_program.specs.Program.{entry, Return, Ask, bind}
@@ -8,13 +8,19 @@ use Rattle.fwd_program.proofs.Holding.{holds_bind}
 use Rattle.fwd_outside.specs.Loop.{LoopProgram}
 use Rattle.fwd_outside.specs.Files.{FilesProgram}
 use Rattle.fwd_image.specs.Disk.{Files, Stays}
+use Rattle.fwd_event.specs.declared.event.Event.{Event}
+use Rattle.fwd_event.specs.Whole.{events_in}
+use Rattle.fwd_chunk.specs.declared.append.ChunkHead.{ChunkHead}
 use Rattle.fwd_kept.specs.declared.kept.Kept.{Kept}
+use Rattle.fwd_kept.specs.declared.kept.Kept.TheVariants.{InFile, Adopted, InMemory}
+use Rattle.fwd_written.specs.Held.{kept_of}
+use Rattle.fwd_written.specs.Walk.{may_start}
 use Rattle.fwd_kept.specs.Content.{reads_content}
 use Rattle.fwd_settings.specs.declared.chosen.AllSettings.{AllSettings}
-use Rattle.fwd_written.specs.Fact.{Fact, History, Batch, Route, Shut}
+use Rattle.fwd_written.specs.Fact.{Fact, History, Batch, Route, OnRoute, Begun, Shut}
 use Rattle.fwd_written.specs.Trace.{Call, Answer, Act, OnLoop, OnDisk, OnFiles, OnKeeper, Note}
 use Rattle.fwd_written.specs.Parts.{on_loop, on_disk, on_files}
-use Rattle.fwd_written.specs.Chunks.{ChunkOf, open_chunk, next, size}
+use Rattle.fwd_written.specs.Chunks.{ChunkOf, open_chunk, next, size, records as records_of}
 use Rattle.fwd_written.specs.Routes.{owes, is_resolved}
 use Rattle.fwd_written.specs.Noting.{noting, note}
 use Rattle.fwd_written.specs.Settling.{drops, records}
@@ -23,7 +29,7 @@ use Rattle.fwd_written.specs.Accepting.{Accepting, taken, given_up, appends, beg
 use Rattle.fwd_ties.specs.Past.{noted}
 use Rattle.fwd_ties.specs.Due.{IsToStore}
 use Rattle.fwd_safe.specs.Moment.{Moment, moment, Changes, Passes}
-use Rattle.fwd_safe.proofs.Facts.{IsPlain}
+use Rattle.fwd_safe.proofs.Simple.{IsSimple}
 use Rattle.fwd_safe.proofs.Writable.{IsWritable}
 
 -- the moment behind an entry that changes no file
@@ -72,13 +78,23 @@ TakenBy P K m p = Holds Passes P (λ (a : Accepting) (end : Moment). (a.history 
 abbrev pub RestsBy : (P K : Moment → Type 0) → {R : Type 0} → Moment → Act R → Type 0
 RestsBy P K {R = R} m p = Holds Passes P (λ (x : R) (end : Moment). (noted end.past ≡ noted m.past) × K end) m p
 
+-- a flight of a route that hands over these events may begin
+abbrev pub MayBeginBy : (Moment → Type 0) → Route → List Event → Moment → Type 0
+MayBeginBy K r events m = (answer : Unit {0}) → K (after m (Note (OnRoute r (Begun events))) answer)
+
+-- and so, with the events that were read, behind the read of its chunk's content
+abbrev pub ReadsBy : (P K : Moment → Type 0) → Route → Moment → Kept → Type 0
+ReadsBy P K r m kept = Holds Passes P (λ answer end. (noted end.past ≡ noted m.past) × (K end × ((bytes : List ℕ) → answer ≡ Some bytes → MayBeginBy K r (events_in bytes).0 end))) m (on_disk (reads_content kept))
+
 -- What is asked of two properties, so that a life is walked through: the first holds at each moment, and the second between
 -- acts.
 pub record CanWalk (s : AllSettings) (P K : Moment → Type 0) : Type 0 where
   pub now : (m : Moment) → K m → P m
   pub still : (call : Call) (answer : Answer call) (m : Moment) → IsBeside call → K m → K (after m call answer)
-  pub plain : (fact : Fact) (answer : Unit {0}) (m : Moment) → IsPlain fact → K m → K (after m (Note fact) answer)
-  pub reads : (kept : Kept) (m : Moment) → K m → RestsBy P K m (on_disk (reads_content kept))
+  pub plain : (fact : Fact) (answer : Unit {0}) (m : Moment) → IsSimple fact → K m → K (after m (Note fact) answer)
+  pub memory : (r : Route) (bytes : List ℕ) (m : Moment) → kept_of s (noted m.past) r.chunk ≡ Some (InMemory bytes) → K m → MayBeginBy K r (records_of (noted m.past) r.chunk) m
+  pub reads : (r : Route) (head : ChunkHead) (m : Moment) → may_start s (noted m.past) r ≡ true → kept_of s (noted m.past) r.chunk ≡ Some (InFile head) → K m → ReadsBy P K r m (InFile head)
+  pub finds : (r : Route) (head : ChunkHead) (m : Moment) → may_start s (noted m.past) r ≡ true → kept_of s (noted m.past) r.chunk ≡ Some (Adopted head) → K m → ReadsBy P K r m (Adopted head)
   pub drops : (chunk : ℕ) (m : Moment) → owes s (noted m.past) chunk ≡ false → K m → TellsBy P K m (drops s chunk (noted m.past))
   pub records : (r : Route) (m : Moment) → owes s (noted m.past) r.chunk ≡ true → is_resolved s (noted m.past) r ≡ true → K m → TellsBy P K m (records s r (noted m.past))
   pub appends : (b : Batch) (c : ChunkOf) (m : Moment) → IsToStore s b → IsWritable b → open_chunk (noted m.past) b.input b.tag ≡ Some c → K m
@@ -106,7 +122,7 @@ module _ (P : Moment → Type 0) where
 
 module _ (s : AllSettings) (P K : Moment → Type 0) (can : CanWalk s P K) where
   -- a fact that is plain is noted
-  pub deed : {R : Type 0} (Q : R → Moment → Type 0) (fact : Fact) (m : Moment) (next : History → Act R) → IsPlain fact → K m
+  pub deed : {R : Type 0} (Q : R → Moment → Type 0) (fact : Fact) (m : Moment) (next : History → Act R) → IsSimple fact → K m
       → ((answer : Unit {0}) → K (after m (Note fact) answer) → Holds Passes P Q (after m (Note fact) answer) (next (fact ∷ noted m.past))) → Holds Passes P Q m (noting fact (noted m.past) next)
   deed Q fact m next plain kept more =
       holds_ask P Q m (Note fact) (λ _. next (fact ∷ noted m.past)) tt (can.now m kept) (λ answer. more answer (can.plain fact answer m plain kept))
@@ -114,7 +130,7 @@ module _ (s : AllSettings) (P K : Moment → Type 0) (can : CanWalk s P K) where
   pub nothing : (m : Moment) → K m → TellsBy P K m (Return (noted m.past))
   nothing m kept = (can.now m kept, (refl, kept))
 
-  pub only : (fact : Fact) (m : Moment) → IsPlain fact → K m → TellsBy P K m (note fact (noted m.past))
+  pub only : (fact : Fact) (m : Moment) → IsSimple fact → K m → TellsBy P K m (note fact (noted m.past))
   only fact m plain kept = deed (λ (h : History) (end : Moment). (h ≡ noted end.past) × K end) fact m (λ h. Return h) plain kept (λ answer then. nothing (after m (Note fact) answer) then)
 
   -- a call on the loop or on files

@@ -1,17 +1,14 @@
 -- Programs of the disk inside a life: what holds at each moment of them, where the life may have come there.
-use Rattle.std.proofs.Common.{◌≡◌, ℕ, zero, suc, ◌+◌, ◌-◌, nat_lt, Bool, true, false, cond, List, [], ◌∷◌, ◌++◌, length, Option, Some, None, refl, sym, ◌∙◌, ap, subst}
-use Rattle.fwd_program.specs.Program.{entry, Return, Ask}
+use Rattle.std.proofs.Common.{◌≡◌, ◌∷◌, refl, sym, ◌∙◌, ap, subst}
+use Rattle.fwd_program.specs.Program.{Return, Ask}
 use Rattle.fwd_program.specs.Moments.{Holds}
-use Rattle.fwd_outside.specs.Disk.{DiskProgram, Read}
+use Rattle.fwd_outside.specs.Disk.{DiskProgram}
 use Rattle.fwd_image.specs.Disk.{Files, Stays}
 use Rattle.fwd_image.specs.Disk as disk
 use Rattle.fwd_image.proofs.Sound.{AllSound, sound_step}
-use Rattle.fwd_kept.specs.declared.kept.Kept.{Kept as Held}
-use Rattle.fwd_kept.specs.declared.kept.Kept.TheVariants.{InFile, Adopted, InMemory}
-use Rattle.fwd_kept.specs.Content.{piece, piece_read, reads_on, reads_content}
 use Rattle.fwd_settings.specs.declared.chosen.AllSettings.{AllSettings}
 use Rattle.fwd_written.specs.Fact.{Fact, History}
-use Rattle.fwd_written.specs.Trace.{Act, OnDisk, Note}
+use Rattle.fwd_written.specs.Trace.{Act, Note}
 use Rattle.fwd_written.specs.Parts.{on_disk}
 use Rattle.fwd_written.specs.Noting.{noting, note}
 use Rattle.fwd_ties.specs.Past.{Past, noted}
@@ -20,8 +17,10 @@ use Rattle.fwd_safe.specs.Moment.{Moment, moment, Passes}
 use Rattle.fwd_safe.specs.Safe.{IsSafe}
 use Rattle.fwd_safe.proofs.Ordered.{InOrder, HaveRoom}
 use Rattle.fwd_safe.proofs.Safely.{order_safe}
-use Rattle.fwd_safe.proofs.Facts.{IsPlain, plain_order, plain_room}
-use Rattle.fwd_safe.proofs.Stepping.{after, TellsBy, RestsBy, same_moment, holds_ask}
+use Rattle.fwd_safe.specs.Handed.{EachHandsItsChunk}
+use Rattle.fwd_safe.proofs.Simple.{IsSimple, plain_of, hands_on}
+use Rattle.fwd_safe.proofs.Facts.{plain_order, plain_room}
+use Rattle.fwd_safe.proofs.Stepping.{after, TellsBy, holds_ask}
 
 -- what is so behind a program: what holds at each moment of it, that files are sound, and what is so of its answer
 pub record IsBehind {R : Type 0} (P : Files → Type 0) (Q : R → Files → Type 0) (answer : R) (now : Files) : Type 0 where
@@ -48,8 +47,10 @@ holds_given D P Q (Ask call go) files holds = (
 )
 
 module _ (s : AllSettings) (first : Files) where
-  abbrev pub Ordered : History → Files → Type 0
-  Ordered h files = InOrder s first h files × HaveRoom h
+  pub record Ordered (h : History) (files : Files) : Type 0 where
+    pub order : InOrder s first h files
+    pub room : HaveRoom h
+    pub hands : EachHandsItsChunk s h
 
   -- the moment is safe, if its past may be one of a life
   abbrev pub Safe : Moment → Type 0
@@ -63,15 +64,16 @@ module _ (s : AllSettings) (first : Files) where
   Told h end = (h ≡ noted end.past) × Kept end
 
   pub safe_now : (m : Moment) → Kept m → Safe m
-  safe_now m kept due = order_safe s first m.past m.files (kept due).0
+  safe_now m kept due = order_safe s first m.past m.files (kept due).order
 
   pub still_kept : (m : Moment) → (past : Past) → noted past ≡ noted m.past → (Due s past → Due s m.past) → Kept m → Kept (moment past m.files)
   still_kept m past same dues kept due = subst (λ (h : History). Ordered h m.files) (sym same) (kept (dues due))
 
-  pub plain_kept : (fact : Fact) (answer : Unit {0}) (m : Moment) → IsPlain fact → Kept m → Kept (after m (Note fact) answer)
-  plain_kept fact answer m plain kept due =
+  pub plain_kept : (fact : Fact) (answer : Unit {0}) (m : Moment) → IsSimple fact → Kept m → Kept (after m (Note fact) answer)
+  plain_kept fact answer m simple kept due =
       let was = kept due.1 in
-      (plain_order s first fact (noted m.past) m.files plain was.0, plain_room fact (noted m.past) plain was.1)
+      let plain = plain_of fact simple in
+      record { order = plain_order s first fact (noted m.past) m.files plain was.order; room = plain_room fact (noted m.past) plain was.room; hands = hands_on s fact (noted m.past) simple was.hands }
 
   -- what a program of the disk comes to: nothing was noted, and where the life may have come here, this is so of the files
   abbrev pub Came : {R : Type 0} → Moment → (R → Files → Type 0) → R → Moment → Type 0
@@ -103,48 +105,3 @@ module _ (s : AllSettings) (first : Files) where
   pub notes_last : (fact : Fact) (h : History) (end : Moment) → noted end.past ≡ h → Safe end → ((answer : Unit {0}) → Kept (after end (Note fact) answer)) → TellsBy Safe Kept end (note fact h)
   notes_last fact h end same safe kept =
       notes Told fact h end (λ x. Return x) same safe (λ answer. (safe_now (after end (Note fact) answer) (kept answer), (refl, kept answer)))
-
-  -- ---- reads
-
-  abbrev OnlyReads : {R : Type 0} → DiskProgram R → Type 0
-  OnlyReads (Return x) = Unit {0}
-  OnlyReads (Ask (Read name at len) go) = (answer : Option (List ℕ)) → OnlyReads (go answer)
-  OnlyReads (Ask call go) = ⊥
-
-  reads_if : (b : Bool) (p q : DiskProgram (Option (List ℕ))) → OnlyReads p → OnlyReads q → OnlyReads (cond b p q)
-  reads_if true p q first second = first
-  reads_if false p q first second = second
-
-  reads_piece : (go : List ℕ → DiskProgram (Option (List ℕ))) (so_far : List ℕ) (wanted : ℕ) (answer : Option (List ℕ)) → ((bytes : List ℕ) → OnlyReads (go bytes)) → OnlyReads (piece_read go so_far wanted answer)
-  reads_piece go so_far wanted None more = tt
-  reads_piece go so_far wanted (Some bytes) more = reads_if (nat_lt (length bytes) wanted) (Return (Some (so_far ++ bytes))) (go (so_far ++ bytes)) tt (more (so_far ++ bytes))
-
-  reads_more : (reads : ℕ) (name : List ℕ) (from size : ℕ) (so_far : List ℕ) → OnlyReads (reads_on reads name from size so_far)
-  reads_more zero name from size so_far = tt
-  reads_more (suc reads) name from size so_far =
-      reads_if (nat_lt (length so_far) size)
-      (Ask (Read name (from + length so_far) (piece (size - length so_far))) (piece_read (reads_on reads name from size) so_far (piece (size - length so_far)))) (Return (Some so_far))
-      (λ answer. reads_piece (reads_on reads name from size) so_far (piece (size - length so_far)) answer (λ bytes. reads_more reads name from size bytes)) tt
-
-  only_reads : (kept : Held) → OnlyReads (reads_content kept)
-  only_reads (InFile head) = reads_more head.size head.name (24 + head.meta) head.size []
-  only_reads (Adopted head) = reads_more head.size head.name (24 + head.meta) head.size []
-  only_reads (InMemory content) = tt
-
-  reads_rest : {R : Type 0} (p : DiskProgram R) (m : Moment) (h : History) → noted m.past ≡ h → OnlyReads p → Kept m → Holds Passes Safe (λ (x : R) (end : Moment). (noted end.past ≡ h) × Kept end) m (on_disk p)
-  reads_rest (Return x) m h same only kept = (safe_now m kept, (same, kept))
-  reads_rest {R = R} (Ask (Read name at len) go) m h same only kept = (
-    safe_now m kept,
-    λ answer during end passes.
-        let stays : Stays m.files during.files end.files = passes.0.1.1 in
-        let still : Kept (moment (entry (OnDisk (Read name at len)) answer ∷ m.past) m.files) = λ due. kept due.1 in
-        let there : end ≡ moment (entry (OnDisk (Read name at len)) answer ∷ m.past) m.files = same_moment end (moment (entry (OnDisk (Read name at len)) answer ∷ m.past) m.files) passes.2 stays.1 in (
-          subst Safe (sym (same_moment during m passes.1 stays.0)) (safe_now m kept),
-          subst (λ (x : Moment). Holds Passes Safe (λ (y : R) (last : Moment). (noted last.past ≡ h) × Kept last) x (on_disk (go answer))) (sym there)
-              (reads_rest (go answer) (moment (entry (OnDisk (Read name at len)) answer ∷ m.past) m.files) h same (only answer) still),
-        ),
-  )
-  reads_rest (Ask call go) m h same only kept = absurd only
-
-  pub reads_stay : (kept : Held) (m : Moment) → Kept m → RestsBy Safe Kept m (on_disk (reads_content kept))
-  reads_stay kept m is = reads_rest (reads_content kept) m (noted m.past) refl (only_reads kept) is

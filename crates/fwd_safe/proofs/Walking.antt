@@ -1,8 +1,8 @@
 -- A life is walked through: each moment of it is safe.
 use Rattle.std.proofs.Common.{◌≡◌, ℕ, zero, suc, true, List, [], ◌∷◌, Option, Some, None, sym, subst}
 use Rattle.fwd_program.specs.Program.{Return, Ask, Way}
-use Rattle.fwd_program.specs.Moments.{Holds, Moments}
-use Rattle.fwd_program.proofs.Holding.{holds_bind, holds_weaker, holds_moments}
+use Rattle.fwd_program.specs.Moments.{Holds, Moments, Ends as MomentEnds}
+use Rattle.fwd_program.proofs.Holding.{holds_bind, holds_weaker, holds_moments, holds_end}
 use Rattle.fwd_outside.specs.Loop.{Start, Wait}
 use Rattle.fwd_outside.specs.declared.ends.Ends.{Ends}
 use Rattle.fwd_outside.specs.declared.happening.Happening.{Happening}
@@ -24,10 +24,13 @@ use Rattle.fwd_ties.specs.Due.{Due}
 use Rattle.fwd_ties.proofs.Living.{due_since}
 use Rattle.fwd_safe.specs.Moment.{Moment, moment, Passes}
 use Rattle.fwd_safe.specs.Safe.{IsSafe}
+use Rattle.fwd_safe.specs.Handed.{EachHandsItsChunk}
 use Rattle.fwd_safe.proofs.Stepping.{after, IsBeside, TellsBy, CanWalk, holds_if, deed, ask, tells_then}
 use Rattle.fwd_safe.proofs.Coming.{tells_happens}
 use Rattle.fwd_safe.proofs.Loading.{LoadedAs, loading_holds}
-use Rattle.fwd_safe.proofs.Units.{Ordered, Safe, Kept, safe_now, plain_kept, reads_stay}
+use Rattle.fwd_safe.proofs.Units.{Ordered, Safe, Kept, safe_now, plain_kept}
+use Rattle.fwd_safe.proofs.Simple.{hands_at_first}
+use Rattle.fwd_safe.proofs.Handing.{memory_begins, file_begins, found_begins}
 use Rattle.fwd_safe.proofs.Removing.{drops_well}
 use Rattle.fwd_safe.proofs.Records.{records_well}
 use Rattle.fwd_safe.proofs.Starting.{begins_well}
@@ -46,18 +49,25 @@ module _ (s : AllSettings) (settings : IsSound s) (full : s.service.full ≡ tru
     now = safe_now s first;
     still = still_kept;
     plain = λ fact answer m plain kept. plain_kept s first fact answer m plain kept;
-    reads = reads_stay s first;
+    memory = λ r bytes m held kept. memory_begins s first r m kept bytes held;
+    reads = λ r head m may held kept. file_begins s first r m kept may head held;
+    finds = λ r head m may held kept. found_begins s first r m kept may head held;
     drops = λ chunk m done kept. drops_well s first chunk m done kept;
     records = λ r m owed resolved kept. records_well s settings full first r m owed resolved kept;
     appends = λ b c m store writable found kept fills_on shuts_on. appends_well s settings full first b c m store writable found kept fills_on shuts_on;
     begins = λ b m store writable none left kept fills_on. begins_well s settings first b m store writable none left kept fills_on;
   }
 
-  abbrev Lives : Moment → Act Lived → Type 0
-  Lives m p = Holds Passes (Safe s first) (λ (l : Lived) (end : Moment). Unit {0}) m p
-
+  -- at the end each flight was begun with the events of its chunk
   abbrev Any : Lived → Moment → Type 0
-  Any l end = Unit {0}
+  Any l end = Due s end.past → EachHandsItsChunk s (noted end.past)
+
+  hands_now : (m : Moment) → Kept s first m → Due s m.past → EachHandsItsChunk s (noted m.past)
+  hands_now m kept due = (kept due).hands
+
+  abbrev Lives : Moment → Act Lived → Type 0
+  Lives m p = Holds Passes (Safe s first) Any m p
+
 
   tells_step : (brings : Happening) (m : Moment) → Kept s first m → TellsBy (Safe s first) (Kept s first) m (step s brings (noted m.past))
   unfolding step
@@ -72,7 +82,7 @@ module _ (s : AllSettings) (settings : IsSound s) (full : s.service.full ≡ tru
   lives_step next brings m more kept =
       tells_then s (Safe s first) (Kept s first) can_walk Any m (step s brings (noted m.past)) (goes_on s next brings) (tells_step brings m kept)
       (λ end then. holds_if (Safe s first) Any (is_over s brings (noted end.past)) end (Return (lived (noted end.past) Over)) (next (noted end.past))
-      (λ over. (safe_now s first end then, tt)) (λ on. more end then))
+      (λ over. (safe_now s first end then, hands_now end then)) (λ on. more end then))
 
   lives_unless_last : (ticks : Option ℕ) (next : History → Act Lived) (brings : Happening) (m : Moment) → Goes next → Kept s first m → Lives m (unless_last s ticks next brings (noted m.past))
   lives_unless_last ticks next brings m more kept =
@@ -80,26 +90,26 @@ module _ (s : AllSettings) (settings : IsSound s) (full : s.service.full ≡ tru
       (λ last. lives_step next happening.Stop m more kept) (λ no. more m kept)
 
   lives_brought : (ticks : Option ℕ) (next : History → Act Lived) (m : Moment) (brings : Happening) → Goes next → Kept s first m → Lives m (brought s ticks next (noted m.past) brings)
-  lives_brought ticks next m happening.Failed more kept = (safe_now s first m kept, tt)
+  lives_brought ticks next m happening.Failed more kept = (safe_now s first m kept, hands_now m kept)
   lives_brought ticks next m brings more kept = lives_step (unless_last s ticks next brings) brings m (λ end then. lives_unless_last ticks next brings end more then) kept
 
   lives_run : (ticks : Option ℕ) (turns : ℕ) (m : Moment) → Kept s first m → Lives m (run s ticks turns (noted m.past))
   unfolding run
-  lives_run ticks zero m kept = (safe_now s first m kept, tt)
+  lives_run ticks zero m kept = (safe_now s first m kept, hands_now m kept)
   lives_run ticks (suc turns) m kept =
       ask s (Safe s first) (Kept s first) can_walk Any m (OnLoop (Wait (plus (clock (noted m.past)) 250) (paused s (noted m.past)))) (brought s ticks (run s ticks turns) (noted m.past)) tt tt kept
       (λ brings then.
       lives_brought ticks (run s ticks turns) (after m (OnLoop (Wait (plus (clock (noted m.past)) 250) (paused s (noted m.past)))) brings) brings (λ end last. lives_run ticks turns end last) then)
 
   lives_started : (ticks : Option ℕ) (turns : ℕ) (m : Moment) (ready : Option (Unit {0})) → Kept s first m → Lives m (started s ticks turns (noted m.past) ready)
-  lives_started ticks turns m None kept = (safe_now s first m kept, tt)
+  lives_started ticks turns m None kept = (safe_now s first m kept, hands_now m kept)
   lives_started ticks turns m (Some ready) kept = lives_run ticks turns m kept
 
   lives_begun : (ends : Ends) (ticks : Option ℕ) (turns : ℕ) (found : Option History) (m : Moment) → IsSafe s first m → (m.files ≡ first) × LoadedAs s first found m → Lives m (begun s ends ticks turns found)
-  lives_begun ends ticks turns None m safe loaded = (λ due. safe, tt)
+  lives_begun ends ticks turns None m safe loaded = (λ due. safe, λ due. subst (EachHandsItsChunk s) (sym loaded.1) tt)
   lives_begun ends ticks turns (Some h) m safe loaded =
       let is = loaded.1 in
-      let kept : Kept s first m = λ due. subst (λ (x : History). Ordered s first x m.files) is.0 (subst (λ (files : Files). Ordered s first h files) (sym loaded.0) (is.1, is.2)) in
+      let kept : Kept s first m = λ due. subst (λ (x : History). Ordered s first x m.files) is.0 (subst (λ (files : Files). Ordered s first h files) (sym loaded.0) (record { order = is.1; room = is.2; hands = hands_at_first s h is.3 })) in
       subst (λ (x : History). Lives m (begun s ends ticks turns (Some x))) (sym is.0)
       (ask s (Safe s first) (Kept s first) can_walk Any m (OnLoop (Start ends)) (started s ticks turns (noted m.past)) tt tt kept
       (λ ready then. lives_started ticks turns (after m (OnLoop (Start ends)) ready) ready then))
@@ -144,3 +154,10 @@ module _ (s : AllSettings) (settings : IsSound s) (full : s.service.full ≡ tru
   all_safe ends ticks turns es left fresh way =
       safe_along (moment [] first) es (due_since s ends ticks turns es left way)
       (holds_moments Passes (Safe s first) Any (moment [] first) (life s ends ticks turns) (lives ends ticks turns fresh) es left way)
+
+  -- at the end of a life
+  pub hands_at_end : (ends : Ends) (ticks : Option ℕ) (turns : ℕ) (es : List TraceEntry) (end : Lived) (last : Moment) → IsFresh first → Way (life s ends ticks turns) es (Return end) → MomentEnds Passes (moment [] first) es last
+      → last.past ≡ since [] es → EachHandsItsChunk s (noted last.past)
+  hands_at_end ends ticks turns es end last fresh way along is =
+      holds_end Passes (Safe s first) Any (moment [] first) (life s ends ticks turns) (lives ends ticks turns fresh) es end last way along
+      (subst (Due s) (sym is) (due_since s ends ticks turns es (Return end) way))

@@ -3,3 +3,4 @@ pub mod Recorded
 pub mod Whole
 pub mod Safe
 pub mod Again
+pub mod Handed

@@ -10,16 +10,19 @@ ghost use Rattle.fwd_image.specs.Disk.{Files};
 ghost use Rattle.fwd_backlog.specs.Found.{IsFresh};
 ghost use Rattle.fwd_settings.specs.declared.chosen.AllSettings.{AllSettings};
 ghost use Rattle.fwd_settings.specs.Sound.{IsSound};
-ghost use Rattle.fwd_written.specs.Fact.{History};
-ghost use Rattle.fwd_written.specs.Trace.{Act, TraceEntry};
+ghost use Rattle.fwd_written.specs.Fact.{History, Route, Recorded};
+ghost use Rattle.fwd_written.specs.Trace.{Act, TraceEntry, behind};
 ghost use Rattle.fwd_written.specs.Chunks.{ChunkOf, chunks_of};
 ghost use Rattle.fwd_written.specs.Routes.{is_owed, home_of};
 ghost use Rattle.fwd_written.specs.Loading.{loads_in};
 ghost use Rattle.fwd_written.specs.Run.{Lived, life};
 ghost use Rattle.fwd_ties.specs.Past.{noted};
+ghost use Rattle.fwd_ties.specs.Resolved.{WasRecorded};
 ghost use Rattle.fwd_safe.specs.Moment.{Moment, moment, Passes};
+ghost use Rattle.fwd_safe.specs.Recorded.{is_recorded};
 ghost use Rattle.fwd_safe.specs.Safe.{IsSafe};
 ghost use Rattle.fwd_safe.specs.Again.{IsFoundAgain};
+ghost use Rattle.fwd_safe.specs.Handed.{EachHandsItsChunk};
 
 /// Each moment of a life is safe, however far it has come and whatever was answered: between two calls, and inside a call on the
 /// disk. The life began with a disk on which nothing was in doubt, and its appends are synced.
@@ -36,4 +39,21 @@ pub fn what_is_safe_is_found()
         → IsSafe s first m → IsFresh image → ((name : List ℕ) → IsImage (m.files name) (content (image name)))
         → Way (loads_in s) entries (Return (Some h)) → Ends Passes (moment [] image) entries last
         → Contains (chunks_of (noted m.past)) c → is_owed s (noted m.past) c ≡ true → home_of s c.input ≡ Disk → IsFoundAgain s (noted m.past) h c }
+{}
+
+/// However far a life has come, each outcome that it recorded is recorded still, and so is each that was found recorded when it
+/// began. So none of these is ever recorded anew.
+pub fn recorded_stays_recorded()
+    ensures noted { (s : AllSettings) (ends : InputEnds) (ticks : Option ℕ) (turns : ℕ) (entries : List TraceEntry) (left : Act Lived) (r : Route)
+        → Way (life s ends ticks turns) entries left → Contains (behind entries []) (Recorded r) → is_recorded s (behind entries []) r ≡ true }
+    ensures found { (s : AllSettings) (ends : InputEnds) (ticks : Option ℕ) (turns : ℕ) (entries : List TraceEntry) (left : Act Lived) (r : Route)
+        → Way (life s ends ticks turns) entries left → WasRecorded s (behind entries []) r → is_recorded s (behind entries []) r ≡ true }
+{}
+
+/// Each flight of a life whose appends are synced was begun with the events of its chunk, where the disk answers as a disk
+/// does that began without doubt: those that were accepted into a chunk in memory, and the events of all bytes that were
+/// accepted into a chunk in a file, or found in it. So what outputs are handed is what was accepted.
+pub fn flights_hand_their_chunks()
+    ensures { (s : AllSettings) (ends : InputEnds) (ticks : Option ℕ) (turns : ℕ) (first : Files) (entries : List TraceEntry) (left : Act Lived) (last : Moment)
+        → IsSound s → s.service.full ≡ true → IsFresh first → Way (life s ends ticks turns) entries left → Ends Passes (moment [] first) entries last → EachHandsItsChunk s (behind entries []) }
 {}

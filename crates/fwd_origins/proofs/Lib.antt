@@ -1,0 +1,5 @@
+pub mod Completing
+pub mod Ordering
+pub mod Accepting
+pub mod Living
+pub mod Placing

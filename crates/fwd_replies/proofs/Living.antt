@@ -1,0 +1,191 @@
+-- Over a life, each reply is due.
+use Rattle.std.proofs.Common.{◌≡◌, ℕ, zero, suc, ◌+◌, true, List, [], ◌∷◌, ◌++◌, length, Option, Some, None, inl, refl, sym, ◌∙◌, ap, subst, arith}
+use Rattle.fwd_program.specs.Program.{entry, Return, Ask, bind, Way}
+use Rattle.fwd_outside.specs.Loop.{Reply, Start, Wait}
+use Rattle.fwd_outside.specs.Disk.{DiskProgram}
+use Rattle.fwd_outside.specs.declared.ends.Ends.{Ends}
+use Rattle.fwd_outside.specs.declared.happening.Happening.{Happening}
+use Rattle.fwd_outside.specs.declared.happening.Happening.TheVariants as happening
+use Rattle.fwd_base.specs.declared.ids.ConnId.{ConnId}
+use Rattle.fwd_base.specs.declared.ids.InputId.{InputId}
+use Rattle.fwd_backlog.specs.declared.file_read.FileRead.{FileRead}
+use Rattle.fwd_backlog.specs.Loading.{loads}
+use Rattle.fwd_settings.specs.declared.chosen.AllSettings.{AllSettings}
+use Rattle.fwd_written.specs.Fact.{History, Wire, Brought, Found}
+use Rattle.fwd_written.specs.Trace.{Call, Act, TraceEntry, OnLoop, OnDisk, Note}
+use Rattle.fwd_written.specs.Parts.{on_disk}
+use Rattle.fwd_written.specs.Setup.{plus}
+use Rattle.fwd_written.specs.Clock.{clock}
+use Rattle.fwd_written.specs.Streams.{stream_of}
+use Rattle.fwd_written.specs.Limits.{paused}
+use Rattle.fwd_written.specs.Steps.{step}
+use Rattle.fwd_written.specs.Loading.{finds, loaded, loads_from, loads_in}
+use Rattle.fwd_written.specs.Run.{Lived, Over, lived, is_over, goes_on, steps_on, is_last_reading, unless_last, brought, run, started, begun, life}
+use Rattle.fwd_ties.specs.Past.{Past, noted, since, just_waited}
+use Rattle.fwd_ties.specs.Due.{BroughtDue, IsLoading, Due}
+use Rattle.fwd_ties.proofs.Going.{Walks}
+use Rattle.fwd_ties.proofs.Living.{steps_step, last_due}
+use Rattle.fwd_replies.specs.Replies.{IsDueReply}
+use Rattle.fwd_replies.proofs.Still.{is_still, AreStill, still_loads}
+use Rattle.fwd_replies.proofs.Making.{Makes, since_both, makes_bind, makes_if, makes_so, still_makes, with_walk, made_along, along_at}
+use Rattle.fwd_replies.proofs.Lists.{in_order}
+use Rattle.fwd_replies.proofs.Stepping.{Any, brings, IsDueOver, makes_happens}
+
+module _ (s : AllSettings) where
+  -- a reply is due by what stands before it
+  abbrev pub IsDueCall : List TraceEntry → Call → Type 0
+  IsDueCall before (OnLoop (Reply conn bytes)) = IsDueReply s (since [] before) conn bytes
+  IsDueCall before call = Unit {0}
+
+  due_still : (before : List TraceEntry) (call : Call) → is_still call ≡ true → IsDueCall before call
+  due_still before (OnLoop (Reply conn bytes)) is = absurd (cc is)
+  due_still before call is = tt
+
+  abbrev Lives : List TraceEntry → Act Lived → Type 0
+  Lives es p = Makes IsDueCall Any es p
+
+  -- what was noted is this, and each entry stands where it may
+  abbrev At : List TraceEntry → History → Type 0
+  At es h = (h ≡ noted (since [] es)) × Due s (since [] es)
+
+  since_last : (es : List TraceEntry) (e : TraceEntry) → since [] (es ++ e ∷ []) ≡ e ∷ since [] es
+  since_last es e = since_both [] es (e ∷ [])
+
+  -- ---- a step
+
+  due_over : (es : List TraceEntry) (input : InputId) (conn : ConnId) (bytes : List ℕ) → stream_of s (noted (since [] es)) input.0 conn.0 ≡ Some (Wire conn.0)
+      → IsDueOver s IsDueCall (noted (since [] es)) input conn bytes (es ++ brings (happening.Piece input conn bytes) ∷ [])
+  due_over es input conn bytes over now earlier m later asked messages asks at = record {
+    older = since [] es;
+    input = input;
+    piece = bytes;
+    during = at.own;
+    is =
+        ap (λ (l : List TraceEntry). since [] l) at.is ∙
+        (since_both [] (es ++ brings (happening.Piece input conn bytes) ∷ []) at.own ∙ ap (λ (past : Past). since past at.own) (since_last es (brings (happening.Piece input conn bytes))));
+    last = at.came;
+    over = over;
+    earlier = earlier;
+    message = m;
+    later = later;
+    messages = messages;
+    asks = asks;
+    taken = in_order _ _ at.rest at.taken;
+    replies = at.replies;
+    whole = at.broken;
+    drops = at.drops;
+  }
+
+  makes_step : (es : List TraceEntry) (x : Happening) → Makes IsDueCall Any es (step s x (noted (since [] es)))
+  unfolding step
+  makes_step es x = (
+    tt,
+    λ answer.
+        makes_happens s IsDueCall due_still (λ before conn. tt) (noted (since [] es)) x (es ++ brings x ∷ []) (Brought x ∷ noted (since [] es))
+        (λ input conn bytes is over.
+        subst (λ (y : Happening). IsDueOver s IsDueCall (noted (since [] es)) input conn bytes (es ++ brings y ∷ [])) (sym is) (due_over es input conn bytes over)),
+  )
+
+  step_at : (es : List TraceEntry) (x : Happening) → BroughtDue s x (since [] es) → Due s (since [] es) → Makes IsDueCall (λ (h : History) (now : List TraceEntry). At now h) es (step s x (noted (since [] es)))
+  step_at es x due ready =
+      let W : History → Past → Type 0 = λ h now. (h ≡ noted now) × Unit {0} in
+      makes_so IsDueCall (λ (h : History) (now : List TraceEntry). Any h now × (Due s (since [] now) × W h (since [] now))) (λ (h : History) (now : List TraceEntry). At now h) es (step s x (noted (since [] es)))
+      (λ h now is. (is.1.1.0, is.1.0)) (with_walk IsDueCall (Due s) W Any es (step s x (noted (since [] es))) (steps_step s x (since [] es) due ready) (makes_step es x))
+
+  -- ---- a life
+
+  abbrev Goes : (History → Act Lived) → Type 0
+  Goes next = (now : List TraceEntry) (h : History) → At now h → Lives now (next h)
+
+  lives_step : (next : History → Act Lived) (x : Happening) → Goes next → (es : List TraceEntry) (h : History) → At es h → BroughtDue s x (since [] es) → Lives es (steps_on s next x h)
+  lives_step next x more es h at due =
+      subst (λ (past : History). Lives es (steps_on s next x past)) (sym at.0)
+      (makes_bind IsDueCall (λ (h : History) (now : List TraceEntry). At now h) Any es (step s x (noted (since [] es))) (goes_on s next x) (step_at es x due at.1)
+      (λ then now is. makes_if IsDueCall Any (is_over s x then) now (Return (lived then Over)) (next then) (λ over. tt) (λ on. more now then is)))
+
+  lives_unless_last : (ticks : Option ℕ) (next : History → Act Lived) (x : Happening) → Goes next → Goes (unless_last s ticks next x)
+  lives_unless_last None next x more now h at = more now h at
+  lives_unless_last (Some n) next x more now h at =
+      makes_if IsDueCall Any (is_last_reading s (Some n) x h) now (steps_on s next happening.Stop h) (next h)
+      (λ last. lives_step next happening.Stop more now h at (last_due s n x (since [] now) (subst (λ (past : History). is_last_reading s (Some n) x past ≡ true) at.0 last))) (λ no. more now h at)
+
+  lives_brought : (ticks : Option ℕ) (next : History → Act Lived) (x : Happening) → Goes next → (es : List TraceEntry) (h : History) → At es h → BroughtDue s x (since [] es)
+      → Lives es (brought s ticks next h x)
+  lives_brought ticks next happening.Failed more es h at due = tt
+  lives_brought ticks next x more es h at due = lives_step (unless_last s ticks next x) x (lives_unless_last ticks next x more) es h at due
+
+  lives_run : (ticks : Option ℕ) (turns : ℕ) → Goes (run s ticks turns)
+  unfolding run
+  lives_run ticks zero es h at = tt
+  lives_run ticks (suc turns) es h at = (
+    tt,
+    λ x.
+        let w : TraceEntry = entry (OnLoop (Wait (plus (clock h) 250) (paused s h))) x in
+        let same = since_last es w in
+        lives_brought ticks (run s ticks turns) x (lives_run ticks turns) (es ++ w ∷ []) h
+        (at.0 ∙ ap noted (sym same), subst (Due s) (sym same) ((ap (λ (past : History). plus (clock past) 250) at.0, ap (λ (past : History). paused s past) at.0), at.1))
+        (inl (ap just_waited same)),
+  )
+
+  lives_started : (ticks : Option ℕ) (turns : ℕ) (ready : Option (Unit {0})) → Goes (λ h. started s ticks turns h ready)
+  lives_started ticks turns None es h at = tt
+  lives_started ticks turns (Some ready) es h at = lives_run ticks turns es h at
+
+  -- ---- loading
+
+  -- nothing else was noted than what was found, where the disk didn't fail
+  abbrev Loaded : Option History → Past → Type 0
+  Loaded None now = Unit {0}
+  Loaded (Some h) now = h ≡ noted now
+
+  loads_finds : (number : ℕ) (reads : List FileRead) (past : Past) → number ≡ length (noted past) + 1 → IsLoading (noted past) → Due s past
+      → Walks (Due s) Loaded past (finds number reads (noted past))
+  loads_finds number [] past at loading ready = (ready, refl)
+  loads_finds number (read ∷ reads) past at loading ready = (
+    ready,
+    λ answer.
+        loads_finds (number + 1) reads (entry (Note (Found number read.file.stream read.file.name read.bytes)) answer ∷ past)
+        (omega (arith, at)) (at, loading) ((at, loading), ready),
+  )
+
+  loads_read : (p : DiskProgram (Option (List FileRead))) (past : Past) → noted past ≡ [] → Due s past → Walks (Due s) Loaded past (bind (on_disk p) loaded)
+  loads_read (Return None) past none ready = (ready, tt)
+  loads_read (Return (Some reads)) past none ready =
+      subst (λ (h : History). Walks (Due s) Loaded past (finds 1 reads h)) none
+      (loads_finds 1 reads past (ap (λ (h : History). length h + 1) (sym none)) (subst IsLoading (sym none) tt) ready)
+  loads_read (Ask call go) past none ready = (ready, λ answer. loads_read (go answer) (entry (OnDisk call) answer ∷ past) none (tt, ready))
+
+  loads_root : (root : Option (List ℕ)) → Walks (Due s) Loaded [] (loads_from root)
+  loads_root None = (tt, refl)
+  loads_root (Some root) = loads_read (loads root) [] refl tt
+
+  makes_loads : Makes IsDueCall Any [] (loads_in s)
+  makes_loads =
+      makes_so IsDueCall (λ (x : Option History) (now : List TraceEntry). (own : List TraceEntry) × (now ≡ [] ++ own) × AreStill own) Any [] (loads_in s) (λ x now is. tt)
+      (still_makes IsDueCall [] (loads_in s) due_still (still_loads s))
+
+  walks_loads : Walks (Due s) Loaded [] (loads_in s)
+  unfolding loads_in
+  walks_loads = loads_root s.service.path
+
+  lives_begun : (ends : Ends) (ticks : Option ℕ) (turns : ℕ) (found : Option History) (es : List TraceEntry) → Due s (since [] es) → Loaded found (since [] es) → Lives es (begun s ends ticks turns found)
+  lives_begun ends ticks turns None es due is = tt
+  lives_begun ends ticks turns (Some h) es due is = (
+    tt,
+    λ ready.
+        let e : TraceEntry = entry (OnLoop (Start ends)) ready in
+        let same = since_last es e in
+        lives_started ticks turns ready (es ++ e ∷ []) h (is ∙ ap noted (sym same), subst (Due s) (sym same) (tt, due)),
+  )
+
+  lives_life : (ends : Ends) (ticks : Option ℕ) (turns : ℕ) → Lives [] (life s ends ticks turns)
+  unfolding life
+  lives_life ends ticks turns =
+      makes_bind IsDueCall (λ (x : Option History) (now : List TraceEntry). Any x now × (Due s (since [] now) × Loaded x (since [] now))) Any [] (loads_in s) (begun s ends ticks turns)
+      (with_walk IsDueCall (Due s) Loaded Any [] (loads_in s) walks_loads makes_loads) (λ found now is. lives_begun ends ticks turns found now is.1.0 is.1.1)
+
+  pub due_reply : (ends : Ends) (ticks : Option ℕ) (turns : ℕ) (before rest : List TraceEntry) (conn : ℕ) (bytes : List ℕ) (answer : Option (Unit {0})) (left : Act Lived)
+      → Way (life s ends ticks turns) (before ++ entry (OnLoop (Reply conn bytes)) answer ∷ rest) left → IsDueReply s (since [] before) conn bytes
+  due_reply ends ticks turns before rest conn bytes answer left way =
+      let e : TraceEntry = entry (OnLoop (Reply conn bytes)) answer in
+      along_at IsDueCall [] before e rest (made_along IsDueCall Any [] (life s ends ticks turns) (before ++ e ∷ rest) left (lives_life ends ticks turns) way)

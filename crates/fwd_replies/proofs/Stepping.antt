@@ -1,0 +1,174 @@
+-- What a step replies.
+use Rattle.std.proofs.Common.{◌≡◌, ⊎_elim, ℕ, Bool, true, false, cond, List, [], ◌∷◌, ◌++◌, append-nil, Option, Some, None, refl, sym, ◌∙◌, ap, subst, arith}
+use Rattle.std.specs.Prelude.{Contains, ◌==◌}
+use Rattle.std.proofs.lemmas.List.Elements.{Contains-append_cases}
+use Rattle.fwd_base.specs.declared.ids.ConnId.{ConnId}
+use Rattle.fwd_base.specs.declared.ids.InputId.{InputId}
+use Rattle.fwd_program.specs.Program.{entry, Return, Way}
+use Rattle.fwd_outside.specs.Loop.{Reply, DropConn}
+use Rattle.fwd_outside.specs.declared.happening.Happening.{Happening}
+use Rattle.fwd_outside.specs.declared.happening.Happening.TheVariants as happening
+use Rattle.fwd_wire.specs.Message.{Said}
+use Rattle.fwd_settings.specs.declared.chosen.AllSettings.{AllSettings}
+use Rattle.fwd_settings.specs.declared.chosen.InputKind.{InputKind}
+use Rattle.fwd_settings.specs.declared.chosen.InputKind.TheVariants as input_kind
+use Rattle.fwd_settings.specs.declared.chosen.InputSet.{InputSet}
+use Rattle.fwd_written.specs.Fact.{History, Stream, Connection, Wire, Standard, Brought}
+use Rattle.fwd_written.specs.Trace.{Call, Act, TraceEntry, OnLoop, Note}
+use Rattle.fwd_written.specs.Setup.{input_at}
+use Rattle.fwd_written.specs.Streams.{is_joined, stream_by, stream_at, stream_of, said}
+use Rattle.fwd_written.specs.Batches.{piece_batch}
+use Rattle.fwd_written.specs.Messages.{ending_messages, breaks_off, reply_of}
+use Rattle.fwd_written.specs.Accepting.{takes}
+use Rattle.fwd_written.specs.Coming.{hears, pieces}
+use Rattle.fwd_written.specs.Steps.{happens, step}
+use Rattle.fwd_ties.proofs.Members.{deeper, either}
+use Rattle.fwd_replies.specs.Replies.{replied_by, replies_in, EndsSo, GoesOn, BreaksOff, IsRefused, ReplyBroke, AnswersPiece, BringsMessages}
+use Rattle.fwd_replies.proofs.Still.{is_still, AreStill, IsStill, still_takes, still_happens}
+use Rattle.fwd_replies.proofs.Making.{Makes, Along, makes_so, still_makes, made_along, made_end}
+use Rattle.fwd_replies.proofs.Lists.{order_behind}
+use Rattle.fwd_replies.proofs.Reading.{Answered, Ended, makes_reads}
+
+-- messages come over their own connection
+abbrev IsOwn : ℕ → Option Stream → Type 0
+IsOwn conn (Some (Wire other)) = other ≡ conn
+IsOwn conn at = Unit {0}
+
+own_by : (input conn : ℕ) (joined : Bool) (kind : InputKind) → IsOwn conn (stream_by input conn joined kind)
+own_by input conn true (input_kind.Tcp host port) = tt
+own_by input conn false (input_kind.Tcp host port) = tt
+own_by input conn true (input_kind.Forward host port) = refl
+own_by input conn false (input_kind.Forward host port) = tt
+own_by input conn joined (input_kind.Tail paths from_head) = tt
+own_by input conn joined input_kind.Stdin = by (conn == 0)
+  where
+    by : (b : Bool) → IsOwn conn (cond b (Some (Standard input)) None)
+    by true = tt
+    by false = tt
+
+own_at : (input conn : ℕ) (joined : Bool) (set : Option InputSet) → IsOwn conn (stream_at input conn joined set)
+own_at input conn joined None = tt
+own_at input conn joined (Some set) = own_by input conn joined set.kind
+
+abbrev pub Any : {R : Type 0} → R → List TraceEntry → Type 0
+Any x now = Unit {0}
+
+-- the note of what is brought
+abbrev pub brings : Happening → TraceEntry
+brings brought = entry (Note (Brought brought)) tt
+
+-- a reply to one of a piece's messages, by what stands before it, is one of which P holds
+abbrev pub IsDueOver : AllSettings → (List TraceEntry → Call → Type 0) → History → InputId → ConnId → List ℕ → List TraceEntry → Type 0
+IsDueOver s P h input conn bytes start =
+    (now : List TraceEntry) (earlier : List Said) (m : Said) (later : List Said) (asked : List ℕ) → ending_messages (said s h (Wire conn.0)) bytes ≡ earlier ++ m ∷ later → reply_of m ≡ Some asked
+    → Answered s input.0 conn.0 start now (earlier ++ m ∷ []) earlier [] → P now (OnLoop (Reply conn.0 asked))
+
+module _ (s : AllSettings) (P : List TraceEntry → Call → Type 0) (holds : (before : List TraceEntry) (call : Call) → is_still call ≡ true → P before call)
+    (hangs : (before : List TraceEntry) (conn : ℕ) → P before (OnLoop (DropConn conn))) (h : History) where
+  quiet : {R : Type 0} (es : List TraceEntry) (p : Act R) → IsStill p → Makes P Any es p
+  quiet {R = R} es p still =
+      makes_so P (λ (x : R) (now : List TraceEntry). (own : List TraceEntry) × (now ≡ es ++ own) × AreStill own) Any es p (λ x now is. tt) (still_makes P es p holds still)
+
+  pub makes_wire : (input : InputId) (conn : ConnId) (bytes : List ℕ) (start : List TraceEntry) (at : History) → stream_of s h input.0 conn.0 ≡ Some (Wire conn.0)
+      → IsDueOver s P h input conn bytes start
+      → Makes P (λ (x : History) (now : List TraceEntry). Ended s input.0 conn.0 (ending_messages (said s h (Wire conn.0)) bytes) (breaks_off (said s h (Wire conn.0)) bytes) start now) start
+      (pieces s h input.0 conn.0 bytes at)
+  unfolding pieces
+  makes_wire input conn bytes start at over due =
+      let all : List Said = ending_messages (said s h (Wire conn.0)) bytes in
+      let breaks : Bool = breaks_off (said s h (Wire conn.0)) bytes in
+      subst (λ (stream : Option Stream). Makes P (λ (x : History) (now : List TraceEntry). Ended s input.0 conn.0 all breaks start now) start (hears s h input.0 bytes stream at)) (sym over)
+      (makes_reads s P holds input.0 conn.0 (λ before. hangs before conn.0) all start due breaks [] all start at refl
+      (record { own = []; is = sym (append-nil start); came = refl; rest = []; taken = refl; replies = refl; broken = refl; drops = refl }))
+
+  makes_hears : (input : InputId) (conn : ConnId) (bytes : List ℕ) (start : List TraceEntry) (at : History) (stream : Option Stream) → stream_of s h input.0 conn.0 ≡ stream → IsOwn conn.0 stream
+      → (stream_of s h input.0 conn.0 ≡ Some (Wire conn.0) → IsDueOver s P h input conn bytes start) → Makes P Any start (hears s h input.0 bytes stream at)
+  unfolding pieces
+  makes_hears input conn bytes start at None is own due = tt
+  makes_hears input conn bytes start at (Some (Connection other)) is own due =
+      quiet start (takes s (piece_batch s h input.0 (Connection other) bytes) at) (still_takes s (piece_batch s h input.0 (Connection other) bytes) at)
+  makes_hears input conn bytes start at (Some (Wire other)) is own due =
+      let over : stream_of s h input.0 conn.0 ≡ Some (Wire conn.0) = is ∙ ap (λ (n : ℕ). Some (Wire n)) own in
+      subst (λ (stream : Option Stream). Makes P Any start (hears s h input.0 bytes stream at)) is
+      (makes_so P (λ (x : History) (now : List TraceEntry). Ended s input.0 conn.0 (ending_messages (said s h (Wire conn.0)) bytes) (breaks_off (said s h (Wire conn.0)) bytes) start now) Any start
+      (pieces s h input.0 conn.0 bytes at) (λ x now end. tt) (makes_wire input conn bytes start at over (due over)))
+  makes_hears input conn bytes start at (Some (Standard reader)) is own due =
+      quiet start (takes s (piece_batch s h input.0 (Standard reader) bytes) at) (still_takes s (piece_batch s h input.0 (Standard reader) bytes) at)
+
+  pub makes_happens : (brought : Happening) (start : List TraceEntry) (at : History)
+      → ((input : InputId) (conn : ConnId) (bytes : List ℕ) → brought ≡ happening.Piece input conn bytes → stream_of s h input.0 conn.0 ≡ Some (Wire conn.0) → IsDueOver s P h input conn bytes start)
+      → Makes P Any start (happens s h brought at)
+  unfolding pieces
+  makes_happens (happening.Piece input conn bytes) start at due =
+      makes_hears input conn bytes start at (stream_of s h input.0 conn.0) refl (own_at input.0 conn.0 (is_joined s h input.0 conn.0) (input_at s input.0)) (due input conn bytes refl)
+  makes_happens brought start at due = quiet start (happens s h brought at) (still_happens s h brought at (λ input conn bytes is. absurd (cc is)))
+
+-- ---- a step with a piece of messages
+
+ends_behind : (s : AllSettings) (input conn : ℕ) (breaks : Bool) (left : List Said) (brought : Happening) (own : List TraceEntry) → EndsSo s input conn breaks left own
+    → EndsSo s input conn breaks left (brings brought ∷ own)
+ends_behind s input conn breaks left brought own (GoesOn none goes whole drops) = GoesOn none goes whole drops
+ends_behind s input conn breaks left brought own (BreaksOff none off noted whole drops) = BreaksOff none off (deeper _ _ _ noted) whole drops
+ends_behind s input conn breaks left brought own (IsRefused m more why is noted whole drops) = IsRefused m more why is (deeper _ _ _ noted) whole drops
+ends_behind s input conn breaks left brought own (ReplyBroke bytes before after is whole none drops) =
+    ReplyBroke bytes (brings brought ∷ before) after (ap (λ (l : List TraceEntry). brings brought ∷ l) is) whole none drops
+
+pub answers_piece : (s : AllSettings) (h new : History) (input : InputId) (conn : ConnId) (bytes : List ℕ) (entries : List TraceEntry) → stream_of s h input.0 conn.0 ≡ Some (Wire conn.0)
+    → Way (step s (happening.Piece input conn bytes) h) entries (Return new) → AnswersPiece s h input.0 conn.0 bytes entries
+unfolding step
+answers_piece s h new input conn bytes entries over way =
+    let brought : Happening = happening.Piece input conn bytes in
+    let all : List Said = ending_messages (said s h (Wire conn.0)) bytes in
+    let breaks : Bool = breaks_off (said s h (Wire conn.0)) bytes in
+    let P : List TraceEntry → Call → Type 0 = λ before call. Unit {0} in
+    let Q : History → List TraceEntry → Type 0 = λ x now. Ended s input.0 conn.0 all breaks (brings brought ∷ []) now in
+    let end : Ended s input.0 conn.0 all breaks (brings brought ∷ []) entries =
+    made_end P Q [] (step s brought h) entries new
+    (tt, λ answer. makes_wire s P (λ before call is. tt) (λ before other. tt) h input conn bytes (brings brought ∷ []) (Brought brought ∷ h) over (λ now earlier m later asked is asks at. tt)) way in
+    subst (λ (es : List TraceEntry). AnswersPiece s h input.0 conn.0 bytes es) (sym end.is)
+    (record {
+      answered = end.answered;
+      left = end.left;
+      messages = end.messages;
+      taken = order_behind (Brought brought) _ _ end.taken;
+      replies = end.replies;
+      ends = ends_behind s input.0 conn.0 breaks end.left brought end.own end.ends;
+    })
+
+-- ---- replies of any step
+
+abbrev IsOnlyFrom : AllSettings → History → Happening → Call → Type 0
+IsOnlyFrom s h brought (OnLoop (Reply conn bytes)) = BringsMessages s h brought conn
+IsOnlyFrom s h brought call = Unit {0}
+
+only_still : (s : AllSettings) (h : History) (brought : Happening) (call : Call) → is_still call ≡ true → IsOnlyFrom s h brought call
+only_still s h brought (OnLoop (Reply conn bytes)) is = absurd (cc is)
+only_still s h brought call is = tt
+
+only_one : (s : AllSettings) (h : History) (brought : Happening) (call : Call) (conn : ℕ) (bytes : List ℕ) → IsOnlyFrom s h brought call → Contains (replied_by call) (conn, bytes)
+    → BringsMessages s h brought conn
+only_one s h brought (OnLoop (Reply other more)) conn bytes is has =
+    ⊎_elim (λ (same : (other, more) ≡ (conn, bytes)). subst (λ (n : ℕ). BringsMessages s h brought n) (ap (λ (p : ℕ × List ℕ). p.0) same) is) (λ (none : Contains [] (conn, bytes)). absurd (omega (arith, none.1)))
+    (either (other, more) [] (conn, bytes) has)
+only_one s h brought call conn bytes is has = absurd (omega (arith, has.1))
+
+only_along : (s : AllSettings) (h : History) (brought : Happening) (es entries : List TraceEntry) (conn : ℕ) (bytes : List ℕ) → Along (λ before call. IsOnlyFrom s h brought call) es entries
+    → Contains (replies_in entries) (conn, bytes) → BringsMessages s h brought conn
+only_along s h brought es [] conn bytes along has = absurd (omega (arith, has.1))
+only_along s h brought es (e ∷ entries) conn bytes along has =
+    ⊎_elim (λ (now : Contains (replied_by e.call) (conn, bytes)). only_one s h brought e.call conn bytes along.0 now)
+    (λ (later : Contains (replies_in entries) (conn, bytes)). only_along s h brought (es ++ e ∷ []) entries conn bytes along.1 later)
+    (Contains-append_cases (replied_by e.call) (replies_in entries) (conn, bytes) has)
+
+pub brings_messages : (s : AllSettings) (h : History) (brought : Happening) (conn : ℕ) (bytes : List ℕ) (entries : List TraceEntry) (left : Act History) → Way (step s brought h) entries left
+    → Contains (replies_in entries) (conn, bytes) → BringsMessages s h brought conn
+unfolding step
+brings_messages s h brought conn bytes entries left way has =
+    let P : List TraceEntry → Call → Type 0 = λ before call. IsOnlyFrom s h brought call in
+    only_along s h brought [] entries conn bytes
+    (made_along P Any [] (step s brought h) entries left (
+      tt,
+      λ answer.
+          makes_happens s P (λ before call is. only_still s h brought call is) (λ before other. tt) h brought (brings brought ∷ []) (Brought brought ∷ h)
+          (λ input own piece is over now earlier m later asked messages asks at. record { input = input; bytes = piece; is = is; over = over }),
+    ) way) has
