@@ -1,0 +1,9 @@
+pub mod Ordering
+pub mod Masks
+pub mod Held
+pub mod Swept
+pub mod Timed
+pub mod Flights
+pub mod Comings
+pub mod Lived
+pub mod Tried

@@ -1,0 +1,4 @@
+pub mod Holding
+pub mod Sooner
+pub mod Overdue
+pub mod Trying
