@@ -26,7 +26,7 @@ use Rattle.fwd_replay.specs.Changing.{Course, behind, behind_call, FilesAnswered
 use Rattle.fwd_replay.specs.Lives.{Start, disk_of, course_of, IsAnswered, Cuts, IsCut}
 use Rattle.fwd_one_text.proofs.Alike.{Alike, alike_back}
 use Rattle.fwd_one_text.proofs.Keeperless.{AreKeeperless, life_keeperless}
-use Rattle.fwd_one_text.proofs.Further.{life_on}
+use Rattle.fwd_safe.proofs.Further.{life_on}
 use Rattle.fwd_one_text.proofs.Passing.{Answers, passes, ends_same}
 
 -- ---- the answers of a life

@@ -1,7 +1,6 @@
 pub mod Listing
 pub mod Alike
 pub mod Keeperless
-pub mod Further
 pub mod Passing
 pub mod Cutting
 pub mod Lives

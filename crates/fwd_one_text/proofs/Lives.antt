@@ -24,6 +24,7 @@ use Rattle.fwd_replay.specs.Lives.{Start, first, disk_of, course_of, EndsIn, Cut
 use Rattle.fwd_replay.specs.Text.{life_text, told_by, wanting, joined}
 use Rattle.fwd_replay.specs.declared.reported.Reported.{Reported}
 use Rattle.fwd_replay.specs.declared.reported.Ending.TheVariants as ending
+use Rattle.fwd_replay.specs.declared.reported.Shown.{Shown}
 use Rattle.fwd_one_text.proofs.Alike.{Alike, alike_itself, alike_back, alike_append, alike_presets, same_calls}
 use Rattle.fwd_one_text.proofs.Keeperless.{life_keeperless}
 use Rattle.fwd_one_text.proofs.Passing.{Answers, passes, ends_same}
@@ -45,29 +46,29 @@ alike_disks start start2 planned similar =
     let set = map (λ (file : Stored). Preset file.name file.bytes) planned.store in
     alike_append (start.disk ++ set) (start2.disk ++ set) (map (λ (number : ℕ). FailAt number) planned.disk_fails) (alike_append start.disk start2.disk set similar.disk)
 
-module _ (s : AllSettings) (turns : ℕ) (start start2 : Start) (planned : Life) (similar : Similar start start2) where
+module _ (shown : Shown) (s : AllSettings) (turns : ℕ) (start start2 : Start) (planned : Life) (similar : Similar start start2) where
   -- ---- a life that ends
 
-  ended : (replayed : Reported) → (e : EndsIn s turns start planned replayed) → Answers (beginning (given_of planned)) (disk_of start planned) (course_of start planned) e.trace e.is.asked
+  ended : (replayed : Reported) → (e : EndsIn shown s turns start planned replayed) → Answers (beginning (given_of planned)) (disk_of start planned) (course_of start planned) e.trace e.is.asked
   ended replayed e = all_answers start planned (course_of start planned) refl e.trace e.is.asked e.is.answered (life_keeperless s (ends_of s) None turns e.trace (Return e.comes) e.is.way)
 
-  ended2 : (replayed : Reported) → (e : EndsIn s turns start2 planned replayed) → Answers (beginning (given_of planned)) (disk_of start2 planned) (course_of start planned) e.trace e.is.asked
+  ended2 : (replayed : Reported) → (e : EndsIn shown s turns start2 planned replayed) → Answers (beginning (given_of planned)) (disk_of start2 planned) (course_of start planned) e.trace e.is.asked
   ended2 replayed e =
       all_answers start2 planned (course_of start planned) (same_course start start2 planned similar) e.trace e.is.asked e.is.answered (life_keeperless s (ends_of s) None turns e.trace (Return e.comes) e.is.way)
 
-  same_end : (one other : Reported) → EndsIn s turns start planned one → EndsIn s turns start2 planned other → other ≡ one
+  same_end : (one other : Reported) → EndsIn shown s turns start planned one → EndsIn shown s turns start2 planned other → other ≡ one
   same_end one other e f =
       let same = ends_same e.comes f.comes e.trace f.trace
       (passes (life s (ends_of s) None turns) (beginning (given_of planned)) (disk_of start planned) (disk_of start2 planned) (course_of start planned) e.trace f.trace e.is.asked f.is.asked (Return e.comes) f.comes
       (alike_disks start start2 planned similar) e.is.way f.is.way (ended one e) (ended2 other f))
       in
       f.told
-      ∙ ap (λ (l : List TraceEntry). told_by (life_text s l f.comes.history) f.comes.end) same.0
-      ∙ ap (λ (l : Lived). told_by (life_text s e.trace l.history) l.end) same.1
+      ∙ ap (λ (l : List TraceEntry). told_by (life_text shown s l f.comes.history) f.comes.end) same.0
+      ∙ ap (λ (l : Lived). told_by (life_text shown s e.trace l.history) l.end) same.1
       ∙ sym e.told
 
   -- one that ends isn't cut
-  no_cut : {X : Type 0} (replayed : Reported) (c : Cuts) → EndsIn s turns start planned replayed → IsCut s turns start2 planned c → X
+  no_cut : {X : Type 0} (replayed : Reported) (c : Cuts) → EndsIn shown s turns start planned replayed → IsCut s turns start2 planned c → X
   no_cut {X = X} replayed c e cut = by cutting.cut_in
     where
       cutting : Cutting s turns (beginning (given_of planned)) (disk_of start2 planned) (course_of start planned) c
@@ -147,50 +148,50 @@ module _ (s : AllSettings) (turns : ℕ) (start start2 : Start) (planned : Life)
           ∙ sym cut.changes;
     }
 
-    pub same_joined : (rest rest2 : Reported) → rest2 ≡ rest → joined (life_text s c2.before c2.history) c2.cut rest2 ≡ joined (life_text s c.before c.history) c.cut rest
+    pub same_joined : (rest rest2 : Reported) → rest2 ≡ rest → joined (life_text shown s c2.before c2.history) c2.cut rest2 ≡ joined (life_text shown s c.before c.history) c.cut rest
     same_joined rest rest2 is =
-        ap (λ (l : List TraceEntry). joined (life_text s l c2.history) c2.cut rest2) same_place.before
-        ∙ ap (λ (h : History). joined (life_text s c.before h) c2.cut rest2) same_place.history
-        ∙ ap (λ (k : Cut). joined (life_text s c.before c.history) k rest2) cut_is
-        ∙ ap (λ (r : Reported). joined (life_text s c.before c.history) c.cut r) is
+        ap (λ (l : List TraceEntry). joined (life_text shown s l c2.history) c2.cut rest2) same_place.before
+        ∙ ap (λ (h : History). joined (life_text shown s c.before h) c2.cut rest2) same_place.history
+        ∙ ap (λ (k : Cut). joined (life_text shown s c.before c.history) k rest2) cut_is
+        ∙ ap (λ (r : Reported). joined (life_text shown s c.before c.history) c.cut r) is
 
     pub turns_is : turns - waits_in (c2.before ++ c2.turn) ≡ turns - waits_in (c.before ++ c.turn)
     turns_is = ap (λ (l : List TraceEntry). turns - waits_in l) all_is
 
 -- ---- the lives
 
-module _ (s : AllSettings) where
+module _ (shown : Shown) (s : AllSettings) where
   -- the life is cut, and the next ones follow
   abbrev IsCutTo : ℕ → Start → Life → List Life → Reported → Type 0
   IsCutTo turns start planned lives replayed =
-      (c : Cuts) × IsCut s turns start planned c × ((rest : Reported) × IsReplayed s (turns - waits_in (c.before ++ c.turn)) c.next lives rest × (replayed ≡ joined (life_text s c.before c.history) c.cut rest))
+      (c : Cuts) × IsCut s turns start planned c × ((rest : Reported) × IsReplayed shown s (turns - waits_in (c.before ++ c.turn)) c.next lives rest × (replayed ≡ joined (life_text shown s c.before c.history) c.cut rest))
 
   abbrev HasOneText : List Life → Type 0
   HasOneText lives =
-      (turns : ℕ) (start start2 : Start) → Similar start start2 → (one other : Reported) → IsReplayed s turns start lives one → IsReplayed s turns start2 lives other
+      (turns : ℕ) (start start2 : Start) → Similar start start2 → (one other : Reported) → IsReplayed shown s turns start lives one → IsReplayed shown s turns start2 lives other
       → one.ending ≢ ending.Memory → other.ending ≢ ending.Memory → other ≡ one
 
   one_text_from : (lives : List Life) → HasOneText lives
   one_text_from [] turns start start2 similar one other is is2 wants wants2 = is2 ∙ sym is
   one_text_from (planned ∷ lives) turns start start2 similar one other is is2 wants wants2 = by (one_text_from lives) is is2
     where
-      by : HasOneText lives → (EndsIn s turns start planned one ⊎ IsCutTo turns start planned lives one ⊎ (one ≡ wanting)) → (EndsIn s turns start2 planned other ⊎ IsCutTo turns start2 planned lives other ⊎ (other ≡ wanting)) → other ≡ one
+      by : HasOneText lives → (EndsIn shown s turns start planned one ⊎ IsCutTo turns start planned lives one ⊎ (one ≡ wanting)) → (EndsIn shown s turns start2 planned other ⊎ IsCutTo turns start2 planned lives other ⊎ (other ≡ wanting)) → other ≡ one
       by more (inr (inr none)) b = absurd (wants (ap (λ (r : Reported). r.ending) none))
       by more a (inr (inr none)) = absurd (wants2 (ap (λ (r : Reported). r.ending) none))
-      by more (inl e) (inl f) = same_end s turns start start2 planned similar one other e f
-      by more (inl e) (inr (inl cut)) = no_cut s turns start start2 planned similar one cut.0 e cut.1
-      by more (inr (inl cut)) (inl f) = no_cut s turns start2 start planned (similar_back start start2 similar) other cut.0 f cut.1
+      by more (inl e) (inl f) = same_end shown s turns start start2 planned similar one other e f
+      by more (inl e) (inr (inl cut)) = no_cut shown s turns start start2 planned similar one cut.0 e cut.1
+      by more (inr (inl cut)) (inl f) = no_cut shown s turns start2 start planned (similar_back start start2 similar) other cut.0 f cut.1
       by more (inr (inl cut)) (inr (inl cut2)) =
           let c = cut.0 in
           let c2 = cut2.0 in
           let rest = cut.2.0 in
           let rest2 = cut2.2.0 in
-          let so2 = subst (λ (n : ℕ). IsReplayed s n c2.next lives rest2) (turns_is s turns start start2 planned similar c c2 cut.1 cut2.1) cut2.2.1 in
+          let so2 = subst (λ (n : ℕ). IsReplayed shown s n c2.next lives rest2) (turns_is shown s turns start start2 planned similar c c2 cut.1 cut2.1) cut2.2.1 in
           let same : rest2 ≡ rest =
-          more (turns - waits_in (c.before ++ c.turn)) c.next c2.next (similar_next s turns start start2 planned similar c c2 cut.1 cut2.1) rest rest2 cut.2.1 so2
+          more (turns - waits_in (c.before ++ c.turn)) c.next c2.next (similar_next shown s turns start start2 planned similar c c2 cut.1 cut2.1) rest rest2 cut.2.1 so2
           (λ memory. wants (ap (λ (r : Reported). r.ending) cut.2.2 ∙ memory)) (λ memory. wants2 (ap (λ (r : Reported). r.ending) cut2.2.2 ∙ memory))
           in
-          cut2.2.2 ∙ same_joined s turns start start2 planned similar c c2 cut.1 cut2.1 rest rest2 same ∙ sym cut.2.2
+          cut2.2.2 ∙ same_joined shown s turns start start2 planned similar c c2 cut.1 cut2.1 rest rest2 same ∙ sym cut.2.2
 
-  pub one_text : (turns : ℕ) (lives : List Life) (one other : Reported) → IsReplayed s turns first lives one → IsReplayed s turns first lives other → one.ending ≢ ending.Memory → other.ending ≢ ending.Memory → other ≡ one
+  pub one_text : (turns : ℕ) (lives : List Life) (one other : Reported) → IsReplayed shown s turns first lives one → IsReplayed shown s turns first lives other → one.ending ≢ ending.Memory → other.ending ≢ ending.Memory → other ≡ one
   one_text turns lives one other is is2 = one_text_from lives turns first first (record { disk = alike_itself []; changes = refl }) one other is is2

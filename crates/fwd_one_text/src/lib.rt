@@ -1,6 +1,6 @@
 //! A schedule of lives has one text.
 //!
-//! What a replay writes is fixed by the settings, the number of turns and the lives, unless memory was wanting.
+//! What a replay writes is fixed by the settings, what is shown, the number of turns and the lives, unless memory was wanting.
 #![tactic(auto)]
 
 mod law;

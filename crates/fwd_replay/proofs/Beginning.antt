@@ -1,5 +1,5 @@
 -- How a life starts.
-use Rattle.std.proofs.Common.{◌≡◌, ℕ, ◌+◌, Bool, true, false, ◌&&◌, is_some, List, [], ◌∷◌, ◌++◌, map, Option, Some, None, refl, Result, Ok, Err, OnOk, sym, ◌∙◌, ap, subst, arith}
+use Rattle.std.proofs.Common.{◌≡◌, ℕ, ◌+◌, Bool, true, false, ◌&&◌, is_some, List, [], ◌∷◌, ◌++◌, map, Option, Some, None, refl, Result, Ok, Err, IfOk, OnOk, sym, ◌∙◌, ap, subst, arith}
 use Rattle.std.proofs.lemmas.List.{append-nil}
 use Rattle.fwd_program.specs.Program.{entry, Return, Way}
 use Rattle.fwd_program.specs.Told.{Grew}
@@ -33,12 +33,15 @@ use Rattle.fwd_written.specs.Loading.{loads_in}
 use Rattle.fwd_written.specs.Run.{DiskFailed, LoopFailed, lived, run, started, begun, life}
 use Rattle.fwd_written.proofs.Growing.{loop_append, disk_append}
 use Rattle.fwd_parts.specs.Acts.{with_disk}
-use Rattle.fwd_engine.specs.Steps.{IsAt}
+use Rattle.fwd_engine.specs.Steps.{Begins, IsAt}
+use Rattle.fwd_engine.specs.declared.engine.Engine.{Engine}
 use Rattle.fwd_ties.specs.Waiting.{is_wait, waits_in}
 use Rattle.fwd_replay.specs.Changing.{Course, behind_call, behind, IsAnswer, FilesAnswered, brings_last, has_last}
 use Rattle.fwd_replay.specs.Lives.{Start, disk_of, course_of, has_cut}
-use Rattle.fwd_replay.specs.Stage.{FilesStand, Finds, IsUnderWay, EndedSo}
+use Rattle.fwd_replay.specs.Stage.{FilesStand, Finds, IsTold, IsUnderWay, EndedSo, EngineStarts, LoopStarts, Starts}
 use Rattle.fwd_replay.specs.declared.going.Going.{Going}
+use Rattle.fwd_replay.specs.declared.starting.StartErr.{StartErr}
+use Rattle.fwd_replay.specs.declared.starting.StartErr.TheVariants as why
 
 -- ---- what disk and files are told first
 
@@ -81,6 +84,10 @@ files_begin start planned seen old new finds is =
 pub on_ok : {T E : Type 0} {P Q : Type 0} (r : Result T E) → (P → Q) → OnOk r P → OnOk r Q
 on_ok (Ok x) f p = f p
 on_ok (Err e) f p = tt
+
+pub if_ok : {T E : Type 0} {P Q : T → Type 0} (r : Result T E) → ((x : T) → P x → Q x) → IfOk r P → IfOk r Q
+if_ok (Ok x) f p = f x p
+if_ok (Err e) f p = tt
 
 -- ---- calls that leave a life where it has come to
 
@@ -189,7 +196,7 @@ pub record Loaded (s : AllSettings) (start : Start) (planned : Life) (calls : Li
   disk_is : calls ≡ disk_of start planned ++ asked
   are : disk.entries_of asked ≡ disk_part trace
 
-pub loaded_so : (s : AllSettings) (start : Start) (planned : Life) (old new : List Told) (result : Option History) → old ≡ disk_of start planned
+loaded_so : (s : AllSettings) (start : Start) (planned : Life) (old new : List Told) (result : Option History) → old ≡ disk_of start planned
     → Did (seen_in planned old) (seen_in planned new) (loads_in s) result → Loaded s start planned new result
 loaded_so s start planned old new result told did =
     let made = split_told old new (disk_part did.entries) did.asked.disk.1 in
@@ -223,9 +230,16 @@ told_start planned old new ends answer is grew =
     let at : Grew (told_of (new_held planned)) (told_of new) (entry (Starting ends) answer ∷ []) = subst (λ (held : ScriptHeld). Grew (told_of held) (told_of new) (entry (Starting ends) answer ∷ [])) is grew in
     (at.0, at.1)
 
+-- one that couldn't start
+pub failed_start : (planned : Life) (old new : ScriptHeld) (ends : Ends) → old ≡ new_held planned → Grew (told_of old) (told_of new) (entry (Starting ends) None ∷ [])
+    → place.IsPlayed (given_in new.lines new.answers) (entries_of new.notes) → LoopStarts planned ends (Err why.LoopFailed)
+failed_start planned old new ends is grew played =
+    let told = told_start planned old new ends None is grew in
+    subst (λ (es : List LoopEntry). place.IsPlayed (given_of planned) es) told.1 (subst (λ (g : LoopGiven). place.IsPlayed g (entries_of new.notes)) told.0 played)
+
 module _ (s : AllSettings) (start : Start) (planned : Life) (calls : List Told) where
   -- a call on the disk failed
-  pub disk_failed : Loaded s start planned calls None → disk.IsPlayed [] calls → EndedSo s start planned (lived [] DiskFailed)
+  disk_failed : Loaded s start planned calls None → disk.IsPlayed [] calls → EndedSo s start planned (lived [] DiskFailed)
   disk_failed loaded played = record {
     trace = loaded.trace;
     is = λ turns. record {
@@ -256,18 +270,15 @@ module _ (s : AllSettings) (start : Start) (planned : Life) (calls : List Told) 
     whole_disk = loaded.are ∙ sym (append-nil (disk_part loaded.trace)) ∙ sym (disk_append loaded.trace (entry (OnLoop (Starting (ends_of s))) answer ∷ []))
 
   -- the loop couldn't start
-  pub loop_failed : (h : History) → Loaded s start planned calls (Some h) → disk.IsPlayed [] calls → (old new : ScriptHeld) (ends : Ends) → old ≡ new_held planned → ends ≡ ends_of s
-      → Grew (told_of old) (told_of new) (entry (Starting ends) None ∷ []) → place.IsPlayed (given_in new.lines new.answers) (entries_of new.notes) → EndedSo s start planned (lived h LoopFailed)
-  loop_failed h loaded played old new ends new_is are grew played_loop =
-      let told = told_start planned old new (ends_of s) None new_is (subst (λ (x : Ends). Grew (told_of old) (told_of new) (entry (Starting x) None ∷ [])) are grew) in
-      let given : place.IsPlayed (given_of planned) (entries_of new.notes) = subst (λ (g : LoopGiven). place.IsPlayed g (entries_of new.notes)) told.0 played_loop in
+  loop_failed : (h : History) → Loaded s start planned calls (Some h) → disk.IsPlayed [] calls → place.IsPlayed (given_of planned) (entry (Starting (ends_of s)) None ∷ []) → EndedSo s start planned (lived h LoopFailed)
+  loop_failed h loaded played given =
       record {
         trace = whole h loaded None;
         is = λ turns. record {
           way = starts_on s turns h loaded.trace None loaded.way;
           asked = loaded.asked;
           answered = record {
-            loop = subst (λ (es : List LoopEntry). place.IsPlayed (given_of planned) es) (told.1 ∙ sym (whole_loop h loaded None)) given;
+            loop = subst (λ (es : List LoopEntry). place.IsPlayed (given_of planned) es) (sym (whole_loop h loaded None)) given;
             disk = played_behind (disk_of start planned) loaded.asked (subst (λ (all : List Told). disk.IsPlayed [] all) loaded.disk_is played);
             are = whole_disk h loaded None;
             files = answers_of (course_of start planned) (whole h loaded None) (whole_still h loaded None);
@@ -277,12 +288,10 @@ module _ (s : AllSettings) (start : Start) (planned : Life) (calls : List Told) 
       }
 
   -- it has started
-  pub under_way : (h : History) → Loaded s start planned calls (Some h) → (seen : Seen) (held : FilesHeld) (going : Going) (old : ScriptHeld) (ends : Ends) → seen.calls ≡ calls
-      → FilesStand held (course_of start planned).files → IsAt going.engine s h → old ≡ new_held planned → ends ≡ ends_of s
-      → Grew (told_of old) (told_of going.script) (entry (Starting ends) (Some tt) ∷ []) → going.changed ≡ 0 → going.taken ≡ 0 → IsUnderWay s start planned going seen held
-  under_way h loaded seen held going old ends seen_is stand at new_is are grew unchanged untaken =
+  under_way : (h : History) → Loaded s start planned calls (Some h) → (seen : Seen) (held : FilesHeld) (going : Going) → seen.calls ≡ calls
+      → FilesStand held (course_of start planned).files → IsAt going.engine s h → LoopStarts planned (ends_of s) (Ok going.script) → going.changed ≡ 0 → going.taken ≡ 0 → IsUnderWay s start planned going seen held
+  under_way h loaded seen held going seen_is stand at told unchanged untaken =
       let new = going.script in
-      let told = told_start planned old new (ends_of s) (Some tt) new_is (subst (λ (x : Ends). Grew (told_of old) (told_of new) (entry (Starting x) (Some tt) ∷ [])) are grew) in
       let trace = whole h loaded (Some tt) in
       let stays : behind (course_of start planned) trace ≡ course_of start planned = stays_behind (course_of start planned) trace (whole_still h loaded (Some tt)) in
       record {
@@ -303,3 +312,23 @@ module _ (s : AllSettings) (start : Start) (planned : Life) (calls : List Told) 
         };
         changed = unchanged ∙ sym (ap (λ (c : Course). c.changed) stays);
       }
+
+-- a call on the disk failed while it was loaded
+pub load_fails : (s : AllSettings) (start : Start) (planned : Life) (old new : Seen) (held : FilesHeld) → IsTold start planned old held → Did (seen_in planned old.calls) (seen_in planned new.calls) (loads_in s) None
+    → disk.IsPlayed [] new.calls → EndedSo s start planned (lived [] DiskFailed)
+load_fails s start planned old new held told did played = disk_failed s start planned new.calls (loaded_so s start planned old.calls new.calls None told.disk did) played
+
+-- the engine has begun, and the loop was started or not
+pub loop_starts : (s : AllSettings) (start : Start) (planned : Life) (old new : Seen) (held : FilesHeld) (ends : Ends) (engine : Engine) → IsTold start planned old held → ends ≡ ends_of s
+    → Begins (seen_in planned old.calls) (seen_in planned new.calls) s engine → disk.IsPlayed [] new.calls → (result : Result Going StartErr) → EngineStarts planned ends engine result → Starts s start planned new held result
+loop_starts s start planned old new held ends engine told are begun played (Ok going) starts =
+    let h = begun.history in
+    let at : IsAt going.engine s h = subst (λ (e : Engine). IsAt e s h) (sym starts.0) begun.at in
+    let so : LoopStarts planned (ends_of s) (Ok going.script) = subst (λ (x : Ends). LoopStarts planned x (Ok going.script)) are starts.1 in
+    (under_way s start planned new.calls h (loaded_so s start planned old.calls new.calls (Some h) told.disk begun.did) new held going refl told.files at so starts.2 starts.3, starts.3)
+loop_starts s start planned old new held ends engine told are begun played (Err why.DiskFailed) starts = absurd starts
+loop_starts s start planned old new held ends engine told are begun played (Err why.LoopFailed) starts =
+    let h = begun.history in
+    let so : LoopStarts planned (ends_of s) (Err why.LoopFailed) = subst (λ (x : Ends). LoopStarts planned x (Err why.LoopFailed)) are starts in
+    (h, loop_failed s start planned new.calls h (loaded_so s start planned old.calls new.calls (Some h) told.disk begun.did) played so)
+loop_starts s start planned old new held ends engine told are begun played (Err why.Memory) starts = tt

@@ -1,16 +1,14 @@
 -- What a life leaves.
-use Rattle.std.proofs.Common.{arith, ◌≡◌, ℕ, suc, ◌+◌, ◌-◌, ◌%◌, ◌<◌, ◌≤◌, Bool, true, false, if◌then◌else◌, List, [], ◌∷◌, ◌++◌, length, take, drop, Option, Some, None, Result, Ok, Err, IfOk, OnOk, inl, inr, refl, sym, subst, ap, ◌∙◌, append_assoc}
+use Rattle.std.proofs.Common.{arith, ◌≡◌, ℕ, suc, ◌+◌, ◌-◌, ◌%◌, ◌<◌, ◌≤◌, Bool, true, false, if◌then◌else◌, List, [], ◌∷◌, ◌++◌, length, take, drop, Option, Some, None, Result, Ok, Err, inl, inr, refl, sym, subst, ap, ◌∙◌, append_assoc}
 use Rattle.std.proofs.lemmas.List.{append-nil, map-append}
 use Rattle.fwd_program.specs.Program.{Return, Way}
-use Rattle.fwd_image.specs.File.{content}
 use Rattle.fwd_outside.specs.declared.happening.Happening.{Happening}
 use Rattle.fwd_outside.specs.Loop.{LoopEntry, LoopGiven, LoopTold}
 use Rattle.fwd_outside.specs.Disk.{DiskEntry}
 use Rattle.fwd_outside.specs.Files.{found}
 use Rattle.fwd_disk_mem.specs.declared.told.Told.{Told}
-use Rattle.fwd_disk_mem.specs.Images.{picked, presets, reach, until}
+use Rattle.fwd_disk_mem.specs.Images.{picked, reach, until}
 use Rattle.fwd_disk_mem.specs.Seen.{Seen}
-use Rattle.fwd_disk_mem.specs.Table.{MemFile}
 use Rattle.fwd_disk_mem.specs.Told as disk
 use Rattle.fwd_disk_mem.proofs.Telling.{split_told, played_second}
 use Rattle.fwd_settings.specs.Ends.{ends_of}
@@ -19,9 +17,7 @@ use Rattle.fwd_script.specs.declared.schedule.Cut.{Cut}
 use Rattle.fwd_script.specs.declared.schedule.Life.{Life}
 use Rattle.fwd_script.specs.FilesHeld.{FilesHeld}
 use Rattle.fwd_script.specs.FilesPlayed as files_played
-use Rattle.fwd_script.specs.MemFiles.{SameFiles, entries_from, files_now}
-use Rattle.fwd_script.specs.MemFiles as files
-use Rattle.fwd_play.specs.Handed.{handed}
+use Rattle.fwd_script.specs.MemFiles.{entries_from, files_now}
 use Rattle.fwd_play.specs.Held.{told_of}
 use Rattle.fwd_play.specs.Lines.{given_in, given_of}
 use Rattle.fwd_play.specs.Place as place
@@ -33,7 +29,6 @@ use Rattle.fwd_written.specs.World.{World, Asked}
 use Rattle.fwd_written.specs.Limits.{paused}
 use Rattle.fwd_written.specs.Run.{Over, DiskFailed, LoopFailed, TurnsSpent, Lived, lived, life, run, is_over}
 use Rattle.fwd_written.proofs.Growing.{disk_append}
-use Rattle.fwd_parts.specs.Acts.{with_all}
 use Rattle.fwd_engine.specs.Steps.{IsAt, Turned, Turns}
 use Rattle.fwd_engine.specs.declared.engine.Engine.{Engine}
 use Rattle.fwd_engine.specs.declared.engine.EngineStop.{EngineStop}
@@ -46,14 +41,17 @@ use Rattle.fwd_ties.proofs.Waiting.{ArePlain, step_plain}
 use Rattle.fwd_replay.specs.Changing.{FilesAt, behind, content_behind, is_last_next}
 use Rattle.fwd_replay.specs.Lives.{EndsIn, IsAnswered, IsCutIn, IsLife, Start, course_of, disk_of, first_calls, has_cut}
 use Rattle.fwd_replay.specs.Naming.{IsNamed, IsNamedOf}
-use Rattle.fwd_replay.specs.Stage.{ComesTo, EndedSo, Finds, HasFailed, IsOver, IsReady, IsUnderWay, Stands, WasCut}
-use Rattle.fwd_replay.specs.Text.{life_text, report, stdout_mask, with_line_end}
+use Rattle.fwd_replay.specs.Stage.{AreRenewed, CameBy, ComesBy, EndedSo, Finds, HasFailed, HavePlayed, IsCrashed, IsOver, IsReady, IsUnderWay, Stands, WasCut, is_wanting, memory}
+use Rattle.fwd_replay.specs.Text.{life_text}
 use Rattle.fwd_replay.specs.declared.going.Going.{Going}
 use Rattle.fwd_replay.specs.declared.named.Named.{Named}
-use Rattle.fwd_replay.specs.declared.life.Outcome.TheVariants as outcome
+use Rattle.fwd_replay.specs.declared.life.LifeEnd.TheVariants as life_end
+use Rattle.fwd_replay.specs.declared.life.Next.TheVariants as follow
 use Rattle.fwd_replay.specs.declared.reported.Ending.{Ending}
 use Rattle.fwd_replay.specs.declared.reported.Ending.TheVariants as ending
 use Rattle.fwd_replay.specs.declared.reported.Reported.{Reported}
+use Rattle.fwd_replay.specs.declared.reported.Shown.{Shown}
+use Rattle.fwd_replay.proofs.Showing.{text_behind, text_is}
 use Rattle.fwd_replay.proofs.Turns.{asked_turn, asked_wait, more_is, over_is, turn_failed, turn_more, turn_over, turn_stands, wait_of}
 
 -- ---- what a life gave
@@ -62,10 +60,6 @@ use Rattle.fwd_replay.proofs.Turns.{asked_turn, asked_wait, more_is, over_is, tu
 abbrev Plays : LoopTold → Type 0
 Plays None = Unit {0}
 Plays (Some told) = place.IsPlayed told.0 told.1
-
-abbrev calls_told : LoopTold → List LoopEntry
-calls_told None = []
-calls_told (Some told) = told.1
 
 abbrev pub ScriptPlays : ScriptHeld → Type 0
 ScriptPlays script = place.IsPlayed (given_in script.lines script.answers) (entries_of script.notes)
@@ -79,44 +73,38 @@ reported text end = record { text = text; ending = end }
 rest_is : (taken most : ℕ) → taken ≤ most → taken + (most - taken) ≡ most
 rest_is taken most fits = omega (arith, fits)
 
--- the text of a life, by its script
-abbrev pub text_behind : AllSettings → ScriptHeld → History → List ℕ
-text_behind s script h = with_line_end (handed (stdout_mask s.outputs) [] (entries_of script.notes)) ++ report s h
-
 module _ (s : AllSettings) (start : Start) (planned : Life) where
   answered : (script : ScriptHeld) (taken : ℕ) (seen : Seen) (held : FilesHeld) (trace : List TraceEntry) (left : ℕ → Act Lived) (at : FilesAt)
-      → (stands : Stands s start planned (told_of script) taken seen held trace left at) → ScriptPlays script → disk.IsPlayed [] seen.calls → IsAnswered start planned trace stands.asked
-  answered script taken seen held trace left at stands loop_plays disk_plays = record {
-    loop = loop_played script (given_of planned) (loop_part trace) stands.loop loop_plays;
+      → (stands : Stands s start planned (told_of script) taken seen held trace left at) → HavePlayed script seen → IsAnswered start planned trace stands.asked
+  answered script taken seen held trace left at stands plays = record {
+    loop = loop_played script (given_of planned) (loop_part trace) stands.loop plays.loop;
     are = stands.are;
-    disk = played_second [] (disk_of start planned) stands.asked (subst (λ (l : List Told). disk.IsPlayed [] l) stands.disk_is disk_plays);
+    disk = played_second [] (disk_of start planned) stands.asked (subst (λ (l : List Told). disk.IsPlayed [] l) stands.disk_is plays.disk);
     files = stands.answered;
   }
 
-  text_is : (script : ScriptHeld) (trace : List TraceEntry) (h : History) → told_of script ≡ Some (given_of planned, loop_part trace) → text_behind s script h ≡ life_text s trace h
-  text_is script trace h told = ap (λ (es : List LoopEntry). with_line_end (handed (stdout_mask s.outputs) [] es) ++ report s h) (ap calls_told told)
-
-  module _ (going : Going) (seen : Seen) (held : FilesHeld) (most : ℕ) (fits : going.taken ≤ most) (loop_plays : ScriptPlays going.script) (disk_plays : disk.IsPlayed [] seen.calls) where
+  module _ (going : Going) (seen : Seen) (held : FilesHeld) (most : ℕ) (fits : going.taken ≤ most) (plays : HavePlayed going.script seen) where
     -- a life that came to its end, with at most so many turns
     is_life : (trace : List TraceEntry) (comes : Lived) (at : FilesAt) → Stands s start planned (told_of going.script) going.taken seen held trace (λ more. Return comes) at → IsLife s most start planned trace comes
     is_life trace comes at stands = record {
       way = subst (λ (n : ℕ). Way (life s (ends_of s) None n) trace (Return comes)) (rest_is going.taken most fits) (stands.way (most - going.taken));
       asked = stands.asked;
-      answered = answered going.script going.taken seen held trace (λ more. Return comes) at stands loop_plays disk_plays;
+      answered = answered going.script going.taken seen held trace (λ more. Return comes) at stands plays;
       uncut = stands.uncut;
     }
 
-    pub over_ends : (over : IsOver s start planned going seen held) (text : List ℕ) → planned.cut ≡ None → text ≡ text_behind s going.script over.history → EndsIn s most start planned (reported text ending.Over)
-    over_ends over text uncut is = record {
+    pub over_ends : (shown : Shown) (over : IsOver s start planned going seen held) (text : List ℕ) → planned.cut ≡ None → text ≡ text_behind shown s going.script over.history
+        → EndsIn shown s most start planned (reported text ending.Over)
+    over_ends shown over text uncut is = record {
       trace = over.trace;
       comes = lived over.history Over;
       is = is_life over.trace (lived over.history Over) (behind (course_of start planned) over.trace).files over.stands;
       last = λ _. uncut;
-      told = ap (λ (t : List ℕ). reported t ending.Over) (is ∙ text_is going.script over.trace over.history over.stands.loop);
+      told = ap (λ (t : List ℕ). reported t ending.Over) (is ∙ text_is shown s planned going.script over.trace over.history over.stands.loop);
     }
 
-    pub failed_ends : HasFailed s start planned going seen held → EndsIn s most start planned (reported [] ending.LoopFailed)
-    failed_ends failed = record {
+    pub failed_ends : (shown : Shown) → HasFailed s start planned going seen held → EndsIn shown s most start planned (reported [] ending.LoopFailed)
+    failed_ends shown failed = record {
       trace = failed.trace;
       comes = lived failed.history LoopFailed;
       is = is_life failed.trace (lived failed.history LoopFailed) (behind (course_of start planned) failed.trace).files failed.stands;
@@ -125,9 +113,9 @@ module _ (s : AllSettings) (start : Start) (planned : Life) where
     }
 
   -- a life that has taken all turns
-  pub spent_ends : (going : Going) (seen : Seen) (held : FilesHeld) → ScriptPlays going.script → disk.IsPlayed [] seen.calls → (under : IsUnderWay s start planned going seen held) (text : List ℕ)
-      → text ≡ text_behind s going.script under.history → EndsIn s going.taken start planned (reported text ending.TurnsSpent)
-  spent_ends going seen held loop_plays disk_plays under text is =
+  pub spent_ends : (shown : Shown) (going : Going) (seen : Seen) (held : FilesHeld) → HavePlayed going.script seen → (under : IsUnderWay s start planned going seen held) (text : List ℕ)
+      → text ≡ text_behind shown s going.script under.history → EndsIn shown s going.taken start planned (reported text ending.TurnsSpent)
+  spent_ends shown going seen held plays under text is =
       let h = under.history in
       let comes = lived h TurnsSpent in
       let none : going.taken + 0 ≡ going.taken = omega arith in
@@ -139,19 +127,19 @@ module _ (s : AllSettings) (start : Start) (planned : Life) where
               subst (λ (p : Act Lived). Way (life s (ends_of s) None going.taken) under.trace p) (spent s None h)
               (subst (λ (n : ℕ). Way (life s (ends_of s) None n) under.trace (run s None 0 h)) none (under.stands.way 0));
           asked = under.stands.asked;
-          answered = answered going.script going.taken seen held under.trace (λ more. run s None more h) (behind (course_of start planned) under.trace).files under.stands loop_plays disk_plays;
+          answered = answered going.script going.taken seen held under.trace (λ more. run s None more h) (behind (course_of start planned) under.trace).files under.stands plays;
           uncut = under.stands.uncut;
         };
         last = λ over. absurd (cc over);
-        told = ap (λ (t : List ℕ). reported t ending.TurnsSpent) (is ∙ text_is going.script under.trace h under.stands.loop);
+        told = ap (λ (t : List ℕ). reported t ending.TurnsSpent) (is ∙ text_is shown s planned going.script under.trace h under.stands.loop);
       }
 
   -- one that ended before a turn
-  pub load_ends : (most : ℕ) → EndedSo s start planned (lived [] DiskFailed) → EndsIn s most start planned (reported [] ending.DiskFailed)
-  load_ends most ended = record { trace = ended.trace; comes = lived [] DiskFailed; is = ended.is most; last = λ over. absurd (cc over); told = refl }
+  pub load_ends : (shown : Shown) (most : ℕ) → EndedSo s start planned (lived [] DiskFailed) → EndsIn shown s most start planned (reported [] ending.DiskFailed)
+  load_ends shown most ended = record { trace = ended.trace; comes = lived [] DiskFailed; is = ended.is most; last = λ over. absurd (cc over); told = refl }
 
-  pub start_ends : (most : ℕ) (h : History) → EndedSo s start planned (lived h LoopFailed) → EndsIn s most start planned (reported [] ending.LoopFailed)
-  start_ends most h ended = record { trace = ended.trace; comes = lived h LoopFailed; is = ended.is most; last = λ over. absurd (cc over); told = refl }
+  pub start_ends : (shown : Shown) (most : ℕ) (h : History) → EndedSo s start planned (lived h LoopFailed) → EndsIn shown s most start planned (reported [] ending.LoopFailed)
+  start_ends shown most h ended = record { trace = ended.trace; comes = lived h LoopFailed; is = ended.is most; last = λ over. absurd (cc over); told = refl }
 
 -- ---- the disk behind a crash
 
@@ -164,20 +152,18 @@ until_is n (call ∷ before) more =
     let later : suc len + far ≡ suc (len + far) = omega arith in
     ap (λ (k : ℕ). take k (call ∷ before ++ more)) later ∙ ap (λ (l : List Told). call ∷ l) (until_is n before more)
 
--- what is said of the image that a crash leaves
-abbrev pub IsPicked : ℕ → Cut → Seen → Seen → Type 0
-IsPicked since cut now image = (name : List ℕ) → content (disk.files_of image.calls name) ≡ picked (cut.pick % 4) (until since cut.calls now.calls) name
-
-abbrev pub IsFresh : Seen → Type 0
-IsFresh image = (files : List MemFile) × (image.calls ≡ presets files)
+-- the same files, of which nothing was asked
+finds_next : (next : Start) (image : Seen) (held renewed : FilesHeld) → image.calls ≡ next.disk → ((path : List ℕ) → found (files_now held.given held.notes) path ≡ content_behind None next.changes path) → AreRenewed held renewed
+    → Finds next image renewed
+finds_next next image held renewed disk_is has again = record { disk = disk_is; has = λ path. sym (again.same path) ∙ has path; unasked = again.unasked }
 
 module _ (s : AllSettings) (start : Start) (planned : Life) where
-  made_cut : (most taken since : ℕ) (cut : Cut) (history : History) (before turn : List TraceEntry) (asked asked_in : List Told) (old now image : Seen) (held : FilesHeld)
+  made_cut : (most since : ℕ) (cut : Cut) (going : Going) (history last : History) (before turn : List TraceEntry) (asked asked_in : List Told) (old now image : Seen) (held renewed : FilesHeld)
       → planned.cut ≡ Some cut → IsCutIn s most start planned before history turn → has_cut start planned before ≡ false → IsAnswered start planned (before ++ turn) (asked ++ asked_in) → disk.entries_of asked ≡ disk_part before
-      → old.calls ≡ disk_of start planned ++ asked → now.calls ≡ old.calls ++ asked_in → since ≡ length old.calls → IsFresh image → IsPicked since cut now image
+      → old.calls ≡ disk_of start planned ++ asked → now.calls ≡ old.calls ++ asked_in → since ≡ length old.calls → IsCrashed since cut now image → AreRenewed held renewed
       → ((path : List ℕ) → found (files_now held.given held.notes) path ≡ content_behind None (behind (course_of start planned) (before ++ turn)).files.changes path)
-      → waits_in (before ++ turn) ≡ taken → WasCut s most start planned cut taken history before image held
-  made_cut most taken since cut history before turn asked asked_in old now image held is cut_in uncut answers are old_is now_is since_is fresh picks has waits =
+      → waits_in (before ++ turn) ≡ going.taken → IsAt going.engine s last → WasCut s most start planned cut going history before image renewed
+  made_cut most since cut going history last before turn asked asked_in old now image held renewed is cut_in uncut answers are old_is now_is since_is crashed again has waits at_last =
       let first : List Told = disk_of start planned ++ asked in
       let all : now.calls ≡ first ++ asked_in = now_is ∙ ap (λ (l : List Told). l ++ asked_in) old_is in
       let at : since ≡ length first = since_is ∙ ap (λ (l : List Told). length l) old_is in
@@ -193,40 +179,41 @@ module _ (s : AllSettings) (start : Start) (planned : Life) where
           uncut = uncut;
           answered = answers;
           are = are;
-          files = fresh.0;
-          disk_is = fresh.1;
-          image = λ name. picks name ∙ ap (λ (l : List Told). picked (cut.pick % 4) l name) upto;
+          files = crashed.files;
+          disk_is = crashed.is;
+          image = λ name. crashed.picks name ∙ ap (λ (l : List Told). picked (cut.pick % 4) l name) upto;
           changes = refl;
         };
         cut_is = refl;
         history_is = refl;
         before_is = refl;
-        disk_is = refl;
-        has = has;
+        finds = finds_next (record { disk = image.calls; changes = course.files.changes }) image held renewed refl has again;
         waits = waits;
+        now = last;
+        at = at_last;
       }
 
   -- a life that was over before
-  pub over_cut : (going : Going) (seen image : Seen) (held : FilesHeld) (most since : ℕ) (cut : Cut) (over : IsOver s start planned going seen held) → going.taken ≤ most → ScriptPlays going.script → disk.IsPlayed [] seen.calls
-      → planned.cut ≡ Some cut → since ≡ length seen.calls → IsFresh image → IsPicked since cut seen image → WasCut s most start planned cut going.taken over.history over.trace image held
-  over_cut going seen image held most since cut over fits loop_plays disk_plays is since_is fresh picks =
+  pub over_cut : (going : Going) (seen image : Seen) (held renewed : FilesHeld) (most since : ℕ) (cut : Cut) (over : IsOver s start planned going seen held) → going.taken ≤ most → HavePlayed going.script seen
+      → planned.cut ≡ Some cut → since ≡ length seen.calls → IsCrashed since cut seen image → AreRenewed held renewed → WasCut s most start planned cut going over.history over.trace image renewed
+  over_cut going seen image held renewed most since cut over fits plays is since_is crashed again =
       let trace = over.trace in
       let course = course_of start planned in
       let ended : IsLife s most start planned trace (lived over.history Over) =
-      is_life s start planned going seen held most fits loop_plays disk_plays trace (lived over.history Over) (behind course trace).files over.stands
+      is_life s start planned going seen held most fits plays trace (lived over.history Over) (behind course trace).files over.stands
       in
       let same : trace ++ [] ≡ trace = append-nil trace in
-      made_cut most going.taken since cut over.history trace [] over.stands.asked [] seen seen image held is (inr (ended.way, refl)) over.stands.uncut
+      made_cut most since cut going over.history over.history trace [] over.stands.asked [] seen seen image held renewed is (inr (ended.way, refl)) over.stands.uncut
       (subst (λ (es : List TraceEntry). IsAnswered start planned es (over.stands.asked ++ [])) (sym same)
-      (subst (λ (l : List Told). IsAnswered start planned trace l) (sym (append-nil over.stands.asked)) (answered s start planned going.script going.taken seen held trace (λ more. Return (lived over.history Over)) (behind course trace).files over.stands loop_plays disk_plays)))
-      over.stands.are over.stands.disk_is (sym (append-nil seen.calls)) since_is fresh picks
+      (subst (λ (l : List Told). IsAnswered start planned trace l) (sym (append-nil over.stands.asked)) (answered s start planned going.script going.taken seen held trace (λ more. Return (lived over.history Over)) (behind course trace).files over.stands plays)))
+      over.stands.are over.stands.disk_is (sym (append-nil seen.calls)) since_is crashed again
       (λ path. over.stands.files_stand.has path ∙ ap (λ (es : List TraceEntry). content_behind None (behind course es).files.changes path) (sym same))
-      (ap waits_in same ∙ over.stands.waits)
+      (ap waits_in same ∙ over.stands.waits) over.at
 
 -- ---- the turn that a life is cut in
 
 -- a turn that was taken, whatever number of turns is left behind it
-pub record Taken (a b : World) (s : AllSettings) (h : History) : Type 0 where
+pub record Taken (a b : World) (s : AllSettings) (h : History) (after : Engine) : Type 0 where
   pub brought : Happening
   pub entries : List TraceEntry
   pub plain : ArePlain entries
@@ -235,8 +222,10 @@ pub record Taken (a b : World) (s : AllSettings) (h : History) : Type 0 where
   pub last : Lived
   pub ends : left 0 ≡ Return last
   pub asked : Asked a b (wait_of s h brought ∷ entries)
+  pub now : History
+  pub at : IsAt after s now
 
-pub turn_taken : (a b : World) (s : AllSettings) (h : History) (after : Engine) (which : Turn) → Turned a b s h after (Ok which) → Taken a b s h
+turn_taken : (a b : World) (s : AllSettings) (h : History) (after : Engine) (which : Turn) → Turned a b s h after (Ok which) → Taken a b s h after
 turn_taken a b s h after turn.More t =
     let x = t.brought in
     let stepped = t.steps.1 in
@@ -250,6 +239,8 @@ turn_taken a b s h after turn.More t =
       last = lived stepped.history TurnsSpent;
       ends = spent s None stepped.history;
       asked = asked_turn a t.between b s h x es t.waited stepped.did.asked;
+      now = stepped.history;
+      at = stepped.at;
     }
 turn_taken a b s h after turn.Over t =
     let x = t.brought in
@@ -264,9 +255,11 @@ turn_taken a b s h after turn.Over t =
       last = lived stepped.history Over;
       ends = refl;
       asked = asked_turn a t.between b s h x es t.waited stepped.did.asked;
+      now = stepped.history;
+      at = stepped.at;
     }
 
-pub turn_broken : (a b : World) (s : AllSettings) (h : History) (after : Engine) → Turned a b s h after (Err stop.LoopFault) → Taken a b s h
+turn_broken : (a b : World) (s : AllSettings) (h : History) (after : Engine) → Turned a b s h after (Err stop.LoopFault) → Taken a b s h after
 turn_broken a b s h after t = record {
   brought = t.brought;
   entries = [];
@@ -276,11 +269,14 @@ turn_broken a b s h after t = record {
   last = lived h LoopFailed;
   ends = refl;
   asked = asked_wait a t.between b s h t.brought t.waited t.steps.1;
+  now = h;
+  at = t.steps.2;
 }
 
-pub failed_turn : (a b : World) (s : AllSettings) (h : History) (after : Engine) (result : Result Turn EngineStop) (stopped : EngineStop) → result ≡ Err stopped → stopped ≡ stop.LoopFault → Turns a b s h after result
-    → Turned a b s h after (Err stop.LoopFault)
-failed_turn a b s h after result stopped is fault turns = subst (λ (r : Result Turn EngineStop). Turns a b s h after r) (is ∙ ap (λ (e : EngineStop). Err e) fault) turns
+pub taken_of : (a b : World) (s : AllSettings) (h : History) (after : Engine) (result : Result Turn EngineStop) → is_wanting result ≡ false → Turns a b s h after result → Taken a b s h after
+taken_of a b s h after (Ok which) had turns = turn_taken a b s h after which turns
+taken_of a b s h after (Err stop.LoopFault) had turns = turn_broken a b s h after turns
+taken_of a b s h after (Err stop.Memory) had turns = absurd (cc had)
 
 -- the crash of a life in its last happening
 last_cut : (b : Bool) (cut : Cut) (planned : Option Cut) → Some cut ≡ (if b then planned else None) → (b ≡ true) × (planned ≡ Some cut)
@@ -295,15 +291,8 @@ uncut_always : (planned : Life) (b : Bool) → None ≡ (if b then (whole planne
 uncut_always planned true = refl
 uncut_always planned false = refl
 
-abbrev pub Nowhere : World
-Nowhere = record { loop = None; disk = None; files = None; keeper = None }
-
--- what loop, disk and files in memory tell
-abbrev pub memory : ScriptHeld → Seen → FilesHeld → World
-memory script seen held = with_all (told_of script) (disk.told_of seen.calls) (files.told_of held) Nowhere
-
 module _ (s : AllSettings) (start : Start) (planned : Life) (going : Going) (seen : Seen) (held : FilesHeld) (cut : Cut) (ready : IsReady s start planned going seen held (Some cut))
-    (script2 : ScriptHeld) (seen2 : Seen) (held2 : FilesHeld) (taken : Taken (memory going.script seen held) (memory script2 seen2 held2) s ready.history)
+    (going2 : Going) (seen2 : Seen) (held2 : FilesHeld) (taken : Taken (memory going.script seen held) (memory going2.script seen2 held2) s ready.history going2.engine)
     (plays : files_played.IsPlayed held2.given [] (entries_from held2.given held2.notes)) where
   abbrev turn_is : List TraceEntry
   turn_is = wait_of s ready.history taken.brought ∷ taken.entries
@@ -311,10 +300,10 @@ module _ (s : AllSettings) (start : Start) (planned : Life) (going : Going) (see
   abbrev whole_trace : List TraceEntry
   whole_trace = ready.trace ++ turn_is
 
-  stands_behind : Stands s start (whole planned) (told_of script2) (going.taken + 1) seen2 held2 whole_trace taken.left (behind (course_of start planned) whole_trace).files
+  stands_behind : Stands s start (whole planned) (told_of going2.script) (going.taken + 1) seen2 held2 whole_trace taken.left (behind (course_of start planned) whole_trace).files
   stands_behind =
       let place = behind (course_of start planned) ready.trace in
-      turn_stands s start (whole planned) ready.history ready.trace (told_of going.script) going.taken seen held (told_of script2) seen2 held2 taken.brought taken.entries taken.left
+      turn_stands s start (whole planned) ready.history ready.trace (told_of going.script) going.taken seen held (told_of going2.script) seen2 held2 taken.brought taken.entries taken.left
       (record {
         way = ready.stands.way;
         waits = ready.stands.waits;
@@ -332,17 +321,17 @@ module _ (s : AllSettings) (start : Start) (planned : Life) (going : Going) (see
   turn_asked : (made : List Told) × (seen2.calls ≡ seen.calls ++ made) × (disk.entries_of made ≡ disk_part turn_is)
   turn_asked = split_told seen.calls seen2.calls (disk_part turn_is) taken.asked.disk.1
 
-  turn_answered : ScriptPlays script2 → disk.IsPlayed [] seen2.calls → IsAnswered start planned whole_trace (ready.stands.asked ++ turn_asked.0)
-  turn_answered loop_plays disk_plays =
+  turn_answered : HavePlayed going2.script seen2 → IsAnswered start planned whole_trace (ready.stands.asked ++ turn_asked.0)
+  turn_answered played =
       let asked = ready.stands.asked in
       let made = turn_asked.0 in
       let all : seen2.calls ≡ disk_of start planned ++ (asked ++ made) = turn_asked.1 ∙ ap (λ (l : List Told). l ++ made) ready.stands.disk_is ∙ append_assoc (disk_of start planned) asked made in
       record {
-        loop = loop_played script2 (given_of planned) (loop_part whole_trace) stands_behind.loop loop_plays;
+        loop = loop_played going2.script (given_of planned) (loop_part whole_trace) stands_behind.loop played.loop;
         are =
             map-append disk.entry_of asked made ∙ ap (λ (l : List DiskEntry). l ++ disk.entries_of made) ready.stands.are ∙ ap (λ (l : List DiskEntry). disk_part ready.trace ++ l) turn_asked.2
             ∙ sym (disk_append ready.trace turn_is);
-        disk = played_second [] (disk_of start planned) (asked ++ made) (subst (λ (l : List Told). disk.IsPlayed [] l) all disk_plays);
+        disk = played_second [] (disk_of start planned) (asked ++ made) (subst (λ (l : List Told). disk.IsPlayed [] l) all played.disk);
         files = stands_behind.answered;
       }
 
@@ -358,45 +347,29 @@ module _ (s : AllSettings) (start : Start) (planned : Life) (going : Going) (see
         (taken.last, subst (λ (p : Act Lived). Way (run s None 1 h) turn_is p) taken.ends (taken.ways 0)),
       )
 
-  pub turn_cut : (most since : ℕ) (image : Seen) → going.taken < most → ScriptPlays script2 → disk.IsPlayed [] seen2.calls → since ≡ length seen.calls → IsFresh image → IsPicked since cut seen2 image
-      → WasCut s most start planned cut (going.taken + 1) ready.history ready.trace image held2
-  turn_cut most since image more loop_plays disk_plays since_is fresh picks =
+  pub turn_cut : (most since : ℕ) (image : Seen) (renewed : FilesHeld) → going.taken < most → going2.taken ≡ going.taken + 1 → HavePlayed going2.script seen2 → since ≡ length seen.calls → IsCrashed since cut seen2 image
+      → AreRenewed held2 renewed → WasCut s most start planned cut going2 ready.history ready.trace image renewed
+  turn_cut most since image renewed more counted played since_is crashed again =
       let last = last_cut (is_last_next (paused s ready.history) (behind (course_of start planned) ready.trace)) cut planned.cut ready.cut_is in
-      made_cut s start planned most (going.taken + 1) since cut ready.history ready.trace turn_is ready.stands.asked turn_asked.0 seen seen2 image held2 last.1 (turn_cut_in most more last.0) ready.stands.uncut
-      (turn_answered loop_plays disk_plays) ready.stands.are ready.stands.disk_is turn_asked.1 since_is fresh picks stands_behind.files_stand.has stands_behind.waits
+      made_cut s start planned most since cut going2 ready.history taken.now ready.trace turn_is ready.stands.asked turn_asked.0 seen seen2 image held2 renewed last.1 (turn_cut_in most more last.0) ready.stands.uncut
+      (turn_answered played) ready.stands.are ready.stands.disk_is turn_asked.1 since_is crashed again stands_behind.files_stand.has (stands_behind.waits ∙ sym counted) taken.at
 
 -- ---- what is left to the next life
 
--- the same files, of which nothing was asked
-pub finds_next : (next : Start) (image : Seen) (held renewed : FilesHeld) → image.calls ≡ next.disk → ((path : List ℕ) → found (files_now held.given held.notes) path ≡ content_behind None next.changes path)
-    → SameFiles (files_now held.given held.notes) (files_now renewed.given renewed.notes) → renewed.notes ≡ [] → Finds next image renewed
-finds_next next image held renewed disk_is has same none = record { disk = disk_is; has = λ path. sym (same path) ∙ has path; unasked = none }
-
-pub leaves : (s : AllSettings) (most : ℕ) (start : Start) (planned : Life) (cut : Cut) (taken : ℕ) (history : History) (before : List TraceEntry) (image : Seen) (held renewed : FilesHeld) (settings : AllSettings) (script : ScriptHeld) (text : List ℕ)
-    → WasCut s most start planned cut taken history before image held → told_of script ≡ Some (given_of planned, loop_part before) → text ≡ text_behind s script history → settings ≡ s → taken ≤ most
-    → SameFiles (files_now held.given held.notes) (files_now renewed.given renewed.notes) → renewed.notes ≡ []
-    → ComesTo s most start planned (outcome.Leaves text (record { cut = cut; settings = settings; disk = image; files = renewed; taken = taken }))
-leaves s most start planned cut taken history before image held renewed settings script text was told is same_settings fits same none =
+pub leaves : (shown : Shown) (s : AllSettings) (most : ℕ) (start : Start) (planned : Life) (cut : Cut) (going : Going) (seen : Seen) (held : FilesHeld) (text : List ℕ) (settings : AllSettings) (taken : ℕ)
+    → CameBy shown s most start planned going seen held text (life_end.Cut cut) → ((now : History) → IsAt going.engine s now → settings ≡ s) → taken ≡ going.taken
+    → ComesBy shown s most start planned seen held text (follow.Life (record { cut = cut; settings = settings; taken = taken }))
+leaves shown s most start planned cut going seen held text settings taken came given counted =
+    let was = came.2 in
     let c = was.cuts in (
       c,
       was.is,
-      is ∙ text_is s start planned script before history told ∙ ap (λ (es : List TraceEntry). life_text s es history) (sym was.before_is) ∙ ap (λ (h : History). life_text s c.before h) (sym was.history_is),
+      came.3 ∙ ap (λ (es : List TraceEntry). life_text shown s es came.0) (sym was.before_is) ∙ ap (λ (h : History). life_text shown s c.before h) (sym was.history_is),
       sym was.cut_is,
-      same_settings,
-      finds_next c.next image held renewed was.disk_is was.has same none,
-      sym was.waits,
-      fits,
+      given was.now was.at,
+      was.finds,
+      counted ∙ sym was.waits,
     )
 
 pub named_of : (named : Named) (engine : Engine) (s : AllSettings) (h : History) → IsNamed named s → IsAt engine s h → IsNamedOf named engine
 named_of named engine s h is at = record { settings = s; history = h; at = at; is = is }
-
--- ---- by results
-
-pub ok_both : {T E : Type 0} {P Q R : T → Type 0} (r : Result T E) → ((x : T) → P x → Q x → R x) → IfOk r P → IfOk r Q → IfOk r R
-ok_both (Ok x) f first second = f x first second
-ok_both (Err e) f first second = tt
-
-pub on_ok : {T E P : Type 0} (r : Result T E) → P → OnOk r P
-on_ok (Ok x) is = is
-on_ok (Err e) is = tt

@@ -1,5 +1,6 @@
 pub mod Masking
 pub mod Naming
+pub mod Showing
 pub mod Linking
 pub mod Coursing
 pub mod Turns

@@ -9,6 +9,7 @@ use Rattle.fwd_base.specs.declared.memory.Memory.{Memory}
 use Rattle.fwd_settings.specs.Ends.{ends_of}
 use Rattle.fwd_settings.specs.declared.chosen.AllSettings.{AllSettings}
 use Rattle.fwd_written.specs.Fact.{History}
+use Rattle.fwd_written.specs.Trace.{Act}
 use Rattle.fwd_written.specs.World.{World, Did, Began, Leads}
 use Rattle.fwd_written.specs.Loading.{loads_in}
 use Rattle.fwd_written.specs.Run.{Lived, DiskFailed, lived, begun, life}
@@ -20,7 +21,7 @@ use Rattle.fwd_lives.specs.Runs as runs
 use Rattle.fwd_lives.specs.declared.running.RunEnd.{RunEnd}
 use Rattle.fwd_lives.specs.declared.running.RunEnd.TheVariants as run_end
 use Rattle.fwd_lives.proofs.Heard.{heard_all}
-use Rattle.fwd_replay.specs.Live.{BeginsLife, IsLived, ComesTo, heard_in, ending_of}
+use Rattle.fwd_replay.specs.Live.{BeginsLife, IsLived, ComesTo, RunComesTo, heard_in, ending_of}
 use Rattle.fwd_replay.specs.Naming.{IsNamed, IsNamedUnlessFailed}
 use Rattle.fwd_replay.specs.Text.{report, told_by}
 use Rattle.fwd_replay.specs.declared.named.Named.{Named}
@@ -55,21 +56,22 @@ module _ (s : AllSettings) (ticks : Option ℕ) (turns : ℕ) where
   disk_failed a b reported did is = record { lived = lived [] DiskFailed; did = loaded a b None did; told = is }
 
   -- memory was wanting while it ran
-  pub begins_run : (a b c : World) (ends : Ends) (h : History) → ends ≡ ends_of s → Did a b (loads_in s) (Some h) → Began b c (begun s ends ticks turns (Some h)) → BeginsLife s ticks turns a c
+  begins_run : (a b c : World) (ends : Ends) (h : History) → ends ≡ ends_of s → Did a b (loads_in s) (Some h) → Began b c (begun s ends ticks turns (Some h)) → BeginsLife s ticks turns a c
   begins_run a b c ends h are did began = began_after (loaded a b (Some h) did) (subst (λ (x : Ends). Began b c (begun s x ticks turns (Some h))) are began)
 
   whole_run : (a b c : World) (ends : Ends) (h : History) (lived : Lived) → ends ≡ ends_of s → Did a b (loads_in s) (Some h) → Did b c (begun s ends ticks turns (Some h)) lived → Did a c (life s (ends_of s) ticks turns) lived
   whole_run a b c ends h lived are did ran = goes_on (loaded a b (Some h) did) (subst (λ (x : Ends). Did b c (begun s x ticks turns (Some h)) lived) are ran)
 
-  -- its run, to its end
-  pub lived_of : {E : Type 0} (a b c : World) (ends : Ends) (h : History) (engine : Engine) (end : RunEnd) → ends ≡ ends_of s → Did a b (loads_in s) (Some h) → (ran : Ran b c s (begun s ends ticks turns (Some h)) engine end)
-      → (r : Result Reported E) → IfOk r (λ x. x ≡ told_by (report s ran.history) (end_of end)) → ComesTo s ticks turns a c r
-  lived_of a b c ends h engine end are did ran (Ok x) is = record {
-    lived = lived ran.history (end_of end);
-    did = whole_run a b c ends h (lived ran.history (end_of end)) are did ran.did;
-    told = is;
-  }
-  lived_of a b c ends h engine end are did ran (Err e) is = (Return (lived ran.history (end_of end)), whole_run a b c ends h (lived ran.history (end_of end)) are did ran.did)
+  -- its run, to its end or where memory was wanting
+  pub ran_on : {E : Type 0} (a b c : World) (ends : Ends) (h : History) → ends ≡ ends_of s → Did a b (loads_in s) (Some h) → (r : Result Reported E) → RunComesTo s (begun s ends ticks turns (Some h)) b c r → ComesTo s ticks turns a c r
+  ran_on a b c ends h are did (Ok x) has = record { lived = has.lived; did = whole_run a b c ends h has.lived are did has.did; told = has.told }
+  ran_on a b c ends h are did (Err e) began = begins_run a b c ends h are did began
+
+-- what is told of a run
+pub run_told : {E : Type 0} (s : AllSettings) (run : Act Lived) (a b : World) (engine : Engine) (end : RunEnd) (ran : Ran a b s run engine end) (r : Result Reported E)
+    → IfOk r (λ x. x ≡ told_by (report s ran.history) (end_of end)) → RunComesTo s run a b r
+run_told s run a b engine end ran (Ok x) is = record { lived = lived ran.history (end_of end); did = ran.did; told = is }
+run_told s run a b engine end ran (Err e) is = (Return (lived ran.history (end_of end)), ran.did)
 
 -- what a run comes to
 abbrev pub whole : RunEnd → Result RunEnd Memory
@@ -96,6 +98,13 @@ disk_cause_live before now run_end.Over text (Ok x) is later = record { later = 
 disk_cause_live before now run_end.LoopFailed text (Ok x) is later = record { later = later; cause = λ failed. let no : ending.LoopFailed ≡ ending.DiskFailed = rw is at failed in absurd (cc no) }
 disk_cause_live before now run_end.TurnsSpent text (Ok x) is later = record { later = later; cause = λ failed. let no : ending.TurnsSpent ≡ ending.DiskFailed = rw is at failed in absurd (cc no) }
 disk_cause_live before now end text (Err e) is later = record { later = later; cause = λ failed. absurd (cc failed) }
+
+-- with what was before, where a count didn't fall
+pub caused_later : {P : Type 0} (a b c : ℕ) → a ≤ b → HasCause b c P → HasCause a c P
+caused_later a b c before cause = record {
+  later = let after = cause.later in omega (arith, before, after);
+  cause = λ failed. let rose = cause.cause failed in omega (arith, before, rose);
+}
 
 -- where memory was wanting, nothing has failed
 pub loop_cause_wanting : {E : Type 0} (before now : ℕ) (r : Result Reported E) → IsErr r → before ≤ now → HasCause before now (ending_of r ≡ ending.LoopFailed)

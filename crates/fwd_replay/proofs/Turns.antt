@@ -49,7 +49,7 @@ use Rattle.fwd_engine.specs.declared.engine.Turn.TheVariants as turn
 use Rattle.fwd_ties.proofs.Waiting.{ArePlain, plain_waitless, step_plain, waits_append}
 use Rattle.fwd_replay.specs.Changing.{Course, FilesAt, behind, behind_wait, is_last_next, next_in}
 use Rattle.fwd_replay.specs.Lives.{Start, course_of, disk_of}
-use Rattle.fwd_replay.specs.Stage.{FilesStand, HasFailed, IsOver, IsReady, IsUnderWay, Stands}
+use Rattle.fwd_replay.specs.Stage.{FilesStand, IsReady, IsUnderWay, Stands}
 use Rattle.fwd_replay.specs.Stage as stage
 use Rattle.fwd_replay.specs.declared.going.Going.{Going}
 use Rattle.fwd_replay.proofs.Coursing.{Alike, ahead_is, alike_held, answered_append, behind_append, held_alike, lines_stay, plain_alike, plain_answered, plain_changed, played_second, turn_uncut, uncut_append}

@@ -1,5 +1,5 @@
 -- What comes of the lives of a schedule.
-use Rattle.std.specs.Prelude.{◌≡◌, ◌⊎◌, ℕ, ◌+◌, ◌-◌, ◌<◌, ◌%◌, Bool, true, false, ◌&&◌, List, [], ◌∷◌, ◌++◌, map, take, Option, Some, None, is_some}
+use Rattle.std.specs.Prelude.{◌≡◌, ◌⊎◌, ℕ, ◌+◌, ◌-◌, ◌<◌, ◌%◌, Bool, true, false, ◌&&◌, List, [], ◌∷◌, ◌++◌, map, take, Some, None, is_some}
 use Rattle.fwd_program.specs.Program.{Return, Way}
 use Rattle.fwd_image.specs.File.{content}
 use Rattle.fwd_disk_mem.specs.declared.told.Told.{Told}
@@ -24,6 +24,7 @@ use Rattle.fwd_replay.specs.Changing.{Course, behind, FilesAnswered, is_last_nex
 use Rattle.fwd_replay.specs.Text.{life_text, told_by, wanting, joined}
 use Rattle.fwd_replay.specs.declared.reported.Reported.{Reported}
 use Rattle.fwd_replay.specs.declared.reported.Ending.TheVariants as ending
+use Rattle.fwd_replay.specs.declared.reported.Shown.{Shown}
 
 -- what stands outside when a life begins: what the disk was told, all without doubt, and the changes of files so far
 pub record Start : Type 0 where
@@ -67,12 +68,12 @@ pub record IsLife (s : AllSettings) (turns : ℕ) (start : Start) (planned : Lif
   pub uncut : has_cut start planned trace ≡ false
 
 -- The replay ends with this life. One that is over isn't to be cut.
-pub record EndsIn (s : AllSettings) (turns : ℕ) (start : Start) (planned : Life) (replayed : Reported) : Type 0 where
+pub record EndsIn (shown : Shown) (s : AllSettings) (turns : ℕ) (start : Start) (planned : Life) (replayed : Reported) : Type 0 where
   pub trace : List TraceEntry
   pub comes : Lived
   pub is : IsLife s turns start planned trace comes
   pub last : comes.end ≡ Over → planned.cut ≡ None
-  pub told : replayed ≡ told_by (life_text s trace comes.history) comes.end
+  pub told : replayed ≡ told_by (life_text shown s trace comes.history) comes.end
 
 -- ---- a life that is cut
 
@@ -113,9 +114,9 @@ pub record IsCut (s : AllSettings) (turns : ℕ) (start : Start) (planned : Life
 
 -- Each life in turn, with at most so many turns in all: the replay ends with it, or it is cut and the next one follows; or
 -- memory was wanting in it, and nothing is written of it.
-abbrev pub IsReplayed : AllSettings → ℕ → Start → List Life → Reported → Type 0
-IsReplayed s turns start [] replayed = replayed ≡ record { text = []; ending = ending.Over }
-IsReplayed s turns start (planned ∷ lives) replayed =
-    EndsIn s turns start planned replayed
-    ⊎ ((c : Cuts) × IsCut s turns start planned c × ((rest : Reported) × IsReplayed s (turns - waits_in (c.before ++ c.turn)) c.next lives rest × (replayed ≡ joined (life_text s c.before c.history) c.cut rest)))
+abbrev pub IsReplayed : Shown → AllSettings → ℕ → Start → List Life → Reported → Type 0
+IsReplayed shown s turns start [] replayed = replayed ≡ record { text = []; ending = ending.Over }
+IsReplayed shown s turns start (planned ∷ lives) replayed =
+    EndsIn shown s turns start planned replayed
+    ⊎ ((c : Cuts) × IsCut s turns start planned c × ((rest : Reported) × IsReplayed shown s (turns - waits_in (c.before ++ c.turn)) c.next lives rest × (replayed ≡ joined (life_text shown s c.before c.history) c.cut rest)))
     ⊎ (replayed ≡ wanting)

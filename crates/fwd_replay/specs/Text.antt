@@ -1,4 +1,4 @@
--- The text of a life: what its standard outputs took, and its report.
+-- The text of a life: what its standard outputs took, and its report; or its report alone.
 use Rattle.std.specs.Prelude.{ℕ, ◌+◌, ◌-◌, ◌*◌, ◌==◌, Bool, true, false, if◌then◌else◌, List, [], ◌∷◌, ◌++◌, length, map, slice_index, codes, decimal}
 use Rattle.fwd_settings.specs.declared.chosen.AllSettings.{AllSettings}
 use Rattle.fwd_settings.specs.declared.chosen.InputSet.{InputSet}
@@ -14,8 +14,9 @@ use Rattle.fwd_written.specs.Tallies.{tally_of}
 use Rattle.fwd_written.specs.Run.{End, Over, DiskFailed, LoopFailed, TurnsSpent}
 use Rattle.fwd_report.specs.Report.{report_of}
 use Rattle.fwd_replay.specs.declared.reported.Reported.{Reported}
-use Rattle.fwd_replay.specs.declared.reported.Ending.{Ending}
 use Rattle.fwd_replay.specs.declared.reported.Ending.TheVariants as ending
+use Rattle.fwd_replay.specs.declared.reported.Shown.{Shown}
+use Rattle.fwd_replay.specs.declared.reported.Shown.TheVariants.{All, Report}
 
 abbrev pub input_names : List InputSet → List (List ℕ)
 input_names inputs = map (λ (set : InputSet). set.name) inputs
@@ -42,9 +43,10 @@ with_line_end text = text ++ line_end text
 abbrev pub report : AllSettings → History → List ℕ
 report s h = report_of (input_names s.inputs) (output_names s.outputs) (rows_of s h) (tally_of s h)
 
--- the bytes that links of standard outputs took, in the order taken, and the report
-abbrev pub life_text : AllSettings → List TraceEntry → History → List ℕ
-life_text s trace h = with_line_end (handed (stdout_mask s.outputs) [] (loop_part trace)) ++ report s h
+-- the bytes that links of standard outputs took, in the order taken, and the report; or the report alone
+abbrev pub life_text : Shown → AllSettings → List TraceEntry → History → List ℕ
+life_text All s trace h = with_line_end (handed (stdout_mask s.outputs) [] (loop_part trace)) ++ report s h
+life_text Report s trace h = report s h
 
 -- what is written of a run that ended so
 abbrev pub told_by : List ℕ → End → Reported

@@ -1,6 +1,8 @@
 //! A life of a schedule, from what it finds to what it leaves.
 
-ghost use Rattle.std.specs.Prelude.{◌≡◌, ◌<◌, ◌≤◌, ◌++◌, ℕ, [], Some, None, OnOk, IfOk};
+ghost use Rattle.std.specs.Prelude.{◌≡◌, ◌<◌, ◌≤◌, ◌++◌, ℕ, List, [], Some, None, OnOk, IfOk};
+ghost use Rattle.fwd_disk_mem.specs.Seen.{Seen};
+ghost use Rattle.fwd_settings.specs.Ends.{ends_of};
 ghost use Rattle.fwd_settings.specs.Sound.{IsSound};
 ghost use Rattle.fwd_settings.specs.declared.chosen.AllSettings.{AllSettings};
 ghost use Rattle.fwd_script.specs.FilesHeld.{FilesHeld};
@@ -10,41 +12,65 @@ ghost use Rattle.fwd_play.specs.Told.{entries_of};
 ghost use Rattle.fwd_written.specs.Fact.{History};
 ghost use Rattle.fwd_engine.specs.Steps.{IsAt};
 ghost use Rattle.fwd_replay.specs.Lives.{Start};
-ghost use Rattle.fwd_replay.specs.Naming.{IsNamed, IsNamedOf};
-ghost use Rattle.fwd_replay.specs.Stage.{ComesTo, Finds, HasFailed, IsOver, IsReady, IsUnderWay, WasCut};
-ghost use Rattle.fwd_replay.specs.Text.{report, stdout_mask, with_line_end};
+ghost use Rattle.fwd_replay.specs.Naming.{IsNamed, IsNamedOf, printed_mask};
+ghost use Rattle.fwd_replay.specs.Stage.{AreRenewed, CameBy, CameTo, ComesBy, ComesTo, Finds, HasFailed, HavePlayed, IsCrashed, IsOver, IsReady, IsTold, IsUnderWay, WasCut};
+ghost use Rattle.fwd_replay.specs.Text.{report, with_line_end};
+ghost use Rattle.fwd_replay.specs.declared.going.Going.{Going};
+ghost use Rattle.fwd_replay.specs.declared.life.Next.TheVariants as follow;
+ghost use Rattle.fwd_replay.specs.declared.reported.Shown.{Shown};
 
 use crate::going::Going;
 use crate::named::Named;
-use crate::reported::{Ending, Reported, report_text};
-use crate::starting::{Started, start, tell};
-use crate::turning::{TurnsEnd, take_turns};
+use crate::reported::{Ending, report_text};
+use crate::starting::{StartErr, start, tell};
+use crate::turning::{TurnsEnd, is_wanting, take, take_turns};
 use fwd_base::{Bytes, Memory};
 use fwd_disk_mem::MemDisk;
-use fwd_engine::EngineStop;
+use fwd_outside::Ends;
 use fwd_script::{Cut, Life, MemFiles};
-use fwd_settings::AllSettings;
+use fwd_settings::{AllSettings, ends};
 use std::alloc::Global;
 use std::thread::Threads;
 
-/// What a life leaves to the next one: the crash that it was cut by, the settings, the disk and the files, and how many turns
-/// it took.
+/// What a life leaves to the next one besides the disk and the files: the crash that it was cut by, the settings, and how many
+/// turns it took.
 #[derive(Drop)]
 pub struct Left {
     pub cut: Cut,
     pub settings: AllSettings,
-    pub disk: MemDisk,
-    pub files: MemFiles,
     pub taken: u64,
 }
 
-/// What comes of a life.
+/// What follows a life.
 #[derive(Drop)]
-pub enum Outcome {
+pub enum Next {
+    /// Nothing: the replay ends so.
+    Ends(Ending),
+    /// Another life: it was cut, and leaves this.
+    Life(Left),
+}
+
+/// What comes of a life: its text, and what follows it.
+#[derive(Drop)]
+pub struct Outcome {
+    pub text: Bytes,
+    pub next: Next,
+}
+
+/// How a life that was under way has ended.
+#[derive(Clone, Copy)]
+pub enum LifeEnd {
     /// The replay ends with it.
-    Ends(Reported),
-    /// It was cut: its text, and what it leaves.
-    Leaves(Bytes, Left),
+    Ends(Ending),
+    /// It was cut by this crash.
+    Cut(Cut),
+}
+
+/// The text of a life that was under way, and how it has ended.
+#[derive(Drop)]
+pub struct Came {
+    pub text: Bytes,
+    pub end: LifeEnd,
 }
 
 /// A line feed behind a text that isn't empty and doesn't end in one.
@@ -58,11 +84,11 @@ fn end_line(text: &mut Bytes) -> Result<(), Memory>
     Ok(())
 }
 
-/// What the standard outputs took, a line feed where that doesn't end in one, and the report.
+/// What the standard outputs took where that is shown, a line feed where that doesn't end in one, and the report.
 fn text_of(alloc: Global, named: &Named, going: &Going) -> Result<Bytes, Memory>
     requires { IsNamedOf named.now going.now.engine }
     ensures { (s : AllSettings) (h : History) → IsAt going.now.engine s h → IsNamed named.now s
-        → IfOk result (λ text. text ≡ with_line_end (handed (stdout_mask s.outputs) [] (entries_of going.now.script.notes)) ++ report s h) }
+        → IfOk result (λ text. text ≡ with_line_end (handed (printed_mask named.now.shown s.outputs) [] (entries_of going.now.script.notes)) ++ report s h) }
 {
     let mut text = going.script.handed(alloc, named.printed)?;
     end_line(&mut text)?;
@@ -71,7 +97,47 @@ fn text_of(alloc: Global, named: &Named, going: &Going) -> Result<Bytes, Memory>
     Ok(text)
 }
 
-/// The turn in which the life is cut, and the disk as the crash leaves it.
+/// Loop and disk in memory have answered as they were to.
+fn are_played(going: &Going, disk: &MemDisk)
+    ensures { HavePlayed going.now.script disk.now }
+{
+    going.script.is_played();
+    disk.is_played();
+}
+
+/// The disk as a crash leaves it, after so many of its calls behind a place.
+fn crash_disk(alloc: Global, disk: &mut MemDisk, since: usize, cut: Cut) -> Result<(), Memory>
+    ensures { OnOk result (IsCrashed since cut disk.old disk.new) }
+{
+    let image = disk.image_since(alloc, since, cut.calls, cut.pick)?;
+    *disk = image;
+    Ok(())
+}
+
+/// The same files, of which nothing was asked.
+fn renew_files(alloc: Global, files: &mut MemFiles) -> Result<(), Memory>
+    ensures { OnOk result (AreRenewed files.old files.new) }
+{
+    let renewed = files.renewed(alloc)?;
+    *files = renewed;
+    Ok(())
+}
+
+/// Disk and files as the next life finds them behind a crash.
+fn crash(
+    alloc: Global,
+    disk: &mut MemDisk,
+    files: &mut MemFiles,
+    since: usize,
+    cut: Cut,
+) -> Result<(), Memory>
+    ensures { OnOk result (IsCrashed since cut disk.old disk.new × AreRenewed files.old files.new) }
+{
+    crash_disk(alloc, disk, since, cut)?;
+    renew_files(alloc, files)
+}
+
+/// The turn in which the life is cut, and the crash.
 fn cut_turn(
     rt: &(impl Threads + Sync),
     alloc: Global,
@@ -80,136 +146,167 @@ fn cut_turn(
     files: &mut MemFiles,
     cut: Cut,
     most: u64,
-) -> Result<MemDisk, Memory>
+) -> Result<(), Memory>
     requires { going.old.taken < most }
-    ensures cut { (s : AllSettings) (begins : Start) (planned : Life) (ready : IsReady s begins planned going.old disk.old files.old (Some cut))
-        → IfOk result (λ image. WasCut s most begins planned cut going.new.taken ready.history ready.trace image files.new) }
-    ensures taken { going.new.taken ≤ most }
-    ensures stands { (s : AllSettings) (h : History) → IsAt going.old.engine s h → OnOk result ((now : History) × IsAt going.new.engine s now) }
-    ensures fresh { IfOk result (λ image. image.mark ≡ 0) }
+    ensures { (s : AllSettings) (begins : Start) (planned : Life) (ready : IsReady s begins planned going.old disk.old files.old (Some cut))
+        → OnOk result (WasCut s most begins planned cut going.new ready.history ready.trace disk.new files.new) }
 {
     let since = disk.told_len();
-    going.taken += 1;
-    let turn = going.engine.turn(rt, disk, files, &mut going.script);
-    going.script.is_played();
-    disk.is_played();
-    files.is_played();
-    match turn {
-        Ok(_) => {}
-        Err(EngineStop::LoopFault) => {}
-        Err(EngineStop::Memory) => return Err(Memory),
+    if is_wanting(take(rt, going, disk, files)) {
+        return Err(Memory);
     }
-    disk.image_since(alloc, since, cut.calls, cut.pick)
+    crash(alloc, disk, files, since, cut)
 }
 
-/// The disk as a crash leaves it behind a life that was over before it came.
-fn cut_over(alloc: Global, going: &Going, disk: &MemDisk, cut: Cut) -> Result<MemDisk, Memory>
-    ensures { (s : AllSettings) (begins : Start) (planned : Life) (most : ℕ) (held : FilesHeld) (over : IsOver s begins planned going.now disk.now held) → planned.cut ≡ Some cut → going.now.taken ≤ most
-        → IfOk result (λ image. WasCut s most begins planned cut going.now.taken over.history over.trace image held) }
-{
-    going.script.is_played();
-    disk.is_played();
-    disk.image_since(alloc, disk.told_len(), cut.calls, cut.pick)
-}
-
-/// What a life leaves that is cut in its next turn.
+/// What comes of a life that is cut in its next turn.
 fn leave_in_turn(
     rt: &(impl Threads + Sync),
     alloc: Global,
     named: &Named,
-    mut going: Going,
+    going: &mut Going,
     disk: &mut MemDisk,
     files: &mut MemFiles,
     cut: Cut,
     most: u64,
-) -> Result<Outcome, Memory>
-    requires named { IsNamedOf named.now going.engine }
-    requires left { going.taken < most }
-    ensures { (s : AllSettings) (begins : Start) (planned : Life) → IsNamed named.now s → IsReady s begins planned going disk.old files.old (Some cut) → IfOk result (ComesTo s most begins planned) }
+) -> Result<Came, Memory>
+    requires named { IsNamedOf named.now going.old.engine }
+    requires left { going.old.taken < most }
+    ensures { (s : AllSettings) (begins : Start) (planned : Life) → IsNamed named.now s → IsReady s begins planned going.old disk.old files.old (Some cut)
+        → IfOk result (CameTo named.now.shown s most begins planned going.new disk.new files.new) }
 {
-    let text = text_of(alloc, named, &going)?;
-    let disk = cut_turn(rt, alloc, &mut going, disk, files, cut, most)?;
-    let files = files.renewed(alloc)?;
-    Ok(Outcome::Leaves(
+    let text = text_of(alloc, named, going)?;
+    cut_turn(rt, alloc, going, disk, files, cut, most)?;
+    Ok(Came {
         text,
-        Left {
-            cut,
-            settings: going.engine.finish(),
-            disk,
-            files,
-            taken: going.taken,
-        },
-    ))
-}
-
-/// What a life leaves that was over before its crash came.
-fn leave_over(
-    alloc: Global,
-    named: &Named,
-    going: Going,
-    disk: &MemDisk,
-    files: &MemFiles,
-    cut: Cut,
-) -> Result<Outcome, Memory>
-    requires { IsNamedOf named.now going.engine }
-    ensures { (s : AllSettings) (begins : Start) (planned : Life) (most : ℕ) → IsNamed named.now s → IsOver s begins planned going disk.now files.now → planned.cut ≡ Some cut → going.taken ≤ most
-        → IfOk result (ComesTo s most begins planned) }
-{
-    let text = text_of(alloc, named, &going)?;
-    let disk = cut_over(alloc, &going, disk, cut)?;
-    let files = files.renewed(alloc)?;
-    Ok(Outcome::Leaves(
-        text,
-        Left {
-            cut,
-            settings: going.engine.finish(),
-            disk,
-            files,
-            taken: going.taken,
-        },
-    ))
-}
-
-/// The replay ends with a life that is over and isn't to be cut.
-fn end_over(alloc: Global, named: &Named, going: &Going, disk: &MemDisk) -> Result<Outcome, Memory>
-    requires { IsNamedOf named.now going.now.engine }
-    ensures { (s : AllSettings) (begins : Start) (planned : Life) (most : ℕ) (held : FilesHeld) → IsNamed named.now s → IsOver s begins planned going.now disk.now held → planned.cut ≡ None → going.now.taken ≤ most
-        → IfOk result (ComesTo s most begins planned) }
-{
-    going.script.is_played();
-    disk.is_played();
-    Ok(Outcome::Ends(Reported {
-        text: text_of(alloc, named, going)?,
-        ending: Ending::Over,
-    }))
-}
-
-/// The replay ends with a life that has taken all turns.
-fn end_spent(alloc: Global, named: &Named, going: &Going, disk: &MemDisk) -> Result<Outcome, Memory>
-    requires { IsNamedOf named.now going.now.engine }
-    ensures { (s : AllSettings) (begins : Start) (planned : Life) (held : FilesHeld) → IsNamed named.now s → IsUnderWay s begins planned going.now disk.now held → IfOk result (ComesTo s going.now.taken begins planned) }
-{
-    going.script.is_played();
-    disk.is_played();
-    Ok(Outcome::Ends(Reported {
-        text: text_of(alloc, named, going)?,
-        ending: Ending::TurnsSpent,
-    }))
-}
-
-/// The replay ends with a life whose loop couldn't go on.
-fn end_failed(alloc: Global, going: &Going, disk: &MemDisk) -> Outcome
-    ensures { (s : AllSettings) (begins : Start) (planned : Life) (most : ℕ) (held : FilesHeld) → HasFailed s begins planned going.now disk.now held → going.now.taken ≤ most → ComesTo s most begins planned result }
-{
-    going.script.is_played();
-    disk.is_played();
-    Outcome::Ends(Reported {
-        text: Bytes::new(alloc),
-        ending: Ending::LoopFailed,
+        end: LifeEnd::Cut(cut),
     })
 }
 
+/// What comes of a life that was over before its crash came.
+fn leave_over(
+    alloc: Global,
+    named: &Named,
+    going: &Going,
+    disk: &mut MemDisk,
+    files: &mut MemFiles,
+    cut: Cut,
+) -> Result<Came, Memory>
+    requires { IsNamedOf named.now going.now.engine }
+    ensures { (s : AllSettings) (begins : Start) (planned : Life) (most : ℕ) → IsNamed named.now s → IsOver s begins planned going.now disk.old files.old → planned.cut ≡ Some cut → going.now.taken ≤ most
+        → IfOk result (CameTo named.now.shown s most begins planned going.now disk.new files.new) }
+{
+    let text = text_of(alloc, named, going)?;
+    are_played(going, disk);
+    let since = disk.told_len();
+    crash(alloc, disk, files, since, cut)?;
+    Ok(Came {
+        text,
+        end: LifeEnd::Cut(cut),
+    })
+}
+
+/// The replay ends with a life that is over and isn't to be cut.
+fn end_over(alloc: Global, named: &Named, going: &Going, disk: &MemDisk) -> Result<Came, Memory>
+    requires { IsNamedOf named.now going.now.engine }
+    ensures { (s : AllSettings) (begins : Start) (planned : Life) (most : ℕ) (held : FilesHeld) → IsNamed named.now s → IsOver s begins planned going.now disk.now held → planned.cut ≡ None → going.now.taken ≤ most
+        → IfOk result (CameTo named.now.shown s most begins planned going.now disk.now held) }
+{
+    are_played(going, disk);
+    let text = text_of(alloc, named, going)?;
+    Ok(Came {
+        text,
+        end: LifeEnd::Ends(Ending::Over),
+    })
+}
+
+/// The replay ends with a life that has taken all turns.
+fn end_spent(alloc: Global, named: &Named, going: &Going, disk: &MemDisk) -> Result<Came, Memory>
+    requires { IsNamedOf named.now going.now.engine }
+    ensures { (s : AllSettings) (begins : Start) (planned : Life) (held : FilesHeld) → IsNamed named.now s → IsUnderWay s begins planned going.now disk.now held
+        → IfOk result (CameTo named.now.shown s going.now.taken begins planned going.now disk.now held) }
+{
+    are_played(going, disk);
+    let text = text_of(alloc, named, going)?;
+    Ok(Came {
+        text,
+        end: LifeEnd::Ends(Ending::TurnsSpent),
+    })
+}
+
+/// The replay ends with a life whose loop couldn't go on.
+fn end_failed(alloc: Global, going: &Going, disk: &MemDisk) -> Came
+    ensures { (shown : Shown) (s : AllSettings) (begins : Start) (planned : Life) (most : ℕ) (held : FilesHeld) → HasFailed s begins planned going.now disk.now held → going.now.taken ≤ most
+        → CameTo shown s most begins planned going.now disk.now held result }
+{
+    are_played(going, disk);
+    Came {
+        text: Bytes::new(alloc),
+        end: LifeEnd::Ends(Ending::LoopFailed),
+    }
+}
+
 /// A life under way, to its end or its crash.
+fn live(
+    rt: &(impl Threads + Sync),
+    alloc: Global,
+    named: &Named,
+    going: &mut Going,
+    life: &Life,
+    disk: &mut MemDisk,
+    files: &mut MemFiles,
+    most: u64,
+) -> Result<Came, Memory>
+    requires new { going.old.taken ≡ 0 }
+    requires stands { (s : AllSettings) × (begins : Start) × IsNamed named.now s × IsUnderWay s begins life.now going.old disk.old files.old }
+    ensures { (s : AllSettings) (begins : Start) → IsNamed named.now s → IsUnderWay s begins life.now going.old disk.old files.old
+        → IfOk result (CameTo named.now.shown s most begins life.now going.new disk.new files.new) }
+{
+    let end = take_turns(rt, going, life, disk, files, most)?;
+    match end {
+        TurnsEnd::Over => match life.cut {
+            Some(cut) => leave_over(alloc, named, going, disk, files, cut),
+            None => end_over(alloc, named, going, disk),
+        },
+        TurnsEnd::Cut(cut) => leave_in_turn(rt, alloc, named, going, disk, files, cut, most),
+        TurnsEnd::LoopFailed => Ok(end_failed(alloc, going, disk)),
+        TurnsEnd::TurnsSpent => end_spent(alloc, named, going, disk),
+    }
+}
+
+/// What follows a life that has ended so, and gave its settings back.
+fn next_of(end: LifeEnd, settings: AllSettings, taken: u64) -> Next
+    ensures { (shown : Shown) (s : AllSettings) (most : ℕ) (begins : Start) (planned : Life) (going : Going) (seen : Seen) (held : FilesHeld) (text : List ℕ) → CameBy shown s most begins planned going seen held text end
+        → ((now : History) → IsAt going.engine s now → settings ≡ s) → taken ≡ going.taken → ComesBy shown s most begins planned seen held text result }
+{
+    match end {
+        LifeEnd::Ends(ending) => Next::Ends(ending),
+        LifeEnd::Cut(cut) => Next::Life(Left {
+            cut,
+            settings,
+            taken,
+        }),
+    }
+}
+
+/// What comes of a life that was under way, and gave its settings back.
+fn outcome_of(
+    came: Result<Came, Memory>,
+    settings: AllSettings,
+    taken: u64,
+) -> Result<Outcome, Memory>
+    ensures { (shown : Shown) (s : AllSettings) (most : ℕ) (begins : Start) (planned : Life) (going : Going) (seen : Seen) (held : FilesHeld) → IfOk came (CameTo shown s most begins planned going seen held)
+        → ((now : History) → IsAt going.engine s now → settings ≡ s) → taken ≡ going.taken → IfOk result (ComesTo shown s most begins planned seen held) }
+{
+    match came {
+        Ok(came) => Ok(Outcome {
+            text: came.text,
+            next: next_of(came.end, settings, taken),
+        }),
+        Err(Memory) => Err(Memory),
+    }
+}
+
+/// A life that has started, to its end or its crash.
 fn go_on(
     rt: &(impl Threads + Sync),
     alloc: Global,
@@ -222,16 +319,47 @@ fn go_on(
 ) -> Result<Outcome, Memory>
     requires new { going.taken ≡ 0 }
     requires stands { (s : AllSettings) × (begins : Start) × IsNamed named.now s × IsUnderWay s begins life.now going disk.old files.old }
-    ensures { (s : AllSettings) (begins : Start) → IsNamed named.now s → IsUnderWay s begins life.now going disk.old files.old → IfOk result (ComesTo s most begins life.now) }
+    ensures { (s : AllSettings) (begins : Start) → IsNamed named.now s → IsUnderWay s begins life.now going disk.old files.old
+        → IfOk result (ComesTo named.now.shown s most begins life.now disk.new files.new) }
 {
-    match take_turns(rt, &mut going, life, disk, files, most)? {
-        TurnsEnd::Over => match life.cut {
-            Some(cut) => leave_over(alloc, named, going, disk, files, cut),
-            None => end_over(alloc, named, &going, disk),
-        },
-        TurnsEnd::Cut(cut) => leave_in_turn(rt, alloc, named, going, disk, files, cut, most),
-        TurnsEnd::LoopFailed => Ok(end_failed(alloc, &going, disk)),
-        TurnsEnd::TurnsSpent => end_spent(alloc, named, &going, disk),
+    let came = live(rt, alloc, named, &mut going, life, disk, files, most);
+    let taken = going.taken;
+    outcome_of(came, going.engine.finish(), taken)
+}
+
+/// The replay ends with a life that couldn't start.
+fn unstarted(alloc: Global, ending: Ending) -> Outcome
+    ensures { result ≡ record { text = []; next = follow.Ends ending } }
+{
+    Outcome {
+        text: Bytes::new(alloc),
+        next: Next::Ends(ending),
+    }
+}
+
+/// A life of which disk and files were told, with at most so many turns.
+fn live_told(
+    rt: &(impl Threads + Sync),
+    alloc: Global,
+    named: &Named,
+    settings: AllSettings,
+    ends: &Ends,
+    life: &Life,
+    disk: &mut MemDisk,
+    files: &mut MemFiles,
+    most: u64,
+) -> Result<Outcome, Memory>
+    requires sound { IsSound settings }
+    requires named { IsNamed named.now settings }
+    requires ends { ends.now ≡ ends_of settings }
+    requires told { (begins : Start) × IsTold begins life.now disk.old files.old }
+    ensures { (begins : Start) → IsTold begins life.now disk.old files.old → IfOk result (ComesTo named.now.shown settings most begins life.now disk.new files.new) }
+{
+    match start(rt, alloc, settings, ends, life, disk) {
+        Ok(going) => go_on(rt, alloc, named, going, life, disk, files, most),
+        Err(StartErr::DiskFailed) => Ok(unstarted(alloc, Ending::DiskFailed)),
+        Err(StartErr::LoopFailed) => Ok(unstarted(alloc, Ending::LoopFailed)),
+        Err(StartErr::Memory) => Err(Memory),
     }
 }
 
@@ -249,18 +377,9 @@ pub fn live_through(
     requires sound { IsSound settings }
     requires named { IsNamed named.now settings }
     requires finds { (begins : Start) × Finds begins disk.old files.old }
-    ensures { (begins : Start) → Finds begins disk.old files.old → IfOk result (ComesTo settings most begins life.now) }
+    ensures { (begins : Start) → Finds begins disk.old files.old → IfOk result (ComesTo named.now.shown settings most begins life.now disk.new files.new) }
 {
     tell(disk, files, life)?;
-    match start(rt, alloc, settings, life, disk)? {
-        Started::Going(going) => go_on(rt, alloc, named, going, life, disk, files, most),
-        Started::DiskFailed => Ok(Outcome::Ends(Reported {
-            text: Bytes::new(alloc),
-            ending: Ending::DiskFailed,
-        })),
-        Started::LoopFailed => Ok(Outcome::Ends(Reported {
-            text: Bytes::new(alloc),
-            ending: Ending::LoopFailed,
-        })),
-    }
+    let ends = ends(alloc, &settings)?;
+    live_told(rt, alloc, named, settings, &ends, life, disk, files, most)
 }

@@ -2,18 +2,20 @@
 
 ghost use Rattle.std.specs.Prelude.{◌≡◌, ◌≤◌, length, IfOk};
 ghost use Rattle.fwd_base.specs.Limits.{most_outputs};
-ghost use Rattle.fwd_replay.specs.Naming.{IsNamed};
+ghost use Rattle.fwd_replay.specs.Naming.{IsNamed, printed_mask};
 ghost use Rattle.fwd_replay.specs.Text.{input_names, output_names, is_stdout, stdout_mask};
 
+use crate::reported::Shown;
 use fwd_base::{Memory, Names};
 use fwd_settings::{AllSettings, InputSet, OutputKind, OutputSet};
 use std::alloc::Global;
 
-/// The names of inputs and outputs, and which outputs are standard outputs: bit `i` is set for output `i`.
+/// The names of inputs and outputs, and what is shown of a life: bit `i` is set where its text has what output `i` took.
 #[derive(Drop)]
 pub struct Named {
     pub inputs: Names,
     pub outputs: Names,
+    pub shown: Shown,
     pub printed: u64,
 }
 
@@ -60,16 +62,29 @@ fn stdout_mask(outputs: &[OutputSet]) -> u64
     u64::from(is_stdout(&set.kind)) + 2 * stdout_mask(more)
 }
 
+/// Bit `i` is set where the text shows what output `i` took.
+fn printed_mask(shown: Shown, outputs: &[OutputSet]) -> u64
+    requires { length outputs.now ≤ most_outputs }
+    ensures { result ≡ printed_mask shown outputs.now }
+{
+    match shown {
+        Shown::All => stdout_mask(outputs),
+        Shown::Report => 0,
+    }
+}
+
 impl Named {
     /// What the text takes from the settings of a configuration, which has no more outputs than one may have.
-    pub fn of(alloc: Global, settings: &AllSettings) -> Result<Named, Memory>
+    pub fn of(alloc: Global, settings: &AllSettings, shown: Shown) -> Result<Named, Memory>
         requires { length settings.now.outputs ≤ most_outputs }
-        ensures { IfOk result (λ named. IsNamed named settings.now) }
+        ensures named { IfOk result (λ named. IsNamed named settings.now) }
+        ensures shown { IfOk result (λ named. named.shown ≡ shown) }
     {
         Ok(Named {
             inputs: input_names(alloc, settings.inputs.as_slice())?,
             outputs: output_names(alloc, settings.outputs.as_slice())?,
-            printed: stdout_mask(settings.outputs.as_slice()),
+            shown,
+            printed: printed_mask(shown, settings.outputs.as_slice()),
         })
     }
 }

@@ -2,17 +2,18 @@
 
 ghost use Rattle.std.specs.Prelude.{◌≡◌, ◌++◌, [], IfOk, OnOk, OnErr};
 ghost use Rattle.fwd_settings.specs.Sound.{IsSound};
-ghost use Rattle.fwd_replay.specs.Lives.{IsReplayed, first};
-ghost use Rattle.fwd_replay.specs.Stage.{behind_cut};
+ghost use Rattle.fwd_replay.specs.Lives.{IsReplayed, Start, first};
+ghost use Rattle.fwd_replay.specs.Naming.{IsNamed};
+ghost use Rattle.fwd_replay.specs.Stage.{Finds, Follows, IsFirst, PassesOn, behind_cut};
 ghost use Rattle.fwd_replay.specs.Text.{crash_line};
 ghost use Rattle.fwd_replay.specs.declared.reported.Ending.TheVariants as ends;
 
-use crate::life::{Outcome, live_through};
+use crate::life::{Next, live_through};
 use crate::named::Named;
-use crate::reported::{Ending, Reported};
+use crate::reported::{Ending, Reported, Shown};
 use fwd_base::{Bytes, Memory};
 use fwd_disk_mem::MemDisk;
-use fwd_script::{Cut, Lives, MemFiles};
+use fwd_script::{Cut, Life, Lives, MemFiles};
 use fwd_settings::AllSettings;
 use itoa::Buffer;
 use std::alloc::Global;
@@ -50,65 +51,150 @@ fn add(alloc: Global, text: &mut Bytes, cut: Option<Cut>, more: &Bytes) -> Resul
     }
 }
 
+/// A replay between two lives: the disk and the files, the crash that the life before was cut by, and how many turns are left.
+#[derive(Drop)]
+pub struct Between {
+    pub disk: MemDisk,
+    pub files: MemFiles,
+    pub cut: Option<Cut>,
+    pub left: u64,
+}
+
+/// What follows a life of a replay.
+#[derive(Drop)]
+pub enum After {
+    /// Nothing: the replay ends so.
+    Ends(Ending),
+    /// Another life, by these settings.
+    Life(AllSettings),
+}
+
+/// Before the first life there is nothing.
+fn before_first(alloc: Global, most: u64) -> Between
+    ensures first { IsFirst result }
+    ensures left { result.left ≡ most }
+{
+    let disk = MemDisk::new(alloc);
+    let files = MemFiles::new(alloc);
+    Between {
+        disk,
+        files,
+        cut: None,
+        left: most,
+    }
+}
+
+/// What a life leaves is for the one behind it.
+fn pass_on(between: &mut Between, next: Next) -> After
+    ensures { PassesOn next between.old between.new result }
+{
+    match next {
+        Next::Ends(ending) => After::Ends(ending),
+        Next::Life(left) => {
+            between.cut = Some(left.cut);
+            between.left = between.left.saturating_sub(left.taken);
+            After::Life(left.settings)
+        }
+    }
+}
+
+/// The next life. At `Err` nothing is written of it.
+fn next_life(
+    rt: &(impl Threads + Sync),
+    alloc: Global,
+    named: &Named,
+    settings: AllSettings,
+    life: &Life,
+    between: &mut Between,
+    text: &mut Bytes,
+) -> Result<After, Memory>
+    requires sound { IsSound settings }
+    requires named { IsNamed named.now settings }
+    requires finds { (begins : Start) × Finds begins between.old.disk between.old.files }
+    ensures ok { (begins : Start) → Finds begins between.old.disk between.old.files → IfOk result (Follows named.now.shown settings begins life.now between.old between.new text.old text.new) }
+    ensures err { OnErr result (text.new ≡ text.old) }
+{
+    let outcome = live_through(
+        rt,
+        alloc,
+        named,
+        settings,
+        life,
+        &mut between.disk,
+        &mut between.files,
+        between.left,
+    )?;
+    add(alloc, text, between.cut, &outcome.text)?;
+    Ok(pass_on(between, outcome.next))
+}
+
 /// Each life in turn. At `Err` the texts of those before the one in which memory was wanting are there.
 fn each_life(
     rt: &(impl Threads + Sync),
     alloc: Global,
+    named: &Named,
     settings: AllSettings,
     lives: &Lives,
-    most: u64,
+    between: &mut Between,
     text: &mut Bytes,
 ) -> Result<Ending, Memory>
     requires sound { IsSound settings }
+    requires named { IsNamed named.now settings }
+    requires first { IsFirst between.old }
     requires empty { text.old ≡ [] }
-    ensures ok { IfOk result (λ ending. IsReplayed settings most first lives.now (record { text = text.new; ending = ending })) }
-    ensures err { OnErr result (IsReplayed settings most first lives.now (record { text = text.new; ending = ends.Memory })) }
+    ensures ok { IfOk result (λ ending. IsReplayed named.now.shown settings between.old.left first lives.now (record { text = text.new; ending = ending })) }
+    ensures err { OnErr result (IsReplayed named.now.shown settings between.old.left first lives.now (record { text = text.new; ending = ends.Memory })) }
 {
-    if lives.as_slice().is_empty() {
-        return Ok(Ending::Over);
-    }
-    let named = Named::of(alloc, &settings)?;
     let mut settings = settings;
-    let mut disk = MemDisk::new(alloc);
-    let mut files = MemFiles::new(alloc);
-    let mut left = most;
-    let mut cut = None;
     for life in lives.as_slice() {
-        match live_through(
-            rt, alloc, &named, settings, life, &mut disk, &mut files, left,
-        )? {
-            Outcome::Ends(reported) => {
-                add(alloc, text, cut, &reported.text)?;
-                return Ok(reported.ending);
-            }
-            Outcome::Leaves(said, next) => {
-                add(alloc, text, cut, &said)?;
-                settings = next.settings;
-                disk = next.disk;
-                files = next.files;
-                left -= next.taken;
-                cut = Some(next.cut);
-            }
+        let after = next_life(rt, alloc, named, settings, life, between, text)?;
+        match after {
+            After::Ends(ending) => return Ok(ending),
+            After::Life(kept) => settings = kept,
         }
     }
     Ok(Ending::Over)
 }
 
+/// The lives from the first one on, with at most so many turns in all.
+fn all_lives(
+    rt: &(impl Threads + Sync),
+    alloc: Global,
+    settings: AllSettings,
+    lives: &Lives,
+    most: u64,
+    shown: Shown,
+    text: &mut Bytes,
+) -> Result<Ending, Memory>
+    requires sound { IsSound settings }
+    requires empty { text.old ≡ [] }
+    ensures ok { IfOk result (λ ending. IsReplayed shown settings most first lives.now (record { text = text.new; ending = ending })) }
+    ensures err { OnErr result (IsReplayed shown settings most first lives.now (record { text = text.new; ending = ends.Memory })) }
+{
+    if lives.as_slice().is_empty() {
+        return Ok(Ending::Over);
+    }
+    let named = Named::of(alloc, &settings, shown)?;
+    let mut between = before_first(alloc, most);
+    each_life(rt, alloc, &named, settings, lives, &mut between, text)
+}
+
 /// Replays the lives of a schedule with the settings of a configuration: the engine runs over each life, a disk in memory and
-/// files in memory, for at most so many turns in all. What is written is the text of each life in turn, with the line of the
-/// crash between two.
+/// files in memory, for at most so many turns in all. What is written is the text of each life in turn, of which so much is
+/// shown, with the line of the crash between two.
 pub fn replay(
     rt: &(impl Threads + Sync),
     alloc: Global,
     settings: AllSettings,
     lives: &Lives,
     most: u64,
+    shown: Shown,
 ) -> Reported
     requires { IsSound settings }
-    ensures { IsReplayed settings most first lives.now result }
+    ensures { IsReplayed shown settings most first lives.now result }
 {
     let mut text = Bytes::new(alloc);
-    let ending = match each_life(rt, alloc, settings, lives, most, &mut text) {
+    let ending = match all_lives(rt, alloc, settings, lives, most, shown, &mut text) {
         Ok(ending) => ending,
         Err(Memory) => Ending::Memory,
     };

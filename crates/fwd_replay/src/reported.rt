@@ -28,6 +28,15 @@ pub enum Ending {
     Memory,
 }
 
+/// What is written of a life.
+#[derive(Clone, Copy, Debug, PartialEq, Eq)]
+pub enum Shown {
+    /// What its standard outputs took, and its report.
+    All,
+    /// Its report alone.
+    Report,
+}
+
 /// What is written of a run or of the lives of a replay, and how it ended. A life that ended for want of the disk, the loop
 /// or memory has no text.
 #[derive(Debug, Drop, PartialEq, Eq)]

@@ -1,10 +1,14 @@
 //! The turns of a life.
 
-ghost use Rattle.std.specs.Prelude.{◌≡◌, ◌<◌, ◌≤◌, ◌+◌, ◌-◌, ◌^◌, None, IfOk};
+ghost use Rattle.std.specs.Prelude.{◌≡◌, ◌<◌, ◌≤◌, ◌+◌, ◌-◌, ◌^◌, [], None, IfOk};
 ghost use Rattle.fwd_settings.specs.declared.chosen.AllSettings.{AllSettings};
+ghost use Rattle.fwd_script.specs.FilesPlayed.{IsPlayed};
+ghost use Rattle.fwd_script.specs.MemFiles.{entries_from};
 ghost use Rattle.fwd_script.specs.declared.schedule.Life.{Life};
+ghost use Rattle.fwd_written.specs.Fact.{History};
+ghost use Rattle.fwd_engine.specs.Steps.{IsAt, Turns};
 ghost use Rattle.fwd_replay.specs.Lives.{Start};
-ghost use Rattle.fwd_replay.specs.Stage.{Ended, IsReady, IsUnderWay, Turned};
+ghost use Rattle.fwd_replay.specs.Stage.{Ended, HavePlayed, IsReady, IsUnderWay, Turned, is_wanting, memory};
 
 use crate::going::{Going, prepare};
 use fwd_base::Memory;
@@ -14,7 +18,7 @@ use fwd_script::{Cut, Life, MemFiles};
 use std::thread::Threads;
 
 /// How the turns of a life ended.
-#[derive(Clone, Copy, Debug, PartialEq, Eq)]
+#[derive(Clone, Copy)]
 pub enum TurnsEnd {
     /// The life is over.
     Over,
@@ -26,8 +30,8 @@ pub enum TurnsEnd {
     TurnsSpent,
 }
 
-/// Takes a turn in which the life isn't cut. The turn is counted, whatever comes of it.
-fn take(
+/// Takes a turn. It is counted, whatever comes of it.
+pub fn take(
     rt: &(impl Threads + Sync),
     going: &mut Going,
     disk: &mut MemDisk,
@@ -35,12 +39,27 @@ fn take(
 ) -> Result<Turn, EngineStop>
     requires { going.old.taken < 2 ^ 64 - 1 }
     ensures turned { (s : AllSettings) (start : Start) (planned : Life) → IsReady s start planned going.old disk.old files.old None → Turned s start planned going.new disk.new files.new result }
+    ensures turns { (s : AllSettings) (h : History) → IsAt going.old.engine s h → Turns (memory going.old.script disk.old files.old) (memory going.new.script disk.new files.new) s h going.new.engine result }
+    ensures played { HavePlayed going.new.script disk.new }
+    ensures files { IsPlayed files.new.given [] (entries_from files.new.given files.new.notes) }
     ensures taken { going.new.taken ≡ going.old.taken + 1 }
 {
     going.taken += 1;
     let turn = going.engine.turn(rt, disk, files, &mut going.script);
+    going.script.is_played();
+    disk.is_played();
     files.is_played();
     turn
+}
+
+/// Whether memory was wanting in a turn.
+pub fn is_wanting(turn: Result<Turn, EngineStop>) -> bool
+    ensures { result ≡ is_wanting turn }
+{
+    match turn {
+        Ok(_) | Err(EngineStop::LoopFault) => false,
+        Err(EngineStop::Memory) => true,
+    }
 }
 
 /// Takes at most so many turns, until the life is over or is to be cut.

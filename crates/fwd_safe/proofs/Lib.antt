@@ -47,3 +47,4 @@ pub mod Apart
 pub mod Lasting
 pub mod Running
 pub mod Onward
+pub mod Further

@@ -19,7 +19,7 @@ use Rattle.fwd_written.specs.Trace.{files_part}
 use Rattle.fwd_replay.specs.Live.{IsRunLive}
 use Rattle.fwd_replay.specs.declared.reported.Reported.{Reported}
 use Rattle.fwd_top.specs.Words.{Command, Run, Replay, ListFolder, Generate, command_of}
-use Rattle.fwd_top.specs.Asked.{Case, Replays, Runs, Lists, Refuses, Wanted, ToRun, ToReplay, Asked, asked, refused_by, refused_config, wanted_by, with_settings, with_sections, of_config, of_command}
+use Rattle.fwd_top.specs.Asked.{Case, Replays, Generates, Runs, Lists, Refuses, Wanted, ToRun, ToReplay, Asked, asked, refused_by, refused_config, wanted_by, with_settings, with_sections, of_config, of_command}
 use Rattle.fwd_top.specs.Answered.{Verdict, says, of_reported, Outside, outside_of, world, ComesTo, IsVerdict, Devices, Asks, IsVerdictOf, IsOfTheFiles}
 use Rattle.fwd_top.specs.Judged.{IsRefusal, Tells, of_job, unless_memory}
 use Rattle.fwd_top.specs.declared.asking.Job.{Job}
@@ -94,6 +94,7 @@ module _ (files : FilesGiven) where
 -- what was asked of the files for a case
 asked_for : (turns : ℕ) (case : Case) (old new : Outside) (verdict : Verdict) → IsVerdict turns case old new verdict → (entries : List FilesEntry) × Grew old.files new.files entries
 asked_for turns (Replays s lives) old new verdict is = ([], is.1.1.files)
+asked_for turns (Generates s lives) old new verdict is = ([], is.1.1.files)
 asked_for turns (Runs s ticks) old new verdict is = run is.1
   where
     run : IsRunLive s ticks turns (world old) (world new) is.0 → (entries : List FilesEntry) × Grew old.files new.files entries
@@ -153,4 +154,5 @@ module _ {Y : Type 0} (words : List (String Y)) (env : Values) (turns : ℕ) (ol
 pub no_refusal : (j : Job) → of_job j ≢ Refuses status.FileFault
 no_refusal (job.Run s ticks) is = absurd (cc is)
 no_refusal (job.Replay s schedule) is = absurd (cc is)
+no_refusal (job.Generate s schedule) is = absurd (cc is)
 no_refusal (job.List folder) is = absurd (cc is)

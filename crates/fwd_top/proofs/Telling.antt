@@ -13,7 +13,7 @@ use Rattle.fwd_replay.specs.Live.{heard_in}
 use Rattle.fwd_replay.specs.declared.reported.Ending.{Ending}
 use Rattle.fwd_replay.specs.declared.reported.Ending.TheVariants as ending
 use Rattle.fwd_replay.specs.declared.reported.Reported.{Reported}
-use Rattle.fwd_top.specs.Asked.{Case, Replays, Runs, Lists, Refuses}
+use Rattle.fwd_top.specs.Asked.{Case, Replays, Generates, Runs, Lists, Refuses}
 use Rattle.fwd_top.specs.Answered.{Verdict, says, status_of, of_reported, Outside, outside_of, IsStill, ComesTo, IsVerdict, Devices, Asks, Comes, Wrote, Answers, is_over_disk, is_run, IsLoopFault, IsDiskFault, spent, spent_by}
 use Rattle.fwd_top.specs.Judged.{HasDiskFailed, HasLoopFailed, IsRefusal, Tells, WritesSo, given_by, is_to_run, takes_disk, unless_memory}
 use Rattle.fwd_top.specs.Words.{command_of}
@@ -30,6 +30,7 @@ still o = record { disk = grew_none o.disk; files = grew_none o.files; loop = gr
 -- what came of a case gives its verdict
 pub in_case : (turns : ℕ) (case : Case) (old new : Outside) (r : Reported) → ComesTo turns case old new r → IsVerdict turns case old new (of_reported r)
 in_case turns (Replays s lives) old new r is = (r, is, refl)
+in_case turns (Generates s lives) old new r is = (r, is, refl)
 in_case turns (Runs s ticks) old new r is = (r, is, refl)
 in_case turns (Lists root) old new r is = (r, is, refl)
 in_case turns (Refuses other) old new r is = absurd is
@@ -129,6 +130,7 @@ module _ {Y : Type 0} (words : List (String Y)) (turns : ℕ) (before after : Lo
   pub done_heard : (j : Job) (r : Reported) (a b : SinkTold) (result : Status) → runs ≡ is_to_run j → Tells a b (of_reported r) result → HasHeard (given_by j turns r) before after → HasHeard (spent words turns result) before after
   done_heard (job.Run s ticks) r a b result run tells heard = ran_heard r.text r.ending a b result run tells heard
   done_heard (job.Replay s schedule) r a b result run tells heard = unspent 0 result (rw run (spent_unrun turns result)) heard
+  done_heard (job.Generate s schedule) r a b result run tells heard = unspent 0 result (rw run (spent_unrun turns result)) heard
   done_heard (job.List folder) r a b result run tells heard = unspent 0 result (rw run (spent_unrun turns result)) heard
 
 -- there was nothing to do
@@ -167,6 +169,7 @@ module _ {Y : Type 0} (words : List (String Y)) (before after : ℕ) (a b : Sink
     cause = λ fault. cause.cause (loop_failed r.ending (end_told r.text a b (status_of r.ending) result status.LoopFault tells (λ is. cc is) (λ is. cc is) fault.1));
   }
   done_loop_cause (job.Replay s schedule) r run tells cause = record { later = cause.later; cause = λ fault. absurd (cc (sym run ∙ fault.0)) }
+  done_loop_cause (job.Generate s schedule) r run tells cause = record { later = cause.later; cause = λ fault. absurd (cc (sym run ∙ fault.0)) }
   done_loop_cause (job.List folder) r run tells cause = record { later = cause.later; cause = λ fault. absurd (cc (sym run ∙ fault.0)) }
 
   over_disk : (r : Reported) → Tells a b (of_reported r) result → HasCause before after (r.ending ≡ ending.DiskFailed) → HasCause before after (IsDiskFault words result)
@@ -178,6 +181,7 @@ module _ {Y : Type 0} (words : List (String Y)) (before after : ℕ) (a b : Sink
   pub done_disk_cause : (j : Job) (r : Reported) → is_over_disk (command_of (map string_bytes words)) ≡ takes_disk j → Tells a b (of_reported r) result → HasCause before after (HasDiskFailed j r) → HasCause before after (IsDiskFault words result)
   done_disk_cause (job.Run s ticks) r over tells cause = over_disk r tells cause
   done_disk_cause (job.Replay s schedule) r over tells cause = record { later = cause.later; cause = λ fault. absurd (cc (sym over ∙ fault.0)) }
+  done_disk_cause (job.Generate s schedule) r over tells cause = record { later = cause.later; cause = λ fault. absurd (cc (sym over ∙ fault.0)) }
   done_disk_cause (job.List folder) r over tells cause = over_disk r tells cause
 
 -- what was told is no fault of a file

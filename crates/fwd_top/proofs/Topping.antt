@@ -20,10 +20,10 @@ use Rattle.fwd_settings.specs.Reading.{Checked, Comes}
 use Rattle.fwd_settings.specs.Settings.{AreOf, settings_of}
 use Rattle.fwd_settings.specs.declared.fault.SettingFault.{SettingFault}
 use Rattle.fwd_settings.specs.declared.chosen.AllSettings.{AllSettings}
-use Rattle.fwd_top.specs.Asked.{Case, Runs, Lists, Refuses, Wanted, ToRun, ToReplay, Asked, asked, of_file, wanted_by, of_config, of_command, with_sections}
+use Rattle.fwd_top.specs.Asked.{Case, Runs, Lists, Refuses, Wanted, ToRun, ToReplay, Asked, asked, of_file, of_load, wanted_by, of_config, of_command, with_sections}
 use Rattle.fwd_top.specs.Answered.{Asks}
-use Rattle.fwd_top.specs.Words.{Command, ListFolder, command_of}
-use Rattle.fwd_top.specs.Judged.{case_of, unless_memory, IsJudged, AreSettings, AsksFor, AsksBehind, config_status, setting_status}
+use Rattle.fwd_top.specs.Words.{Command, Generate, ListFolder, command_of}
+use Rattle.fwd_top.specs.Judged.{case_of, unless_memory, IsJudged, AreSettings, AsksFor, AsksBehind, ComesOfLoad, config_status, setting_status}
 use Rattle.fwd_top.specs.declared.asking.Job.{Job}
 use Rattle.fwd_top.specs.declared.asking.Job.TheVariants as job
 use Rattle.fwd_top.specs.declared.status.Status.{Status}
@@ -131,7 +131,7 @@ module _ (config : List ℕ) (wanted : Wanted) (env : Values) (a b : FilesTold) 
   refused_config fault answer same makes = rw same (config_refused fault.kind fault.place makes)
 
 module _ {Y : Type 0} (words : List (String Y)) (env : Values) (a b : FilesTold) where
-  -- the words ask for nothing, or for what isn't built
+  -- the words ask for nothing
   pub other_words : (command : Option Command) (why : Status) → command_of (map string_bytes words) ≡ command → ((checked : Checked AllSettings) → of_command checked command env ≡ Return (asked None (Refuses why))) → Asks words env a a (Some (Refuses why))
   other_words command why is none = record {
     checked = nothing_checked;
@@ -155,6 +155,24 @@ module _ {Y : Type 0} (words : List (String Y)) (env : Values) (a b : FilesTold)
     are = tt;
     makes = rw is (_, stays a (Return (asked None (Lists folder))));
   })
+
+  -- they ask for a generated load
+  load_case : (count : ℕ) (case : Option Case) → command_of (map string_bytes words) ≡ Some (Generate count) → ComesOfLoad count case → Asks words env a a case
+  load_case count None is comes = record {
+    checked = nothing_checked;
+    loaded = None;
+    are = tt;
+    makes = rw is (_, stays a (Return (of_load nothing_checked count)));
+  }
+  load_case count (Some case) is comes = record {
+    checked = comes.0;
+    loaded = comes.1;
+    are = comes.2;
+    makes = rw (is, comes.3) (stays a (Return (asked comes.1 case)));
+  }
+
+  pub load_words : (count : ℕ) (result : Result Job Status) → command_of (map string_bytes words) ≡ Some (Generate count) → ComesOfLoad count (case_of result) → Asks words env a a (case_of result)
+  load_words count result is comes = load_case count (case_of result) is comes
 
   -- they ask for a configuration
   pub asks_of : (command : Command) (config : List ℕ) (wanted : Wanted) (case : Option Case) → command_of (map string_bytes words) ≡ Some command

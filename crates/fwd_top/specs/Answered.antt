@@ -21,8 +21,9 @@ use Rattle.fwd_replay.specs.Lives.{IsReplayed, first}
 use Rattle.fwd_replay.specs.declared.reported.Ending.{Ending}
 use Rattle.fwd_replay.specs.declared.reported.Ending.TheVariants as ending
 use Rattle.fwd_replay.specs.declared.reported.Reported.{Reported}
+use Rattle.fwd_replay.specs.declared.reported.Shown.TheVariants.{All, Report}
 use Rattle.fwd_top.specs.Words.{Command, Run, ListFolder, command_of}
-use Rattle.fwd_top.specs.Asked.{Case, Replays, Runs, Lists, Refuses, asked, asks, AreSettingsOf}
+use Rattle.fwd_top.specs.Asked.{Case, Replays, Generates, Runs, Lists, Refuses, asked, asks, AreSettingsOf}
 use Rattle.fwd_top.specs.declared.status.Status.{Status}
 use Rattle.fwd_top.specs.declared.status.Status.TheVariants as status
 
@@ -73,10 +74,11 @@ IsListed root old new text ending.Memory = Began old new (loads root) × (text �
 IsListed root old new text ending.TurnsSpent = ⊥
 IsListed root old new text ending.LoopFailed = ⊥
 
--- What came of a case, and what was asked of the devices for it. A schedule is replayed without them, and a listing asks the
--- disk alone.
+-- What came of a case, and what was asked of the devices for it. A schedule is replayed without them, a generated load too, and
+-- a listing asks the disk alone.
 abbrev pub ComesTo : ℕ → Case → Outside → Outside → Reported → Type 0
-ComesTo turns (Replays s lives) old new reported = IsReplayed s turns first lives reported × IsStill old new
+ComesTo turns (Replays s lives) old new reported = IsReplayed All s turns first lives reported × IsStill old new
+ComesTo turns (Generates s lives) old new reported = IsReplayed Report s turns first lives reported × IsStill old new
 ComesTo turns (Runs s ticks) old new reported = IsRunLive s ticks turns (world old) (world new) reported
 ComesTo turns (Lists root) old new reported = IsListed root old.disk new.disk reported.text reported.ending × (Grew old.files new.files [] × Grew old.loop new.loop [])
 ComesTo turns (Refuses other) old new reported = ⊥

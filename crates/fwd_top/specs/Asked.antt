@@ -1,9 +1,10 @@
 -- What the program is to run or to replay: a function of its words, the environment and the bytes of its files, and of what its
 -- sections have for settings.
-use Rattle.std.specs.Prelude.{ℕ, List, map, String, string_bytes, Option, Some, None, Result, Ok, Err}
+use Rattle.std.specs.Prelude.{ℕ, List, [], ◌∷◌, map, String, string_bytes, codes, Option, Some, None, Result, Ok, Err}
 use Rattle.fwd_program.specs.Program.{Return, Ask, bind}
+use Rattle.fwd_outside.specs.Files.{FilesGiven, found}
 use Rattle.fwd_config.specs.Variables.{Values}
-use Rattle.fwd_config.specs.Reading.{Reading, loads}
+use Rattle.fwd_config.specs.Reading.{Reading, loads, given}
 use Rattle.fwd_config.specs.declared.section.Place.{Place}
 use Rattle.fwd_config.specs.declared.section.Section.{Section}
 use Rattle.fwd_config.specs.declared.fault.ConfigFault.{ConfigFault}
@@ -17,15 +18,18 @@ use Rattle.fwd_script.specs.declared.schedule.Schedule.{Schedule}
 use Rattle.fwd_script.specs.declared.schedule.Life.{Life}
 use Rattle.fwd_script.specs.declared.refused.ScheduleRefused.{ScheduleRefused}
 use Rattle.fwd_script.specs.Schedule.{schedule_of}
+use Rattle.fwd_generate.specs.Load.{config_text, schedule_text}
 use Rattle.fwd_top.specs.Words.{Command, Run, Replay, ListFolder, Generate, command_of}
 use Rattle.fwd_top.specs.declared.status.ConfigRefusal.TheVariants.{Load, Setting}
 use Rattle.fwd_top.specs.declared.status.Status.{Status}
 use Rattle.fwd_top.specs.declared.status.Status.TheVariants as status
 
--- The lives of a schedule are to be replayed by settings; or they are to be run, stopped behind so many readings where their
--- number is given; or the files of chunks under a folder are to be listed; or nothing is done, for this reason.
+-- The lives of a schedule are to be replayed by settings, or those of a generated load, of which the reports alone are shown; or
+-- settings are to be run, stopped behind so many readings where their number is given; or the files of chunks under a folder are
+-- to be listed; or nothing is done, for this reason.
 pub data Case : Type 0 where
   Replays : AllSettings → List Life → Case
+  Generates : AllSettings → List Life → Case
   Runs : AllSettings → (ticks : Option ℕ) → Case
   Lists : (root : List ℕ) → Case
   Refuses : Status → Case
@@ -80,13 +84,41 @@ with_sections checked wanted (Err fault) = Return (asked None (Refuses (refused_
 abbrev pub of_config : Checked AllSettings → (config : List ℕ) → Wanted → Values → Reading Asked
 of_config checked config wanted env = bind (loads env config) (with_sections checked wanted)
 
--- a generated load isn't built yet
+-- the two texts of a generated load, under the paths by which they are read
+abbrev pub load_config : List ℕ
+load_config = codes "gen.conf"
+
+abbrev pub load_schedule : List ℕ
+load_schedule = codes "gen.schedule"
+
+abbrev pub load_files : ℕ → FilesGiven
+load_files count = (load_config, config_text) ∷ (load_schedule, schedule_text count) ∷ []
+
+-- no variable is set
+abbrev pub no_values : Values
+no_values name = []
+
+-- of what is replayed the reports alone are shown
+abbrev pub reports_of : Case → Case
+reports_of (Replays s lives) = Generates s lives
+reports_of (Generates s lives) = Generates s lives
+reports_of (Runs s ticks) = Runs s ticks
+reports_of (Lists root) = Lists root
+reports_of (Refuses other) = Refuses other
+
+abbrev pub alone : Asked → Asked
+alone x = asked x.loaded (reports_of x.case)
+
+-- a generated load: its texts, read as if they stood in files
+unfoldable pub of_load : Checked AllSettings → (count : ℕ) → Asked
+of_load checked count = alone (given (found (load_files count)) (of_config checked load_config (ToReplay load_schedule) no_values))
+
 abbrev pub of_command : Checked AllSettings → Option Command → Values → Reading Asked
 of_command checked None env = Return (asked None (Refuses status.Usage))
 of_command checked (Some (Run config ticks)) env = of_config checked config (ToRun ticks) env
 of_command checked (Some (Replay config schedule)) env = of_config checked config (ToReplay schedule) env
 of_command checked (Some (ListFolder folder)) env = Return (asked None (Lists folder))
-of_command checked (Some (Generate count)) env = Return (asked None (Refuses status.NotBuilt))
+of_command checked (Some (Generate count)) env = Return (of_load checked count)
 
 -- The program asks for the configuration's files as each is reached, and then for the schedule of a replay, where the
 -- sections have these settings or this refusal.

@@ -1,5 +1,5 @@
 -- What the steps towards an answer come to.
-use Rattle.std.specs.Prelude.{◌≡◌, ◌⊎◌, ℕ, Bool, true, false, List, [], Option, Some, None, Result, Ok, Err, IsErrAnd, option_map}
+use Rattle.std.specs.Prelude.{◌≡◌, ◌⊎◌, ℕ, Bool, true, false, List, [], ◌∷◌, Option, Some, None, Result, Ok, Err, IsErrAnd, option_map}
 use Rattle.fwd_program.specs.Told.{Grew, Makes}
 use Rattle.fwd_outside.specs.Files.{FilesTold}
 use Rattle.fwd_outside.specs.Sink.{SinkTold}
@@ -15,12 +15,15 @@ use Rattle.fwd_settings.specs.Reading.{Checked, Comes}
 use Rattle.fwd_settings.specs.Settings.{settings_of}
 use Rattle.fwd_settings.specs.Sound.{IsSound}
 use Rattle.fwd_settings.specs.declared.chosen.AllSettings.{AllSettings}
+use Rattle.fwd_script.specs.FilesHeld.{FilesHeld}
+use Rattle.fwd_script.specs.declared.files.FilesNote.TheVariants.{Preset}
 use Rattle.fwd_script.specs.declared.refused.ScheduleKind.{ScheduleKind}
 use Rattle.fwd_script.specs.declared.refused.ScheduleKind.TheVariants as schedule_kind
+use Rattle.fwd_generate.specs.Load.{config_text, schedule_text}
 use Rattle.fwd_replay.specs.Live.{heard_in}
 use Rattle.fwd_replay.specs.declared.reported.Ending.TheVariants as ending
 use Rattle.fwd_replay.specs.declared.reported.Reported.{Reported}
-use Rattle.fwd_top.specs.Asked.{Case, Runs, Refuses, Wanted, ToRun, ToReplay, AreSettingsOf, Replays, Lists, asked, of_config, refused_by, with_settings}
+use Rattle.fwd_top.specs.Asked.{Case, Runs, Refuses, Wanted, ToRun, ToReplay, AreSettingsOf, Replays, Generates, Lists, asked, load_config, load_schedule, of_config, of_load, refused_by, with_settings}
 use Rattle.fwd_top.specs.Answered.{Verdict, WroteIt, WroteABeginning}
 use Rattle.fwd_top.specs.declared.asking.Job.{Job}
 use Rattle.fwd_top.specs.declared.asking.Job.TheVariants as job
@@ -36,12 +39,14 @@ unless_memory other = Some (Refuses other)
 abbrev pub of_job : Job → Case
 of_job (job.Run s ticks) = Runs s ticks
 of_job (job.Replay s schedule) = Replays s schedule.lives
+of_job (job.Generate s schedule) = Generates s schedule.lives
 of_job (job.List folder) = Lists folder
 
 -- the settings of a job, which a listing has none of
 abbrev pub settings_in : Job → Option AllSettings
 settings_in (job.Run s ticks) = Some s
 settings_in (job.Replay s schedule) = Some s
+settings_in (job.Generate s schedule) = Some s
 settings_in (job.List folder) = None
 
 -- an engine can have them
@@ -52,12 +57,14 @@ AreSound None = Unit {0}
 abbrev pub is_to_run : Job → Bool
 is_to_run (job.Run s ticks) = true
 is_to_run (job.Replay s schedule) = false
+is_to_run (job.Generate s schedule) = false
 is_to_run (job.List folder) = false
 
 -- whether a job is done over the disk
 abbrev pub takes_disk : Job → Bool
 takes_disk (job.Run s ticks) = true
 takes_disk (job.Replay s schedule) = false
+takes_disk (job.Generate s schedule) = false
 takes_disk (job.List folder) = true
 
 abbrev pub is_run_wanted : Wanted → Bool
@@ -123,20 +130,32 @@ pub record AsksBehind (sections : List Section) (wanted : Wanted) (old new : Fil
   pub are : AreSettings sections checked case
   pub makes : Makes old new (reads_files (with_settings (Some sections) wanted checked)) (option_map (asked (Some sections)) case)
 
+-- files in memory in which the texts of a generated load were put
+abbrev pub held_load : ℕ → FilesHeld
+held_load count = record { given = []; notes = Preset load_schedule (schedule_text count) ∷ Preset load_config config_text ∷ []; faults = 0 }
+
+-- the texts of a generated load come to this case; nothing is said where memory was wanting
+abbrev pub ComesOfLoad : ℕ → Option Case → Type 0
+ComesOfLoad count None = Unit {0}
+ComesOfLoad count (Some case) = (checked : Checked AllSettings) × (loaded : Option (List Section)) × AreSettingsOf loaded checked × (of_load checked count ≡ asked loaded case)
+
 -- how many happenings the loop gave at least, and that the loop couldn't go on or the disk failed
 abbrev pub given_by : Job → ℕ → Reported → ℕ
 given_by (job.Run s ticks) turns reported = heard_in turns reported.ending
 given_by (job.Replay s schedule) turns reported = 0
+given_by (job.Generate s schedule) turns reported = 0
 given_by (job.List folder) turns reported = 0
 
 abbrev pub HasLoopFailed : Job → Reported → Type 0
 HasLoopFailed (job.Run s ticks) reported = reported.ending ≡ ending.LoopFailed
 HasLoopFailed (job.Replay s schedule) reported = ⊥
+HasLoopFailed (job.Generate s schedule) reported = ⊥
 HasLoopFailed (job.List folder) reported = ⊥
 
 abbrev pub HasDiskFailed : Job → Reported → Type 0
 HasDiskFailed (job.Run s ticks) reported = reported.ending ≡ ending.DiskFailed
 HasDiskFailed (job.Replay s schedule) reported = ⊥
+HasDiskFailed (job.Generate s schedule) reported = ⊥
 HasDiskFailed (job.List folder) reported = reported.ending ≡ ending.DiskFailed
 
 -- what was written of a text

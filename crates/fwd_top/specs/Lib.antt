@@ -5,3 +5,4 @@ pub mod Answered
 pub mod Judged
 pub mod Shown
 pub mod Promised
+pub mod Safe

@@ -69,7 +69,6 @@ line_of status.OutFault = codes "output fault"
 line_of status.TurnsSpent = codes "turns spent"
 line_of status.Memory = codes "out of memory"
 line_of status.LoopFault = codes "loop fault"
-line_of status.NotBuilt = codes "not built yet"
 
 -- the number with which the program ends
 abbrev pub number_of : Status → ℕ
@@ -83,4 +82,3 @@ number_of status.OutFault = 6
 number_of status.TurnsSpent = 7
 number_of status.Memory = 8
 number_of status.LoopFault = 9
-number_of status.NotBuilt = 10

@@ -1,6 +1,6 @@
 //! From the words of the command to what is to be done.
 
-ghost use Rattle.std.specs.Prelude.{◌≡◌, false, List, Option, Some, map, string_bytes, option_map, IfOk, IfErr};
+ghost use Rattle.std.specs.Prelude.{◌≡◌, ℕ, false, List, Option, Some, map, string_bytes, option_map, IfOk, IfErr};
 ghost use Rattle.fwd_program.specs.Program.{Return, bind};
 ghost use Rattle.fwd_program.specs.Told.{Makes};
 ghost use Rattle.fwd_program.specs.Cause.{HasCause};
@@ -10,18 +10,19 @@ ghost use Rattle.fwd_config.specs.Reading.{reads_files};
 ghost use Rattle.fwd_config.specs.declared.section.Section.{Section};
 ghost use Rattle.fwd_top.specs.Words.{command_of};
 ghost use Rattle.fwd_top.specs.Shown.{wanted_of};
-ghost use Rattle.fwd_top.specs.Asked.{asked, of_file, wanted_by};
+ghost use Rattle.fwd_top.specs.Asked.{asked, of_file, reports_of, wanted_by};
 ghost use Rattle.fwd_top.specs.Answered.{Asks, is_over_disk, is_run};
 ghost use Rattle.fwd_top.specs.declared.asking.Job.TheVariants as job;
 ghost use Rattle.fwd_top.specs.declared.status.Status.TheVariants as status;
-ghost use Rattle.fwd_top.specs.Judged.{AreSound, AsksBehind, AsksFor, IsFileFault, IsJudged, IsOwnRefusal, IsRefusal, case_of, config_status, is_run_wanted, is_to_run, schedule_status, setting_status, settings_in, takes_disk};
+ghost use Rattle.fwd_top.specs.Judged.{AreSound, AsksBehind, AsksFor, ComesOfLoad, IsFileFault, IsJudged, IsOwnRefusal, IsRefusal, case_of, config_status, held_load, is_run_wanted, is_to_run, of_job, schedule_status, setting_status, settings_in, takes_disk};
 
 use crate::status::{ConfigRefusal, Status};
 use crate::words::{Command, read_words};
 use fwd_choices::SettingKind;
 use fwd_config::{ConfigFault, ConfigKind, Sections, load};
+use fwd_generate::generate;
 use fwd_outside::{Bytes, FileErr, Files, Memory, read_whole};
-use fwd_script::{Schedule, ScheduleKind, ScheduleRefused, read_schedule};
+use fwd_script::{MemFiles, Schedule, ScheduleKind, ScheduleRefused, read_schedule};
 use fwd_settings::{AllSettings, SettingFault, settings};
 use std::alloc::Global;
 
@@ -35,6 +36,11 @@ pub enum Job {
     },
     /// A schedule is replayed.
     Replay {
+        settings: AllSettings,
+        schedule: Schedule,
+    },
+    /// A generated load is replayed, of which the reports alone are shown.
+    Generate {
         settings: AllSettings,
         schedule: Schedule,
     },
@@ -220,9 +226,70 @@ fn job_of_folder(alloc: Global, folder: &[u8]) -> Result<Job, Status>
     }
 }
 
+/// The paths by which the texts of a generated load are read.
+const LOAD_CONFIG: &[u8] = b"gen.conf";
+
+const LOAD_SCHEDULE: &[u8] = b"gen.schedule";
+
+/// The texts of a generated load, as files in memory.
+fn load_files(alloc: Global, count: u64) -> Result<MemFiles, Memory>
+    ensures { IfOk result (λ files. files ≡ held_load count) }
+{
+    let load = generate(alloc, count)?;
+    let mut files = MemFiles::new(alloc);
+    files.preset(LOAD_SCHEDULE, load.schedule.as_slice())?;
+    files.preset(LOAD_CONFIG, load.config.as_slice())?;
+    Ok(files)
+}
+
+/// The same job, of which the reports alone are shown where it is a replay.
+fn with_reports(job: Job) -> Job
+    ensures case { of_job result ≡ reports_of (of_job job) }
+    ensures same { settings_in result ≡ settings_in job }
+    ensures kind { is_to_run result ≡ is_to_run job }
+    ensures disk { takes_disk result ≡ takes_disk job }
+{
+    match job {
+        Job::Replay { settings, schedule } => Job::Generate { settings, schedule },
+        other => other,
+    }
+}
+
+/// What the texts of a generated load come to, which stand in these files.
+fn job_of_texts(alloc: Global, files: &mut MemFiles) -> Result<Job, Status>
+    ensures sound { IfOk result (λ job. AreSound (settings_in job)) }
+    ensures comes { (count : ℕ) → files.old ≡ held_load count → ComesOfLoad count (case_of result) }
+    ensures refusal { (count : ℕ) → files.old ≡ held_load count → IfErr result IsOwnRefusal }
+    ensures kind { IfOk result (λ job. is_to_run job ≡ false) }
+    ensures disk { IfOk result (λ job. takes_disk job ≡ false) }
+{
+    let wanted = Wanted::ToReplay {
+        schedule: LOAD_SCHEDULE,
+    };
+    let job = job_of_config(alloc, LOAD_CONFIG, wanted, &[], files);
+    files.is_played();
+    match job {
+        Ok(job) => Ok(with_reports(job)),
+        Err(status) => Err(status),
+    }
+}
+
+/// What a generated load of so many lines comes to.
+fn job_of_load(alloc: Global, count: u64) -> Result<Job, Status>
+    ensures sound { IfOk result (λ job. AreSound (settings_in job)) }
+    ensures comes { ComesOfLoad count (case_of result) }
+    ensures refusal { IfErr result IsOwnRefusal }
+    ensures kind { IfOk result (λ job. is_to_run job ≡ false) }
+    ensures disk { IfOk result (λ job. takes_disk job ≡ false) }
+{
+    match load_files(alloc, count) {
+        Ok(mut files) => job_of_texts(alloc, &mut files),
+        Err(Memory) => Err(Status::Memory),
+    }
+}
+
 /// What the words ask for: the configuration is read, its settings are checked, and then the schedule of a replay is read.
-/// The first of these that is refused says why there is nothing to do. A listing asks for no file. A generated load isn't
-/// built yet.
+/// The first of these that is refused says why there is nothing to do. A listing and a generated load ask for no file.
 pub fn read_job<F: Files>(
     alloc: Global,
     words: &[String],
@@ -244,7 +311,7 @@ pub fn read_job<F: Files>(
             job_of_config(alloc, config, Wanted::ToReplay { schedule }, env, files)
         }
         Some(Command::List { folder }) => job_of_folder(alloc, folder),
-        Some(Command::Generate { .. }) => Err(Status::NotBuilt),
+        Some(Command::Generate { count }) => job_of_load(alloc, count),
         None => Err(Status::Usage),
     }
 }

@@ -3,6 +3,7 @@
 #![tactic(auto)]
 
 mod asking;
+mod crashes;
 mod promise;
 mod status;
 mod top;
@@ -13,3 +14,4 @@ pub use fwd_config::{ConfigKind, Place};
 pub use fwd_script::ScheduleKind;
 pub use status::{ConfigRefusal, Status, status_line};
 pub use top::log_forwarder;
+pub use words::{Command, read_words};

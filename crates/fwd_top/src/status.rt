@@ -40,8 +40,6 @@ pub enum Status {
     Memory,
     /// The outside couldn't go on.
     LoopFault,
-    /// The program doesn't run this yet.
-    NotBuilt,
 }
 
 impl Status {
@@ -60,7 +58,6 @@ impl Status {
             Status::TurnsSpent => 7,
             Status::Memory => 8,
             Status::LoopFault => 9,
-            Status::NotBuilt => 10,
         }
     }
 }
@@ -181,7 +178,6 @@ pub fn status_line(alloc: Global, status: &Status) -> Result<Bytes, Memory>
         Status::TurnsSpent => text.extend_from_slice(b"turns spent")?,
         Status::Memory => text.extend_from_slice(b"out of memory")?,
         Status::LoopFault => text.extend_from_slice(b"loop fault")?,
-        Status::NotBuilt => text.extend_from_slice(b"not built yet")?,
     }
     Ok(text)
 }

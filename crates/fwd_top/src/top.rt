@@ -9,14 +9,16 @@ ghost use Rattle.fwd_replay.specs.declared.reported.Ending.TheVariants as ending
 ghost use Rattle.fwd_replay.specs.declared.reported.Reported.{Reported};
 ghost use Rattle.fwd_top.specs.Asked.{Case};
 ghost use Rattle.fwd_top.specs.Promised.{Keeps};
+ghost use Rattle.fwd_top.specs.Safe.{StandsCrashes};
 ghost use Rattle.fwd_top.specs.Judged.{AreSound, HasDiskFailed, HasLoopFailed, Tells, Writes, given_by, of_job, settings_in};
 
 use crate::asking::{Job, read_job};
+use crate::crashes::what_comes_stands_crashes;
 use crate::promise::what_comes_keeps_the_promise;
 use crate::status::Status;
 use fwd_listing::{ListErr, listing};
 use fwd_outside::{Bytes, Disk, Files, Loop, Sink, SinkErr};
-use fwd_replay::{Ending, Reported, replay, run_live};
+use fwd_replay::{Ending, Reported, Shown, replay, run_live};
 use std::alloc::Global;
 use std::thread::Threads;
 
@@ -46,7 +48,7 @@ fn listed<D: Disk>(
     }
 }
 
-/// Does a job. A schedule is replayed without the devices, and a folder is listed over the disk alone.
+/// Does a job. A schedule is replayed without the devices, as a generated load is, and a folder is listed over the disk alone.
 fn done_by<D: Disk, F: Files, L: Loop>(
     rt: &(impl Threads + Sync),
     alloc: Global,
@@ -67,7 +69,12 @@ fn done_by<D: Disk, F: Files, L: Loop>(
         Job::Run { settings, ticks } => {
             run_live(rt, alloc, settings, ticks, disk, files, outside, turns)
         }
-        Job::Replay { settings, schedule } => replay(rt, alloc, settings, &schedule.lives, turns),
+        Job::Replay { settings, schedule } => {
+            replay(rt, alloc, settings, &schedule.lives, turns, Shown::All)
+        }
+        Job::Generate { settings, schedule } => {
+            replay(rt, alloc, settings, &schedule.lives, turns, Shown::Report)
+        }
         Job::List { folder } => listed(rt, alloc, folder.as_slice(), disk),
     }
 }
@@ -117,7 +124,8 @@ fn tell<S: Sink>(out: &mut S, reported: &Reported) -> Status
 /// run over a loop, a disk and files in memory. The text is written: the report of a run; of each life that is replayed what
 /// the links of standard outputs took, a line feed where that isn't empty and doesn't end in one, and the report, and between
 /// two lives the line of the crash. The words `list -p FOLDER` list the files of chunks under a folder of the disk, each with
-/// what stands in it. At most so many happenings are taken.
+/// what stands in it. The words `gen -n COUNT` ask no device: a load of so many lines is generated and replayed, and its reports
+/// alone are written. At most so many happenings are taken.
 pub fn log_forwarder<D: Disk, F: Files, L: Loop, S: Sink>(
     rt: &(impl Threads + Sync),
     alloc: Global,
@@ -145,8 +153,13 @@ pub fn log_forwarder<D: Disk, F: Files, L: Loop, S: Sink>(
     // failed, spent, lost, recorded before, or still owed and in the report; over each link a beginning was handed over of
     // what its flight was begun with.
     ensures promise { (case : Case) (before behind : Outside) (reported : Reported) (comes : ComesTo turns case before behind reported) → Keeps turns case before behind reported comes }
+    // Where appends are synced, no crash between the lives of a schedule loses a chunk that is kept in a file and owed: the
+    // next life finds it, whole, and owes it to the same outputs. And at each moment of a run, inside each call on the disk,
+    // whatever a crash leaves has the file of each such chunk.
+    ensures crashes { (case : Case) (before behind : Outside) (reported : Reported) (comes : ComesTo turns case before behind reported) → StandsCrashes turns case before behind reported comes }
 {
     what_comes_keeps_the_promise();
+    what_comes_stands_crashes();
     match read_job(alloc, words, env, files) {
         Ok(job) => {
             let reported = done_by(rt, alloc, job, disk, files, outside, turns);

@@ -4,6 +4,8 @@
 #![tactic(auto)]
 
 #[cfg(test)]
+mod generated;
+#[cfg(test)]
 mod outside;
 #[cfg(test)]
 mod play;
@@ -15,3 +17,5 @@ mod script;
 mod texts;
 #[cfg(test)]
 mod top;
+#[cfg(test)]
+mod words;

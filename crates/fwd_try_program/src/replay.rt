@@ -5,7 +5,7 @@ ghost use Rattle.fwd_settings.specs.Sound.{IsSound};
 use crate::texts::between;
 use fwd_base::{Bytes, Memory};
 use fwd_config::{Sections, load};
-use fwd_replay::{Ending, Reported, replay};
+use fwd_replay::{Ending, Reported, Shown, replay};
 use fwd_script::{Lives, MemFiles, read_schedule};
 use fwd_settings::{AllSettings, settings};
 use std::alloc::Global;
@@ -63,7 +63,10 @@ fn comes_by_settings(
 ) -> bool
     requires { IsSound settings }
 {
-    is_so(&replay(rt, alloc, settings, lives, turns), comes)
+    is_so(
+        &replay(rt, alloc, settings, lives, turns, Shown::All),
+        comes,
+    )
 }
 
 fn comes_of(

@@ -28,3 +28,12 @@ fn add_times(bytes: &mut Bytes, text: &[u8], count: usize) -> Result<(), Memory>
     }
     Ok(())
 }
+
+/// Words of the command line.
+pub fn words_of(alloc: Global, words: &[&str]) -> Result<Vec<String>, Memory> {
+    let mut given = Vec::new(alloc);
+    for word in words {
+        given.push(String::from_str(alloc, word)?)?;
+    }
+    Ok(given)
+}

@@ -1,6 +1,6 @@
 //! Runs of the program over a disk, files, a loop and a sink in memory.
 
-use crate::texts::{between, times};
+use crate::texts::{between, times, words_of};
 use fwd_base::{Bytes, Memory};
 use fwd_disk_mem::MemDisk;
 use fwd_play::Script;
@@ -130,14 +130,6 @@ fn runs(
     files.preset(b"s", schedule)?;
     let mut out = MemSink::new(alloc);
     ends_so(rt, alloc, asked, &mut files, &mut out, ends)
-}
-
-fn words_of(alloc: Global, words: &[&str]) -> Result<Vec<String>, Memory> {
-    let mut given = Vec::new(alloc);
-    for word in words {
-        given.push(String::from_str(alloc, word)?)?;
-    }
-    Ok(given)
 }
 
 /// Words with nothing in the environment.
@@ -284,16 +276,20 @@ const WORDS: &[(&[&str], Ends)] = &[
         },
     ),
     (&["list", "-p", ""], NO_WORDS),
-    (&["gen", "-n", "200000"], NOT_BUILT),
+    (
+        &["gen", "-n", "3"],
+        Ends {
+            number: 0,
+            line: b"",
+            text: Text::Is(GENERATED),
+        },
+    ),
     (&["gen", "-n", "200001"], NO_WORDS),
     (&["gen", "-n", "0"], NO_WORDS),
 ];
 
-const NOT_BUILT: Ends = Ends {
-    number: 10,
-    line: b"not built yet",
-    text: Text::Is(b""),
-};
+const GENERATED: &[u8] =
+    b"input tcp.0: batches 3 events 3 refused 0\noutput stdout.0: ok 1 retry 0 error 0 spent 0 lost 0 taken 108\noutput tcp.0: ok 1 retry 0 error 0 spent 0 lost 0 taken 108\nloaded 0 unrouted 0 left 0 faults 0\nowed 0\n";
 
 const FILE_FAULT: Ends = Ends {
     number: 3,
@@ -562,7 +558,6 @@ const PLAIN: &[(u8, &[u8])] = &[
     (7, b"turns spent"),
     (8, b"out of memory"),
     (9, b"loop fault"),
-    (10, b"not built yet"),
 ];
 
 fn plain(number: u8) -> Status {
@@ -574,8 +569,7 @@ fn plain(number: u8) -> Status {
         6 => Status::OutFault,
         7 => Status::TurnsSpent,
         8 => Status::Memory,
-        9 => Status::LoopFault,
-        _ => Status::NotBuilt,
+        _ => Status::LoopFault,
     }
 }
 

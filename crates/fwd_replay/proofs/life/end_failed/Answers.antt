@@ -5,6 +5,6 @@ use Rattle.fwd_replay.proofs.Leaving.{failed_ends, reported}
 use Rattle.fwd_replay.proofs.life.end_failed.Goals as goal
 
 pub returns : goal.returns
-returns c s begins planned most held failed fits =
-    subst (λ (text : List ℕ). EndsIn s most begins planned (reported text ending.LoopFailed)) (sym c.new.ensures)
-    (failed_ends s begins planned c.args.going.now c.args.disk.now held most fits c.is_played.ensures c.is_played-2.ensures failed)
+returns c shown s begins planned most held failed fits =
+    subst (λ (text : List ℕ). EndsIn shown s most begins planned (reported text ending.LoopFailed)) (sym c.new.ensures)
+    (failed_ends s begins planned c.args.going.now c.args.disk.now held most fits c.are_played.ensures shown failed)

@@ -1,9 +1,9 @@
-use Rattle.fwd_replay.proofs.Leaving.{leaves}
+use Rattle.std.proofs.Common.{◌∙◌}
+use Rattle.fwd_replay.proofs.Showing.{text_is}
 use Rattle.fwd_replay.proofs.life.leave_in_turn.Goals as goal
 
 pub returns : goal.returns
 returns g c s begins planned named ready =
     let h = ready.history in
-    let now = c.in_ok-disk.ensures.stands s h ready.at in
-    leaves s c.args.most begins planned c.args.cut c.cut_turn.new.going.taken h ready.trace c.in_ok-disk.disk c.cut_turn.new.files c.in_ok-files.files c.finish.result c.args.going.script c.in_ok-text.text
-    (c.in_ok-disk.ensures.cut s begins planned ready) ready.stands.loop (c.in_ok-text.ensures s h ready.at named) (c.finish.ensures s now.0 now.1) c.in_ok-disk.ensures.taken c.in_ok-files.ensures.same c.in_ok-files.ensures.notes
+    let trace = ready.trace in
+    (h, trace, c.in_ok-cut_turn.ensures s begins planned ready, c.in_ok-text.ensures s h ready.at named ∙ text_is c.args.named.now.shown s planned c.args.going.now.script trace h ready.stands.loop)

@@ -1,8 +1,15 @@
-use Rattle.fwd_replay.proofs.Leaving.{leaves}
+use Rattle.std.proofs.Common.{◌∙◌}
+use Rattle.fwd_replay.proofs.Leaving.{over_cut}
+use Rattle.fwd_replay.proofs.Showing.{text_is}
 use Rattle.fwd_replay.proofs.life.leave_over.Goals as goal
 
 pub returns : goal.returns
 returns c s begins planned most named over is fits =
     let h = over.history in
-    leaves s most begins planned c.args.cut c.args.going.taken h over.trace c.in_ok-disk.disk c.args.files.now c.in_ok-files.files c.finish.result c.args.going.script c.in_ok-text.text
-    (c.in_ok-disk.ensures s begins planned most c.args.files.now over is fits) over.stands.loop (c.in_ok-text.ensures s h over.at named) (c.finish.ensures s h over.at) fits c.in_ok-files.ensures.same c.in_ok-files.ensures.notes
+    let trace = over.trace in
+    let crashed = c.in_ok-crash.ensures in (
+      h,
+      trace,
+      over_cut s begins planned c.args.going.now c.args.disk.now c.crash.new.disk c.args.files.now c.crash.new.files most c.told_len-since.result c.args.cut over fits c.are_played.ensures is c.told_len-since.ensures crashed.0 crashed.1,
+      c.in_ok-text.ensures s h over.at named ∙ text_is c.args.named.now.shown s planned c.args.going.now.script trace h over.stands.loop,
+    )

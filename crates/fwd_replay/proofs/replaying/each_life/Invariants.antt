@@ -1,6 +1,5 @@
 use Rattle.std.proofs.Common.{◌≡◌, drop}
 use Rattle.fwd_replay.specs.Lives.{Start}
-use Rattle.fwd_replay.specs.Naming.{IsNamed}
 use Rattle.fwd_replay.specs.Stage.{Finds}
 use Rattle.fwd_replay.proofs.Chaining.{Continues}
 use Rattle.fwd_replay.proofs.replaying.each_life.Given as goal
@@ -10,8 +9,7 @@ abbrev pub invariant-loop-life : goal.invariant-loop-life
 invariant-loop-life g l =
     record {
       same : l.settings ≡ l.fn.settings;
-      named : IsNamed l.named l.fn.settings;
       start : Start;
-      finds : Finds start l.disk l.files;
-      goes : Continues l.fn.settings l.fn.most l.fn.lives l.text l.cut l.left start (drop l.life-index l.fn.lives);
+      finds : Finds start l.between.disk l.between.files;
+      goes : Continues l.fn.named.shown l.fn.settings l.fn.between.left l.fn.lives l.text l.between.cut l.between.left start (drop l.life-index l.fn.lives);
     }

@@ -7,7 +7,7 @@ use Rattle.fwd_top.specs.Judged.{case_of}
 use Rattle.fwd_top.specs.Shown.{command}
 use Rattle.fwd_top.specs.declared.words.Command.{Command as Words}
 use Rattle.fwd_top.specs.declared.status.Status.TheVariants as status
-use Rattle.fwd_top.proofs.Topping.{other_words, folder_words, asks_of}
+use Rattle.fwd_top.proofs.Topping.{other_words, folder_words, load_words, asks_of}
 use Rattle.fwd_top.proofs.asking.read_job.Goals as goal
 
 -- what the words were read as
@@ -31,8 +31,8 @@ returns-in-Some-List-clause-asks g c =
 
 pub returns-in-Some-Generate-clause-asks : goal.returns-in-Some-Generate-clause-asks
 returns-in-Some-Generate-clause-asks g c =
-    other_words c.args.words.now (environment c.args.env.now) (g.F.Files.told c.args.files.now) (g.F.Files.told c.args.files.now) _ status.NotBuilt
-    (sym c.read_words.ensures ∙ ap seen c.in-Some-Generate.is ∙ ap (λ (w : Words). Some (command w)) c.in-Some-Generate.field-0-is) (λ checked. refl)
+    load_words c.args.words.now (environment c.args.env.now) (g.F.Files.told c.args.files.now) (g.F.Files.told c.args.files.now) c.in-Some-Generate.count c.job_of_load.result
+    (sym c.read_words.ensures ∙ ap seen c.in-Some-Generate.is ∙ ap (λ (w : Words). Some (command w)) c.in-Some-Generate.field-0-is) c.job_of_load.ensures.comes
 
 pub returns-in-None-clause-asks : goal.returns-in-None-clause-asks
 returns-in-None-clause-asks g c =

@@ -28,5 +28,17 @@ returns-in-Replay-clause-loop_cause g c = rw c.in-Replay.is (no_cause (g.L.Loop.
 pub returns-in-Replay-clause-disk_cause : goal.returns-in-Replay-clause-disk_cause
 returns-in-Replay-clause-disk_cause g c = rw c.in-Replay.is (no_cause (g.D.Disk.faults c.args.disk.now) (λ none. none))
 
+pub returns-in-Generate-clause-comes : goal.returns-in-Generate-clause-comes
+returns-in-Generate-clause-comes g c = rw c.in-Generate.is (c.replay-in-Generate.ensures, still (outside_of (g.D.Disk.told c.args.disk.now) (g.F.Files.told c.args.files.now) (g.L.Loop.told c.args.outside.now)))
+
+pub returns-in-Generate-clause-heard : goal.returns-in-Generate-clause-heard
+returns-in-Generate-clause-heard g c = rw c.in-Generate.is (heard_none (g.L.Loop.counts c.args.outside.now))
+
+pub returns-in-Generate-clause-loop_cause : goal.returns-in-Generate-clause-loop_cause
+returns-in-Generate-clause-loop_cause g c = rw c.in-Generate.is (no_cause (g.L.Loop.faults c.args.outside.now) (λ none. none))
+
+pub returns-in-Generate-clause-disk_cause : goal.returns-in-Generate-clause-disk_cause
+returns-in-Generate-clause-disk_cause g c = rw c.in-Generate.is (no_cause (g.D.Disk.faults c.args.disk.now) (λ none. none))
+
 pub returns-in-List-clause-comes : goal.returns-in-List-clause-comes
 returns-in-List-clause-comes g c = rw c.in-List.is (rw c.as_slice.ensures at c.listed.ensures.lists, (grew_none (g.F.Files.told c.args.files.now), grew_none (g.L.Loop.told c.args.outside.now)))
