@@ -4,10 +4,11 @@ import random
 import re
 import signal
 import socket
+import subprocess
 import threading
 import time
 
-from live_room import HOST, PATIENCE, Collector, Program, free_port, holds, until
+from live_room import HOST, NOBODY, PATIENCE, Collector, Program, free_port, holds, until
 
 KILLS = int(os.environ.get("FWD_LIVE_KILLS", "12"))
 
@@ -133,6 +134,37 @@ def chunks_in(program):
     return [os.path.join(at, name) for at, _, names in os.walk(program.path("chunks")) for name in names if name.endswith(".flb")]
 
 
+# what the program writes past this many blocks of 512 bytes of a file fails
+NO_ROOM = "trap '' XFSZ && ulimit -f 2"
+
+
+def listed(room, program):
+    """What `list` says of the folder of chunks."""
+    who = {"user": NOBODY, "group": NOBODY, "extra_groups": []} if os.geteuid() == 0 else {}
+    return subprocess.run([room.program, "list", "-p", "chunks"], cwd=program.folder, stdout=subprocess.PIPE, check=True, **who).stdout.decode().splitlines()
+
+
+def files_without_room(room):
+    """What was acknowledged is kept and comes, though writes fail; what couldn't be written isn't acknowledged."""
+    collector, port = Collector(free_port()), free_port()
+    configuration = STORED.format(port=port, collector=collector.port)
+    sender = Sender(port)
+    with Program(room, "no_room", configuration.replace("Grace 10", "Grace 1"), words=("-n", "15"), before=NO_ROOM) as program:
+        status = program.end()
+        acknowledged = sender.stop()
+        report, chunks = program.stdout().decode(), listed(room, program)
+    holds(status == 0, f"status {status}: {program.stderr().decode(errors='replace')}")
+    refused, owed = int(re.search("refused ([0-9]+)", report)[1]), int(re.search("owed ([0-9]+)", report)[1])
+    holds(acknowledged > 0 and refused > 0, f"{acknowledged} messages were acknowledged, {refused} refused")
+    holds(chunks[-1] == f"files {owed}" and len(chunks) == owed + 1, f"{owed} chunks are owed, and listed is {chunks[-1]}")
+    collector.open()
+    with Program(room, "no_room", configuration) as program:
+        until(lambda: numbers_of(collector) >= set(range(acknowledged)), f"the collector has all {acknowledged} acknowledged messages", 60)
+        until(lambda: not chunks_in(program), "no file of a chunk is left", 60)
+        killed(program)
+    collector.close()
+
+
 FOLLOWED = """[SERVICE]
     Flush 0.2
     Grace 10
@@ -172,4 +204,4 @@ def a_followed_file_is_cut(room):
         killed(program)
 
 
-CASES = (killed_and_started_again, a_followed_file_is_cut)
+CASES = (killed_and_started_again, files_without_room, a_followed_file_is_cut)
