@@ -81,8 +81,8 @@ content_stands s h c head bytes whole fits sized =
     let found = found_content bytes whole.chunk whole.found in
     let body : List ℕ = drop (24 + meta_length bytes) bytes in
     let starts : take (length (content h c.number)) body ≡ content h c.number =
-        ⊎_elim (λ (is : whole.chunk.content ≡ content h c.number). begins_so body (content h c.number) [] found.0 (sym found.1 ∙ is ∙ sym (append-nil (content h c.number))))
-        (λ (is : whole.chunk.content ≡ content h c.number ++ spelled (extra h c.number)). begins_so body (content h c.number) (spelled (extra h c.number)) found.0 (sym found.1 ∙ is)) whole.content in
+    ⊎_elim (λ (is : whole.chunk.content ≡ content h c.number). begins_so body (content h c.number) [] found.0 (sym found.1 ∙ is ∙ sym (append-nil (content h c.number))))
+    (λ (is : whole.chunk.content ≡ content h c.number ++ spelled (extra h c.number)). begins_so body (content h c.number) (spelled (extra h c.number)) found.0 (sym found.1 ∙ is)) whole.content in
     ap (λ (k : ℕ). take head.size (drop (24 + k) bytes)) fits.meta ∙ ap (λ (k : ℕ). take k body) sized ∙ starts
 
 -- what is read of the file of a chunk that is owed

@@ -68,7 +68,6 @@ module _ (s : AllSettings) (settings : IsSound s) (full : s.service.full ≡ tru
   abbrev Lives : Moment → Act Lived → Type 0
   Lives m p = Holds Passes (Safe s first) Any m p
 
-
   tells_step : (brings : Happening) (m : Moment) → Kept s first m → TellsBy (Safe s first) (Kept s first) m (step s brings (noted m.past))
   unfolding step
   tells_step brings m kept =
