@@ -48,3 +48,4 @@ pub mod Lasting
 pub mod Running
 pub mod Onward
 pub mod Further
+pub mod Between

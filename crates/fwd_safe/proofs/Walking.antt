@@ -44,7 +44,7 @@ module _ (s : AllSettings) (settings : IsSound s) (full : s.service.full ≡ tru
   still_kept (OnKeeper call) answer m beside kept due = absurd beside
   still_kept (Note fact) answer m beside kept due = absurd beside
 
-  can_walk : CanWalk s (Safe s first) (Kept s first)
+  pub can_walk : CanWalk s (Safe s first) (Kept s first)
   can_walk = record {
     now = safe_now s first;
     still = still_kept;
@@ -68,7 +68,7 @@ module _ (s : AllSettings) (settings : IsSound s) (full : s.service.full ≡ tru
   abbrev Lives : Moment → Act Lived → Type 0
   Lives m p = Holds Passes (Safe s first) Any m p
 
-  tells_step : (brings : Happening) (m : Moment) → Kept s first m → TellsBy (Safe s first) (Kept s first) m (step s brings (noted m.past))
+  pub tells_step : (brings : Happening) (m : Moment) → Kept s first m → TellsBy (Safe s first) (Kept s first) m (step s brings (noted m.past))
   unfolding step
   tells_step brings m kept =
       deed s (Safe s first) (Kept s first) can_walk (λ (h : History) (end : Moment). (h ≡ noted end.past) × Kept s first end) (Brought brings) m (happens s (noted m.past) brings) tt kept
@@ -104,11 +104,19 @@ module _ (s : AllSettings) (settings : IsSound s) (full : s.service.full ≡ tru
   lives_started ticks turns m None kept = (safe_now s first m kept, hands_now m kept)
   lives_started ticks turns m (Some ready) kept = lives_run ticks turns m kept
 
-  lives_begun : (ends : Ends) (ticks : Option ℕ) (turns : ℕ) (found : Option History) (m : Moment) → IsSafe s first m → (m.files ≡ first) × LoadedAs s first found m → Lives m (begun s ends ticks turns found)
+  abbrev pub Found : Option History → Moment → Type 0
+  Found found m = (m.files ≡ first) × LoadedAs s first found m
+
+  pub loaded_kept : (h : History) (m : Moment) → Found (Some h) m → Kept s first m
+  loaded_kept h m loaded =
+      let is = loaded.1 in
+      λ due. subst (λ (x : History). Ordered s first x m.files) is.0 (subst (λ (files : Files). Ordered s first h files) (sym loaded.0) (record { order = is.1; room = is.2; hands = hands_at_first s h is.3 }))
+
+  lives_begun : (ends : Ends) (ticks : Option ℕ) (turns : ℕ) (found : Option History) (m : Moment) → IsSafe s first m → Found found m → Lives m (begun s ends ticks turns found)
   lives_begun ends ticks turns None m safe loaded = (λ due. safe, λ due. subst (EachHandsItsChunk s) (sym loaded.1) tt)
   lives_begun ends ticks turns (Some h) m safe loaded =
       let is = loaded.1 in
-      let kept : Kept s first m = λ due. subst (λ (x : History). Ordered s first x m.files) is.0 (subst (λ (files : Files). Ordered s first h files) (sym loaded.0) (record { order = is.1; room = is.2; hands = hands_at_first s h is.3 })) in
+      let kept : Kept s first m = loaded_kept h m loaded in
       subst (λ (x : History). Lives m (begun s ends ticks turns (Some x))) (sym is.0)
       (ask s (Safe s first) (Kept s first) can_walk Any m (OnLoop (Start ends)) (started s ticks turns (noted m.past)) tt tt kept
       (λ ready then. lives_started ticks turns (after m (OnLoop (Start ends)) ready) ready then))
@@ -118,10 +126,7 @@ module _ (s : AllSettings) (settings : IsSound s) (full : s.service.full ≡ tru
   at_end P Q m (Return x) holds = (holds.0, (holds.0, holds.1))
   at_end P Q m (Ask call go) holds = (holds.0, λ answer during end passes. let went = holds.1 answer during end passes in (went.0, at_end P Q end (go answer) went.1))
 
-  abbrev Found : Option History → Moment → Type 0
-  Found found m = (m.files ≡ first) × LoadedAs s first found m
-
-  loaded_safe : IsFresh first → Holds Passes (Safe s first) (λ found m. IsSafe s first m × Found found m) (moment [] first) (loads_in s)
+  pub loaded_safe : IsFresh first → Holds Passes (Safe s first) (λ found m. IsSafe s first m × Found found m) (moment [] first) (loads_in s)
   loaded_safe fresh =
       holds_weaker Passes (IsSafe s first) (Safe s first) (λ found m. IsSafe s first m × Found found m) (λ found m. IsSafe s first m × Found found m) (moment [] first) (loads_in s)
       (λ m safe due. safe) (λ found m is. is) (at_end (IsSafe s first) Found (moment [] first) (loads_in s) (loading_holds s first settings fresh))
@@ -138,7 +143,7 @@ module _ (s : AllSettings) (settings : IsSound s) (full : s.service.full ≡ tru
   due_before past [] due = due
   due_before past (e ∷ es) due = (due_before (e ∷ past) es due).1
 
-  safe_along : (m : Moment) (es : List TraceEntry) → Due s (since m.past es) → Moments Passes (Safe s first) m es → Moments Passes (IsSafe s first) m es
+  pub safe_along : (m : Moment) (es : List TraceEntry) → Due s (since m.past es) → Moments Passes (Safe s first) m es → Moments Passes (IsSafe s first) m es
   safe_along m [] due moments = moments due
   safe_along m (e ∷ es) due moments = (
     moments.0 (due_before m.past (e ∷ es) due),

@@ -4,3 +4,4 @@ pub mod Whole
 pub mod Safe
 pub mod Again
 pub mod Handed
+pub mod Between

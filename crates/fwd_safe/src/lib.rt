@@ -8,5 +8,6 @@
 mod laws;
 
 pub use laws::{
-    each_moment_is_safe, flights_hand_their_chunks, recorded_stays_recorded, what_is_safe_is_found,
+    each_moment_is_safe, each_step_is_safe, each_turn_is_safe, flights_hand_their_chunks,
+    recorded_stays_recorded, what_is_safe_is_found,
 };
