@@ -8,9 +8,9 @@ pub mod Serials
 pub mod Keeping
 pub mod Standing
 pub mod Named
-mod Numbered
+pub mod Numbered
 mod Fresh
-mod Places
+pub mod Places
 mod Once
 mod Fitting
 mod Free

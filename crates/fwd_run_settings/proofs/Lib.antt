@@ -1,4 +1,3 @@
 mod Matching
 mod Owing
 mod Naming
-mod Outputs

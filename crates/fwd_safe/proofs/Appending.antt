@@ -22,7 +22,7 @@ use Rattle.fwd_kept.specs.declared.kept.Kept.{Kept as Held}
 use Rattle.fwd_kept.specs.declared.kept.Kept.TheVariants.{InFile, Adopted, InMemory}
 use Rattle.fwd_kept.specs.Kept.{file_held, appends as appends_kept}
 use Rattle.fwd_store.specs.Store.{appends_to}
-use Rattle.fwd_safe.proofs.Calls.{holds_appends}
+use Rattle.fwd_store.proofs.Moments.{holds_appends}
 use Rattle.fwd_settings.specs.declared.chosen.AllSettings.{AllSettings}
 use Rattle.fwd_settings.specs.Sound.{IsSound}
 use Rattle.fwd_written.specs.Fact.{History, Batch, Behind, NotStored, Offers, Accepted, Refused, Shut, Faulted}
@@ -52,7 +52,7 @@ use Rattle.fwd_safe.proofs.Facts.{plain_order, plain_room, offers_order, offers_
 use Rattle.fwd_safe.proofs.Filed.{settled_image}
 use Rattle.fwd_safe.proofs.Rooms.{RoomBut, room_all, room_shut, room_grown, open_of}
 use Rattle.fwd_safe.proofs.Writable.{IsWritable, writable_are}
-use Rattle.fwd_safe.proofs.Outputs.{names_are}
+use Rattle.fwd_written.proofs.Outputs.{names_are}
 use Rattle.fwd_safe.proofs.Growing.{grown_order, grown_memory, either_whole}
 use Rattle.fwd_safe.proofs.Stepping.{after, TakenBy}
 use Rattle.fwd_safe.proofs.Units.{IsBehind, with_all, Ordered, Safe, Kept, Came, safe_now, runs, notes}

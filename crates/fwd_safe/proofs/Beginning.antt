@@ -36,7 +36,7 @@ use Rattle.fwd_safe.specs.Whole.{HoldsWhole, IsWhole}
 use Rattle.fwd_safe.specs.Safe.{IsOf, IsHeld, IsPlaced}
 use Rattle.fwd_safe.proofs.Ordered.{head_of, NamesAll, IsFiled, InOrder}
 use Rattle.fwd_safe.proofs.Headed.{fits_head}
-use Rattle.fwd_safe.proofs.Outputs.{names_are}
+use Rattle.fwd_written.proofs.Outputs.{names_are}
 use Rattle.fwd_safe.proofs.Stored.{stored_under}
 use Rattle.fwd_safe.proofs.Streams.{new_path}
 use Rattle.fwd_safe.proofs.Spelled.{AreWritten, written_some}

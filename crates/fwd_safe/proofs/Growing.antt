@@ -38,7 +38,7 @@ use Rattle.fwd_safe.proofs.Ordered.{head_of, NamesAll, IsOpen, IsFiled, InOrder}
 use Rattle.fwd_safe.proofs.Small.{head_held, same_head, one_chunk}
 use Rattle.fwd_safe.proofs.Outcomes.{done_unrecorded, is_among}
 use Rattle.fwd_safe.proofs.Headed.{fits_head}
-use Rattle.fwd_safe.proofs.Outputs.{names_are}
+use Rattle.fwd_written.proofs.Outputs.{names_are}
 use Rattle.fwd_safe.proofs.Spelled.{AreWritten}
 use Rattle.fwd_safe.proofs.Filed.{IsNewChunk, new_holds, new_named, settled_image, parts_were}
 use Rattle.fwd_safe.proofs.Alike.{one_name, Alike, of_behind, moved_order}

@@ -4,8 +4,6 @@ pub mod Small
 pub mod Reading
 pub mod Outcomes
 pub mod Filed
-pub mod Outputs
-pub mod Numbered
 pub mod Streams
 pub mod Stored
 pub mod Heads
@@ -30,10 +28,8 @@ pub mod Units
 pub mod Handing
 pub mod Removing
 pub mod Records
-pub mod Calls
 pub mod Starting
 pub mod Appending
-pub mod Places
 pub mod Fresh
 pub mod OnDisk
 pub mod Gathered

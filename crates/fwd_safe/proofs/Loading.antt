@@ -42,7 +42,7 @@ use Rattle.fwd_safe.specs.Moment.{Moment, moment, Passes}
 use Rattle.fwd_safe.specs.Whole.{HoldsWhole, IsWhole}
 use Rattle.fwd_safe.specs.Safe.{StoodThere, IsOf, IsSafe}
 use Rattle.fwd_safe.proofs.Ordered.{head_of, NamesAll, IsFiled, IsAtHome, IsFree, InOrder, HaveRoom}
-use Rattle.fwd_safe.proofs.Places.{same_file}
+use Rattle.fwd_backlog.proofs.Places.{same_file}
 use Rattle.fwd_safe.proofs.Streams.{new_path}
 use Rattle.fwd_safe.proofs.Filed.{found_meta, found_named}
 use Rattle.fwd_safe.proofs.Fresh.{sound_fresh}

@@ -44,7 +44,7 @@ use Rattle.fwd_safe.proofs.Small.{held_of, same_head, one_chunk}
 use Rattle.fwd_safe.proofs.Safely.{local_safe}
 use Rattle.fwd_safe.proofs.Facts.{plain_order}
 use Rattle.fwd_safe.proofs.Recording.{IsApart, settles_whole, recorded_order, unrecorded_order}
-use Rattle.fwd_safe.proofs.Outputs.{apart_output}
+use Rattle.fwd_written.proofs.Outputs.{apart_output}
 use Rattle.fwd_safe.proofs.Stepping.{after, TellsBy}
 use Rattle.fwd_safe.proofs.Units.{IsBehind, with_all, Ordered, Safe, Kept, Told, Came, safe_now, plain_kept, runs, notes, notes_last}
 

@@ -17,7 +17,7 @@ use Rattle.fwd_chunk.specs.Append.{ComesWhole, SettledIn, new_head}
 use Rattle.fwd_chunk.proofs.Creating.{length-new_meta, are_short}
 use Rattle.fwd_kept.specs.Kept.{file_held}
 use Rattle.fwd_store.specs.Store.{begins_as}
-use Rattle.fwd_safe.proofs.Calls.{holds_begins, placed_settled}
+use Rattle.fwd_store.proofs.Moments.{holds_begins, placed_settled}
 use Rattle.fwd_settings.specs.declared.chosen.AllSettings.{AllSettings}
 use Rattle.fwd_settings.specs.Sound.{IsSound}
 use Rattle.fwd_written.specs.Fact.{History, Batch, First, NotStored, Offers, Accepted, Refused, Shut, Faulted}
@@ -42,7 +42,7 @@ use Rattle.fwd_safe.proofs.Facts.{plain_order, plain_room, offers_order, offers_
 use Rattle.fwd_safe.proofs.Rooms.{RoomBut, room_all, room_shut, room_begun, no_chunk}
 use Rattle.fwd_safe.proofs.Writable.{IsWritable, writable_are}
 use Rattle.fwd_safe.proofs.Stored.{stored_under}
-use Rattle.fwd_safe.proofs.Outputs.{names_are}
+use Rattle.fwd_written.proofs.Outputs.{names_are}
 use Rattle.fwd_safe.proofs.Beginning.{begun_order, begun_memory, unplaced_order}
 use Rattle.fwd_safe.proofs.Stepping.{after, TakenBy}
 use Rattle.fwd_safe.proofs.Units.{IsBehind, with_all, Ordered, Safe, Kept, Came, safe_now, runs, notes}

@@ -25,7 +25,7 @@ use Rattle.fwd_settings.specs.Sound.{input_plugin, AreInputsNamed, IsSound}
 use Rattle.fwd_written.specs.Setup.{input_name}
 use Rattle.fwd_written.specs.Held.{name_for}
 use Rattle.fwd_ties.proofs.Members.{off_where_not}
-use Rattle.fwd_safe.proofs.Numbered.{numbered, serial_numbered, chunk_numbered, name_numbered}
+use Rattle.fwd_backlog.proofs.Numbered.{numbered, serial_numbered, chunk_numbered, name_numbered}
 
 -- ---- bytes of names
 

@@ -3,7 +3,7 @@ mod Results
 mod Opening
 mod Holding
 mod Sound
-mod Moments
+pub mod Moments
 mod Standing
 mod Own
 mod Others

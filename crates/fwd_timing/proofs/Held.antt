@@ -30,7 +30,7 @@ use Rattle.fwd_ties.proofs.Going.{noted_since}
 use Rattle.fwd_ties.proofs.Living.{due_since}
 use Rattle.fwd_ties.proofs.Sounding.{sound, sound_life}
 use Rattle.fwd_timing.specs.Holding.{is_held, bytes_held, IsStopped, IsFull, IsHeldBack}
-use Rattle.fwd_timing.proofs.Masks.{bit_means}
+use Rattle.fwd_written.proofs.Masks.{bit_means}
 
 module _ (s : AllSettings) (h : History) (input : ℕ) where
   abbrev is_counted : Row → Bool

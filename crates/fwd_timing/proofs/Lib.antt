@@ -1,5 +1,4 @@
 pub mod Ordering
-pub mod Masks
 pub mod Held
 pub mod Swept
 pub mod Timed

@@ -4,3 +4,5 @@ pub mod Lifting
 pub mod Meeting
 pub mod Ending
 pub mod Worked
+pub mod Masks
+pub mod Outputs

@@ -4,10 +4,10 @@ use Prim.Native.Nat.{◌^◌}
 use Rattle.std.specs.Prelude.{if◌then◌else◌, sum_by}
 use Rattle.std.specs.Int.{IsBitSet, bit_at}
 use Rattle.std.specs.List.{range_with_len}
-use Rattle.std.proofs.lemmas.Bool.{cases_Bool, cases_lt}
+use Rattle.std.proofs.lemmas.Bool.{cases_Bool, cases_eq, cases_lt}
 use Rattle.std.proofs.lemmas.Grind.{pow_more}
 use Rattle.std.proofs.lemmas.Nat.{bit_set_by_shift}
-use Rattle.std.proofs.lemmas.Nat.Bits.{shr_and_one, bit_at_above, bit_at_cat_low, bit_at_cat_high}
+use Rattle.std.proofs.lemmas.Nat.Bits.{shr_and_one, bit_at-lt, bit_at_above, bit_at_cat_low, bit_at_cat_high, same_from_bits}
 use Rattle.std.proofs.lemmas.List.Sums.{sum_by-cons}
 
 sum_more : (g : ℕ → ℕ) (a n : ℕ) → sum_by g (range_with_len a (n + 1)) ≡ sum_by g (range_with_len a n) + g (a + n)
@@ -46,6 +46,7 @@ module _ (p : ℕ → Bool) where
       let power : 2 ^ suc n ≡ 2 ^ (n + 1) = ap (λ (k : ℕ). 2 ^ k) same in
       omega (arith, before, next, one, twice, up, power)
 
+  -- the bit of a number below the end is set exactly where it passes
   step_low : (n i : ℕ) → i < n → bit_at (whole (n + 1)) i ≡ bit_at (whole n) i
   step_low n i below = elim (cases_Bool (p n)) [
     | inl is ↦
@@ -72,7 +73,7 @@ module _ (p : ℕ → Bool) where
         ap (λ (m : ℕ). bit_at m n) sum ∙ bit_at_above (whole n) n n (small n) (omega arith) ∙ rw isnt refl
   ]
 
-  told : (n i : ℕ) → i < n → bit_at (whole n) i ≡ (if p i then 1 else 0)
+  pub told : (n i : ℕ) → i < n → bit_at (whole n) i ≡ (if p i then 1 else 0)
   told zero i below = absurd (omega (arith, below))
   told (suc n) i below =
       let same : suc n ≡ n + 1 = omega arith in
@@ -88,6 +89,25 @@ module _ (p : ℕ → Bool) where
 
   to_bit : (mask i : ℕ) → bit_at mask i ≡ 1 → IsBitSet mask i
   to_bit mask i is = (bit_set_by_shift mask i).0 (shr_and_one mask i ∙ is)
+
+  unset : (mask i : ℕ) → (IsBitSet mask i → ⊥) → bit_at mask i ≡ 0
+  unset mask i none = elim (cases_eq (bit_at mask i) 1) [
+    | inl one ↦ absurd (none (to_bit mask i one))
+    | inr other ↦ let least = bit_at-lt mask i in omega (arith, least, other)
+  ]
+
+  -- a mask of which each bit means that is the sum
+  pub mask_is : (n mask : ℕ) → ((i : ℕ) → IsBitSet mask i ↔ ((i < n) × (p i ≡ true))) → mask ≡ sum_by (λ i. if p i then 2 ^ i else 0) (range_with_len 0 n)
+  mask_is n mask means = same_from_bits mask (whole n) each
+    where
+      each : (i : ℕ) → bit_at mask i ≡ bit_at (whole n) i
+      each i = elim (cases_lt i n) [
+        | inl less ↦ elim (cases_Bool (p i)) [
+          | inl is ↦ from_bit mask i ((means i).1 (less, is)) ∙ sym (told n i less ∙ rw is refl)
+          | inr isnt ↦ unset mask i (λ set. let is = ((means i).0 set).1 in absurd (cc (sym isnt ∙ is))) ∙ sym (told n i less ∙ rw isnt refl)
+        ]
+        | inr beyond ↦ unset mask i (λ set. let less : i < n = ((means i).0 set).0 in absurd (omega (arith, less, beyond))) ∙ sym (bit_at_above (whole n) n i (small n) beyond)
+      ]
 
   -- bit i is set exactly where i is below the end, and passes
   pub bit_means : (n i : ℕ) → IsBitSet (sum_by (λ i. if p i then 2 ^ i else 0) (range_with_len 0 n)) i ↔ ((i < n) × (p i ≡ true))
