@@ -4,16 +4,23 @@ ghost use Rattle.std.specs.Prelude.{IfOk};
 ghost use Rattle.fwd_filters.specs.Filtered.{IsFiltered};
 
 use crate::FilterSteps;
-use crate::step::apply;
+use crate::parallel::in_parallel;
+use crate::ready::Filters;
+use crate::runs::Run;
+use crate::sifting::sift;
 use fwd_base::Memory;
 use fwd_event::Events;
-use fwd_route::matches;
+use fwd_outside::{Gate, Open};
 use std::alloc::Global;
 use std::thread::Threads;
 
-/// The events after each filter whose glob matches the tag, in order; those that are left keep their order.
+/// How many events are given to several threads.
+const MANY: usize = 2_048;
+
+/// The events after each filter whose glob matches the tag, in order; those that are left keep their order. 2,048 events
+/// or more are filtered by several threads.
 pub fn filter(
-    _rt: &(impl Threads + Sync),
+    rt: &(impl Threads + Sync),
     alloc: Global,
     steps: &FilterSteps,
     tag: &[u8],
@@ -21,11 +28,25 @@ pub fn filter(
 ) -> Result<Events, Memory>
     ensures { IfOk result (IsFiltered steps.now tag.now events) }
 {
-    let mut left = events;
-    for step in steps.as_slice() {
-        if matches(step.glob.as_slice(), tag) {
-            left = apply(alloc, &step.kind, left)?;
-        }
+    filter_gated(rt, alloc, steps, tag, events, &Open)
+}
+
+/// As `filter`. Of 2,048 events or more each passes the gate directly before it is filtered, with its place in the list,
+/// from 0.
+pub fn filter_gated<G: Gate>(
+    rt: &(impl Threads + Sync),
+    alloc: Global,
+    steps: &FilterSteps,
+    tag: &[u8],
+    events: Events,
+    gate: &G,
+) -> Result<Events, Memory>
+    ensures { IfOk result (IsFiltered steps.now tag.now events) }
+{
+    if events.len() < MANY {
+        let mut ready = steps.ready(alloc, tag)?;
+        sift(alloc, &mut ready, Run { first: 0, events }, &Open)
+    } else {
+        in_parallel(rt, alloc, steps, tag, events, gate)
     }
-    Ok(left)
 }

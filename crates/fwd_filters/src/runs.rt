@@ -1,0 +1,51 @@
+//! Lists of events are cut into runs, and what is left of runs is joined.
+
+ghost use Rattle.std.specs.Prelude.{◌≡◌, ◌<◌, IfOk};
+ghost use Rattle.std.specs.List.{flat_map};
+
+use fwd_base::Memory;
+use fwd_event::Events;
+use std::alloc::Global;
+
+/// Events that stand side by side in a list, and the place of the first of them, from 0.
+#[derive(Debug, Drop)]
+pub struct Run {
+    pub first: u64,
+    pub events: Events,
+}
+
+/// The events in runs of so many, in order; the last run may be shorter.
+pub fn cut(alloc: Global, events: Events, length: usize) -> Result<Vec<Run>, Memory>
+    requires { 0 < length }
+    ensures { IfOk result (λ runs. flat_map (λ run. run.events) runs.items ≡ events) }
+{
+    let mut runs = Vec::new(alloc);
+    let mut rest = events.into_vec();
+    let mut first = 0u64;
+    while rest.len() > length {
+        let later = rest.split_off(length)?;
+        runs.push(Run {
+            first,
+            events: Events::from_vec(rest),
+        })?;
+        rest = later;
+        first = first.wrapping_add(length as u64);
+    }
+    runs.push(Run {
+        first,
+        events: Events::from_vec(rest),
+    })?;
+    Ok(runs)
+}
+
+/// The events of all parts, in order.
+pub fn joined(alloc: Global, parts: Vec<Events>) -> Result<Events, Memory>
+    ensures { IfOk result (λ all. all ≡ flat_map (λ part. part) parts.items) }
+{
+    let mut all = Vec::new(alloc);
+    for part in parts {
+        let mut events = part.into_vec();
+        all.append(&mut events)?;
+    }
+    Ok(Events::from_vec(all))
+}
