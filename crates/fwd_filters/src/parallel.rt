@@ -5,7 +5,7 @@ ghost use Rattle.std.specs.List.{filter_map};
 ghost use Rattle.fwd_filters.specs.Step.{through};
 
 use crate::ready::Filters;
-use crate::runs::{Run, cut, joined};
+use crate::runs::{Part, Run, cut, joined};
 use crate::sifting::sift;
 use fwd_base::Memory;
 use fwd_event::Events;
@@ -16,13 +16,14 @@ use std::alloc::Global;
 use std::thread::Threads;
 
 /// How many events are worth a thread.
-const LEAST_RUN: usize = 1_024;
+const LEAST_RUN: usize = 2_048;
 
-/// How long the runs are into which a list is cut: one for each thread, unless they would be too short.
+/// How long the runs are into which a list is cut: one for each thread, or fewer where they would be short, but two.
 fn run_length(events: usize, threads: usize) -> usize
     ensures { 0 < result }
 {
-    (events / threads.max(2)).saturating_add(1).max(LEAST_RUN)
+    let runs = (events / LEAST_RUN).min(threads).max(2);
+    events.div_ceil(runs).max(1)
 }
 
 /// The events that are left, in order. The list is cut into runs, each of which is filtered by one thread.
@@ -41,13 +42,13 @@ pub fn in_parallel<F: Filters + Sync, G: Gate>(
         .into_par_iter()
         .with_min_len(1)
         .map(
-            |run: Run| -> Result<Events, Memory>
-                ensures { IfOk result (λ left. left ≡ filter_map (through (F.kinds filters.entry.now tag.entry.now)) run.events) }
+            |run: Run| -> Result<Part, Memory>
+                ensures { IfOk result (λ part. part.left ≡ filter_map (through (F.kinds filters.entry.now tag.entry.now)) run.events) }
             {
                 let mut ready = filters.ready(alloc, tag)?;
                 sift(alloc, &mut ready, run, gate)
             },
         )
-        .collect::<Result<Vec<Events>, Memory>>(rt, alloc)??;
+        .collect::<Result<Vec<Part>, Memory>>(rt, alloc)??;
     joined(alloc, parts)
 }

@@ -5,7 +5,7 @@ ghost use Rattle.fwd_filters.specs.declared.steps.FilterKind.{FilterKind as TheK
 ghost use Rattle.fwd_filters.specs.Filtered.{AreMatching};
 ghost use Rattle.fwd_filters.specs.Step.{step_of, through};
 ghost use Rattle.fwd_filters.specs.Through.{matching};
-ghost use Rattle.fwd_filters.specs.Ready.{kind_of};
+ghost use Rattle.fwd_filters.specs.Ready.{kind_of, left_of};
 
 use crate::step::{lifted, modified, nested};
 use crate::{FilterKind, FilterStep, FilterSteps};
@@ -71,41 +71,47 @@ fn ready(alloc: Global, kind: &FilterKind) -> Result<ReadyFilter<'_>, Memory>
     }
 }
 
-/// What one filter leaves of the event, or nothing where it drops it.
-fn after_one(
-    alloc: Global,
-    filter: &mut ReadyFilter<'_>,
-    event: Event,
-) -> Result<Option<Event>, Memory>
-    ensures after { IfOk result (λ after. after ≡ step_of (kind_of filter.old) event) }
+/// An event behind filters. One that is dropped is handed on, so that its memory can be given back where it was taken.
+#[derive(Debug, Drop)]
+pub enum After {
+    Left(Event),
+    Dropped(Event),
+}
+
+/// What one filter makes of the event.
+fn after_one(alloc: Global, filter: &mut ReadyFilter<'_>, event: Event) -> Result<After, Memory>
+    ensures after { IfOk result (λ after. left_of after ≡ step_of (kind_of filter.old) event) }
     ensures same { kind_of filter.new ≡ kind_of filter.old }
 {
     match filter {
         ReadyFilter::Grep(searches) => {
-            let is_kept = searches.keeps(&event.body);
-            Ok(is_kept.then_some(event))
+            if searches.keeps(&event.body) {
+                Ok(After::Left(event))
+            } else {
+                Ok(After::Dropped(event))
+            }
         }
-        ReadyFilter::Modify(rules) => Ok(Some(modified(alloc, rules, event)?)),
-        ReadyFilter::Nest(rule) => Ok(Some(nested(alloc, rule, event)?)),
-        ReadyFilter::Lift(rule) => Ok(Some(lifted(alloc, rule, event)?)),
+        ReadyFilter::Modify(rules) => Ok(After::Left(modified(alloc, rules, event)?)),
+        ReadyFilter::Nest(rule) => Ok(After::Left(nested(alloc, rule, event)?)),
+        ReadyFilter::Lift(rule) => Ok(After::Left(lifted(alloc, rule, event)?)),
     }
 }
 
-/// What the filters leave of the event, one after another, or nothing where one drops it.
+/// What the filters make of the event, one after another, as far as one drops it.
 pub fn after_all(
     alloc: Global,
     filters: &mut Vec<ReadyFilter<'_>>,
     event: Event,
-) -> Result<Option<Event>, Memory>
-    ensures after { IfOk result (λ after. after ≡ through (map kind_of filters.old.items) event) }
+) -> Result<After, Memory>
+    ensures after { IfOk result (λ after. left_of after ≡ through (map kind_of filters.old.items) event) }
     ensures same { map kind_of filters.new.items ≡ map kind_of filters.old.items }
 {
     let mut left = event;
     for i in 0..filters.len() {
         match after_one(alloc, &mut filters[i], left)? {
-            Some(event) => left = event,
-            None => return Ok(None),
+            After::Left(event) => left = event,
+            After::Dropped(event) => return Ok(After::Dropped(event)),
         }
     }
-    Ok(Some(left))
+    Ok(After::Left(left))
 }

@@ -14,6 +14,14 @@ pub struct Run {
     pub events: Events,
 }
 
+/// What is left of a run, in order, and what is dropped of it. The events that are dropped give their memory back in the
+/// thread that took it: where several give memory back that another one took, they wait for each other.
+#[derive(Debug, Drop)]
+pub struct Part {
+    pub left: Events,
+    pub dropped: Events,
+}
+
 /// The events in runs of so many, in order; the last run may be shorter.
 pub fn cut(alloc: Global, events: Events, length: usize) -> Result<Vec<Run>, Memory>
     requires { 0 < length }
@@ -38,14 +46,14 @@ pub fn cut(alloc: Global, events: Events, length: usize) -> Result<Vec<Run>, Mem
     Ok(runs)
 }
 
-/// The events of all parts, in order.
-pub fn joined(alloc: Global, parts: Vec<Events>) -> Result<Events, Memory>
-    ensures { IfOk result (λ all. all ≡ flat_map (λ part. part) parts.items) }
+/// What is left of all parts, in order.
+pub fn joined(alloc: Global, parts: Vec<Part>) -> Result<Events, Memory>
+    ensures { IfOk result (λ all. all ≡ flat_map (λ part. part.left) parts.items) }
 {
     let mut all = Vec::new(alloc);
     for part in parts {
-        let mut events = part.into_vec();
-        all.append(&mut events)?;
+        let mut left = part.left.into_vec();
+        all.append(&mut left)?;
     }
     Ok(Events::from_vec(all))
 }
