@@ -1,5 +1,5 @@
 -- The filters whose glob matches, with one filter more; and events for which there is none.
-use Rattle.std.proofs.Common.{◌≡◌, ◌∙◌, ap, ◌⊎◌, inl, inr, ℕ, List, [], ◌∷◌, ◌++◌, refl}
+use Rattle.std.proofs.Common.{◌≡◌, ap, inl, inr, ℕ, List, [], ◌∷◌, ◌++◌, refl}
 use Rattle.std.specs.List.{filter_map}
 use Rattle.fwd_route.specs.Glob.{Glob}
 use Rattle.fwd_event.specs.declared.event.Event.{Event}

@@ -1,6 +1,6 @@
 //! Long lists of events are filtered by several threads.
 
-ghost use Rattle.std.specs.Prelude.{◌≡◌, ◌<◌, IfOk};
+ghost use Rattle.std.specs.Prelude.{◌≡◌, IfOk};
 ghost use Rattle.std.specs.List.{filter_map};
 ghost use Rattle.fwd_filters.specs.Step.{through};
 
@@ -19,11 +19,9 @@ use std::thread::Threads;
 const LEAST_RUN: usize = 2_048;
 
 /// How long the runs are into which a list is cut: one for each thread, or fewer where they would be short, but two.
-fn run_length(events: usize, threads: usize) -> usize
-    ensures { 0 < result }
-{
+fn run_length(events: usize, threads: usize) -> usize {
     let runs = (events / LEAST_RUN).min(threads).max(2);
-    events.div_ceil(runs).max(1)
+    events.div_ceil(runs)
 }
 
 /// The events that are left, in order. The list is cut into runs, each of which is filtered by one thread.

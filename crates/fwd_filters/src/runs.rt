@@ -1,6 +1,6 @@
 //! Lists of events are cut into runs, and what is left of runs is joined.
 
-ghost use Rattle.std.specs.Prelude.{◌≡◌, ◌<◌, IfOk};
+ghost use Rattle.std.specs.Prelude.{◌≡◌, [], IfOk};
 ghost use Rattle.std.specs.List.{flat_map};
 
 use fwd_base::Memory;
@@ -22,27 +22,32 @@ pub struct Part {
     pub dropped: Events,
 }
 
+impl Run {
+    /// A run of no events yet, with room for so many.
+    fn new(alloc: Global, first: u64, length: usize) -> Result<Self, Memory>
+        ensures { IfOk result (λ run. run.events ≡ []) }
+    {
+        let mut events = Events::new(alloc);
+        events.reserve(length)?;
+        Ok(Run { first, events })
+    }
+}
+
 /// The events in runs of so many, in order; the last run may be shorter.
 pub fn cut(alloc: Global, events: Events, length: usize) -> Result<Vec<Run>, Memory>
-    requires { 0 < length }
     ensures { IfOk result (λ runs. flat_map (λ run. run.events) runs.items ≡ events) }
 {
     let mut runs = Vec::new(alloc);
-    let mut rest = events.into_vec();
-    let mut first = 0u64;
-    while rest.len() > length {
-        let later = rest.split_off(length)?;
-        runs.push(Run {
-            first,
-            events: Events::from_vec(rest),
-        })?;
-        rest = later;
-        first = first.wrapping_add(length as u64);
+    let mut run = Run::new(alloc, 0, length)?;
+    for event in events.into_vec() {
+        if run.events.len() >= length {
+            let next = run.first.wrapping_add(run.events.len() as u64);
+            runs.push(run)?;
+            run = Run::new(alloc, next, length)?;
+        }
+        run.events.push(event)?;
     }
-    runs.push(Run {
-        first,
-        events: Events::from_vec(rest),
-    })?;
+    runs.push(run)?;
     Ok(runs)
 }
 

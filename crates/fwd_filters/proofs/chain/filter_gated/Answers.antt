@@ -1,5 +1,5 @@
 use denote.Param.Send.{sendable}
-use Rattle.std.proofs.Common.{◌∙◌, sym, [], subst, List}
+use Rattle.std.proofs.Common.{sym, [], subst, List}
 use Rattle.std.proofs.Crossing as std
 use Rattle.rayon.proofs.ListFacts.{IfOk-then}
 use Rattle.fwd_filters.specs.declared.steps.FilterStep.{FilterStep}

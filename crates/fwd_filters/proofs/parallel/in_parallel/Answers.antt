@@ -1,4 +1,4 @@
-use Rattle.std.proofs.Common.{◌≡◌, ◌∙◌, ap}
+use Rattle.std.proofs.Common.{◌∙◌, ap}
 use Rattle.std.specs.List.{flat_map}
 use Rattle.rayon.proofs.ListFacts.{IfOk-then}
 use Rattle.fwd_filters.specs.declared.runs.Run.{Run}
