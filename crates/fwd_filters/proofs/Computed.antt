@@ -1,16 +1,15 @@
 -- The filters that match, computed.
-use Rattle.std.proofs.Common.{◌≡◌, ◌⊎◌, inl, inr, ◌↔◌, ℕ, Bool, true, false, List, [], ◌∷◌, refl, sym, ◌∙◌, ap, subst}
+use Rattle.std.proofs.Common.{◌≡◌, inl, inr, ℕ, Bool, true, false, List, [], ◌∷◌, refl, ◌∙◌, ap}
 use Rattle.std.specs.Prelude.{if◌then◌else◌}
 use Rattle.std.specs.List.{filter_map}
 use Rattle.fwd_route.specs.Glob.{Glob}
 use Rattle.fwd_route.specs.Globs.{globs}
 use Rattle.fwd_route.proofs.Telling.{globs_tell}
-use Rattle.fwd_event.specs.declared.event.Event.{Event}
 use Rattle.fwd_filters.specs.declared.steps.FilterKind.{FilterKind}
 use Rattle.fwd_filters.specs.declared.steps.FilterStep.{FilterStep}
 use Rattle.fwd_filters.specs.Step.{through}
-use Rattle.fwd_filters.specs.Filtered.{AreMatching, IsFiltered}
-use Rattle.fwd_filters.specs.Through.{matching, filtered, FilteredAre}
+use Rattle.fwd_filters.specs.Filtered.{AreMatching}
+use Rattle.fwd_filters.specs.Through.{matching, FilteredAre}
 
 module _ (tag : List ℕ) where
   are_by : (b : Bool) (step : FilterStep) (steps : List FilterStep) → globs step.glob tag ≡ b → AreMatching tag steps (matching tag steps)

@@ -1,4 +1,5 @@
-pub mod Through
 pub mod Matching
 pub mod Crossing
 pub mod Computed
+mod Readying
+mod Joining

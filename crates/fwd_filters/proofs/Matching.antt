@@ -1,8 +1,11 @@
--- The filters whose glob matches, with one filter more.
-use Rattle.std.proofs.Common.{◌≡◌, ◌∙◌, ap, ◌⊎◌, inl, inr, ℕ, List, [], ◌∷◌, ◌++◌, refl}
+-- The filters whose glob matches, with one filter more; and events for which there is none.
+use Rattle.std.proofs.Common.{◌≡◌, ap, inl, inr, ℕ, List, [], ◌∷◌, ◌++◌, refl}
+use Rattle.std.specs.List.{filter_map}
 use Rattle.fwd_route.specs.Glob.{Glob}
+use Rattle.fwd_event.specs.declared.event.Event.{Event}
 use Rattle.fwd_filters.specs.declared.steps.FilterKind.{FilterKind}
 use Rattle.fwd_filters.specs.declared.steps.FilterStep.{FilterStep}
+use Rattle.fwd_filters.specs.Step.{through}
 use Rattle.fwd_filters.specs.Filtered.{AreMatching}
 
 module _ (tag : List ℕ) (step : FilterStep) where
@@ -15,3 +18,7 @@ module _ (tag : List ℕ) (step : FilterStep) where
   matching-kept miss [] kinds none = inr (miss, none)
   matching-kept miss (s ∷ steps) kinds (inl here) = inl (here.0, (here.1.0, here.1.1, matching-kept miss steps here.1.0 here.1.2))
   matching-kept miss (s ∷ steps) kinds (inr away) = inr (away.0, matching-kept miss steps kinds away.1)
+
+pub filtered-none : (events : List Event) → filter_map (through []) events ≡ events
+filtered-none [] = refl
+filtered-none (e ∷ events) = ap (λ (l : List Event). e ∷ l) (filtered-none events)

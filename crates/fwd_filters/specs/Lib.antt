@@ -1,3 +1,4 @@
 pub mod Step
+pub mod Ready
 pub mod Filtered
 pub mod Through

@@ -1,19 +1,28 @@
 //! Filters one after another.
 
-ghost use Rattle.std.specs.Prelude.{IfOk};
-ghost use Rattle.fwd_filters.specs.Filtered.{IsFiltered};
+ghost use Rattle.std.specs.Prelude.{◌≡◌, [], IfOk, IsTrue};
+ghost use Rattle.fwd_filters.specs.Filtered.{AreMatching, IsFiltered};
+ghost use Rattle.fwd_filters.specs.Through.{filtered};
 
-use crate::FilterSteps;
-use crate::step::apply;
+use crate::parallel::in_parallel;
+use crate::ready::Filters;
+use crate::runs::Run;
+use crate::sifting::sift;
+use crate::{FilterStep, FilterSteps};
 use fwd_base::Memory;
 use fwd_event::Events;
+use fwd_outside::{Gate, Open};
 use fwd_route::matches;
 use std::alloc::Global;
 use std::thread::Threads;
 
-/// The events after each filter whose glob matches the tag, in order; those that are left keep their order.
+/// How many events are given to several threads.
+const MANY: usize = 2_048;
+
+/// The events after each filter whose glob matches the tag, in order; those that are left keep their order. 2,048 events
+/// or more are filtered by several threads. Where no glob matches, nothing is done.
 pub fn filter(
-    _rt: &(impl Threads + Sync),
+    rt: &(impl Threads + Sync),
     alloc: Global,
     steps: &FilterSteps,
     tag: &[u8],
@@ -21,11 +30,48 @@ pub fn filter(
 ) -> Result<Events, Memory>
     ensures { IfOk result (IsFiltered steps.now tag.now events) }
 {
-    let mut left = events;
-    for step in steps.as_slice() {
+    filter_gated(rt, alloc, steps, tag, events, &Open)
+}
+
+/// As `filter`. Of 2,048 events or more each passes the gate directly before it is filtered, with its place in the list,
+/// from 0.
+pub fn filter_gated<G: Gate>(
+    rt: &(impl Threads + Sync),
+    alloc: Global,
+    steps: &FilterSteps,
+    tag: &[u8],
+    events: Events,
+    gate: &G,
+) -> Result<Events, Memory>
+    ensures { IfOk result (IsFiltered steps.now tag.now events) }
+{
+    if are_idle(steps.as_slice(), tag) {
+        return Ok(events);
+    }
+    if events.len() < MANY {
+        alone(alloc, steps, tag, events)
+    } else {
+        in_parallel(rt, alloc, steps, tag, events, gate)
+    }
+}
+
+/// The events that are left, in order, by this thread.
+fn alone(alloc: Global, steps: &FilterSteps, tag: &[u8], events: Events) -> Result<Events, Memory>
+    ensures { IfOk result (λ left. left ≡ filtered steps.now tag.now events) }
+{
+    let mut ready = steps.ready(alloc, tag)?;
+    let part = sift(alloc, &mut ready, Run { first: 0, events }, &Open)?;
+    Ok(part.left)
+}
+
+/// Whether no filter's glob matches the tag.
+fn are_idle(steps: &[FilterStep], tag: &[u8]) -> bool
+    ensures { IsTrue result → AreMatching tag.now steps.now [] }
+{
+    for step in steps {
         if matches(step.glob.as_slice(), tag) {
-            left = apply(alloc, &step.kind, left)?;
+            return false;
         }
     }
-    Ok(left)
+    true
 }

@@ -1,12 +1,18 @@
 //! Filters stand between the reading of events and their storing: each changes the events under the tags that its glob
-//! matches, or drops some of them. Here the filters of a configuration are applied in order.
+//! matches, or drops some of them. Here the filters of a configuration are applied in order. A list of 2,048 events or
+//! more is cut into runs, which are filtered side by side in as many threads as there are processors; the order and the
+//! answer are those of one thread.
 #![tactic(auto)]
 
 mod chain;
 mod laws;
+mod parallel;
+mod ready;
+mod runs;
+mod sifting;
 mod step;
 mod steps;
 
-pub use chain::filter;
+pub use chain::{filter, filter_gated};
 pub use laws::filtered_are_computed;
 pub use steps::{FilterKind, FilterStep, FilterSteps, steps_cross};

@@ -1,11 +1,9 @@
 //! Many files, checked in groups by several threads.
 
-use crate::meeting::Meeting;
+use crate::meeting::{COUNT, Meeting, plain_map_meets};
 use fwd_backlog::{Backlog, Found, Seen, load_all, load_gated};
 use fwd_disk_mem::MemDisk;
 use fwd_found::ChunkKind;
-use fwd_outside::Gate;
-use rayon::prelude::*;
 use std::alloc::{AllocError, Global};
 use std::test::Fail;
 use std::thread::Threads;
@@ -13,9 +11,6 @@ use std::thread::Threads;
 /// A plain file with the tag `app`: three events of six bytes, and one that is cut and followed by zeros.
 const PLAIN: &[u8] = b"\xc1\x00\x12\x34\x56\x78\0\0\0\0\0\0\0\0\0\0\0\0\0\0\0\0\x00\x03app\
     \x92\x01\x81\xa1a\x01\x92\x02\x81\xa1a\x01\x92\x03\x81\xa1a\x01\x92\x04\0\0\0\0";
-
-/// As many as a group has.
-const COUNT: u64 = 4096;
 
 fn file_name(alloc: Global, number: u64) -> Result<String, AllocError> {
     Ok(format!(in alloc; "{number:05}.flb")?)
@@ -92,20 +87,6 @@ fn one_of_five_thousand_is_cut(rt: HostRuntime) -> Result<(), Fail> {
     let holds = five_thousand(&rt, rt.alloc(), 2500)?;
     assert!(rt; holds);
     Ok(())
-}
-
-/// Whether a plain map over the numbers passes the two places in two threads.
-fn plain_map_meets(rt: &(impl Threads + Sync), alloc: Global) -> Result<bool, AllocError> {
-    let meeting = Meeting::new(0, COUNT - 1);
-    let gate = &meeting;
-    let _numbers = (0..COUNT)
-        .into_par_iter()
-        .map(|place: u64| -> u64 {
-            gate.pass(place);
-            place
-        })
-        .collect::<Vec<u64>>(rt, alloc)?;
-    Ok(meeting.has_met())
 }
 
 fn same_found(one: &Backlog, other: &Backlog) -> bool {

@@ -1,7 +1,13 @@
 //! The gate at which two threads meet.
 
 use fwd_outside::Gate;
+use rayon::prelude::*;
+use std::alloc::{AllocError, Global};
 use std::sync::atomic::{AtomicBool, Ordering};
+use std::thread::Threads;
+
+/// How many items are worked on: as many as a group of files has.
+pub const COUNT: u64 = 4096;
 
 /// How often a side looks for the other.
 const TURNS: u64 = 100_000_000;
@@ -67,4 +73,18 @@ impl Gate for Meeting {
             self.other.meet(&self.one);
         }
     }
+}
+
+/// Whether a plain map over the numbers passes the first and the last place in two threads.
+pub fn plain_map_meets(rt: &(impl Threads + Sync), alloc: Global) -> Result<bool, AllocError> {
+    let meeting = Meeting::new(0, COUNT - 1);
+    let gate = &meeting;
+    let _numbers = (0..COUNT)
+        .into_par_iter()
+        .map(|place: u64| -> u64 {
+            gate.pass(place);
+            place
+        })
+        .collect::<Vec<u64>>(rt, alloc)?;
+    Ok(meeting.has_met())
 }

@@ -1,0 +1,6 @@
+use Rattle.std.proofs.Common.{[], take}
+use Rattle.fwd_filters.specs.Filtered.{AreMatching}
+use Rattle.fwd_filters.proofs.chain.are_idle.Given as goal
+
+abbrev pub invariant-loop-step : goal.invariant-loop-step
+invariant-loop-step l = AreMatching l.tag (take l.step-index l.steps) []

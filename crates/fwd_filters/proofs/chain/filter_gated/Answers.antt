@@ -1,0 +1,27 @@
+use denote.Param.Send.{sendable}
+use Rattle.std.proofs.Common.{sym, [], subst, List}
+use Rattle.std.proofs.Crossing as std
+use Rattle.rayon.proofs.ListFacts.{IfOk-then}
+use Rattle.fwd_filters.specs.declared.steps.FilterStep.{FilterStep}
+use Rattle.fwd_filters.specs.Filtered.{AreMatching}
+use Rattle.fwd_filters.proofs.Crossing.{crosses}
+use Rattle.fwd_filters.proofs.Matching.{filtered-none}
+use Rattle.fwd_filters.proofs.Computed.{filtered_are}
+use Rattle.fwd_filters.proofs.chain.filter_gated.Goals as goal
+
+pub returns-then-are_idle : goal.returns-then-are_idle
+returns-then-are_idle g c =
+    let none = c.are_idle.ensures c.if-are_idle.true in
+    ([], subst (λ (l : List FilterStep). AreMatching c.args.tag.now l []) c.as_slice.ensures none, sym (filtered-none c.args.events))
+
+pub returns-then-len-lt-MANY : goal.returns-then-len-lt-MANY
+returns-then-len-lt-MANY g c =
+    IfOk-then c.alone.result _ _ c.alone.ensures (λ left is. (filtered_are c.args.steps.now c.args.tag.now c.args.events left).1 is)
+
+pub returns-else-len-lt-MANY : goal.returns-else-len-lt-MANY
+returns-else-len-lt-MANY g c =
+    IfOk-then c.in_parallel.result _ _ c.in_parallel.ensures (λ left is. (filtered_are c.args.steps.now c.args.tag.now c.args.events left).1 is)
+
+-- threads may share the filters
+pub in_parallel-requires-sync-F : goal.in_parallel-requires-sync-F
+in_parallel-requires-sync-F g c κs within = search (sendable, std.crosses, crosses) depth 40
