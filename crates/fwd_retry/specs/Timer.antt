@@ -1,5 +1,8 @@
 -- The order of timers, and the first of several.
-use Rattle.std.specs.Prelude.{◌≡◌, ℕ, ◌==◌, ◌&&◌, ◌||◌, nat_lt, nat_le, Bool, true, false, List, Contains, fold, Option, Some, None, if◌then◌else◌}
+use Rattle.std.specs.Prelude.{◌≡◌, ℕ, ◌==◌, ◌&&◌, ◌||◌, nat_lt, nat_le, Bool, true, false, List, [], Contains, fold, Option, Some, None, if◌then◌else◌}
+use Rattle.std.specs.declared.cmp.Ordering.{Ordering}
+use Rattle.std.specs.Ordering.{nat_cmp, ordering_then}
+use Rattle.std.specs.BTreeSet.{insert_key}
 use Rattle.fwd_base.specs.declared.ids.ChunkId.{ChunkId}
 use Rattle.fwd_base.specs.declared.ids.OutputId.{OutputId}
 use Rattle.fwd_retry.specs.declared.timer.Timer.{Timer}
@@ -35,3 +38,11 @@ first timers = fold (λ found timer. Some (earlier found timer)) None timers
 pub record IsFirst (timers : List Timer) (timer : Timer) : Type 0 where
   pub member : Contains timers timer
   pub none_before : (other : Timer) → Contains timers other → is_before other timer ≡ false
+
+-- by due time, then by chunk, then by output
+abbrev pub by_time : Timer → Timer → Ordering
+by_time a b = ordering_then (nat_cmp a.due b.due) (ordering_then (nat_cmp a.chunk.0 b.chunk.0) (nat_cmp a.output.0 b.output.0))
+
+-- the timers in this order, each once
+abbrev pub in_time : List Timer → List Timer
+in_time timers = fold (insert_key by_time) [] timers

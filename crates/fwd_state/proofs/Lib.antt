@@ -9,7 +9,6 @@ pub mod Having
 pub mod Idle
 pub mod Loading
 pub mod Staying
-pub mod Walking
 pub mod Fitting
 pub mod Pauses
 pub mod Losses

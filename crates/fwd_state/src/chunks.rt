@@ -1,11 +1,14 @@
 //! The table of chunks, with the greatest number that one of them had.
 
-ghost use Rattle.std.specs.Prelude.{◌≡◌, ◌<◌, ◌≤◌, [], ◌∷◌, ◌++◌, OnOk};
+ghost use Rattle.std.specs.Prelude.{◌≡◌, ◌<◌, ◌≤◌, [], ◌∷◌, ◌++◌, filter, nat_le, IfOk, OnOk};
+ghost use Rattle.fwd_retry.specs.declared.timer.Timer.{Timer};
+ghost use Rattle.fwd_retry.specs.Timer.{in_time};
 ghost use Rattle.fwd_table.specs.Answers.{due_after};
-ghost use Rattle.fwd_table.specs.Rows.{opened, on_chunk, grown, shut_at, started_to, retried_to, resolved_to, owed_rows};
+ghost use Rattle.fwd_table.specs.Rows.{opened, on_chunk, grown, shut_at, started_to, retried_to, resolved_to, owed_rows, idle_timers_of};
 
 use fwd_base::{Bytes, ChunkId, InputId, Memory, OutputId, Retries};
 use fwd_outside::Home;
+use fwd_retry::Timer;
 use fwd_table::{Answer, Table};
 use std::alloc::Global;
 use std::marker::Model;
@@ -111,6 +114,15 @@ impl Chunks {
     {
         self.table.lose(chunk, output);
         self.table.keep_owed();
+    }
+
+    /// The timers of the idle routes that are due at `now`, by due time, then chunk, then output. All chunks stay.
+    pub fn due(&mut self, now: u64) -> Result<Vec<Timer>, Memory>
+        ensures rows { self.new.rows ≡ self.old.rows }
+        ensures top { self.new.top ≡ self.old.top }
+        ensures due { IfOk result (λ timers. timers.items ≡ in_time (filter (λ (t : Timer). nat_le t.due now) (idle_timers_of self.old.rows))) }
+    {
+        self.table.due(now)
     }
 
     pub fn table(&self) -> &Table

@@ -291,10 +291,11 @@ impl State {
     }
 
     /// The routes that are idle and due, by due time, chunk and output.
-    pub fn due_routes(&self) -> Result<Vec<RouteId>, Memory>
-        ensures { Tells self.now (λ s h. IfOk result (λ routes. map route_of routes.items ≡ due_routes s h)) }
+    pub fn due_routes(&mut self) -> Result<Vec<RouteId>, Memory>
+        ensures keeps { Keeps self.old self.new }
+        ensures routes { Tells self.old (λ s h. IfOk result (λ routes. map route_of routes.items ≡ due_routes s h)) }
     {
-        due_in(self.alloc, self.chunks.table(), self.clock)
+        due_in(self.alloc, &mut self.chunks, self.clock)
     }
 
     /// Whether a route is idle.

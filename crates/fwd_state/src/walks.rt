@@ -6,23 +6,32 @@ ghost use Rattle.fwd_table.specs.Rows.{idle_timers_of};
 ghost use Rattle.fwd_written.specs.Walk.{in_time, route_of as timer_route};
 ghost use Rattle.fwd_state.specs.Sight.{route_of};
 
+use crate::chunks::Chunks;
 use crate::flights::RouteId;
 use fwd_base::Memory;
-use fwd_table::Table;
+use fwd_retry::Timer;
 use std::alloc::Global;
 
-/// The routes that are idle and due at `now`, by due time, chunk and output.
-pub fn due_in(alloc: Global, table: &Table, now: u64) -> Result<Vec<RouteId>, Memory>
-    ensures { IfOk result (λ routes. map route_of routes.items ≡ map timer_route (in_time (filter (λ (t : Timer). nat_le t.due now) (idle_timers_of table.now.rows)))) }
+/// The routes of timers, in their order.
+fn routes_of(alloc: Global, timers: &[Timer]) -> Result<Vec<RouteId>, Memory>
+    ensures { IfOk result (λ routes. map route_of routes.items ≡ map timer_route timers.now) }
 {
     let mut routes = Vec::new(alloc);
-    let mut after = None;
-    while let Some(timer) = table.next_due(now, after) {
+    for timer in timers {
         routes.push(RouteId {
             chunk: timer.chunk,
             output: timer.output,
         })?;
-        after = Some(timer);
     }
     Ok(routes)
+}
+
+/// The routes that are idle and due at `now`, by due time, chunk and output. All chunks stay.
+pub fn due_in(alloc: Global, chunks: &mut Chunks, now: u64) -> Result<Vec<RouteId>, Memory>
+    ensures routes { IfOk result (λ routes. map route_of routes.items ≡ map timer_route (in_time (filter (λ (t : Timer). nat_le t.due now) (idle_timers_of chunks.old.rows)))) }
+    ensures rows { chunks.new.rows ≡ chunks.old.rows }
+    ensures top { chunks.new.top ≡ chunks.old.top }
+{
+    let timers = chunks.due(now)?;
+    routes_of(alloc, &timers)
 }

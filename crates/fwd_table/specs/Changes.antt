@@ -1,4 +1,5 @@
 -- Changes of routes and rows.
+use Rattle.std.specs.Prelude.{ℕ, ◌-◌, ◌^◌}
 use Rattle.fwd_table.specs.declared.route.Route.{Route}
 use Rattle.fwd_table.specs.declared.route.Change.{Change}
 use Rattle.fwd_table.specs.declared.route.Change.TheVariants.{Starts, Stays, Retries}
@@ -20,3 +21,16 @@ row_changed (Grows size) row = grown size row
 row_changed (Shuts now) row = shut_at now row
 row_changed (Changes output change) row = record row { routes = on_output output (changed change) row.routes }
 row_changed (Resolves output) row = resolved_to output row
+
+-- a reading before which no route is due by a change of it
+abbrev pub due_by : Change → ℕ
+due_by Starts = 2 ^ 64 - 1
+due_by Stays = 0
+due_by (Retries due) = due
+
+-- the same of a change of its row
+abbrev pub row_due_by : RowChange → ℕ
+row_due_by (Grows size) = 2 ^ 64 - 1
+row_due_by (Shuts now) = now
+row_due_by (Changes output change) = due_by change
+row_due_by (Resolves output) = 2 ^ 64 - 1

@@ -1,6 +1,6 @@
 -- The rows of a table: chunks with their routes, by rising chunk number.
-use Rattle.std.specs.Prelude.{◌≡◌, ℕ, ◌<◌, ◌==◌, ◌&&◌, nat_le, min, Bool, true, false, not, List, [], length, map, filter, find, Option, is_some, IsSomeAnd, IsTrue, AllPairs, if◌then◌else◌}
-use Rattle.std.specs.List.{flat_map}
+use Rattle.std.specs.Prelude.{◌≡◌, ◌≢◌, ℕ, ◌<◌, ◌≤◌, ◌==◌, ◌&&◌, nat_le, min, Bool, true, false, not, List, [], length, map, filter, find, Option, is_some, IsSomeAnd, IsTrue, MatchOption, All, AllPairs, if◌then◌else◌}
+use Rattle.std.specs.List.{HoldsAt, flat_map}
 use Rattle.std.specs.Option.{option_map_or}
 use Rattle.fwd_base.specs.Limits.{most_outputs}
 use Rattle.fwd_base.specs.declared.ids.ChunkId.{ChunkId}
@@ -35,6 +35,10 @@ is_row_of chunk row = row.chunk.0 == chunk.0
 -- the row of a chunk
 abbrev pub row_at : ChunkId → List Row → Option Row
 row_at chunk rows = find (is_row_of chunk) rows
+
+-- where the row of a chunk stands, if there is one
+abbrev pub IsPlaceOf : ChunkId → List Row → Option ℕ → Type 0
+IsPlaceOf chunk rows place = MatchOption place (All (λ row. row.chunk.0 ≢ chunk.0) rows) (λ i. (i < length rows) × HoldsAt (λ row. row.chunk.0 ≡ chunk.0) rows i)
 
 -- its routes, none where there is no row
 abbrev pub routes_at : ChunkId → List Row → List Route
@@ -103,6 +107,15 @@ seen_of row = record {
   flying = mask_of (flying_of row.routes);
   shut = row.shut;
 }
+
+-- no idle route of a row is due before a reading
+abbrev pub WaitsTill : ℕ → Row → Type 0
+WaitsTill reading row = IsTrue row.shut → All (λ r. r.flying ≡ false → reading ≤ r.due) row.routes
+
+-- the rows rise, and none of their idle routes is due before a reading
+pub record IsKept (reading : ℕ) (rows : List Row) : Type 0 where
+  pub rise : ChunksRise rows
+  pub wait : All (WaitsTill reading) rows
 
 -- ---- what happens to its rows
 

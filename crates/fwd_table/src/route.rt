@@ -1,14 +1,17 @@
 //! Routes: the outputs that a chunk is owed to still.
 
-ghost use Rattle.std.specs.Prelude.{◌≡◌, ◌==◌, ◌≤◌, [], fold, filter, find, length, map, option_copied, option_map, vec_capacity, if◌then◌else◌};
+ghost use Rattle.std.specs.Prelude.{◌≡◌, ◌==◌, ◌≤◌, [], All, false, fold, filter, find, length, map, nat_le, OnOk, option_copied, option_map, vec_capacity, if◌then◌else◌};
+ghost use Rattle.std.specs.BTreeSet.{insert_key};
 ghost use Rattle.fwd_base.specs.Limits.{most_outputs};
-ghost use Rattle.fwd_retry.specs.Timer.{earlier as earlier_of, is_next};
+ghost use Rattle.fwd_retry.specs.Timer.{by_time, earlier as earlier_of, is_next};
+ghost use Rattle.fwd_retry.specs.declared.timer.Timer.{Timer};
 ghost use Rattle.fwd_table.specs.Routes.{idle_at, due_at, is_to, on_output, without_output, timer_of, idle_timers, tries_to, routes_below, routes_to, mask_of, flying_of, IsMaskOf};
-ghost use Rattle.fwd_table.specs.Changes.{changed};
+ghost use Rattle.fwd_table.specs.Changes.{changed, due_by};
 
 use fwd_base::limits::MOST_OUTPUTS;
-use fwd_base::{ChunkId, OutputId};
+use fwd_base::{ChunkId, Memory, OutputId};
 use fwd_retry::{Timer, earlier};
+use std::collections::BTreeSet;
 use std::marker::Model;
 
 /// An output that a chunk is owed to still.
@@ -29,6 +32,19 @@ pub enum Change {
     Starts,
     Stays,
     Retries { due: u64 },
+}
+
+impl Change {
+    /// A clock reading in milliseconds before which no route is due by this change.
+    pub fn due(self) -> u64
+        ensures { result ≡ due_by self }
+    {
+        match self {
+            Change::Starts => u64::MAX,
+            Change::Stays => 0,
+            Change::Retries { due } => due,
+        }
+    }
 }
 
 impl Route {
@@ -245,5 +261,35 @@ impl Routes {
             }
         }
         first
+    }
+
+    /// A clock reading before which none of the idle routes is due: the first of their due times, where there is one.
+    pub fn soonest(&self) -> u64
+        ensures { All (λ r. r.flying ≡ false → result ≤ r.due) self.now }
+    {
+        let mut soonest = u64::MAX;
+        for route in &self.routes {
+            if !route.flying {
+                soonest = soonest.min(route.due);
+            }
+        }
+        soonest
+    }
+
+    /// Puts the timers of the idle routes that are due at `now` to others.
+    pub fn put_due(
+        &self,
+        chunk: ChunkId,
+        now: u64,
+        timers: &mut BTreeSet<Timer>,
+    ) -> Result<(), Memory>
+        ensures { OnOk result (timers.new.keys ≡ fold (insert_key by_time) timers.old.keys (filter (λ (t : Timer). nat_le t.due now) (idle_timers chunk self.now))) }
+    {
+        for route in &self.routes {
+            if !route.flying && route.due <= now {
+                timers.insert(route.timer(chunk))?;
+            }
+        }
+        Ok(())
     }
 }

@@ -1,16 +1,20 @@
 //! Rows: a chunk and its routes.
 
-ghost use Rattle.std.specs.Prelude.{◌≡◌, fold, filter, option_copied, if◌then◌else◌};
+ghost use Rattle.std.specs.Prelude.{◌≡◌, All, fold, filter, nat_le, option_copied, IfOk, OnOk};
 ghost use Rattle.std.specs.List.{flat_map};
-ghost use Rattle.fwd_retry.specs.Timer.{earlier as earlier_of, first, is_next};
-ghost use Rattle.fwd_table.specs.Rows.{is_row_of, on_chunk, row_at, seen_of, waiting, flies_to, waits_for, flights_to};
+ghost use Rattle.std.specs.BTreeSet.{insert_key};
+ghost use Rattle.fwd_retry.specs.declared.timer.Timer.{Timer};
+ghost use Rattle.fwd_retry.specs.Timer.{by_time, earlier as earlier_of, first, in_time, is_next};
+ghost use Rattle.fwd_table.specs.Rows.{ChunksRise, IsPlaceOf, WaitsTill, on_chunk, row_at, seen_of, waiting, flies_to, waits_for, flights_to};
 ghost use Rattle.fwd_table.specs.Routes.{flying_of, IsMaskOf};
-ghost use Rattle.fwd_table.specs.Changes.{row_changed};
+ghost use Rattle.fwd_table.specs.Changes.{row_changed, row_due_by};
 
 use crate::route::{Change, Routes};
-use fwd_base::{Bytes, ChunkId, InputId, OutputId};
+use fwd_base::{Bytes, ChunkId, InputId, Memory, OutputId};
 use fwd_outside::Home;
 use fwd_retry::Timer;
+use std::alloc::Global;
+use std::collections::BTreeSet;
 
 /// A chunk, and the outputs that it is owed to still.
 #[derive(Debug, Drop)]
@@ -53,16 +57,20 @@ pub enum RowChange {
     Resolves { output: OutputId },
 }
 
-impl Row {
-    /// Changes the row, where it is that of the chunk.
-    fn change(&mut self, chunk: ChunkId, change: RowChange)
-        ensures { self.new ≡ (if is_row_of chunk self.old then row_changed change self.old else self.old) }
+impl RowChange {
+    /// A clock reading in milliseconds before which no route is due by this change.
+    pub fn due(self) -> u64
+        ensures { result ≡ row_due_by self }
     {
-        if self.chunk == chunk {
-            self.apply(change);
+        match self {
+            RowChange::Grows { .. } | RowChange::Resolves { .. } => u64::MAX,
+            RowChange::Shuts { now } => now,
+            RowChange::Changes { change, .. } => change.due(),
         }
     }
+}
 
+impl Row {
     fn apply(&mut self, change: RowChange)
         ensures { self.new ≡ row_changed change self.old }
     {
@@ -117,22 +125,53 @@ impl Row {
             first
         }
     }
+
+    /// A clock reading before which none of the row's idle routes is due.
+    fn soonest(&self) -> u64
+        ensures { WaitsTill result self.now }
+    {
+        if !self.shut {
+            return u64::MAX;
+        }
+        self.routes.soonest()
+    }
+
+    /// Puts the timers of the row's idle routes that are due at `now` to others.
+    fn put_due(&self, now: u64, timers: &mut BTreeSet<Timer>) -> Result<(), Memory>
+        ensures { OnOk result (timers.new.keys ≡ fold (insert_key by_time) timers.old.keys (filter (λ (t : Timer). nat_le t.due now) (waiting self.now))) }
+    {
+        if !self.shut {
+            return Ok(());
+        }
+        self.routes.put_due(self.chunk, now, timers)
+    }
+}
+
+/// The place of a chunk's row, if there is one.
+pub fn place_of(rows: &[Row], chunk: ChunkId) -> Option<usize>
+    requires { ChunksRise rows.now }
+    ensures { IsPlaceOf chunk rows.now result }
+{
+    rows.binary_search_by_key(&chunk.0, |row| row.chunk.0).ok()
 }
 
 /// Changes the row of a chunk, if there is one.
-pub fn change_rows(rows: &mut [Row], chunk: ChunkId, change: RowChange)
+pub fn change_row(rows: &mut [Row], chunk: ChunkId, change: RowChange)
+    requires { ChunksRise rows.old }
     ensures { rows.new ≡ on_chunk chunk (row_changed change) rows.old }
 {
-    for row in rows.iter_mut() {
-        row.change(chunk, change);
+    if let Some(place) = place_of(rows, chunk) {
+        rows[place].apply(change);
     }
 }
 
 /// The row of a chunk, if there is one.
 pub fn find_row(rows: &[Row], chunk: ChunkId) -> Option<&Row>
+    requires { ChunksRise rows.now }
     ensures { option_copied result ≡ row_at chunk rows.now }
 {
-    rows.iter().find(|row| row.chunk == chunk)
+    let place = place_of(rows, chunk)?;
+    Some(&rows[place])
 }
 
 /// How many rows have a route to an output that is under way.
@@ -151,4 +190,34 @@ pub fn next_in(rows: &[Row], now: u64, after: Option<Timer>) -> Option<Timer>
         first = row.next(now, after, first);
     }
     first
+}
+
+/// A clock reading before which no idle route is due.
+pub fn soonest_in(rows: &[Row]) -> u64
+    ensures { All (WaitsTill result) rows.now }
+{
+    let mut soonest = u64::MAX;
+    for row in rows {
+        soonest = soonest.min(row.soonest());
+    }
+    soonest
+}
+
+/// Puts the timers of the idle routes that are due at `now` into a set.
+fn put_due_in(rows: &[Row], now: u64, timers: &mut BTreeSet<Timer>) -> Result<(), Memory>
+    ensures { OnOk result (timers.new.keys ≡ fold (insert_key by_time) timers.old.keys (filter (λ (t : Timer). nat_le t.due now) (flat_map waiting rows.now))) }
+{
+    for row in rows {
+        row.put_due(now, timers)?;
+    }
+    Ok(())
+}
+
+/// The timers of the idle routes that are due at `now`, by due time, then chunk, then output.
+pub fn due_in(alloc: Global, rows: &[Row], now: u64) -> Result<Vec<Timer>, Memory>
+    ensures { IfOk result (λ timers. timers.items ≡ in_time (filter (λ (t : Timer). nat_le t.due now) (flat_map waiting rows.now))) }
+{
+    let mut timers = BTreeSet::new(alloc);
+    put_due_in(rows, now, &mut timers)?;
+    Ok(timers.into_iter().collect(alloc)?)
 }

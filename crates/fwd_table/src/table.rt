@@ -1,7 +1,8 @@
 //! The table of chunks and their routes.
 
-ghost use Rattle.std.specs.Prelude.{◌≡◌, ◌↔◌, ◌+◌, ◌*◌, ◌<◌, ◌≤◌, [], ◌∷◌, ◌++◌, length, slice_get, All, filter, option_map, IfSome, IsTrue, MatchOption, OnOk};
-ghost use Rattle.fwd_retry.specs.Timer.{first, is_next, IsFirst};
+ghost use Rattle.std.specs.Prelude.{◌≡◌, ◌↔◌, ◌+◌, ◌*◌, ◌<◌, ◌≤◌, [], ◌∷◌, ◌++◌, length, slice_get, All, filter, option_map, IfOk, IfSome, IsTrue, MatchOption, OnOk, nat_le};
+ghost use Rattle.fwd_retry.specs.declared.timer.Timer.{Timer};
+ghost use Rattle.fwd_retry.specs.Timer.{first, in_time, is_next, IsFirst};
 ghost use Rattle.fwd_table.specs.Answers.{due_after, may_retry, is_tried_again, outcome_of, resolved};
 ghost use Rattle.fwd_table.specs.Routes.{flying_of, mask_of, IsMaskOf};
 ghost use Rattle.fwd_table.specs.Changes.{row_changed};
@@ -9,7 +10,9 @@ ghost use Rattle.fwd_table.specs.Rows.{IsIdle, IsOwedToNobody, has_row, is_idle_
 
 use crate::answer::{due_after, may_retry, resolved, spent};
 use crate::route::{Change, Route, Routes};
-use crate::row::{Row, RowChange, change_rows, find_row, flights_in, next_in};
+use crate::row::{
+    Row, RowChange, change_row, due_in, find_row, flights_in, next_in, place_of, soonest_in,
+};
 use crate::{Answer, Outcome, RowSeen};
 use fwd_base::limits::MOST_OUTPUTS;
 use fwd_base::{Bytes, ChunkId, InputId, Memory, OutputId, Retries};
@@ -20,24 +23,27 @@ use std::marker::Model;
 use std::mem;
 
 /// The chunks that are open or owed to an output, by rising number, each with the outputs that it is owed to still.
-/// Contracts see the rows, and beside them for how many more there is room. All calls but `reserve` take no memory.
+/// Contracts see the rows, and beside them for how many more there is room. All calls but `reserve` and `due` take no
+/// memory. The row of a chunk is found by halving.
 #[derive(Debug, Drop)]
 pub struct Table {
     rows: Vec<Row>,
     /// Where the routes of the next row go.
     storage: Vec<Route>,
+    /// A clock reading in milliseconds before which no idle route is due.
+    soonest: u64,
     alloc: Global,
 }
 
 impl Model for Table {
     ghost use Rattle.std.specs.Prelude.{◌-◌, vec_len, vec_capacity};
-    ghost use Rattle.fwd_table.specs.Rows.{TableSeen, spare_of, ChunksRise};
+    ghost use Rattle.fwd_table.specs.Rows.{TableSeen, spare_of, IsKept};
 
     ghost Value = { TableSeen };
 
     ghost view = { λ t. record { rows = t.rows.items; spare = spare_of (vec_capacity t.storage) (vec_capacity t.rows - vec_len t.rows) } };
 
-    ghost invariant = { λ t. ChunksRise t.rows.items };
+    ghost invariant = { λ t. IsKept t.soonest t.rows.items };
 }
 
 impl Table {
@@ -48,6 +54,7 @@ impl Table {
         Table {
             rows: Vec::new(alloc),
             storage: Vec::new(alloc),
+            soonest: u64::MAX,
             alloc,
         }
     }
@@ -145,6 +152,22 @@ impl Table {
         next_in(&self.rows, now, after)
     }
 
+    /// The timers of the idle routes that are due at `now`, by due time, then chunk, then output. The rows stay. Where none
+    /// is due, most calls look at no row. The list takes memory.
+    pub fn due(&mut self, now: u64) -> Result<Vec<Timer>, Memory>
+        ensures rows { self.new.rows ≡ self.old.rows }
+        ensures spare { self.old.spare ≤ self.new.spare }
+        ensures due { IfOk result (λ timers. timers.items ≡ in_time (filter (λ (t : Timer). nat_le t.due now) (idle_timers_of self.old.rows))) }
+    {
+        if self.soonest <= now {
+            self.soonest = soonest_in(&self.rows);
+        }
+        if now < self.soonest {
+            return Ok(Vec::new(self.alloc));
+        }
+        due_in(self.alloc, &self.rows, now)
+    }
+
     /// A route is being handed over from now on, if it is owed.
     pub fn started(&mut self, chunk: ChunkId, output: OutputId)
         ensures rows { self.new.rows ≡ on_chunk chunk (started_to output) self.old.rows }
@@ -226,7 +249,9 @@ impl Table {
         ensures rows { self.new.rows ≡ without_chunk chunk self.old.rows }
         ensures spare { self.old.spare ≤ self.new.spare }
     {
-        self.rows.retain(|row| row.chunk != chunk);
+        if let Some(place) = place_of(&self.rows, chunk) {
+            self.rows.remove(place);
+        }
     }
 
     /// Takes away the rows that are owed to nobody.
@@ -275,7 +300,8 @@ impl Table {
         ensures rows { self.new.rows ≡ on_chunk chunk (row_changed change) self.old.rows }
         ensures spare { self.old.spare ≤ self.new.spare }
     {
-        change_rows(&mut self.rows, chunk, change);
+        self.soonest = self.soonest.min(change.due());
+        change_row(&mut self.rows, chunk, change);
     }
 
     fn tries_so_far(&self, chunk: ChunkId, output: OutputId) -> u64

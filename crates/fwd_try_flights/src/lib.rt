@@ -6,6 +6,8 @@ mod flush;
 #[cfg(test)]
 mod links;
 #[cfg(test)]
+mod many;
+#[cfg(test)]
 mod out_text;
 #[cfg(test)]
 mod report;

@@ -1,9 +1,7 @@
 -- The walk over what is idle and due, and which routes of it are begun.
-use Rattle.std.specs.Prelude.{ℕ, ◌+◌, ◌==◌, ◌&&◌, ◌||◌, nat_lt, nat_le, not, Bool, false, List, [], map, filter, fold, Option, Some, None}
-use Rattle.std.specs.declared.cmp.Ordering.{Ordering}
-use Rattle.std.specs.Ordering.{nat_cmp, ordering_then}
-use Rattle.std.specs.BTreeSet.{insert_key}
+use Rattle.std.specs.Prelude.{ℕ, ◌+◌, ◌==◌, ◌&&◌, ◌||◌, nat_lt, nat_le, not, Bool, false, List, map, filter, Option, Some, None}
 use Rattle.fwd_retry.specs.declared.timer.Timer.{Timer}
+pub use Rattle.fwd_retry.specs.Timer.{by_time, in_time}
 use Rattle.fwd_table.specs.declared.row.Row.{Row}
 use Rattle.fwd_table.specs.Rows.{idle_timers_of, row_at}
 use Rattle.fwd_limits.specs.Kept.{in_file, was_found, flies, files_up, found_up}
@@ -12,13 +10,6 @@ use Rattle.fwd_written.specs.Fact.{History, Route}
 use Rattle.fwd_written.specs.Setup.{output_at, places_at}
 use Rattle.fwd_written.specs.Clock.{clock}
 use Rattle.fwd_written.specs.Routes.{route, rows_of, flights_to, is_idle}
-
--- by due time, then by chunk, then by output
-abbrev pub by_time : Timer → Timer → Ordering
-by_time a b = ordering_then (nat_cmp a.due b.due) (ordering_then (nat_cmp a.chunk.0 b.chunk.0) (nat_cmp a.output.0 b.output.0))
-
-abbrev pub in_time : List Timer → List Timer
-in_time timers = fold (insert_key by_time) [] timers
 
 abbrev pub route_of : Timer → Route
 route_of timer = route timer.chunk.0 timer.output.0

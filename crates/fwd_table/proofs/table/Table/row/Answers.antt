@@ -11,4 +11,4 @@ returns-clause-only c =
     let within : c.args.index < length rows = rw (← c.self.view_is) at c.requires in
     let there : slice_get rows c.args.index ≡ Some c.index.result.now = slice_get_read rows (length rows) c.args.index c.index.result.now refl within c.index.ensures in
     let chunk : c.seen.result.chunk ≡ c.index.result.now.chunk = ap (λ (seen : RowSeen). seen.chunk) c.seen.ensures.value in
-    rw (chunk, ← c.self.view_is) (row_found rows c.args.index c.index.result.now c.self.invariant there)
+    rw (chunk, ← c.self.view_is) (row_found rows c.args.index c.index.result.now c.self.invariant.rise there)
