@@ -1,8 +1,10 @@
 //! The engine.
 
-ghost use Rattle.std.specs.Prelude.{◌≡◌, ◌≤◌, Err};
+ghost use Rattle.std.specs.Prelude.{◌≡◌, ◌≤◌, true, Err};
 ghost use Rattle.fwd_program.specs.Cause.{HasCause};
 ghost use Rattle.fwd_outside.specs.Loop.{WaitFails, waited};
+ghost use Rattle.fwd_image.specs.Disk.{Files as DiskFiles};
+ghost use Rattle.fwd_backlog.specs.Found.{IsFresh};
 ghost use Rattle.fwd_settings.specs.Sound.{IsSound};
 ghost use Rattle.fwd_settings.specs.declared.chosen.AllSettings.{AllSettings};
 ghost use Rattle.fwd_written.specs.Fact.{History};
@@ -11,9 +13,12 @@ ghost use Rattle.fwd_written.specs.Clock.{stopped, ticked};
 ghost use Rattle.fwd_written.specs.Limits.{paused};
 ghost use Rattle.fwd_written.specs.Routes.{rows_of};
 ghost use Rattle.fwd_written.specs.Tallies.{tally_of};
+ghost use Rattle.fwd_ties.specs.Due.{BroughtDue};
+ghost use Rattle.fwd_safe.specs.Moment.{Moment};
 ghost use Rattle.fwd_parts.specs.Acts.{with_disk, with_all};
 ghost use Rattle.fwd_parts.specs.Heard.{HasHeard, IsUnheard};
 ghost use Rattle.fwd_engine.specs.Steps.{BeginsSo, FailsSo, IsAt, Knows, Steps, Turns, Waits, as_turn, heard_by, is_failed};
+ghost use Rattle.fwd_engine.specs.Safely.{BeginsSafely, LivesAt, StepsSafely, TurnsSafely};
 ghost use Rattle.fwd_engine.specs.declared.engine.BeginErr.TheVariants as begin_err;
 ghost use Rattle.fwd_engine.specs.declared.engine.EngineStop.TheVariants as stop;
 
@@ -97,15 +102,12 @@ impl Engine {
         requires { IsSound settings }
         ensures begins { (others : World) → BeginsSo (with_disk (D.told disk.old) others) (with_disk (D.told disk.new) others) settings result }
         ensures cause { HasCause (D.faults disk.old) (D.faults disk.new) (result ≡ Err begin_err.DiskFault) }
+
+        // Under full sync, from a disk on which nothing is in doubt: what a crash leaves at each moment is safe.
+        ensures safe { (others : World) (first : DiskFiles) → settings.service.full ≡ true → IsFresh first
+            → BeginsSafely (with_disk (D.told disk.old) others) (with_disk (D.told disk.new) others) settings first result }
     {
-        let Ok(setup) = Setup::new(alloc, settings) else {
-            return Err(BeginErr::Memory);
-        };
-        match load(rt, alloc, setup.run(), disk) {
-            Ok(parts) => Ok(Engine { setup, parts }),
-            Err(LoadErr::DiskFailed) => Err(BeginErr::DiskFault),
-            Err(LoadErr::Memory) => Err(BeginErr::Memory),
-        }
+        Engine::begun(rt, alloc, settings, disk)
     }
 
     /// Takes one happening. `LoopFault` comes exactly where it is `Failed`, and the engine then stands as before. `Over` comes
@@ -125,7 +127,14 @@ impl Engine {
         ensures later { L.faults outside.old ≤ L.faults outside.new }
         ensures disk_later { D.faults disk.old ≤ D.faults disk.new }
         ensures files_later { F.faults files.old ≤ F.faults files.new }
+
+        // Under full sync, where the engine stands at a moment to which a life has come that began with a disk on which
+        // nothing was in doubt: what a crash leaves at each moment of the step is safe, and behind it the engine stands at
+        // such a moment again.
+        ensures safe { (others : World) (s : AllSettings) (first : DiskFiles) (m : Moment) → s.service.full ≡ true → IsFresh first → LivesAt s first self.old m → BroughtDue s happening m.past
+            → StepsSafely (with_all (L.told outside.old) (D.told disk.old) (F.told files.old) others) (with_all (L.told outside.new) (D.told disk.new) (F.told files.new) others) s first m happening self.new result }
     {
+        self.setup.are_sound();
         self.take(rt, &happening, disk, files, outside)
     }
 
@@ -153,10 +162,37 @@ impl Engine {
         ensures cause { HasCause (L.faults outside.old) (L.faults outside.new) (result ≡ Err stop.LoopFault) }
         ensures disk_later { D.faults disk.old ≤ D.faults disk.new }
         ensures files_later { F.faults files.old ≤ F.faults files.new }
+
+        // Under full sync, where the engine stands at a moment to which a life has come that began with a disk on which
+        // nothing was in doubt: what a crash leaves at each moment of the turn is safe, and behind it the engine stands at
+        // such a moment again.
+        ensures safe { (others : World) (s : AllSettings) (first : DiskFiles) (m : Moment) → s.service.full ≡ true → IsFresh first → LivesAt s first self.old m
+            → TurnsSafely (with_all (L.told outside.old) (D.told disk.old) (F.told files.old) others) (with_all (L.told outside.new) (D.told disk.new) (F.told files.new) others) s first m self.new result }
     {
+        self.setup.are_sound();
         match self.wait(outside) {
             Ok(happening) => self.take(rt, &happening, disk, files, outside),
             Err(_) => Err(EngineStop::Memory),
+        }
+    }
+
+    fn begun<D: Disk>(
+        rt: &(impl Threads + Sync),
+        alloc: Global,
+        settings: AllSettings,
+        disk: &mut D,
+    ) -> Result<Engine, BeginErr>
+        requires { IsSound settings }
+        ensures begins { (others : World) → BeginsSo (with_disk (D.told disk.old) others) (with_disk (D.told disk.new) others) settings result }
+        ensures cause { HasCause (D.faults disk.old) (D.faults disk.new) (result ≡ Err begin_err.DiskFault) }
+    {
+        let Ok(setup) = Setup::new(alloc, settings) else {
+            return Err(BeginErr::Memory);
+        };
+        match load(rt, alloc, setup.run(), disk) {
+            Ok(parts) => Ok(Engine { setup, parts }),
+            Err(LoadErr::DiskFailed) => Err(BeginErr::DiskFault),
+            Err(LoadErr::Memory) => Err(BeginErr::Memory),
         }
     }
 

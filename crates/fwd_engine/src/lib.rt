@@ -9,3 +9,4 @@ mod engine;
 mod setup;
 
 pub use engine::{BeginErr, Engine, EngineStop, Turn};
+pub use fwd_stepping::is_reading;

@@ -64,6 +64,13 @@ impl Setup {
         &self.run
     }
 
+    /// What is so of every configuration's settings is so of these.
+    pub fn are_sound(&self)
+        ensures { IsSound self.now }
+    {
+        self.run.are_sound()
+    }
+
     pub fn limits(&self) -> &MemLimits
         ensures value { result.now ≡ map (λ (set : InputSet). set.mem_limit) self.now.inputs }
         ensures most { length result.now ≤ most_inputs }

@@ -18,9 +18,8 @@ ghost use Rattle.fwd_lives.specs.Runs.{GoesOn, Runs, heard_in};
 ghost use Rattle.fwd_lives.specs.declared.running.RunEnd.TheVariants as run_end;
 
 use fwd_base::Memory;
-use fwd_engine::{Engine, EngineStop, Turn};
+use fwd_engine::{Engine, EngineStop, Turn, is_reading};
 use fwd_outside::{Begun, Disk, Ends, Files, Happening, Loop};
-use fwd_stepping::is_reading;
 use std::thread::Threads;
 
 /// How a run ended.
