@@ -23,8 +23,8 @@ loop-route-init g c = (
   as_many (g.L.Loop.faults c.args.outside.now),
   as_many (g.D.Disk.faults c.args.disk.now),
   λ others h shows.
-      let told = ap (map route_of) c.deref-route-items.ensures.value ∙ c.in_ok-routes.ensures c.args.run.now h None shows.state in
-      (h, shows, rw (walk_is c.args.run.now h _ told) (stays (with_both (g.L.Loop.told c.args.outside.now) (g.D.Disk.told c.args.disk.now) others) _)),
+      let told = ap (map route_of) c.deref-route-items.ensures.value ∙ c.in_ok-routes.ensures.routes c.args.run.now h None shows.state in
+      (h, record shows { state = c.in_ok-routes.ensures.keeps c.args.run.now h None shows.state }, rw (walk_is c.args.run.now h _ told) (stays (with_both (g.L.Loop.told c.args.outside.now) (g.D.Disk.told c.args.disk.now) others) _)),
 )
 
 pub returns-in_err-turn-clause-acts : goal.returns-in_err-turn-clause-acts
