@@ -4,7 +4,7 @@ use Rattle.fwd_settings.specs.declared.chosen.AllSettings.{AllSettings}
 use Rattle.fwd_settings.specs.declared.chosen.InputSet.{InputSet}
 use Rattle.fwd_settings.specs.declared.chosen.OutputSet.{OutputSet}
 use Rattle.fwd_settings.specs.declared.chosen.OutputKind.{OutputKind}
-use Rattle.fwd_settings.specs.declared.chosen.OutputKind.TheVariants.{Stdout}
+use Rattle.fwd_settings.specs.declared.chosen.OutputKind.TheVariants as output_kind
 use Rattle.fwd_script.specs.declared.schedule.Cut.{Cut}
 use Rattle.fwd_play.specs.Handed.{handed}
 use Rattle.fwd_written.specs.Fact.{History}
@@ -25,8 +25,11 @@ abbrev pub output_names : List OutputSet → List (List ℕ)
 output_names outputs = map (λ (set : OutputSet). set.name) outputs
 
 abbrev pub is_stdout : OutputKind → Bool
-is_stdout (Stdout form) = true
-is_stdout _ = false
+is_stdout (output_kind.Stdout form) = true
+is_stdout (output_kind.File folder file form) = false
+is_stdout (output_kind.Tcp host port form) = false
+is_stdout (output_kind.Forward host port ack whole_time) = false
+is_stdout (output_kind.Http host port uri form) = false
 
 -- bit i is set where output i is a standard output
 abbrev pub stdout_mask : List OutputSet → ℕ
