@@ -24,7 +24,7 @@ loop-route-init g c = (
   as_many (g.D.Disk.faults c.args.disk.now),
   λ others h shows.
       let told = ap (map route_of) c.deref-route-items.ensures.value ∙ c.in_ok-routes.ensures.routes c.args.run.now h None shows.state in
-      (h, record shows { state = c.in_ok-routes.ensures.keeps c.args.run.now h None shows.state }, rw (walk_is c.args.run.now h _ told) (stays (with_both (g.L.Loop.told c.args.outside.now) (g.D.Disk.told c.args.disk.now) others) _)),
+      (h, record { state = c.in_ok-routes.ensures.keeps c.args.run.now h None shows.state; hearing = shows.hearing; following = shows.following; store = shows.store; sound = shows.sound }, rw (walk_is c.args.run.now h _ told) (stays (with_both (g.L.Loop.told c.args.outside.now) (g.D.Disk.told c.args.disk.now) others) _)),
 )
 
 pub returns-in_err-turn-clause-acts : goal.returns-in_err-turn-clause-acts
