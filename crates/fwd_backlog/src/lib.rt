@@ -3,6 +3,12 @@
 //! What an earlier life was owed must be found again, whatever ended that life. So all files of chunks under the storage
 //! path are listed, and each is synced, read and checked, in an order that doesn't depend on the disk. What is kept of a
 //! file is a description. New chunks get numbers above all that were found.
+//!
+//! `load_all` lists, syncs and reads exactly these files; what it found is what stands there, in order, and a crash at
+//! any moment of it leaves nothing that could not have been left before. Several threads check the files in groups, and
+//! the backlog doesn't depend on them (`one_backlog`). Whatever the disk, files stand under names that a disk may list
+//! (`named`): different files have different paths, none has the name of the next number or of a later one
+//! (`later_names_are_new`), and under no stream does a file of such a name stand (`later_numbers_are_free`).
 #![tactic(auto)]
 
 mod checking;

@@ -1,6 +1,12 @@
 //! What every crate of Fuztreb names: bytes, lists, the numbers by which inputs, outputs, connections, links and chunks
 //! are known, and want of memory; besides, what a configuration writes as a size or a pattern, and choices of it that
 //! crates far from it name.
+//!
+//! Bytes and lists are the lists that contracts see. Each limit of the program is the number of one definition, which
+//! every crate cites (`limits_are_defined`). `parse_size` and `number` read exactly the sizes and decimal numbers of
+//! their definitions. A `Pattern` is what the grammar of `regex` reads from the rewritten text; a `Search`, made once
+//! for many texts, answers by `hits` and `captures` what that finds. Threads may share bytes, names and patterns and
+//! hand them over (`bytes_cross`, `names_cross`, `patterns_cross`).
 #![tactic(auto)]
 
 mod blanks;

@@ -6,6 +6,12 @@
 //! a crash at any moment leaves the old content or the new.
 //!
 //! The metadata name the outputs that the chunk is for. What becomes of one is recorded in one byte of its own.
+//!
+//! At every moment between and inside the disk calls of `create`, `stage` and `commit` each image of the file stands
+//! for the old content, or for the old or the new, as each clause says. At every moment of `settle` each image has the
+//! tag, the content and the other outcomes of some image of before; where it answered `true` under full sync, the file
+//! has one image, in which the outcome is recorded. `proofs/Wrong.antt` shows of wrong orders an image that stands for
+//! what nobody wrote.
 #![tactic(auto)]
 
 mod append;

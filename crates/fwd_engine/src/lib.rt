@@ -3,6 +3,9 @@
 //!
 //! Its clauses hold for all of these devices, whether they tell their calls or not: from each history that the engine has
 //! come to, the calls are those of the step, and it then stands where the step leads.
+//!
+//! `paused`, `table`, `tally`, `ticks` and `stopped` answer as the history has them. `DiskFault` comes only where a
+//! failure of the disk was counted, `LoopFault` exactly where the happening is `Failed`.
 #![tactic(auto)]
 
 mod engine;

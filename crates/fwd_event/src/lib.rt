@@ -1,5 +1,8 @@
 //! A log line becomes an event: a time, metadata and a body of pairs. Events are stored and sent as MessagePack values,
 //! one after another, in two forms; files may end within one.
+//!
+//! `read_events`, `whole_prefix` and `write_event` go by the definition of events. The events at the front of bytes are
+//! also a function of the bytes (`events_in`), with its laws.
 #![tactic(auto)]
 
 mod errors;

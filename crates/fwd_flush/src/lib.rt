@@ -3,6 +3,10 @@
 //! A link takes a piece at a time, wants to wait, or breaks, and some peers confirm by a reply what they took. A flight
 //! hands over one payload: it dials, pushes what is left whenever there is room, keeps what is replied, and comes to an
 //! answer once. It goes on where it stopped, and an ended flight has closed its link.
+//!
+//! A flight makes exactly the calls of its written program on its loop, told or not. Its answer is the verdict on what
+//! happened to it in whatever order, ERROR exactly where the whole payload was taken and a wanted reply is fatal. What
+//! it handed over is a beginning of the payload, and the whole where it answered OK or ERROR.
 #![tactic(auto)]
 
 mod flush;

@@ -3,6 +3,10 @@
 //! After a crash the files of chunks are found again, some of them cut, some written by others. Each stands for a tag
 //! and whole events, or is refused for the first reason that its bytes give. A file with a committed length stands for
 //! so many bytes, whatever stands behind them; a plain file for its longest prefix of whole events.
+//!
+//! `read_chunk` gives the tag, the whole events, the outputs and those that are recorded, or the first refusal; what
+//! bytes stand for is also a function of them (`bytes_stand_for_one_answer`). A file that `fwd_chunk` left stands for
+//! what was written (`parts_stand`). `check_file` keeps of a file its description.
 #![tactic(auto)]
 
 mod check;

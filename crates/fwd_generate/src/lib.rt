@@ -1,4 +1,6 @@
 //! A generated load: a configuration, and a schedule in which one connection brings so many lines.
+//!
+//! `generate` writes the two texts as their definitions spell them, line by line; the only error is want of memory.
 #![tactic(auto)]
 
 ghost use Rattle.std.specs.Prelude.{◌≡◌, ◌*◌, ◌++◌, codes, decimal, IfOk, OnOk};

@@ -4,6 +4,9 @@
 //! write that no sync has followed may have come to the disk, or not, or in part. So a file here has a state with what is
 //! in doubt, each call with its answer may change it in some ways, and each image that fits the state may be found. What
 //! is promised of a disk is promised for every way in which it can have gone with the answers that it told.
+//!
+//! Laws say which calls change what; by one of them a byte that is written inside a file is alone in doubt
+//! (`one_byte_in_doubt`).
 #![tactic(auto)]
 
 mod laws;

@@ -2,6 +2,8 @@
 //! hands out the messages that end in each: they are those of the whole stream, however it was cut. A message of many
 //! megabytes may come in pieces of a few bytes: each byte of it is looked at once while it comes and once when it is
 //! whole.
+//!
+//! After a fault it gives no message and the same fault for ever; after want of memory it is unchanged.
 #![tactic(auto)]
 
 mod conn;

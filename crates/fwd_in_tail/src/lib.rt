@@ -2,6 +2,9 @@
 //! asks for the file's length and reads what stands behind the place that was reached, and gives the lines that end
 //! there. A file that has become shorter than the place is read from its beginning, and what was read of a line before
 //! counts no more. A file that is cut and grows past the place between two polls can't be told from one that grew.
+//!
+//! Over whatever files each poll gives the lines by the definition of followed files (`Followed`); after an `Err` it is
+//! unchanged.
 #![tactic(auto)]
 
 mod laws;

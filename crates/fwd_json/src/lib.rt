@@ -1,5 +1,7 @@
 //! Peers send log lines as JSON, and outputs write values so. Here a line of JSON becomes the pairs of a body, or is refused
 //! with its reason, and a value becomes JSON text, one line for each, whatever bytes it holds.
+//!
+//! `pairs_of_json` gives the pairs of a line, or the first refusal in order.
 #![tactic(auto)]
 
 mod reading;

@@ -2,6 +2,9 @@
 //! paused as their chunks fill memory, and how much is in flight.
 //!
 //! All is asked of the table of chunks as it stands, and takes no memory.
+//!
+//! `next_loss`, asked again and again, gives the shortest list of the lowest chunks (`one_after_another`); `paused`,
+//! `files_up` and `found_up` are exactly their definitions.
 #![tactic(auto)]
 
 mod flights;

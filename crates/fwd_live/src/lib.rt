@@ -1,6 +1,10 @@
 //! The devices of the machine that the program runs on: the files that it reads, standard output, a disk of folders and
 //! the loop that brings what happens. Each tells its calls with their answers, in proofs alone: nothing of it is kept
 //! when the program runs.
+//!
+//! They meet their traits, so what clauses say of devices that tell they say of the program that is shipped, with what
+//! the machine answered as the premise. That the machine's calls were made is trusted; what the devices do with it is
+//! tried by tests.
 #![tactic(auto)]
 
 mod answers;

@@ -1,4 +1,6 @@
 //! An engine runs over a loop, a disk and files, turn by turn, from what it found to the end of its life.
+//!
+//! The calls are those of the written run, to its end.
 #![tactic(auto)]
 
 mod running;

@@ -3,6 +3,10 @@
 //! A chunk's events go out as the body of one request, and its head says how long that body is. The server answers with a
 //! head, which may have interim ones before it, and the status of that head says whether the records are delivered, are
 //! to be tried again, or never will be taken.
+//!
+//! `payload_http` writes one request whose head is read back with its method, URI, fields and length
+//! (`request_is_read_back`). A reply is judged by the status of its first head that isn't interim, within 8,192 bytes
+//! and with at most 64 fields a head (`judged_by_the_head`).
 #![tactic(auto)]
 
 mod laws;

@@ -1,5 +1,7 @@
 //! What an output sends to a peer beside its events: the id by which a chunk is acknowledged. And what a peer's reply
 //! is: the acknowledgement of that id, its beginning, or something else.
+//!
+//! `EndReader` judges a reply as right exactly where it is the acknowledgement that is awaited.
 #![tactic(auto)]
 
 mod id;

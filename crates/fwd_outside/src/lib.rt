@@ -1,5 +1,9 @@
 //! The outside as the engine sees it. What it reads, writes and waits for stands behind small traits; each counts its
 //! faults, and an implementation may tell the calls that were made of it.
+//!
+//! A failure comes only where the count of faults rose; a loop's happenings and links are counted always. `read_whole`
+//! asks for a length once and then for so many bytes; over files that give what stands there (`whole_is_found`) it
+//! gives what stands there.
 #![tactic(auto)]
 
 mod answers;

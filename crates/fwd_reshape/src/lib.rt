@@ -1,5 +1,8 @@
 //! Log lines are reshaped before they are stored: fields are set, removed, renamed and copied, or gathered under one
 //! field and lifted out of it again. Each rule works on the body of an event, a list of keys and values, in place.
+//!
+//! `modify`, `nest` and `lift` give the body that the definition of each rule gives; each rule is one function on lists
+//! of pairs. Threads may share the rules.
 #![tactic(auto)]
 
 mod changes;

@@ -1,5 +1,8 @@
 //! Which outputs take a chunk: those whose glob matches its tag. Tags are matched in one scan that takes no memory: where
 //! the bytes behind a star don't stand, that star, and no earlier one, takes one byte more.
+//!
+//! `matches` is the relation of globs, `routes` the mask of the globs that match. The relation is also a test that
+//! computes (`test_tells`).
 #![tactic(auto)]
 
 ghost use Rattle.std.specs.Prelude.{◌↔◌, ◌≤◌, IsTrue, length};

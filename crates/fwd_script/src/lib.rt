@@ -1,6 +1,10 @@
 //! A run of the engine in memory, written down as a text: what comes from the outside, what the outside answers, and
 //! where it fails. Here are the text of a schedule with its reading and writing, and the devices that stand for the
 //! outside while a schedule is run.
+//!
+//! `read_schedule` gives the schedule of a text or the first refusal at its line, and what `write_schedule` writes is
+//! read as its argument. Files and a sink in memory tell their calls honestly, and the files answer exactly as what
+//! stood there, the changes and the calls that are to fail say (`is_played`).
 #![tactic(auto)]
 
 mod files;

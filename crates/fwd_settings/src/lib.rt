@@ -1,5 +1,9 @@
 //! What a configuration sets: its sections are checked, each key and value by the table of keys, and become typed
 //! settings, with a default for what isn't given.
+//!
+//! `settings` gives what the sections set, or their first refusal with its place, or want of memory (`meaning`);
+//! settings that are given are what an engine asks for (`sound`). `ends` gives what a loop connects by them. Whether a
+//! text is a pattern is the one thing that the definitions ask of outside.
 #![tactic(auto)]
 
 mod chosen;

@@ -1,6 +1,9 @@
 //! Peers send events as forward messages: MessagePack values in one of three modes, one after another on a connection
 //! (Forward Protocol v1). A message is read here with its tag, its events and the chunk that it wants acknowledged, and
 //! every other value is refused for a reason. What an output sends, and what acknowledges a message, is written here.
+//!
+//! `read_message` gives the message that begins bytes, or its refusal at its place; `ack_bytes` and `write_forward`
+//! write exactly their definitions' bytes. The messages of a stream are a function of its bytes.
 #![tactic(auto)]
 
 mod ack;

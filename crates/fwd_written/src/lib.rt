@@ -4,6 +4,8 @@
 //! spent or a limit gives it up. What this asks of every step is written down here without the engine's table, timers,
 //! readers and counters: as programs of calls on a loop, a disk, files and a keeper of places, over the facts that were
 //! noted, so that it can be read and held against the engine.
+//!
+//! Two worked lives are computed from it call by call (`worked_lives`).
 #![tactic(auto)]
 
 mod laws;
