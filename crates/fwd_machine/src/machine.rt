@@ -1,6 +1,6 @@
 //! What a loop has of the machine: sockets, standard input, files and the poll that tells of them.
 
-ghost use Rattle.std.specs.Prelude.{◌≡◌, true, IfOk, IfSome};
+ghost use Rattle.std.specs.Prelude.{◌≡◌, ℕ, true, IfOk, IfSome};
 ghost use Rattle.fwd_outside.specs.Loop.{MayCome};
 ghost use Rattle.fwd_machine.specs.Handed.{TakesAtMost};
 
@@ -43,6 +43,10 @@ pub struct Machine {
     clock: Clock,
     /// The last reading of the clock that was told.
     told: u64,
+    /// Whether nothing was told since then.
+    ticked: bool,
+    /// So many things come before the clock is told again.
+    turns: u32,
 }
 
 impl Machine {
@@ -57,6 +61,8 @@ impl Machine {
             looks: 0,
             clock: Clock::new(&rt)?,
             told: 0,
+            ticked: false,
+            turns: 0,
         })
     }
 
@@ -116,7 +122,22 @@ impl Machine {
 
     /// Whether the clock is to be told before anything else.
     fn is_late(&self, now: u64, until: u64) -> bool {
-        until <= now || (!self.sources.is_idle() && LATEST <= now.saturating_sub(self.told))
+        until <= self.told
+            || (self.turns == 0
+                && (until <= now
+                    || (!self.sources.is_idle() && LATEST <= now.saturating_sub(self.told))))
+    }
+
+    /// The reading is told. Where it is the second in a row, what takes readings is slow, and sources have their turns next.
+    fn tick(&mut self, now: u64) -> Happening
+        ensures { (paused : ℕ) → MayCome true paused result }
+    {
+        if self.ticked {
+            self.turns = LOOKS;
+        }
+        self.ticked = true;
+        self.told = now;
+        Happening::Tick { now }
     }
 
     /// Asks the poll; it waits at most so many milliseconds, and not at all where something is left to be looked at. False
@@ -164,12 +185,17 @@ impl Machine {
             };
             self.sources.set_now(now)?;
             if self.is_late(now, until) {
-                self.told = now;
-                return Ok(Happening::Tick { now });
+                return Ok(self.tick(now));
+            }
+            if 0 < self.turns && self.sources.is_idle() && !self.ask(0)? {
+                return Ok(Happening::Failed);
             }
             if let Some(found) = self.look(alloc, paused)? {
+                self.ticked = false;
+                self.turns = self.turns.saturating_sub(1);
                 return Ok(found);
             }
+            self.turns = 0;
             let next = until.min(self.sources.again_at());
             if !self.ask(next.saturating_sub(now))? {
                 return Ok(Happening::Failed);

@@ -106,6 +106,27 @@ fn the_clock_is_told_before_what_came_meanwhile(rt: HostRuntime) -> Result<(), F
     Ok(())
 }
 
+/// A peer joins, though each wait begins behind the time until which it is to wait.
+fn joins_late(live: &mut LiveLoop, rt: HostRuntime) -> Result<bool, Fail> {
+    let _peer = connect(&rt, live)?;
+    let mut told = clock(live, rt.alloc())?;
+    for _ in 0..10u32 {
+        busy(&rt, 2)?;
+        match live.wait(rt.alloc(), told.saturating_add(1), 0)? {
+            Happening::Tick { now } => told = now,
+            happening => return Ok(happening == JOINED),
+        }
+    }
+    Ok(false)
+}
+
+#[test]
+fn peers_are_heard_though_the_clock_is_always_late(rt: HostRuntime) -> Result<(), Fail> {
+    let mut live = started(rt, OutEnd::Stdout)?;
+    assert!(rt; joins_late(&mut live, rt)?);
+    Ok(())
+}
+
 fn dials(live: &mut LiveLoop, number: u64) -> bool {
     live.dial(OUTPUT, b"app") == Dialed::Link(LinkId(number))
 }
