@@ -1,6 +1,6 @@
 //! What a loop has of the machine: sockets, standard input, files and the poll that tells of them.
 
-ghost use Rattle.std.specs.Prelude.{◌≡◌, ℕ, true, IfOk, IfSome};
+ghost use Rattle.std.specs.Prelude.{◌≡◌, true, IfOk, IfSome};
 ghost use Rattle.fwd_outside.specs.Loop.{MayCome};
 ghost use Rattle.fwd_machine.specs.Handed.{TakesAtMost};
 
@@ -128,16 +128,13 @@ impl Machine {
                     || (!self.sources.is_idle() && LATEST <= now.saturating_sub(self.told))))
     }
 
-    /// The reading is told. Where it is the second in a row, what takes readings is slow, and sources have their turns next.
-    fn tick(&mut self, now: u64) -> Happening
-        ensures { (paused : ℕ) → MayCome true paused result }
-    {
+    /// A reading is told. Where it is the second in a row, what takes readings is slow, and sources have their turns next.
+    fn tells(&mut self, now: u64) {
         if self.ticked {
             self.turns = LOOKS;
         }
         self.ticked = true;
         self.told = now;
-        Happening::Tick { now }
     }
 
     /// Asks the poll; it waits at most so many milliseconds, and not at all where something is left to be looked at. False
@@ -185,7 +182,8 @@ impl Machine {
             };
             self.sources.set_now(now)?;
             if self.is_late(now, until) {
-                return Ok(self.tick(now));
+                self.tells(now);
+                return Ok(Happening::Tick { now });
             }
             if 0 < self.turns && self.sources.is_idle() && !self.ask(0)? {
                 return Ok(Happening::Failed);
