@@ -12,7 +12,7 @@ import tempfile
 import hostile_forward
 import hostile_lines
 import hostile_outputs
-from hostile_case import table, told, tried
+from hostile_case import page, table, told, tried
 from live_room import Room
 
 CASES = hostile_lines.CASES + hostile_forward.CASES + hostile_outputs.CASES
@@ -26,6 +26,7 @@ def options_of(words):
     parser.add_argument("--row-seconds", type=float, default=20, help="how long connections come one after another (%(default)s)")
     parser.add_argument("--row-connections", type=int, default=0, help="how many come, in place of a time")
     parser.add_argument("--stream-bytes", type=int, default=1_000_000_000, help="bytes without a line feed (%(default)s)")
+    parser.add_argument("--page", action="store_true", help="print the table as docs/HOSTILE.md has it")
     parser.add_argument("cases", nargs="*", metavar="CASE", help="only these: " + ", ".join(it.name for it in CASES))
     return parser.parse_args(words)
 
@@ -41,7 +42,7 @@ def main(words):
             if not options.cases or case.name in options.cases:
                 rows.append(tried(case, room, options))
                 told(rows[-1])
-    table(rows)
+    (page if options.page else table)(rows)
     verdicts = [row.verdict for row in rows]
     print(f"{verdicts.count('passed')} passed, {verdicts.count('known')} known, {verdicts.count('FAILED')} failed")
     return 1 if "FAILED" in verdicts else 0

@@ -197,6 +197,15 @@ def told(row):
         print(f"    known: {row.case.known}" if row.trial.wrong else "    it is known to fail, and passed: say so no longer", flush=True)
 
 
+def page(rows):
+    """The same as docs/HOSTILE.md has it."""
+    print("| Case | What bounds the memory | Peak (bound), MB | Good lines, the slowest | Peers | Bytes | Processors | Verdict |")
+    print("|---|---|---:|---:|---:|---:|---:|---|")
+    for row in rows:
+        name, verdict, _, peak, bound, lines, slowest, peers, sent, share = row.cells()
+        print(f"| `{name}` | {row.case.limit} | {peak} ({bound}) | {lines}, {slowest} s | {peers} | {sent} | {share} | {verdict} |")
+
+
 def table(rows):
     """The figures of all cases."""
     cells = [HEAD, *(row.cells() for row in rows)]
