@@ -84,8 +84,8 @@ CHUNKS = 10_000
     64,
     good=GoodSender,
     after=owed_lines_come,
-    known="a walk looks at all rows for each row that is due, and a row takes 2 kB: what waits for one output holds all others up",
-    shows="of memory|good line|don't come to the collector",
+    known="a walk looks at all rows for each row that is due, and behind one that took 10 ms nothing is heard any more, not even the end",
+    shows="of memory|good line|the good peer|don't come to the collector|hadn't ended",
 )
 def many_chunks_wait_for_a_silent_collector(trial):
     """As many chunks wait as one a second makes in three hours."""
