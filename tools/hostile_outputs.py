@@ -1,0 +1,176 @@
+"""Hostile collectors. The good peer's lines go to a file beside them, and to the collector once it is good."""
+import os
+import threading
+import time
+
+import hostile_collector as treat
+from hostile_case import CAP, LINES_TO_FILE, MESSAGES_TO_FILE, SERVICE, TO_FILE, Case, case, of_megabytes
+from hostile_collector import HostileCollector
+from hostile_forward import send_new_tags
+from hostile_room import GoodPeer, GoodSender
+from live_room import Failed, until
+
+STORED = SERVICE.replace("[INPUT]", "    storage.path chunks\n[INPUT]", 1) + """[INPUT]
+    Name tcp
+    Listen 127.0.0.1
+    Port {port}
+    storage.type filesystem
+""" + TO_FILE
+
+FORMS = {"tcp": "Format json_lines", "http": "Format json_lines", "forward": "Require_ack_response On"}
+
+
+def to_collector(kind, inputs=STORED):
+    """The lines go to a file and to a collector."""
+    output = f"""[OUTPUT]
+    Name {kind}
+    Host 127.0.0.1
+    Port {{other}}
+    {FORMS[kind]}
+    Retry_Limit no_limits
+"""
+    return inputs + output
+
+
+FLIGHTS = "four flights of a chunk each, with what comes back of them; other chunks are in files"
+HEAD = "8,192 bytes of a reply up to the end of its head and a piece of 65,536, for each of four flights"
+ACK = "1,024 bytes of a reply and a piece of 65,536, for each of four flights"
+UNREAD = "nothing: what comes back while a payload isn't taken is kept, however much it is, and is judged later"
+KNOWN_TCP = "a tcp output has no acknowledgement: what the socket took counts as delivered"
+
+
+def owed_lines_come(trial, patience=40):
+    """The collector is good now, and has whatever was sent in that time."""
+    begun, collector, wanted = time.monotonic(), trial.collector, set(trial.good.sent)
+    collector.turn_good()
+    try:
+        until(lambda: wanted <= collector.numbers or not trial.alive(), "", patience)
+        trial.tell(f"all {len(wanted):,} lines are at the collector {time.monotonic() - begun:.1f} s after it turned good")
+    except Failed:
+        trial.complain(f"{len(wanted - collector.numbers):,} of {len(wanted):,} lines don't come to the collector once it is good")
+
+
+def burst(trial):
+    """Lines for some chunks of two megabytes, each more than a socket takes that nobody reads."""
+    line = b'{"burst":"%s"}\n' % (b"b" * 184)
+    with trial.connect() as link:
+        for _ in range(40):
+            trial.send(link, line * 1_000)
+
+
+def collected(name, treats, kind, limit, memory=64, inputs=STORED, bursts=False, **more):
+    """A case in which a collector of a kind treats its connections so."""
+
+    def attack(trial):
+        trial.collector = HostileCollector(trial.other, kind, treats, narrow=bursts)
+        if bursts:
+            burst(trial)
+        trial.rest()
+        trial.count(peers=len(trial.collector.links), sent=trial.collector.sent)
+        if treats is treat.first_four_are_silent:
+            trial.hopes(trial.collector.numbers, "no line came to the collector, which treats all but four connections as it should")
+
+    attack.__name__ = name
+    configuration = to_collector(kind, inputs)
+    return Case(attack, configuration, GoodPeer, of_megabytes(memory), limit, after=owed_lines_come, **more)
+
+
+CHUNKS = 10_000
+
+
+@case(
+    to_collector("http", MESSAGES_TO_FILE),
+    "a row for each chunk that is owed, and what Mem_Buf_Limit 16M lets in",
+    64,
+    good=GoodSender,
+    after=owed_lines_come,
+    known="a walk looks at all rows for each row that is due, and behind one that took 10 ms nothing is heard any more, not even the end",
+    shows="of memory|good line|the good peer|don't come to the collector|hadn't ended",
+)
+def many_chunks_wait_for_a_silent_collector(trial):
+    """As many chunks wait as one a second makes in three hours."""
+    trial.collector = HostileCollector(trial.other, "http", treat.reads_and_is_silent)
+    with trial.connect() as link:
+        for first in range(0, CHUNKS, 500):
+            send_new_tags(trial, link, first, 500)
+        trial.rest()
+    trial.tell(f"{CHUNKS:,} chunks wait")
+
+
+def begin_pipe(trial, program):
+    """The program's standard output is a pipe, of which nothing is read for now."""
+    path = program.path("pipe")
+    until(lambda: os.path.exists(path), "the pipe is there", 10)
+    trial.pipe = os.open(path, os.O_RDONLY | os.O_NONBLOCK)
+
+
+def read_pipe(pipe):
+    os.set_blocking(pipe, True)
+    while os.read(pipe, 1_000_000):
+        pass
+
+
+TO_STANDARD = """[OUTPUT]
+    Name stdout
+    Retry_Limit no_limits
+"""
+
+
+@case(
+    LINES_TO_FILE + TO_STANDARD,
+    "Mem_Buf_Limit 16M, and a chunk and its payload",
+    64,
+    quiet=True,
+    before=CAP + "; mkfifo pipe; exec >pipe",
+    prepare=begin_pipe,
+    known="a write to standard output waits, and all else with it",
+    shows="good line",
+)
+def standard_output_is_not_read(trial):
+    """Standard output is a pipe that nobody reads."""
+    burst(trial)
+    trial.rest()
+    threading.Thread(target=read_pipe, args=(trial.pipe,), daemon=True).start()
+
+
+LIMITED = LINES_TO_FILE.replace("Mem_Buf_Limit 16M", "Mem_Buf_Limit 5K")
+
+CASES = (
+    collected("http_head_without_end", treat.head_without_end, "http", HEAD),
+    collected("http_body_without_end", treat.body_without_end, "http", HEAD),
+    collected("http_a_byte_at_a_time", treat.byte_at_a_time, "http", HEAD, quiet=True),
+    collected("http_never_answers", treat.reads_and_is_silent, "http", FLIGHTS, quiet=True),
+    collected("http_answers_before_it_reads", treat.answers_before_it_reads, "http", UNREAD, bursts=True, known=UNREAD, shows="of memory"),
+    collected("forward_never_acknowledges", treat.reads_and_is_silent, "forward", FLIGHTS, quiet=True),
+    collected("forward_wrong_acknowledgement", treat.wrong_acknowledgement, "forward", ACK, quiet=True),
+    collected("forward_acknowledgement_without_end", treat.acknowledgement_without_end, "forward", ACK),
+    collected("forward_answers_before_it_reads", treat.answers_before_it_reads, "forward", UNREAD, bursts=True, known=UNREAD, shows="of memory"),
+    collected("tcp_answers_before_it_reads", treat.answers_before_it_reads, "tcp", FLIGHTS, bursts=True, known=KNOWN_TCP, shows="don't come to the collector"),
+    collected("http_accepts_and_closes", treat.closes, "http", FLIGHTS, quiet=True),
+    collected("forward_accepts_and_closes", treat.closes, "forward", FLIGHTS, quiet=True),
+    collected("tcp_accepts_and_closes", treat.closes, "tcp", FLIGHTS, quiet=True, known=KNOWN_TCP, shows="don't come to the collector"),
+    collected("http_accepts_and_never_reads", treat.reads_nothing, "http", FLIGHTS, bursts=True, quiet=True),
+    collected("forward_accepts_and_never_reads", treat.reads_nothing, "forward", FLIGHTS, bursts=True, quiet=True),
+    collected("tcp_accepts_and_never_reads", treat.reads_nothing, "tcp", FLIGHTS, bursts=True, quiet=True, known=KNOWN_TCP, shows="don't come to the collector"),
+    collected(
+        "http_four_links_are_silent",
+        treat.first_four_are_silent,
+        "http",
+        FLIGHTS,
+        quiet=True,
+        known="nothing ends the wait for a silent collector, and an output has four flights at a time",
+        shows="no line came to the collector",
+    ),
+    collected(
+        "http_never_answers_and_memory_is_full",
+        treat.reads_and_is_silent,
+        "http",
+        "Mem_Buf_Limit: the input is paused where chunks that any output is owed have so many bytes",
+        inputs=LIMITED,
+        quiet=True,
+        known="an input that is paused for one output is paused for all, and nothing ends the wait for a silent collector",
+        shows="good line",
+    ),
+    many_chunks_wait_for_a_silent_collector,
+    standard_output_is_not_read,
+)
