@@ -183,8 +183,6 @@ FOLLOWED = """[INPUT]
     GOOD_TO_FILE + FOLLOWED,
     "Mem_Buf_Limit 16M, a read of 1,048,576 bytes and its events, a chunk and its payload",
     128,
-    known="behind a reading of the clock that took 10 ms the next thing is another one: while a followed file has more, no socket is heard",
-    shows="good line",
 )
 def a_long_file_is_followed(trial):
     """A followed file has some hundred megabytes that weren't read yet."""

@@ -84,7 +84,7 @@ CHUNKS = 10_000
     64,
     good=GoodSender,
     after=owed_lines_come,
-    known="a walk looks at all rows for each row that is due, and behind one that took 10 ms nothing is heard any more, not even the end",
+    known="a walk looks at all rows for each row that is due",
     shows="of memory|good line|the good peer|don't come to the collector|hadn't ended",
 )
 def many_chunks_wait_for_a_silent_collector(trial):
@@ -124,7 +124,7 @@ TO_STANDARD = """[OUTPUT]
     before=CAP + "; mkfifo pipe; exec >pipe",
     prepare=begin_pipe,
     known="a write to standard output waits, and all else with it",
-    shows="good line",
+    shows="good line|timed out",
 )
 def standard_output_is_not_read(trial):
     """Standard output is a pipe that nobody reads."""

@@ -6,11 +6,12 @@ ghost use Rattle.fwd_outside.specs.Files.{FilesGiven, outcome};
 ghost use Rattle.fwd_outside.specs.declared.errors.FileErr.TheVariants.{Failed};
 
 use crate::files_calls::FilesCalls;
-use fwd_base::limits::LONGEST_PIECE;
+use crate::folders::{LAST_OFFSET, read_to};
+use fwd_base::limits::LONGEST_READ;
 use fwd_outside::{Bytes, FileErr, Files};
 use std::alloc::Global;
 use std::fs::{self, File, OpenFile};
-use std::io::{self, Read, Seek, SeekFrom};
+use std::io;
 
 /// Files of the machine, by their paths. They are taken to stand still while they are read.
 #[derive(Drop)]
@@ -60,13 +61,23 @@ fn length_of(rt: &HostRuntime, path: &[u8]) -> io::Result<u64> {
     Ok(open(rt, path)?.metadata()?.len())
 }
 
-/// Reads from an offset on, once, at most as many bytes as the buffer has.
+/// How many bytes a file has from an offset on; 0 where it can't be asked.
+fn rest_of(rt: &HostRuntime, path: &[u8], at: u64) -> u64 {
+    match length_of(rt, path) {
+        Ok(long) => long.saturating_sub(at),
+        Err(_) => 0,
+    }
+}
+
+/// Reads from an offset on, until the buffer is full or the file ends.
 fn read_part(rt: &HostRuntime, path: &[u8], at: u64, mut part: Vec<u8>) -> io::Result<Bytes>
     ensures { IfOk result (λ bytes. length bytes ≤ length part.items) }
 {
-    let mut file = open(rt, path)?;
-    file.seek(SeekFrom::Start(at))?;
-    let count = file.read(&mut part)?;
+    if at > LAST_OFFSET {
+        return Err(io::Error::from(io::ErrorKind::InvalidInput));
+    }
+    let file = open(rt, path)?;
+    let count = read_to(&file, &mut part, at)?;
     part.truncate(count);
     Ok(Bytes::from_vec(part))
 }
@@ -84,7 +95,8 @@ impl Files for FolderFiles {
 
     fn read_at(&mut self, alloc: Global, path: &[u8], at: u64, max: u64) -> Result<Bytes, FileErr> {
         let mut part = Vec::new(alloc);
-        part.resize(LONGEST_PIECE.min(max as usize), 0)?;
+        let most = max.min(LONGEST_READ).min(rest_of(&self.rt, path, at));
+        part.resize(most as usize, 0)?;
         let answer = read_part(&self.rt, path, at, part).ok();
         self.calls = self.calls.then(&(path, at, max, &answer));
         self.settle(answer)

@@ -12,7 +12,7 @@ use std::io::{self, ErrorKind, Write};
 use std::os::unix::fs::FileExt;
 
 /// The last offset that the machine takes.
-const LAST_OFFSET: u64 = 9_223_372_036_854_775_807;
+pub const LAST_OFFSET: u64 = 9_223_372_036_854_775_807;
 
 /// A file that is open to be written.
 #[derive(Drop)]
@@ -151,7 +151,7 @@ fn remove_file(rt: &HostRuntime, name: &[u8]) -> io::Result<()> {
 }
 
 /// Reads from an offset until the buffer is full or the file ends. Answers how many bytes came.
-fn read_to(file: &File, part: &mut [u8], at: u64) -> io::Result<usize> {
+pub fn read_to(file: &File, part: &mut [u8], at: u64) -> io::Result<usize> {
     let mut filled = 0usize;
     for _ in 0..u64::MAX {
         if part.len() <= filled {
