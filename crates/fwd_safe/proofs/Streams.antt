@@ -19,9 +19,9 @@ use Rattle.fwd_settings.specs.declared.chosen.AllSettings.{AllSettings}
 use Rattle.fwd_settings.specs.declared.chosen.InputSet.{InputSet}
 use Rattle.fwd_settings.specs.declared.chosen.InputKind.{InputKind}
 use Rattle.fwd_settings.specs.declared.chosen.InputKind.TheVariants as input
-use Rattle.fwd_settings.specs.Keys.{name_of_plugin}
-use Rattle.fwd_settings.specs.Inputs.{is_input_of, instance}
-use Rattle.fwd_settings.specs.Sound.{input_plugin, AreInputsNamed, IsSound}
+use Rattle.fwd_settings.specs.Keys.{name_of_input}
+use Rattle.fwd_settings.specs.Inputs.{input_plugin, is_input_of, instance}
+use Rattle.fwd_settings.specs.Sound.{AreInputsNamed, IsSound}
 use Rattle.fwd_written.specs.Setup.{input_name}
 use Rattle.fwd_written.specs.Held.{name_for}
 use Rattle.fwd_ties.proofs.Members.{off_where_not}
@@ -60,15 +60,15 @@ fine_name name fine = record { text = IsUtf8-from_ascii name (fine_ascii name fi
 
 -- ---- names of inputs
 
-fine_plugin : (kind : InputKind) → All IsFine (name_of_plugin (input_plugin kind))
+fine_plugin : (kind : InputKind) → All IsFine (name_of_input (input_plugin kind))
 fine_plugin (input.Tail paths from_head) = fine_text (codes "tail") refl
 fine_plugin (input.Tcp host port) = fine_text (codes "tcp") refl
 fine_plugin (input.Forward host port) = fine_text (codes "forward") refl
 fine_plugin input.Stdin = fine_text (codes "stdin") refl
 
-fine_instance : (kind : InputKind) (number : ℕ) → number < 2 ^ 64 → All IsFine (instance (input_plugin kind) number)
+fine_instance : (kind : InputKind) (number : ℕ) → number < 2 ^ 64 → All IsFine (instance (name_of_input (input_plugin kind)) number)
 fine_instance kind number small =
-    All-append IsFine (name_of_plugin (input_plugin kind) ++ codes ".") (decimal number) (All-append IsFine (name_of_plugin (input_plugin kind)) (codes ".") (fine_plugin kind) (fine_text (codes ".") refl)) (fine_decimal number small)
+    All-append IsFine (name_of_input (input_plugin kind) ++ codes ".") (decimal number) (All-append IsFine (name_of_input (input_plugin kind)) (codes ".") (fine_plugin kind) (fine_text (codes ".") refl)) (fine_decimal number small)
 
 fine_inputs : (before sets : List InputSet) → AreInputsNamed before sets → length before + length sets ≤ most_inputs → AllByRecursion (λ (set : InputSet). All IsFine set.name) sets
 fine_inputs before [] named few = tt

@@ -1,5 +1,5 @@
 -- The settings of sections are what the engine asks for.
-use Rattle.std.proofs.Common.{◌≡◌, ◌⊎◌, inl, inr, ℕ, ◌+◌, ◌≤◌, ◌<◌, Bool, true, false, not, ◌&&◌, ◌||◌, nat_le, nat_lt, if◌then◌else◌, List, [], ◌∷◌, ◌++◌, length, Option, Some, None, Ok, Err, IsSome, IsTrue, unwrap_or, refl, sym, ap, subst, arith, length-append, append_assoc, codes, decimal}
+use Rattle.std.proofs.Common.{◌≡◌, ◌⊎◌, inl, inr, ℕ, ◌+◌, ◌≤◌, ◌<◌, Bool, true, false, not, ◌&&◌, ◌||◌, nat_le, nat_lt, if◌then◌else◌, List, [], ◌∷◌, ◌++◌, length, Option, Some, None, Ok, Err, IsSome, IsTrue, unwrap_or, option_map, refl, sym, ap, subst, arith, length-append, append_assoc, codes, decimal}
 use Rattle.std.specs.List.{AllByRecursion, list_all, list_any}
 use Rattle.std.specs.Str.{bytes_eq, IsAscii}
 use Rattle.std.specs.Prelude.{count_by, ◌^◌}
@@ -29,22 +29,26 @@ use Rattle.fwd_settings.specs.declared.parts.Head.{Head}
 use Rattle.fwd_settings.specs.declared.parts.Head.TheVariants as head
 use Rattle.fwd_settings.specs.declared.parts.Part.{Part}
 use Rattle.fwd_settings.specs.declared.parts.Part.TheVariants as part
+use Rattle.fwd_settings.specs.declared.plugins.InputPlugin.{InputPlugin}
+use Rattle.fwd_settings.specs.declared.plugins.InputPlugin.TheVariants as in_plugin
+use Rattle.fwd_settings.specs.declared.plugins.OutputPlugin.{OutputPlugin}
+use Rattle.fwd_settings.specs.declared.plugins.OutputPlugin.TheVariants as out_plugin
 use Rattle.fwd_settings.specs.declared.said.Value.{Value}
 use Rattle.fwd_settings.specs.declared.said.Value.TheVariants as value
 use Rattle.fwd_settings.specs.declared.said.Said.{Said}
 use Rattle.fwd_settings.specs.declared.sections.SoFar.{SoFar}
-use Rattle.fwd_settings.specs.Keys.{name_of_plugin, name_of, keys_of, kind_of, key_of, plugins_of, plugin_of, is_plugin_named, head_of}
+use Rattle.fwd_settings.specs.Keys.{name_of_input, name_of, keys_of, kind_of, key_of, input_of, output_of, filter_of, head_of}
 use Rattle.fwd_settings.specs.Said.{last_value, as_number, as_text, text_at}
 use Rattle.fwd_settings.specs.Reading.{Checked, ◌>>=◌, known, fault, Comes}
 use Rattle.fwd_settings.specs.Values.{entry_said, entries_said}
 use Rattle.fwd_settings.specs.Parsers.{parser_named, name_entry}
-use Rattle.fwd_settings.specs.Inputs.{is_input_of, input_kind, input_name, tag_of, input_set, stored_in, input_by, input_from, has_path, is_path_entry, names_path, is_service_head, tail_by}
-use Rattle.fwd_settings.specs.Outputs.{output_kind, output_from, output_name}
+use Rattle.fwd_settings.specs.Inputs.{input_plugin, is_input_of, input_kind, input_name, tag_of, input_set, stored_in, input_by, input_from, has_path, is_path_entry, names_path, is_service_head, tail_by}
+use Rattle.fwd_settings.specs.Outputs.{output_plugin, output_kind, output_from, output_name}
 use Rattle.fwd_settings.specs.Filters.{filter_from}
 use Rattle.fwd_settings.specs.Settings.{nothing, plugin_at, named, headed, part_of, entries_here, with_input, with_filter, with_output, taken, section_taken, sections_taken, all_of, settings_of}
-use Rattle.fwd_settings.specs.Sound.{input_plugin, output_plugin, AreInputsNamed, AreOutputsNamed, IsTagText, HasTag, CanRequest, IsSound}
+use Rattle.fwd_settings.specs.Sound.{AreInputsNamed, AreOutputsNamed, IsTagText, HasTag, CanRequest, IsSound}
 use Rattle.fwd_settings.proofs.Always.{Always, always_then, always_known, always_comes, always_each, Pairs, all_of_pairs}
-use Rattle.fwd_settings.proofs.Table.{IsPositive, IsTagValue, IsText, IsTextSo, IsOfKind, IsSaidBy, always_said, found_passes, named_passes, kind_passes, Holds, last_holds, last_there}
+use Rattle.fwd_settings.proofs.Table.{IsPositive, IsTagValue, IsText, IsTextSo, IsOfKind, IsSaidBy, always_said, named_passes, kind_passes, Holds, last_holds, last_there}
 
 -- ---- lists that grow
 
@@ -182,10 +186,14 @@ text_or_so test default so (Some (value.Condition c)) here = absurd here
 text_or_so test default so (Some (value.Change c)) here = absurd here
 text_or_so test default so (Some (value.Wildcard w)) here = absurd here
 
-http_requests : (said : List Said) → AllByRecursion (IsSaidIn part.HttpPeer) said → CanRequest (output_kind part.HttpPeer said)
-http_requests said all = (
-  text_or_so is_visible_text (codes "127.0.0.1") refl (last_value key.Host said) (last_of_named key.Host is_visible (IsTextSo is_visible_text) visible_of_kind part.HttpPeer refl said all),
-  text_or_so is_uri_text (codes "/") refl (last_value key.Uri said) (last_of_named key.Uri is_uri (IsTextSo is_uri_text) uri_of_kind part.HttpPeer refl said all),
+can_request : (p : OutputPlugin) (said : List Said) → AllByRecursion (IsSaidIn (part.Output p)) said → CanRequest (output_kind p said)
+can_request out_plugin.Stdout said all = tt
+can_request out_plugin.File said all = tt
+can_request out_plugin.Tcp said all = tt
+can_request out_plugin.Forward said all = tt
+can_request out_plugin.Http said all = (
+  text_or_so is_visible_text (codes "127.0.0.1") refl (last_value key.Host said) (last_of_named key.Host is_visible (IsTextSo is_visible_text) visible_of_kind (part.Output out_plugin.Http) refl said all),
+  text_or_so is_uri_text (codes "/") refl (last_value key.Uri said) (last_of_named key.Uri is_uri (IsTextSo is_uri_text) uri_of_kind (part.Output out_plugin.Http) refl said all),
 )
 
 abbrev HoldsText : Option (List ℕ) → Type 0
@@ -239,9 +247,17 @@ name_tag plugin n ascii short few =
 
 -- ---- an input
 
-input_name_tag : (before : List InputSet) (plugin : Part) → length before ≤ 64 → list_all (λ b. nat_lt b 128) (name_of_plugin plugin) ≡ true → length (name_of_plugin plugin) ≤ 20 → IsTagText (input_name before plugin)
-input_name_tag before plugin few ascii short =
-    name_tag (name_of_plugin plugin) (count_by (is_input_of plugin) before) ascii short (omega (arith, few, count_by-le-length (is_input_of plugin) before))
+-- the name of a plugin is a short text of ASCII
+plain_name : (p : InputPlugin) → (list_all (λ b. nat_lt b 128) (name_of_input p) ≡ true) × (length (name_of_input p) ≤ 20)
+plain_name in_plugin.Tail = (refl, lit≤ tt)
+plain_name in_plugin.Tcp = (refl, lit≤ tt)
+plain_name in_plugin.Forward = (refl, lit≤ tt)
+plain_name in_plugin.Stdin = (refl, lit≤ tt)
+
+input_name_tag : (before : List InputSet) (plugin : InputPlugin) → length before ≤ 64 → IsTagText (input_name before plugin)
+input_name_tag before plugin few =
+    let plain = plain_name plugin in
+    name_tag (name_of_input plugin) (count_by (is_input_of plugin) before) plain.0 plain.1 (omega (arith, few, count_by-le-length (is_input_of plugin) before))
 
 kind_tag : (kind : InputKind) (name : List ℕ) (o : Option (List ℕ)) → IsTagText name → HoldsText o → HasTag kind (tag_of (input_plugin kind) name o)
 kind_tag (input.Tail paths from_head) name (Some t) name_is here = here
@@ -253,23 +269,8 @@ kind_tag (input.Forward host port) name None name_is here = tt
 kind_tag input.Stdin name (Some t) name_is here = here
 kind_tag input.Stdin name None name_is here = name_is
 
-own_tag : (p : Part) (kind : InputKind) (name : List ℕ) (o : Option (List ℕ)) → input_plugin kind ≡ p → IsTagText name → HoldsText o → HasTag kind (tag_of p name o)
-own_tag p kind name o is name_is here = subst (λ (q : Part). HasTag kind (tag_of q name o)) is (kind_tag kind name o name_is here)
-
-abbrev is_input : Part → Bool
-is_input part.Tail = true
-is_input part.Tcp = true
-is_input part.Forward = true
-is_input part.Stdin = true
-is_input _ = false
-
-abbrev is_output : Part → Bool
-is_output part.Stdout = true
-is_output part.File = true
-is_output part.TcpPeer = true
-is_output part.ForwardPeer = true
-is_output part.HttpPeer = true
-is_output _ = false
+own_tag : (p : InputPlugin) (kind : InputKind) (name : List ℕ) (o : Option (List ℕ)) → input_plugin kind ≡ p → IsTagText name → HoldsText o → HasTag kind (tag_of p name o)
+own_tag p kind name o is name_is here = subst (λ (q : InputPlugin). HasTag kind (tag_of q name o)) is (kind_tag kind name o name_is here)
 
 kind_ok : {a b : InputKind} → ◌≡◌ {A = Checked InputKind} (Ok a) (Ok b) → a ≡ b
 kind_ok is = cc
@@ -283,16 +284,15 @@ part_ok is = cc
 so_far_ok : {a b : SoFar} → ◌≡◌ {A = Checked SoFar} (Ok a) (Ok b) → a ≡ b
 so_far_ok is = cc
 
-tail_kind : (place : Place) (said : List Said) (o : Option (List ℕ)) (kind : InputKind) → tail_by place said o ≡ Ok kind → input_plugin kind ≡ part.Tail
+tail_kind : (place : Place) (said : List Said) (o : Option (List ℕ)) (kind : InputKind) → tail_by place said o ≡ Ok kind → input_plugin kind ≡ in_plugin.Tail
 tail_kind place said None kind is = absurd (cc is)
 tail_kind place said (Some paths) kind is = sym (ap input_plugin (kind_ok is))
 
-kind_is : (p : Part) (place : Place) (said : List Said) (kind : InputKind) → is_input p ≡ true → input_kind p place said ≡ Ok kind → input_plugin kind ≡ p
-kind_is part.Tail place said kind in_is is = tail_kind place said (text_at key.Paths said) kind is
-kind_is part.Tcp place said kind in_is is = sym (ap input_plugin (kind_ok is))
-kind_is part.Forward place said kind in_is is = sym (ap input_plugin (kind_ok is))
-kind_is part.Stdin place said kind in_is is = sym (ap input_plugin (kind_ok is))
-kind_is _ place said kind in_is is = absurd (cc in_is)
+kind_is : (p : InputPlugin) (place : Place) (said : List Said) (kind : InputKind) → input_kind p place said ≡ Ok kind → input_plugin kind ≡ p
+kind_is in_plugin.Tail place said kind is = tail_kind place said (text_at key.Paths said) kind is
+kind_is in_plugin.Tcp place said kind is = sym (ap input_plugin (kind_ok is))
+kind_is in_plugin.Forward place said kind is = sym (ap input_plugin (kind_ok is))
+kind_is in_plugin.Stdin place said kind is = sym (ap input_plugin (kind_ok is))
 
 stored_is : (path : Bool) (place : Place) (set out : InputSet) → stored_in path place set ≡ Ok out → (set ≡ out) × (set.stored ≡ true → path ≡ true)
 stored_is path place set out is = by_tests set.stored path refl is
@@ -306,7 +306,7 @@ stored_is path place set out is = by_tests set.stored path refl is
 abbrev IsNewInput : Bool → List InputSet → InputSet → Type 0
 IsNewInput path before set = (set.name ≡ input_name before (input_plugin set.kind)) × (HasTag set.kind set.tag × (set.stored ≡ true → path ≡ true))
 
-new_input : (path : Bool) (p : Part) (place : Place) (before : List InputSet) (said : List Said) (set : InputSet) (r : Checked InputKind) → ((kind : InputKind) → r ≡ Ok kind → input_plugin kind ≡ p)
+new_input : (path : Bool) (p : InputPlugin) (place : Place) (before : List InputSet) (said : List Said) (set : InputSet) (r : Checked InputKind) → ((kind : InputKind) → r ≡ Ok kind → input_plugin kind ≡ p)
     → IsTagText (input_name before p) → HoldsText (text_at key.Tag said) → input_by path p place (input_name before p) said r ≡ Ok set → IsNewInput path before set
 new_input path p place before said set (Err refusal) kinds name_is tag is = absurd (cc is)
 new_input path p place before said set (Ok kind) kinds name_is tag is =
@@ -353,54 +353,36 @@ with_output_sound path s set sound room new asked = record {
 
 -- the part has room, where it is an input or an output
 abbrev HasRoom : SoFar → Part → Type 0
-HasRoom s p = (is_input p ≡ true → length s.inputs < 64) × (is_output p ≡ true → length s.outputs < 64)
+HasRoom s part.Service = Unit {0}
+HasRoom s part.Parser = Unit {0}
+HasRoom s (part.Input plugin) = length s.inputs < 64
+HasRoom s (part.Filter plugin) = Unit {0}
+HasRoom s (part.Output plugin) = length s.outputs < 64
 
-of_plugins : (s : SoFar) (test : Part → Bool) (head : Head) (entry : Entry) (p : Part) (o : Option Part) → ((q : Part) → o ≡ Some q → test q ≡ true) → plugin_at entry o ≡ Ok p → test p ≡ true
-of_plugins s test head entry p None gives is = absurd (cc is)
-of_plugins s test head entry p (Some q) gives is = subst (λ (x : Part). test x ≡ true) (part_ok is) (gives q refl)
-
-abbrev is_input_only : Part → Bool
-is_input_only p = is_input p && not (is_output p)
-
-abbrev is_output_only : Part → Bool
-is_output_only p = is_output p && not (is_input p)
-
-abbrev is_neither : Part → Bool
-is_neither p = not (is_input p) && not (is_output p)
-
-not_so : (b : Bool) → not b ≡ true → b ≡ true → ⊥
-not_so true denied so = cc denied
-not_so false denied so = cc so
-
-plugin_passes : (test : Part → Bool) (h : Head) (name : List ℕ) → list_all test (plugins_of h) ≡ true → (q : Part) → plugin_of h name ≡ Some q → test q ≡ true
-plugin_passes test h name all q is = found_passes test (is_plugin_named name) (plugins_of h) q all is
+-- whatever the plugin
+of_plugins : {P : Type 0} (make : P → Part) (Q : Part → Type 0) (entry : Entry) (o : Option P) (p : Part) → ((plugin : P) → Q (make plugin)) → plugin_at entry (option_map make o) ≡ Ok p → Q p
+of_plugins make Q entry None p each is = absurd (cc is)
+of_plugins make Q entry (Some plugin) p each is = subst Q (part_ok is) (each plugin)
 
 room_of_input : (s : SoFar) (place : Place) (o : Option Entry) (p : Part) → length s.inputs < 64 → named head.Input place o ≡ Ok p → HasRoom s p
 room_of_input s place None p room is = absurd (cc is)
-room_of_input s place (Some entry) p room is =
-    let so = of_plugins s is_input_only head.Input entry p (plugin_of head.Input entry.value) (plugin_passes is_input_only head.Input entry.value refl) is in
-    (λ _. room, λ yes. absurd (not_so (is_output p) (and_parts (is_input p) (not (is_output p)) so).1 yes))
+room_of_input s place (Some entry) p room is = of_plugins part.Input (HasRoom s) entry (input_of entry.value) p (λ plugin. room) is
 
 room_of_output : (s : SoFar) (place : Place) (o : Option Entry) (p : Part) → length s.outputs < 64 → named head.Output place o ≡ Ok p → HasRoom s p
 room_of_output s place None p room is = absurd (cc is)
-room_of_output s place (Some entry) p room is =
-    let so = of_plugins s is_output_only head.Output entry p (plugin_of head.Output entry.value) (plugin_passes is_output_only head.Output entry.value refl) is in
-    (λ yes. absurd (not_so (is_input p) (and_parts (is_output p) (not (is_input p)) so).1 yes), λ _. room)
+room_of_output s place (Some entry) p room is = of_plugins part.Output (HasRoom s) entry (output_of entry.value) p (λ plugin. room) is
 
 room_of_filter : (s : SoFar) (place : Place) (o : Option Entry) (p : Part) → named head.Filter place o ≡ Ok p → HasRoom s p
 room_of_filter s place None p is = absurd (cc is)
-room_of_filter s place (Some entry) p is =
-    let so = of_plugins s is_neither head.Filter entry p (plugin_of head.Filter entry.value) (plugin_passes is_neither head.Filter entry.value refl) is in
-    let both = and_parts (not (is_input p)) (not (is_output p)) so in
-    (λ yes. absurd (not_so (is_input p) both.0 yes), λ yes. absurd (not_so (is_output p) both.1 yes))
+room_of_filter s place (Some entry) p is = of_plugins part.Filter (HasRoom s) entry (filter_of entry.value) p (λ plugin. tt) is
 
 room_of_parser : (s : SoFar) (place : Place) (o : Option Entry) (p : Part) → named head.Parser place o ≡ Ok p → HasRoom s p
 room_of_parser s place None p is = absurd (cc is)
-room_of_parser s place (Some entry) p is = subst (HasRoom s) (part_ok is) (λ yes. absurd (cc yes), λ yes. absurd (cc yes))
+room_of_parser s place (Some entry) p is = subst (HasRoom s) (part_ok is) tt
 
 room_of : (s : SoFar) (section : Section) (h : Option Head) (p : Part) → headed s section h ≡ Ok p → HasRoom s p
 room_of s section None p is = absurd (cc is)
-room_of s section (Some head.Service) p is = subst (HasRoom s) (part_ok is) (λ yes. absurd (cc yes), λ yes. absurd (cc yes))
+room_of s section (Some head.Service) p is = subst (HasRoom s) (part_ok is) tt
 room_of s section (Some head.Input) p is = by_test (nat_le 64 (length s.inputs)) refl is
   where
     by_test : (b : Bool) → nat_le 64 (length s.inputs) ≡ b → (if b then Err (fault TooMany section.place) else named head.Input section.place (name_entry section.entries)) ≡ Ok p → HasRoom s p
@@ -414,15 +396,29 @@ room_of s section (Some head.Output) p is = by_test (nat_le 64 (length s.outputs
 room_of s section (Some head.Filter) p is = room_of_filter s section.place (name_entry section.entries) p is
 room_of s section (Some head.Parser) p is = room_of_parser s section.place (name_entry section.entries) p is
 
+-- a Tag of an input is a tag
+tag_passes : (p : InputPlugin) → list_all (named_passes key.Tag is_tag) (keys_of (part.Input p)) ≡ true
+tag_passes in_plugin.Tail = refl
+tag_passes in_plugin.Tcp = refl
+tag_passes in_plugin.Forward = refl
+tag_passes in_plugin.Stdin = refl
+
+-- an output is of the plugin that it is made for
+its_plugin : (p : OutputPlugin) (said : List Said) → output_plugin (output_kind p said) ≡ p
+its_plugin out_plugin.Stdout said = refl
+its_plugin out_plugin.File said = refl
+its_plugin out_plugin.Tcp said = refl
+its_plugin out_plugin.Forward said = refl
+its_plugin out_plugin.Http said = refl
+
 module _ (path : Bool) (s : SoFar) (place : Place) (said : List Said) (new : SoFar) (sound : Sound path s) where
-  input_sound : (p : Part) → is_input p ≡ true → list_all (λ b. nat_lt b 128) (name_of_plugin p) ≡ true → length (name_of_plugin p) ≤ 20 → list_all (named_passes key.Tag is_tag) (keys_of p) ≡ true
-      → AllByRecursion (IsSaidIn p) said → length s.inputs < 64 → (r : Checked InputSet) → input_from path p place s.inputs said ≡ r → with_input s r ≡ Ok new → Sound path new
-  input_sound p in_is ascii short table all room (Err refusal) r_is is = absurd (cc is)
-  input_sound p in_is ascii short table all room (Ok set) r_is is =
-      let tag : HoldsText (text_at key.Tag said) = tag_is (last_value key.Tag said) (last_of_named key.Tag is_tag IsTagValue tag_of_kind p table said all) in
+  input_sound : (p : InputPlugin) → AllByRecursion (IsSaidIn (part.Input p)) said → length s.inputs < 64 → (r : Checked InputSet) → input_from path p place s.inputs said ≡ r → with_input s r ≡ Ok new → Sound path new
+  input_sound p all room (Err refusal) r_is is = absurd (cc is)
+  input_sound p all room (Ok set) r_is is =
+      let tag : HoldsText (text_at key.Tag said) = tag_is (last_value key.Tag said) (last_of_named key.Tag is_tag IsTagValue tag_of_kind (part.Input p) (tag_passes p) said all) in
       subst (Sound path) (so_far_ok is)
       (with_input_sound path s set sound room
-      (new_input path p place s.inputs said set (input_kind p place said) (λ kind e. kind_is p place said kind in_is e) (input_name_tag s.inputs p (omega arith) ascii short) tag r_is))
+      (new_input path p place s.inputs said set (input_kind p place said) (λ kind e. kind_is p place said kind e) (input_name_tag s.inputs p (omega arith)) tag r_is))
 
   filter_sound : (r : Checked FilterStep) → with_filter s r ≡ Ok new → Sound path new
   filter_sound (Err refusal) is = absurd (cc is)
@@ -437,8 +433,10 @@ module _ (path : Bool) (s : SoFar) (place : Place) (said : List Said) (new : SoF
     stored = sound.stored;
   })
 
-  output_sound : (p : Part) → output_plugin (output_kind p said) ≡ p → CanRequest (output_kind p said) → length s.outputs < 64 → ◌≡◌ {A = Checked SoFar} (Ok (with_output s (output_from p s.outputs said))) (Ok new) → Sound path new
-  output_sound p same asked room is = subst (Sound path) (so_far_ok is) (with_output_sound path s (output_from p s.outputs said) sound room (ap (output_name s.outputs) (sym same)) asked)
+  output_sound : (p : OutputPlugin) → AllByRecursion (IsSaidIn (part.Output p)) said → length s.outputs < 64 → ◌≡◌ {A = Checked SoFar} (Ok (with_output s (output_from p s.outputs said))) (Ok new) → Sound path new
+  output_sound p all room is =
+      subst (Sound path) (so_far_ok is)
+      (with_output_sound path s (output_from p s.outputs said) sound room (ap (output_name s.outputs) (sym (its_plugin p said))) (can_request p said all))
 
   service_sound : AllByRecursion (IsSaidIn part.Service) said → ◌≡◌ {A = Checked SoFar} (Ok (record s { service = s.service ++ said })) (Ok new) → Sound path new
   service_sound all is = subst (Sound path) (so_far_ok is) (record {
@@ -455,18 +453,9 @@ module _ (path : Bool) (s : SoFar) (place : Place) (said : List Said) (new : SoF
   taken_sound : (p : Part) → HasRoom s p → AllByRecursion (IsSaidIn p) said → taken path s p place said ≡ Ok new → Sound path new
   taken_sound part.Service room all is = service_sound all is
   taken_sound part.Parser room all is = subst (Sound path) (so_far_ok is) sound
-  taken_sound part.Tail room all is = input_sound part.Tail refl refl (lit≤ tt) refl all (room.0 refl) (input_from path part.Tail place s.inputs said) refl is
-  taken_sound part.Tcp room all is = input_sound part.Tcp refl refl (lit≤ tt) refl all (room.0 refl) (input_from path part.Tcp place s.inputs said) refl is
-  taken_sound part.Forward room all is = input_sound part.Forward refl refl (lit≤ tt) refl all (room.0 refl) (input_from path part.Forward place s.inputs said) refl is
-  taken_sound part.Stdin room all is = input_sound part.Stdin refl refl (lit≤ tt) refl all (room.0 refl) (input_from path part.Stdin place s.inputs said) refl is
-  taken_sound part.Grep room all is = filter_sound (filter_from part.Grep place said) is
-  taken_sound part.Modify room all is = filter_sound (filter_from part.Modify place said) is
-  taken_sound part.Nest room all is = filter_sound (filter_from part.Nest place said) is
-  taken_sound part.Stdout room all is = output_sound part.Stdout refl tt (room.1 refl) is
-  taken_sound part.File room all is = output_sound part.File refl tt (room.1 refl) is
-  taken_sound part.TcpPeer room all is = output_sound part.TcpPeer refl tt (room.1 refl) is
-  taken_sound part.ForwardPeer room all is = output_sound part.ForwardPeer refl tt (room.1 refl) is
-  taken_sound part.HttpPeer room all is = output_sound part.HttpPeer refl (http_requests said all) (room.1 refl) is
+  taken_sound (part.Input plugin) room all is = input_sound plugin all room (input_from path plugin place s.inputs said) refl is
+  taken_sound (part.Filter plugin) room all is = filter_sound (filter_from plugin place said) is
+  taken_sound (part.Output plugin) room all is = output_sound plugin all room is
 
 -- ---- a storage path that is said is there at the end
 
@@ -512,29 +501,20 @@ service_head s section (Some head.Filter) p so is = absurd (cc so)
 service_head s section (Some head.Parser) p so is = absurd (cc so)
 
 -- no section takes away what a SERVICE section said
-of_input : (s new : SoFar) (r : Checked InputSet) → with_input s r ≡ Ok new → NamesPath s.service → NamesPath new.service
-of_input s new (Err refusal) is any = absurd (cc is)
-of_input s new (Ok set) is any = subst (λ (x : SoFar). NamesPath x.service) (so_far_ok is) any
+with_input_stays : (s new : SoFar) (r : Checked InputSet) → with_input s r ≡ Ok new → NamesPath s.service → NamesPath new.service
+with_input_stays s new (Err refusal) is any = absurd (cc is)
+with_input_stays s new (Ok set) is any = subst (λ (x : SoFar). NamesPath x.service) (so_far_ok is) any
 
-of_filter : (s new : SoFar) (r : Checked FilterStep) → with_filter s r ≡ Ok new → NamesPath s.service → NamesPath new.service
-of_filter s new (Err refusal) is any = absurd (cc is)
-of_filter s new (Ok step) is any = subst (λ (x : SoFar). NamesPath x.service) (so_far_ok is) any
+with_filter_stays : (s new : SoFar) (r : Checked FilterStep) → with_filter s r ≡ Ok new → NamesPath s.service → NamesPath new.service
+with_filter_stays s new (Err refusal) is any = absurd (cc is)
+with_filter_stays s new (Ok step) is any = subst (λ (x : SoFar). NamesPath x.service) (so_far_ok is) any
 
 service_stays : (path : Bool) (s : SoFar) (place : Place) (said : List Said) (new : SoFar) (p : Part) → taken path s p place said ≡ Ok new → NamesPath s.service → NamesPath new.service
 service_stays path s place said new part.Service is any = subst (λ (x : SoFar). NamesPath x.service) (so_far_ok is) (any_before s.service said any)
 service_stays path s place said new part.Parser is any = subst (λ (x : SoFar). NamesPath x.service) (so_far_ok is) any
-service_stays path s place said new part.Tail is any = of_input s new (input_from path part.Tail place s.inputs said) is any
-service_stays path s place said new part.Tcp is any = of_input s new (input_from path part.Tcp place s.inputs said) is any
-service_stays path s place said new part.Forward is any = of_input s new (input_from path part.Forward place s.inputs said) is any
-service_stays path s place said new part.Stdin is any = of_input s new (input_from path part.Stdin place s.inputs said) is any
-service_stays path s place said new part.Grep is any = of_filter s new (filter_from part.Grep place said) is any
-service_stays path s place said new part.Modify is any = of_filter s new (filter_from part.Modify place said) is any
-service_stays path s place said new part.Nest is any = of_filter s new (filter_from part.Nest place said) is any
-service_stays path s place said new part.Stdout is any = subst (λ (x : SoFar). NamesPath x.service) (so_far_ok is) any
-service_stays path s place said new part.File is any = subst (λ (x : SoFar). NamesPath x.service) (so_far_ok is) any
-service_stays path s place said new part.TcpPeer is any = subst (λ (x : SoFar). NamesPath x.service) (so_far_ok is) any
-service_stays path s place said new part.HttpPeer is any = subst (λ (x : SoFar). NamesPath x.service) (so_far_ok is) any
-service_stays path s place said new part.ForwardPeer is any = subst (λ (x : SoFar). NamesPath x.service) (so_far_ok is) any
+service_stays path s place said new (part.Input plugin) is any = with_input_stays s new (input_from path plugin place s.inputs said) is any
+service_stays path s place said new (part.Filter plugin) is any = with_filter_stays s new (filter_from plugin place said) is any
+service_stays path s place said new (part.Output plugin) is any = subst (λ (x : SoFar). NamesPath x.service) (so_far_ok is) any
 
 -- ---- all sections
 

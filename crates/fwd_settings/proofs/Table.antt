@@ -162,7 +162,7 @@ module _ (named : Entry → Reading Parser) where
 
 -- ---- the table, by computing
 
-pub found_passes : {X : Type 0} (test found : X → Bool) (keys : List X) (k : X) → list_all test keys ≡ true → find found keys ≡ Some k → test k ≡ true
+found_passes : {X : Type 0} (test found : X → Bool) (keys : List X) (k : X) → list_all test keys ≡ true → find found keys ≡ Some k → test k ≡ true
 found_passes test found [] k all is = absurd (cc is)
 found_passes {X = X} test found (first ∷ keys) k all is = here (test first) (found first) (found_passes test found keys k) refl all is
   where

@@ -6,8 +6,8 @@ use Rattle.fwd_filters.specs.declared.steps.FilterKind.TheVariants as filter
 use Rattle.fwd_filters.specs.declared.steps.FilterStep.{FilterStep}
 use Rattle.fwd_choices.specs.declared.kind.SettingKind.TheVariants.{Missing}
 use Rattle.fwd_config.specs.declared.section.Place.{Place}
-use Rattle.fwd_settings.specs.declared.parts.Part.{Part}
-use Rattle.fwd_settings.specs.declared.parts.Part.TheVariants as part
+use Rattle.fwd_settings.specs.declared.plugins.FilterPlugin.{FilterPlugin}
+use Rattle.fwd_settings.specs.declared.plugins.FilterPlugin.TheVariants as plugin
 use Rattle.fwd_settings.specs.declared.keys.Key.{Key}
 use Rattle.fwd_settings.specs.declared.keys.Key.TheVariants as key
 use Rattle.fwd_settings.specs.declared.words.Word.{Word}
@@ -40,10 +40,10 @@ operation_by place said (Some word.Lift) = lift_by place said (text_at key.Neste
 operation_by place said _ = Err (fault Missing place)
 
 -- every rule counts, in order
-abbrev pub filter_kind : Part → Place → List Said → Checked FilterKind
-filter_kind part.Grep place said = Ok (filter.Grep (filter_map grep_in said))
-filter_kind part.Modify place said = Ok (filter.Modify (record { conditions = filter_map condition_in said; rules = filter_map change_in said }))
-filter_kind _ place said = operation_by place said (word_at key.Operation said)
+abbrev pub filter_kind : FilterPlugin → Place → List Said → Checked FilterKind
+filter_kind plugin.Grep place said = Ok (filter.Grep (filter_map grep_in said))
+filter_kind plugin.Modify place said = Ok (filter.Modify (record { conditions = filter_map condition_in said; rules = filter_map change_in said }))
+filter_kind plugin.Nest place said = operation_by place said (word_at key.Operation said)
 
 -- a filter or an output works on all tags where it has no Match
 abbrev pub glob_of : List Said → List ℕ
@@ -53,5 +53,5 @@ abbrev pub filter_by : List Said → Checked FilterKind → Checked FilterStep
 filter_by said (Ok kind) = Ok (record { glob = glob_of said; kind = kind })
 filter_by said (Err refusal) = Err refusal
 
-abbrev pub filter_from : Part → Place → List Said → Checked FilterStep
+abbrev pub filter_from : FilterPlugin → Place → List Said → Checked FilterStep
 filter_from plugin place said = filter_by said (filter_kind plugin place said)

@@ -15,53 +15,55 @@ use Rattle.fwd_settings.specs.declared.chosen.InputKind.TheVariants as input
 use Rattle.fwd_settings.specs.declared.chosen.InputSet.{InputSet}
 use Rattle.fwd_settings.specs.declared.parts.Head.{Head}
 use Rattle.fwd_settings.specs.declared.parts.Head.TheVariants as head
-use Rattle.fwd_settings.specs.declared.parts.Part.{Part}
 use Rattle.fwd_settings.specs.declared.parts.Part.TheVariants as part
+use Rattle.fwd_settings.specs.declared.plugins.InputPlugin.{InputPlugin}
+use Rattle.fwd_settings.specs.declared.plugins.InputPlugin.TheVariants as plugin
 use Rattle.fwd_settings.specs.declared.keys.Key.{Key}
 use Rattle.fwd_settings.specs.declared.keys.Key.TheVariants as key
 use Rattle.fwd_settings.specs.declared.words.Word.{Word}
 use Rattle.fwd_settings.specs.declared.words.Word.TheVariants as word
 use Rattle.fwd_settings.specs.declared.said.Said.{Said}
-use Rattle.fwd_settings.specs.Keys.{name_of, name_of_plugin, key_of, head_of}
+use Rattle.fwd_settings.specs.Keys.{name_of, name_of_input, key_of, head_of}
 use Rattle.fwd_settings.specs.Said.{number_at, port_at, truth_at, word_at, text_at, last_in, parser_in}
 use Rattle.fwd_settings.specs.Reading.{Checked, fault}
 use Rattle.fwd_settings.specs.Parsers.{timeless}
 
 -- an instance is named by its plugin, a dot and its number
-abbrev pub instance : Part → ℕ → List ℕ
-instance plugin number = name_of_plugin plugin ++ codes "." ++ decimal number
+abbrev pub instance : List ℕ → ℕ → List ℕ
+instance plugin number = plugin ++ codes "." ++ decimal number
+
+-- the plugin that an input is of
+abbrev pub input_plugin : InputKind → InputPlugin
+input_plugin (input.Tail paths from_head) = plugin.Tail
+input_plugin (input.Tcp host port) = plugin.Tcp
+input_plugin (input.Forward host port) = plugin.Forward
+input_plugin input.Stdin = plugin.Stdin
 
 -- whether an input is of the plugin
-abbrev pub is_input_of : Part → InputSet → Bool
-is_input_of plugin set = of_kind plugin set.kind
-  where
-    of_kind : Part → InputKind → Bool
-    of_kind part.Tail (input.Tail paths from_head) = true
-    of_kind part.Tcp (input.Tcp host port) = true
-    of_kind part.Forward (input.Forward host port) = true
-    of_kind part.Stdin input.Stdin = true
-    of_kind _ _ = false
+abbrev pub is_input_of : InputPlugin → InputSet → Bool
+is_input_of plugin set = bytes_eq (name_of_input (input_plugin set.kind)) (name_of_input plugin)
 
 -- its number among the inputs of the plugin, from 0
-abbrev pub input_name : List InputSet → Part → List ℕ
-input_name before plugin = instance plugin (count_by (is_input_of plugin) before)
+abbrev pub input_name : List InputSet → InputPlugin → List ℕ
+input_name before plugin = instance (name_of_input plugin) (count_by (is_input_of plugin) before)
 
 abbrev pub tail_by : Place → List Said → Option (List ℕ) → Checked InputKind
 tail_by place said None = Err (fault Missing place)
 tail_by place said (Some paths) = Ok (input.Tail (parts_of (codes ",") paths) (unwrap_or (truth_at key.ReadFromHead said) false))
 
 -- a tail input wants its Path, which is parted at each comma
-abbrev pub input_kind : Part → Place → List Said → Checked InputKind
-input_kind part.Tail place said = tail_by place said (text_at key.Paths said)
-input_kind part.Tcp place said = Ok (input.Tcp (unwrap_or (text_at key.Listen said) (codes "0.0.0.0")) (unwrap_or (port_at key.Port said) 5170))
-input_kind part.Forward place said = Ok (input.Forward (unwrap_or (text_at key.Listen said) (codes "0.0.0.0")) (unwrap_or (port_at key.Port said) 24224))
-input_kind _ place said = Ok input.Stdin
+abbrev pub input_kind : InputPlugin → Place → List Said → Checked InputKind
+input_kind plugin.Tail place said = tail_by place said (text_at key.Paths said)
+input_kind plugin.Tcp place said = Ok (input.Tcp (unwrap_or (text_at key.Listen said) (codes "0.0.0.0")) (unwrap_or (port_at key.Port said) 5170))
+input_kind plugin.Forward place said = Ok (input.Forward (unwrap_or (text_at key.Listen said) (codes "0.0.0.0")) (unwrap_or (port_at key.Port said) 24224))
+input_kind plugin.Stdin place said = Ok input.Stdin
 
 -- without a Tag the instance's name is the tag, but for forward, whose messages bring theirs
-abbrev pub tag_of : Part → List ℕ → Option (List ℕ) → Option (List ℕ)
-tag_of part.Forward name tag = tag
-tag_of _ name None = Some name
-tag_of _ name (Some tag) = Some tag
+abbrev pub tag_of : InputPlugin → List ℕ → Option (List ℕ) → Option (List ℕ)
+tag_of plugin.Tail name tag = Some (unwrap_or tag name)
+tag_of plugin.Tcp name tag = Some (unwrap_or tag name)
+tag_of plugin.Forward name tag = tag
+tag_of plugin.Stdin name tag = Some (unwrap_or tag name)
 
 abbrev pub is_stored : Option Word → Bool
 is_stored (Some word.Filesystem) = true
@@ -72,11 +74,11 @@ lines_shape (Some word.Plain) = shape.Plain
 lines_shape _ = shape.Json
 
 -- a Parser of tail and stdin, by default none and JSON; tcp has its Format
-abbrev pub input_parser : Part → List Said → Parser
-input_parser part.Tail said = unwrap_or (last_in parser_in said) (timeless shape.Plain)
-input_parser part.Stdin said = unwrap_or (last_in parser_in said) (timeless shape.Json)
-input_parser part.Tcp said = timeless (lines_shape (word_at key.LineFormat said))
-input_parser _ said = timeless shape.Plain
+abbrev pub input_parser : InputPlugin → List Said → Parser
+input_parser plugin.Tail said = unwrap_or (last_in parser_in said) (timeless shape.Plain)
+input_parser plugin.Stdin said = unwrap_or (last_in parser_in said) (timeless shape.Json)
+input_parser plugin.Tcp said = timeless (lines_shape (word_at key.LineFormat said))
+input_parser plugin.Forward said = timeless shape.Plain
 
 -- some SERVICE section has a storage.path
 abbrev pub names_path : Option Key → Bool
@@ -93,7 +95,7 @@ is_service_head _ = false
 abbrev pub has_path : Section → Bool
 has_path section = is_service_head (head_of section.name) && list_any is_path_entry section.entries
 
-abbrev pub input_set : Part → List ℕ → List Said → InputKind → InputSet
+abbrev pub input_set : InputPlugin → List ℕ → List Said → InputKind → InputSet
 input_set plugin name said kind = record {
   name = name;
   kind = kind;
@@ -107,10 +109,10 @@ input_set plugin name said kind = record {
 abbrev pub stored_in : Bool → Place → InputSet → Checked InputSet
 stored_in path place set = if set.stored && not path then Err (fault Missing place) else Ok set
 
-abbrev pub input_by : Bool → Part → Place → List ℕ → List Said → Checked InputKind → Checked InputSet
+abbrev pub input_by : Bool → InputPlugin → Place → List ℕ → List Said → Checked InputKind → Checked InputSet
 input_by path plugin place name said (Ok kind) = stored_in path place (input_set plugin name said kind)
 input_by path plugin place name said (Err refusal) = Err refusal
 
 -- an input behind those before it
-abbrev pub input_from : Bool → Part → Place → List InputSet → List Said → Checked InputSet
+abbrev pub input_from : Bool → InputPlugin → Place → List InputSet → List Said → Checked InputSet
 input_from path plugin place before said = input_by path plugin place (input_name before plugin) said (input_kind plugin place said)

@@ -1,5 +1,5 @@
 -- The table of sections, plugins, keys and words of choice. Each is written here in lower case, and ignores case.
-use Rattle.std.specs.Prelude.{ℕ, Bool, true, false, List, [], ◌∷◌, codes, Option}
+use Rattle.std.specs.Prelude.{ℕ, Bool, true, false, List, [], ◌∷◌, codes, Option, None, option_map}
 use Rattle.std.specs.List.{find}
 use Rattle.std.specs.Str.{str_eq_ignore_ascii_case}
 use Rattle.fwd_choices.specs.declared.rules.ChangeWord.TheVariants as change
@@ -16,6 +16,12 @@ use Rattle.fwd_settings.specs.declared.parts.Head.{Head}
 use Rattle.fwd_settings.specs.declared.parts.Head.TheVariants as head
 use Rattle.fwd_settings.specs.declared.parts.Part.{Part}
 use Rattle.fwd_settings.specs.declared.parts.Part.TheVariants as part
+use Rattle.fwd_settings.specs.declared.plugins.InputPlugin.{InputPlugin}
+use Rattle.fwd_settings.specs.declared.plugins.InputPlugin.TheVariants as input
+use Rattle.fwd_settings.specs.declared.plugins.FilterPlugin.{FilterPlugin}
+use Rattle.fwd_settings.specs.declared.plugins.FilterPlugin.TheVariants as filter
+use Rattle.fwd_settings.specs.declared.plugins.OutputPlugin.{OutputPlugin}
+use Rattle.fwd_settings.specs.declared.plugins.OutputPlugin.TheVariants as output
 
 -- the sections
 abbrev pub name_of_head : Head → List ℕ
@@ -28,46 +34,52 @@ name_of_head head.Output = codes "output"
 unfoldable pub heads : List Head
 heads = head.Service ∷ head.Input ∷ head.Parser ∷ head.Filter ∷ head.Output ∷ []
 
--- the plugins of each
-abbrev pub plugins_of : Head → List Part
-plugins_of head.Service = []
-plugins_of head.Input = part.Tail ∷ part.Tcp ∷ part.Forward ∷ part.Stdin ∷ []
-plugins_of head.Parser = []
-plugins_of head.Filter = part.Grep ∷ part.Modify ∷ part.Nest ∷ []
-plugins_of head.Output = part.Stdout ∷ part.File ∷ part.TcpPeer ∷ part.ForwardPeer ∷ part.HttpPeer ∷ []
+-- the plugins of inputs
+abbrev pub name_of_input : InputPlugin → List ℕ
+name_of_input input.Tail = codes "tail"
+name_of_input input.Tcp = codes "tcp"
+name_of_input input.Forward = codes "forward"
+name_of_input input.Stdin = codes "stdin"
 
-abbrev pub name_of_plugin : Part → List ℕ
-name_of_plugin part.Service = []
-name_of_plugin part.Tail = codes "tail"
-name_of_plugin part.Tcp = codes "tcp"
-name_of_plugin part.Forward = codes "forward"
-name_of_plugin part.Stdin = codes "stdin"
-name_of_plugin part.Parser = []
-name_of_plugin part.Grep = codes "grep"
-name_of_plugin part.Modify = codes "modify"
-name_of_plugin part.Nest = codes "nest"
-name_of_plugin part.Stdout = codes "stdout"
-name_of_plugin part.File = codes "file"
-name_of_plugin part.TcpPeer = codes "tcp"
-name_of_plugin part.ForwardPeer = codes "forward"
-name_of_plugin part.HttpPeer = codes "http"
+abbrev pub input_plugins : List InputPlugin
+input_plugins = input.Tail ∷ input.Tcp ∷ input.Forward ∷ input.Stdin ∷ []
+
+-- the plugins of filters
+abbrev pub name_of_filter : FilterPlugin → List ℕ
+name_of_filter filter.Grep = codes "grep"
+name_of_filter filter.Modify = codes "modify"
+name_of_filter filter.Nest = codes "nest"
+
+abbrev pub filter_plugins : List FilterPlugin
+filter_plugins = filter.Grep ∷ filter.Modify ∷ filter.Nest ∷ []
+
+-- the plugins of outputs
+abbrev pub name_of_output : OutputPlugin → List ℕ
+name_of_output output.Stdout = codes "stdout"
+name_of_output output.File = codes "file"
+name_of_output output.Tcp = codes "tcp"
+name_of_output output.Forward = codes "forward"
+name_of_output output.Http = codes "http"
+
+abbrev pub output_plugins : List OutputPlugin
+output_plugins = output.Stdout ∷ output.File ∷ output.Tcp ∷ output.Forward ∷ output.Http ∷ []
 
 -- the keys of each section and plugin
 abbrev pub keys_of : Part → List Key
 keys_of part.Service = key.Flush ∷ key.Grace ∷ key.StoragePath ∷ key.StorageSync ∷ key.StorageChecksum ∷ key.MaxChunksUp ∷ key.BacklogMemLimit ∷ key.SchedulerBase ∷ key.SchedulerCap ∷ key.ParsersFile ∷ key.Daemon ∷ key.LogLevel ∷ key.LogFile ∷ key.HttpServer ∷ key.HttpListen ∷ key.HttpPort ∷ key.HealthCheck ∷ key.StorageMetrics ∷ key.PluginsFile ∷ []
-keys_of part.Tail = key.Name ∷ key.PlainTag ∷ key.StorageType ∷ key.MemBufLimit ∷ key.Alias ∷ key.LogLevel ∷ key.Paths ∷ key.ParserName ∷ key.ReadFromHead ∷ key.RefreshInterval ∷ key.RotateWait ∷ key.SkipLongLines ∷ key.BufferChunkSize ∷ key.BufferMaxSize ∷ []
-keys_of part.Tcp = key.Name ∷ key.Tag ∷ key.StorageType ∷ key.MemBufLimit ∷ key.Alias ∷ key.LogLevel ∷ key.Listen ∷ key.Port ∷ key.LineFormat ∷ key.ChunkSize ∷ key.BufferSize ∷ []
-keys_of part.Forward = key.Name ∷ key.Tag ∷ key.StorageType ∷ key.MemBufLimit ∷ key.Alias ∷ key.LogLevel ∷ key.Listen ∷ key.Port ∷ key.BufferChunkSize ∷ key.BufferMaxSize ∷ []
-keys_of part.Stdin = key.Name ∷ key.Tag ∷ key.StorageType ∷ key.MemBufLimit ∷ key.Alias ∷ key.LogLevel ∷ key.ParserName ∷ []
 keys_of part.Parser = key.Name ∷ key.ParserFormat ∷ key.Regex ∷ key.TimeKey ∷ key.TimeFormat ∷ key.TimeKeep ∷ key.Types ∷ key.SkipEmptyValues ∷ []
-keys_of part.Grep = key.Name ∷ key.Match ∷ key.GrepRegex ∷ key.GrepExclude ∷ []
-keys_of part.Modify = key.Name ∷ key.Match ∷ key.Condition ∷ key.Set ∷ key.Add ∷ key.Remove ∷ key.RemoveWildcard ∷ key.Rename ∷ key.HardRename ∷ key.Copy ∷ key.HardCopy ∷ []
-keys_of part.Nest = key.Name ∷ key.Match ∷ key.Operation ∷ key.Wildcard ∷ key.NestUnder ∷ key.NestedUnder ∷ key.RemovePrefix ∷ key.AddPrefix ∷ []
-keys_of part.Stdout = key.Name ∷ key.Match ∷ key.RetryLimit ∷ key.TotalLimit ∷ key.Tls ∷ key.Alias ∷ key.LogLevel ∷ key.Workers ∷ key.RecordFormat ∷ []
-keys_of part.File = key.Name ∷ key.Match ∷ key.RetryLimit ∷ key.TotalLimit ∷ key.Tls ∷ key.Alias ∷ key.LogLevel ∷ key.Workers ∷ key.Folder ∷ key.File ∷ key.FileFormat ∷ key.Mkdir ∷ []
-keys_of part.TcpPeer = key.Name ∷ key.Match ∷ key.RetryLimit ∷ key.TotalLimit ∷ key.Tls ∷ key.Alias ∷ key.LogLevel ∷ key.Workers ∷ key.Host ∷ key.Port ∷ key.RecordFormat ∷ []
-keys_of part.ForwardPeer = key.Name ∷ key.Match ∷ key.RetryLimit ∷ key.TotalLimit ∷ key.Tls ∷ key.Alias ∷ key.LogLevel ∷ key.Workers ∷ key.Host ∷ key.Port ∷ key.RequireAck ∷ key.TimeAsInteger ∷ []
-keys_of part.HttpPeer = key.Name ∷ key.Match ∷ key.RetryLimit ∷ key.TotalLimit ∷ key.Tls ∷ key.Alias ∷ key.LogLevel ∷ key.Workers ∷ key.RequestHost ∷ key.Port ∷ key.Uri ∷ key.RecordFormat ∷ []
+keys_of (part.Input input.Tail) = key.Name ∷ key.PlainTag ∷ key.StorageType ∷ key.MemBufLimit ∷ key.Alias ∷ key.LogLevel ∷ key.Paths ∷ key.ParserName ∷ key.ReadFromHead ∷ key.RefreshInterval ∷ key.RotateWait ∷ key.SkipLongLines ∷ key.BufferChunkSize ∷ key.BufferMaxSize ∷ []
+keys_of (part.Input input.Tcp) = key.Name ∷ key.Tag ∷ key.StorageType ∷ key.MemBufLimit ∷ key.Alias ∷ key.LogLevel ∷ key.Listen ∷ key.Port ∷ key.LineFormat ∷ key.ChunkSize ∷ key.BufferSize ∷ []
+keys_of (part.Input input.Forward) = key.Name ∷ key.Tag ∷ key.StorageType ∷ key.MemBufLimit ∷ key.Alias ∷ key.LogLevel ∷ key.Listen ∷ key.Port ∷ key.BufferChunkSize ∷ key.BufferMaxSize ∷ []
+keys_of (part.Input input.Stdin) = key.Name ∷ key.Tag ∷ key.StorageType ∷ key.MemBufLimit ∷ key.Alias ∷ key.LogLevel ∷ key.ParserName ∷ []
+keys_of (part.Filter filter.Grep) = key.Name ∷ key.Match ∷ key.GrepRegex ∷ key.GrepExclude ∷ []
+keys_of (part.Filter filter.Modify) = key.Name ∷ key.Match ∷ key.Condition ∷ key.Set ∷ key.Add ∷ key.Remove ∷ key.RemoveWildcard ∷ key.Rename ∷ key.HardRename ∷ key.Copy ∷ key.HardCopy ∷ []
+keys_of (part.Filter filter.Nest) = key.Name ∷ key.Match ∷ key.Operation ∷ key.Wildcard ∷ key.NestUnder ∷ key.NestedUnder ∷ key.RemovePrefix ∷ key.AddPrefix ∷ []
+keys_of (part.Output output.Stdout) = key.Name ∷ key.Match ∷ key.RetryLimit ∷ key.TotalLimit ∷ key.Tls ∷ key.Alias ∷ key.LogLevel ∷ key.Workers ∷ key.RecordFormat ∷ []
+keys_of (part.Output output.File) = key.Name ∷ key.Match ∷ key.RetryLimit ∷ key.TotalLimit ∷ key.Tls ∷ key.Alias ∷ key.LogLevel ∷ key.Workers ∷ key.Folder ∷ key.File ∷ key.FileFormat ∷ key.Mkdir ∷ []
+keys_of (part.Output output.Tcp) = key.Name ∷ key.Match ∷ key.RetryLimit ∷ key.TotalLimit ∷ key.Tls ∷ key.Alias ∷ key.LogLevel ∷ key.Workers ∷ key.Host ∷ key.Port ∷ key.RecordFormat ∷ []
+keys_of (part.Output output.Forward) = key.Name ∷ key.Match ∷ key.RetryLimit ∷ key.TotalLimit ∷ key.Tls ∷ key.Alias ∷ key.LogLevel ∷ key.Workers ∷ key.Host ∷ key.Port ∷ key.RequireAck ∷ key.TimeAsInteger ∷ []
+keys_of (part.Output output.Http) = key.Name ∷ key.Match ∷ key.RetryLimit ∷ key.TotalLimit ∷ key.Tls ∷ key.Alias ∷ key.LogLevel ∷ key.Workers ∷ key.RequestHost ∷ key.Port ∷ key.Uri ∷ key.RecordFormat ∷ []
 
 -- how each key is written
 abbrev pub name_of : Key → List ℕ
@@ -261,11 +273,31 @@ abbrev pub head_of : List ℕ → Option Head
 head_of name = find (is_head_named name) heads
 
 -- the plugin of that name
-abbrev pub is_plugin_named : List ℕ → Part → Bool
-is_plugin_named name plugin = str_eq_ignore_ascii_case (name_of_plugin plugin) name
+abbrev pub is_input_named : List ℕ → InputPlugin → Bool
+is_input_named name plugin = str_eq_ignore_ascii_case (name_of_input plugin) name
 
+abbrev pub input_of : List ℕ → Option InputPlugin
+input_of name = find (is_input_named name) input_plugins
+
+abbrev pub is_filter_named : List ℕ → FilterPlugin → Bool
+is_filter_named name plugin = str_eq_ignore_ascii_case (name_of_filter plugin) name
+
+abbrev pub filter_of : List ℕ → Option FilterPlugin
+filter_of name = find (is_filter_named name) filter_plugins
+
+abbrev pub is_output_named : List ℕ → OutputPlugin → Bool
+is_output_named name plugin = str_eq_ignore_ascii_case (name_of_output plugin) name
+
+abbrev pub output_of : List ℕ → Option OutputPlugin
+output_of name = find (is_output_named name) output_plugins
+
+-- what a section of this kind is whose plugin has that name
 abbrev pub plugin_of : Head → List ℕ → Option Part
-plugin_of head name = find (is_plugin_named name) (plugins_of head)
+plugin_of head.Service name = None
+plugin_of head.Input name = option_map part.Input (input_of name)
+plugin_of head.Parser name = None
+plugin_of head.Filter name = option_map part.Filter (filter_of name)
+plugin_of head.Output name = option_map part.Output (output_of name)
 
 -- the key of that name, where the section or plugin has it
 abbrev pub is_key_named : List ℕ → Key → Bool

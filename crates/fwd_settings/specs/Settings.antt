@@ -34,7 +34,9 @@ nothing = record { service = []; inputs = []; filters = []; outputs = [] }
 abbrev pub is_full : SoFar → Head → Bool
 is_full so_far head.Input = nat_le most_inputs (length so_far.inputs)
 is_full so_far head.Output = nat_le most_outputs (length so_far.outputs)
-is_full so_far _ = false
+is_full so_far head.Service = false
+is_full so_far head.Parser = false
+is_full so_far head.Filter = false
 
 abbrev pub plugin_at : Entry → Option Part → Checked Part
 plugin_at entry None = Err (fault kind.UnknownPlugin entry.place)
@@ -60,7 +62,10 @@ part_of so_far section = headed so_far section (head_of section.name)
 -- the entries of a PARSER section are read where an input names it
 abbrev pub entries_here : Part → List Entry → List Entry
 entries_here part.Parser entries = []
-entries_here _ entries = entries
+entries_here part.Service entries = entries
+entries_here (part.Input plugin) entries = entries
+entries_here (part.Filter plugin) entries = entries
+entries_here (part.Output plugin) entries = entries
 
 abbrev pub with_input : SoFar → Checked InputSet → Checked SoFar
 with_input so_far (Ok set) = Ok (record so_far { inputs = so_far.inputs ++ set ∷ [] })
@@ -77,18 +82,9 @@ with_output so_far set = record so_far { outputs = so_far.outputs ++ set ∷ [] 
 abbrev pub taken : Bool → SoFar → Part → Place → List Said → Checked SoFar
 taken path so_far part.Service place said = Ok (record so_far { service = so_far.service ++ said })
 taken path so_far part.Parser place said = Ok so_far
-taken path so_far part.Tail place said = with_input so_far (input_from path part.Tail place so_far.inputs said)
-taken path so_far part.Tcp place said = with_input so_far (input_from path part.Tcp place so_far.inputs said)
-taken path so_far part.Forward place said = with_input so_far (input_from path part.Forward place so_far.inputs said)
-taken path so_far part.Stdin place said = with_input so_far (input_from path part.Stdin place so_far.inputs said)
-taken path so_far part.Grep place said = with_filter so_far (filter_from part.Grep place said)
-taken path so_far part.Modify place said = with_filter so_far (filter_from part.Modify place said)
-taken path so_far part.Nest place said = with_filter so_far (filter_from part.Nest place said)
-taken path so_far part.Stdout place said = Ok (with_output so_far (output_from part.Stdout so_far.outputs said))
-taken path so_far part.File place said = Ok (with_output so_far (output_from part.File so_far.outputs said))
-taken path so_far part.TcpPeer place said = Ok (with_output so_far (output_from part.TcpPeer so_far.outputs said))
-taken path so_far part.ForwardPeer place said = Ok (with_output so_far (output_from part.ForwardPeer so_far.outputs said))
-taken path so_far part.HttpPeer place said = Ok (with_output so_far (output_from part.HttpPeer so_far.outputs said))
+taken path so_far (part.Input plugin) place said = with_input so_far (input_from path plugin place so_far.inputs said)
+taken path so_far (part.Filter plugin) place said = with_filter so_far (filter_from plugin place said)
+taken path so_far (part.Output plugin) place said = Ok (with_output so_far (output_from plugin so_far.outputs said))
 
 -- A section is checked in five steps: its header, whether it has a Name where one is wanted, its plugin, each entry in
 -- order, and what else is required.

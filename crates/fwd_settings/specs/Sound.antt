@@ -10,23 +10,8 @@ use Rattle.fwd_settings.specs.declared.chosen.InputKind.TheVariants as input
 use Rattle.fwd_settings.specs.declared.chosen.OutputSet.{OutputSet}
 use Rattle.fwd_settings.specs.declared.chosen.OutputKind.{OutputKind}
 use Rattle.fwd_settings.specs.declared.chosen.OutputKind.TheVariants as output
-use Rattle.fwd_settings.specs.declared.parts.Part.{Part}
-use Rattle.fwd_settings.specs.declared.parts.Part.TheVariants as part
-use Rattle.fwd_settings.specs.Inputs.{input_name}
-use Rattle.fwd_settings.specs.Outputs.{output_name}
-
-abbrev pub input_plugin : InputKind → Part
-input_plugin (input.Tail paths from_head) = part.Tail
-input_plugin (input.Tcp host port) = part.Tcp
-input_plugin (input.Forward host port) = part.Forward
-input_plugin input.Stdin = part.Stdin
-
-abbrev pub output_plugin : OutputKind → Part
-output_plugin (output.Stdout form) = part.Stdout
-output_plugin (output.File folder file form) = part.File
-output_plugin (output.Tcp host port form) = part.TcpPeer
-output_plugin (output.Forward host port ack whole_time) = part.ForwardPeer
-output_plugin (output.Http host port uri form) = part.HttpPeer
+use Rattle.fwd_settings.specs.Inputs.{input_plugin, input_name}
+use Rattle.fwd_settings.specs.Outputs.{output_plugin, output_name}
 
 -- each is named by its plugin and its number among those of the plugin
 abbrev pub AreInputsNamed : List InputSet → List InputSet → Type 0
@@ -43,13 +28,18 @@ IsTagText tag = (1 ≤ length tag) × (length tag ≤ longest_tag) × IsUtf8 tag
 
 abbrev pub HasTag : InputKind → Option (List ℕ) → Type 0
 HasTag kind (Some tag) = IsTagText tag
+HasTag (input.Tail paths from_head) None = ⊥
+HasTag (input.Tcp host port) None = ⊥
 HasTag (input.Forward host port) None = Unit {0}
-HasTag _ None = ⊥
+HasTag input.Stdin None = ⊥
 
 -- what a request is written from: a host of visible characters, and a slash with visible characters behind it
 abbrev pub CanRequest : OutputKind → Type 0
+CanRequest (output.Stdout form) = Unit {0}
+CanRequest (output.File folder file form) = Unit {0}
+CanRequest (output.Tcp host port form) = Unit {0}
+CanRequest (output.Forward host port ack whole_time) = Unit {0}
 CanRequest (output.Http host port uri form) = IsTrue (is_visible_text host) × IsTrue (is_uri_text uri)
-CanRequest _ = Unit {0}
 
 pub record IsSound (settings : AllSettings) : Type 0 where
   pub few_inputs : length settings.inputs ≤ most_inputs

@@ -8,7 +8,7 @@ ghost use Rattle.fwd_settings.specs.Said.{text_at};
 use crate::entries::refuse;
 use crate::fault::Stop;
 use crate::keys::Key;
-use crate::parts::Part;
+use crate::plugins::FilterPlugin;
 use crate::said::{
     Said, SaidList, grep_rules, modify_rules, own_text, text_or, wildcards, word_at,
 };
@@ -69,16 +69,16 @@ fn operation(
 /// What a filter does.
 fn filter_kind(
     alloc: Global,
-    plugin: Part,
+    plugin: FilterPlugin,
     place: &Place,
     said: SaidList,
 ) -> Result<FilterKind, Stop>
     ensures { Gives (known (filter_kind plugin place.now said)) result }
 {
     match plugin {
-        Part::Grep => Ok(FilterKind::Grep(grep_rules(alloc, said)?)),
-        Part::Modify => Ok(FilterKind::Modify(modify_rules(alloc, said)?)),
-        _ => {
+        FilterPlugin::Grep => Ok(FilterKind::Grep(grep_rules(alloc, said)?)),
+        FilterPlugin::Modify => Ok(FilterKind::Modify(modify_rules(alloc, said)?)),
+        FilterPlugin::Nest => {
             let word = word_at(said.as_slice(), Key::Operation);
             operation(alloc, place, word, said.as_slice())
         }
@@ -95,7 +95,7 @@ pub fn glob_of(alloc: Global, said: &[Said]) -> Result<Bytes, Memory>
 /// A filter.
 pub fn filter_from(
     alloc: Global,
-    plugin: Part,
+    plugin: FilterPlugin,
     place: &Place,
     said: SaidList,
 ) -> Result<FilterStep, Stop>

@@ -5,7 +5,7 @@ ghost use Rattle.std.specs.Option.{option_copied};
 ghost use Rattle.std.specs.List.{list_any};
 ghost use Rattle.fwd_settings.specs.Keys.{head_of};
 ghost use Rattle.fwd_settings.specs.Reading.{Gives, known};
-ghost use Rattle.fwd_settings.specs.Inputs.{instance, is_input_of, input_name, input_kind, tag_of, is_stored, lines_shape, input_parser, is_path_entry, is_service_head, has_path, input_from};
+ghost use Rattle.fwd_settings.specs.Inputs.{instance, input_plugin, is_input_of, input_name, input_kind, tag_of, is_stored, lines_shape, input_parser, is_path_entry, is_service_head, has_path, input_from};
 ghost use Rattle.std.specs.Prelude.{unwrap_or};
 ghost use Rattle.fwd_settings.specs.Parsers.{timeless};
 ghost use Rattle.fwd_settings.specs.Said.{text_at, last_in, parser_in};
@@ -15,6 +15,7 @@ use crate::fault::Stop;
 use crate::keys::Key;
 use crate::parsers::timeless;
 use crate::parts::{Head, Part};
+use crate::plugins::InputPlugin;
 use crate::said::{
     Said, SaidList, last_parser, number_at, own_text, port_at, text_at, text_or, truth_at, word_at,
 };
@@ -28,54 +29,65 @@ use itoa::Buffer;
 use std::alloc::Global;
 
 /// The name of an instance: its plugin, a dot and its number.
-pub fn instance(alloc: Global, plugin: Part, number: usize) -> Result<Bytes, Memory>
-    ensures { IfOk result (λ name. name ≡ instance plugin number) }
+pub fn instance(alloc: Global, plugin: &[u8], number: usize) -> Result<Bytes, Memory>
+    ensures { IfOk result (λ name. name ≡ instance plugin.now number) }
 {
     let mut buffer = Buffer::new();
-    let mut name = Bytes::from_slice(alloc, plugin.name())?;
+    let mut name = Bytes::from_slice(alloc, plugin)?;
     name.push(b'.')?;
     name.extend_from_slice(buffer.format(number).as_bytes())?;
     Ok(name)
 }
 
-fn is_input_of(plugin: Part, set: &InputSet) -> bool
-    ensures { result ≡ is_input_of plugin set.now }
+/// The plugin that an input is of.
+fn input_plugin(kind: &InputKind) -> InputPlugin
+    ensures { result ≡ input_plugin kind.now }
 {
-    match (plugin, &set.kind) {
-        (Part::Tail, InputKind::Tail { .. })
-        | (Part::Tcp, InputKind::Tcp { .. })
-        | (Part::Forward, InputKind::Forward { .. })
-        | (Part::Stdin, InputKind::Stdin) => true,
-        _ => false,
+    match kind {
+        InputKind::Tail { .. } => InputPlugin::Tail,
+        InputKind::Tcp { .. } => InputPlugin::Tcp,
+        InputKind::Forward { .. } => InputPlugin::Forward,
+        InputKind::Stdin => InputPlugin::Stdin,
     }
 }
 
-fn count_of(plugin: Part, before: &[InputSet]) -> usize
+fn is_input_of(plugin: InputPlugin, set: &InputSet) -> bool
+    ensures { result ≡ is_input_of plugin set.now }
+{
+    input_plugin(&set.kind).name() == plugin.name()
+}
+
+fn count_of(plugin: InputPlugin, before: &[InputSet]) -> usize
     ensures { result ≡ count_by (is_input_of plugin) before.now }
 {
     before.iter().filter(|set| is_input_of(plugin, set)).count()
 }
 
 /// The kind of an input.
-fn input_kind(alloc: Global, plugin: Part, place: &Place, said: &[Said]) -> Result<InputKind, Stop>
+fn input_kind(
+    alloc: Global,
+    plugin: InputPlugin,
+    place: &Place,
+    said: &[Said],
+) -> Result<InputKind, Stop>
     ensures { Gives (known (input_kind plugin place.now said.now)) result }
 {
     match plugin {
-        Part::Tail => tail_kind(alloc, place, said),
-        Part::Tcp => Ok(InputKind::Tcp {
+        InputPlugin::Tail => tail_kind(alloc, place, said),
+        InputPlugin::Tcp => Ok(InputKind::Tcp {
             host: text_or(alloc, said, Key::Listen, b"0.0.0.0")?,
             port: port_at(said, Key::Port).unwrap_or(5170),
         }),
-        Part::Forward => Ok(InputKind::Forward {
+        InputPlugin::Forward => Ok(InputKind::Forward {
             host: text_or(alloc, said, Key::Listen, b"0.0.0.0")?,
             port: port_at(said, Key::Port).unwrap_or(24224),
         }),
-        _ => Ok(InputKind::Stdin),
+        InputPlugin::Stdin => Ok(InputKind::Stdin),
     }
 }
 
 fn tail_kind(alloc: Global, place: &Place, said: &[Said]) -> Result<InputKind, Stop>
-    ensures { Gives (known (input_kind Part.Tail place.now said.now)) result }
+    ensures { Gives (known (input_kind InputPlugin.Tail place.now said.now)) result }
 {
     match text_at(said, Key::Paths) {
         Some(paths) => Ok(InputKind::Tail {
@@ -87,12 +99,19 @@ fn tail_kind(alloc: Global, place: &Place, said: &[Said]) -> Result<InputKind, S
 }
 
 /// The tag of an input's events.
-fn tag_of(alloc: Global, plugin: Part, name: &[u8], said: &[Said]) -> Result<Option<Bytes>, Memory>
+fn tag_of(
+    alloc: Global,
+    plugin: InputPlugin,
+    name: &[u8],
+    said: &[Said],
+) -> Result<Option<Bytes>, Memory>
     ensures { IfOk result (λ tag. tag ≡ tag_of plugin name.now (text_at Key.Tag said.now)) }
 {
     match plugin {
-        Part::Forward => own_text(alloc, said, Key::Tag),
-        _ => Ok(Some(text_or(alloc, said, Key::Tag, name)?)),
+        InputPlugin::Forward => own_text(alloc, said, Key::Tag),
+        InputPlugin::Tail | InputPlugin::Tcp | InputPlugin::Stdin => {
+            Ok(Some(text_or(alloc, said, Key::Tag, name)?))
+        }
     }
 }
 
@@ -115,14 +134,14 @@ fn lines_shape(word: Option<Word>) -> Shape
 }
 
 /// The parser of an input.
-fn input_parser(plugin: Part, said: SaidList) -> Parser
+fn input_parser(plugin: InputPlugin, said: SaidList) -> Parser
     ensures { result ≡ input_parser plugin said }
 {
     match plugin {
-        Part::Tail => parser_or(Shape::Plain, said),
-        Part::Stdin => parser_or(Shape::Json, said),
-        Part::Tcp => timeless(lines_shape(word_at(said.as_slice(), Key::LineFormat))),
-        _ => timeless(Shape::Plain),
+        InputPlugin::Tail => parser_or(Shape::Plain, said),
+        InputPlugin::Stdin => parser_or(Shape::Json, said),
+        InputPlugin::Tcp => timeless(lines_shape(word_at(said.as_slice(), Key::LineFormat))),
+        InputPlugin::Forward => timeless(Shape::Plain),
     }
 }
 
@@ -186,7 +205,7 @@ pub fn any_path(all: &[Section]) -> bool
 pub fn input_from(
     alloc: Global,
     path: bool,
-    plugin: Part,
+    plugin: InputPlugin,
     place: &Place,
     before: &[InputSet],
     said: SaidList,
@@ -194,7 +213,7 @@ pub fn input_from(
     ensures { Gives (known (input_from path plugin place.now before.now said)) result }
 {
     let kind = input_kind(alloc, plugin, place, said.as_slice())?;
-    let name = instance(alloc, plugin, count_of(plugin, before))?;
+    let name = instance(alloc, plugin.name(), count_of(plugin, before))?;
     let tag = tag_of(alloc, plugin, name.as_slice(), said.as_slice())?;
     let stored = is_stored(word_at(said.as_slice(), Key::StorageType));
     if stored && !path {

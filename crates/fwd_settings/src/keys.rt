@@ -6,6 +6,7 @@ ghost use Rattle.std.specs.Str.{bytes_eq};
 ghost use Rattle.fwd_settings.specs.Keys.{name_of, kind_of, keys_of, is_key_named, key_of};
 
 use crate::parts::Part;
+use crate::plugins::{FilterPlugin, InputPlugin, OutputPlugin};
 use crate::words::Menu;
 use fwd_choices::{ChangeWord, same_name};
 
@@ -532,19 +533,19 @@ fn keys(part: Part) -> &'static [Key]
 {
     match part {
         Part::Service => &SERVICE,
-        Part::Tail => &TAIL,
-        Part::Tcp => &TCP,
-        Part::Forward => &FORWARD,
-        Part::Stdin => &STDIN,
         Part::Parser => &PARSER,
-        Part::Grep => &GREP,
-        Part::Modify => &MODIFY,
-        Part::Nest => &NEST,
-        Part::Stdout => &STDOUT,
-        Part::File => &FILE,
-        Part::TcpPeer => &TCP_PEER,
-        Part::ForwardPeer => &FORWARD_PEER,
-        Part::HttpPeer => &HTTP_PEER,
+        Part::Input(InputPlugin::Tail) => &TAIL,
+        Part::Input(InputPlugin::Tcp) => &TCP,
+        Part::Input(InputPlugin::Forward) => &FORWARD,
+        Part::Input(InputPlugin::Stdin) => &STDIN,
+        Part::Filter(FilterPlugin::Grep) => &GREP,
+        Part::Filter(FilterPlugin::Modify) => &MODIFY,
+        Part::Filter(FilterPlugin::Nest) => &NEST,
+        Part::Output(OutputPlugin::Stdout) => &STDOUT,
+        Part::Output(OutputPlugin::File) => &FILE,
+        Part::Output(OutputPlugin::Tcp) => &TCP_PEER,
+        Part::Output(OutputPlugin::Forward) => &FORWARD_PEER,
+        Part::Output(OutputPlugin::Http) => &HTTP_PEER,
     }
 }
 

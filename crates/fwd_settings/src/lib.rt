@@ -16,6 +16,7 @@ mod keys;
 mod outputs;
 mod parsers;
 mod parts;
+mod plugins;
 mod said;
 mod sections;
 mod service;

@@ -18,6 +18,7 @@ use crate::inputs::{any_path, input_from};
 use crate::outputs::output_from;
 use crate::parsers::name_entry;
 use crate::parts::{Head, Part};
+use crate::plugins::{FilterPlugin, InputPlugin, OutputPlugin};
 use crate::said::SaidList;
 use crate::service::service_of;
 use crate::{AllSettings, InputSets, OutputSets, SettingFault};
@@ -57,7 +58,7 @@ impl SoFar {
         match head {
             Head::Input => self.inputs.len() >= MOST_INPUTS,
             Head::Output => self.outputs.len() >= MOST_OUTPUTS,
-            _ => false,
+            Head::Service | Head::Parser | Head::Filter => false,
         }
     }
 
@@ -91,18 +92,9 @@ impl SoFar {
         match part {
             Part::Service => self.with_service(said),
             Part::Parser => Ok(self),
-            Part::Tail => self.with_input(alloc, path, Part::Tail, place, said),
-            Part::Tcp => self.with_input(alloc, path, Part::Tcp, place, said),
-            Part::Forward => self.with_input(alloc, path, Part::Forward, place, said),
-            Part::Stdin => self.with_input(alloc, path, Part::Stdin, place, said),
-            Part::Grep => self.with_filter(alloc, Part::Grep, place, said),
-            Part::Modify => self.with_filter(alloc, Part::Modify, place, said),
-            Part::Nest => self.with_filter(alloc, Part::Nest, place, said),
-            Part::Stdout => self.with_output(alloc, Part::Stdout, said),
-            Part::File => self.with_output(alloc, Part::File, said),
-            Part::TcpPeer => self.with_output(alloc, Part::TcpPeer, said),
-            Part::ForwardPeer => self.with_output(alloc, Part::ForwardPeer, said),
-            Part::HttpPeer => self.with_output(alloc, Part::HttpPeer, said),
+            Part::Input(plugin) => self.with_input(alloc, path, plugin, place, said),
+            Part::Filter(plugin) => self.with_filter(alloc, plugin, place, said),
+            Part::Output(plugin) => self.with_output(alloc, plugin, said),
         }
     }
 
@@ -120,7 +112,7 @@ impl SoFar {
         self,
         alloc: Global,
         path: bool,
-        plugin: Part,
+        plugin: InputPlugin,
         place: &Place,
         said: SaidList,
     ) -> Result<SoFar, Stop>
@@ -135,7 +127,7 @@ impl SoFar {
     fn with_filter(
         self,
         alloc: Global,
-        plugin: Part,
+        plugin: FilterPlugin,
         place: &Place,
         said: SaidList,
     ) -> Result<SoFar, Stop>
@@ -147,7 +139,7 @@ impl SoFar {
         Ok(so_far)
     }
 
-    fn with_output(self, alloc: Global, plugin: Part, said: SaidList) -> Result<SoFar, Stop>
+    fn with_output(self, alloc: Global, plugin: OutputPlugin, said: SaidList) -> Result<SoFar, Stop>
         ensures { Gives (known (Ok (with_output self (output_from plugin self.outputs said)))) result }
     {
         let mut so_far = self;
@@ -197,7 +189,7 @@ fn entries_here(part: Part, entries: &[Entry]) -> &[Entry]
 {
     match part {
         Part::Parser => &[],
-        _ => entries,
+        Part::Service | Part::Input(_) | Part::Filter(_) | Part::Output(_) => entries,
     }
 }
 

@@ -20,16 +20,16 @@ use Rattle.fwd_settings.specs.declared.chosen.AllSettings.{AllSettings}
 use Rattle.fwd_settings.specs.declared.chosen.OutputSet.{OutputSet}
 use Rattle.fwd_settings.specs.declared.chosen.OutputKind.{OutputKind}
 use Rattle.fwd_settings.specs.declared.chosen.OutputKind.TheVariants.{Stdout, File, Tcp, Forward, Http}
-use Rattle.fwd_settings.specs.declared.parts.Part.{Part}
+use Rattle.fwd_settings.specs.declared.plugins.OutputPlugin.{OutputPlugin}
 use Rattle.fwd_settings.specs.Inputs.{instance}
-use Rattle.fwd_settings.specs.Keys.{name_of_plugin}
-use Rattle.fwd_settings.specs.Outputs.{is_output_of}
-use Rattle.fwd_settings.specs.Sound.{output_plugin, AreOutputsNamed, IsSound}
+use Rattle.fwd_settings.specs.Keys.{name_of_output as plugin_name}
+use Rattle.fwd_settings.specs.Outputs.{output_plugin, is_output_of}
+use Rattle.fwd_settings.specs.Sound.{AreOutputsNamed, IsSound}
 
 -- ---- instances
 
-same_number : (p : Part) (n m : ℕ) → n < 2 ^ 64 → m < 2 ^ 64 → instance p n ≡ instance p m → n ≡ m
-same_number p n m few few2 is = decimal_injective n m few few2 (append_cancel_left (name_of_plugin p ++ codes ".") (decimal n) (decimal m) is)
+same_number : (name : List ℕ) (n m : ℕ) → n < 2 ^ 64 → m < 2 ^ 64 → instance name n ≡ instance name m → n ≡ m
+same_number name n m few few2 is = decimal_injective n m few few2 (append_cancel_left (name ++ codes ".") (decimal n) (decimal m) is)
 
 -- the first two bytes of a name
 front : List ℕ → ℕ
@@ -38,7 +38,7 @@ front name = slice_index name 0 * 256 + slice_index name 1
 fronts_differ : (m n : ℕ) (one other : List ℕ) → front one ≡ m → front other ≡ n → one ≡ other → (m ≡ n → ⊥) → ⊥
 fronts_differ m n one other first second is differ = differ (sym first ∙ ap front is ∙ second)
 
-same_plugin : (a b : OutputKind) (n m : ℕ) → instance (output_plugin a) n ≡ instance (output_plugin b) m → output_plugin a ≡ output_plugin b
+same_plugin : (a b : OutputKind) (n m : ℕ) → instance (plugin_name (output_plugin a)) n ≡ instance (plugin_name (output_plugin b)) m → output_plugin a ≡ output_plugin b
 unfolding front
 same_plugin (Stdout f) (Stdout g) n m is = refl
 same_plugin (Stdout f) (File x y g) n m is = absurd (fronts_differ 29556 26217 _ _ refl refl is (λ e. absurd (omega (arith, e))))
@@ -88,7 +88,7 @@ counted_own f xs y is =
     omega (arith, counted_behind f xs y, one)
 
 -- none behind it has the name of an output
-differ_later : (o : OutputSet) (n : ℕ) (before more : List OutputSet) → n < count_by (is_output_of (output_plugin o.kind)) before → length before + length more ≤ 64 → o.name ≡ instance (output_plugin o.kind) n
+differ_later : (o : OutputSet) (n : ℕ) (before more : List OutputSet) → n < count_by (is_output_of (output_plugin o.kind)) before → length before + length more ≤ 64 → o.name ≡ instance (plugin_name (output_plugin o.kind)) n
     → AreOutputsNamed before more → All (λ (other : OutputSet). o.name ≢ other.name) more
 differ_later o n before [] less few named all = All-nil _
 differ_later o n before (e ∷ more) less few named all =
@@ -97,9 +97,10 @@ differ_later o n before (e ∷ more) less few named all =
     let there = sym named ∙ same ∙ all.0 in
     let plugin = same_plugin o.kind e.kind n (count_by (is_output_of (output_plugin e.kind)) before) there in
     let m = count_by (is_output_of (output_plugin o.kind)) before in
-    let at : instance (output_plugin o.kind) n ≡ instance (output_plugin o.kind) m = there ∙ ap (λ (p : Part). instance p (count_by (is_output_of p) before)) (sym plugin) in
+    let name = plugin_name (output_plugin o.kind) in
+    let at : instance name n ≡ instance name m = there ∙ ap (λ (p : OutputPlugin). instance (plugin_name p) (count_by (is_output_of p) before)) (sym plugin) in
     let within : m ≤ length before = count_by-le-length (is_output_of (output_plugin o.kind)) before in
-    let is = same_number (output_plugin o.kind) n m (omega (arith, less, within, few)) (omega (arith, within, few)) at in
+    let is = same_number name n m (omega (arith, less, within, few)) (omega (arith, within, few)) at in
     absurd (omega (arith, less, is)))
     (differ_later o n (before ++ e ∷ []) more (omega (arith, less, counted_more (is_output_of (output_plugin o.kind)) before e)) (omega (arith, few, length-append before (e ∷ []))) named all.1)
 
@@ -126,22 +127,22 @@ ascii_by (b ∷ bs) all (suc i) = elim (cases_Bool (nat_lt b 128)) [
   | inr isnt ↦ absurd (cc (rw isnt at all))
 ]
 
-plugin_short : (kind : OutputKind) → (1 ≤ length (name_of_plugin (output_plugin kind))) × (length (name_of_plugin (output_plugin kind)) ≤ 7) × IsAscii (name_of_plugin (output_plugin kind))
+plugin_short : (kind : OutputKind) → (1 ≤ length (plugin_name (output_plugin kind))) × (length (plugin_name (output_plugin kind)) ≤ 7) × IsAscii (plugin_name (output_plugin kind))
 plugin_short (Stdout f) = (omega arith, omega arith, ascii_by (codes "stdout") refl)
 plugin_short (File x y f) = (omega arith, omega arith, ascii_by (codes "file") refl)
 plugin_short (Tcp h p f) = (omega arith, omega arith, ascii_by (codes "tcp") refl)
 plugin_short (Forward h p a w) = (omega arith, omega arith, ascii_by (codes "forward") refl)
 plugin_short (Http h p u f) = (omega arith, omega arith, ascii_by (codes "http") refl)
 
-instance_short : (kind : OutputKind) (n : ℕ) → n ≤ 64 → IsShortText (instance (output_plugin kind) n)
+instance_short : (kind : OutputKind) (n : ℕ) → n ≤ 64 → IsShortText (instance (plugin_name (output_plugin kind)) n)
 instance_short kind n few =
-    let name = name_of_plugin (output_plugin kind) in
+    let name = plugin_name (output_plugin kind) in
     let short = plugin_short kind in
     let digits : length (decimal n) ≤ n + 1 = length-decimal-le_succ n (omega (arith, few)) in
-    let long : length (instance (output_plugin kind) n) ≡ length name + 1 + length (decimal n) = length-append (name ++ codes ".") (decimal n) ∙ ap (λ (k : ℕ). k + length (decimal n)) (length-append name (codes ".")) in (
+    let long : length (instance name n) ≡ length name + 1 + length (decimal n) = length-append (name ++ codes ".") (decimal n) ∙ ap (λ (k : ℕ). k + length (decimal n)) (length-append name (codes ".")) in (
       omega (arith, short.0, long),
       omega (arith, short.1, long, digits, few),
-      IsUtf8-from_ascii (instance (output_plugin kind) n) (IsAscii-append (name ++ codes ".") (decimal n) (IsAscii-append name (codes ".") short.2 (ascii_by (codes ".") refl)) (IsAscii-decimal n (omega (arith, few)))),
+      IsUtf8-from_ascii (instance name n) (IsAscii-append (name ++ codes ".") (decimal n) (IsAscii-append name (codes ".") short.2 (ascii_by (codes ".") refl)) (IsAscii-decimal n (omega (arith, few)))),
     )
 
 names_short : (before more : List OutputSet) → length before + length more ≤ 64 → AreOutputsNamed before more → All (λ (o : OutputSet). IsShortText o.name) more
