@@ -15,9 +15,10 @@ use Rattle.fwd_table.specs.Rows.{ChunksRise, is_row_of, on_chunk, resolved_to}
 use Rattle.fwd_table.proofs.Chunks.{rise-on_chunk}
 use Rattle.fwd_limits.specs.declared.loss.Loss.{Loss}
 use Rattle.fwd_limits.specs.declared.loss.Loss.TheVariants.{Fits, Lose, NewLoses}
-use Rattle.fwd_limits.specs.Kept.{in_file, is_flying, is_waiting, size_of}
+use Rattle.fwd_table.specs.Kept.{in_file, is_flying, is_waiting, size_of}
 use Rattle.std.proofs.lemmas.List.Filters.{length-filter_both}
-use Rattle.fwd_limits.specs.Losses.{first_chunk, flying_to, others_for, fixed, lost_among, lost_to, next_of, goes_on, asked}
+use Rattle.fwd_table.specs.Kept.{flying_to}
+use Rattle.fwd_limits.specs.Losses.{first_chunk, others_for, fixed, lost_among, lost_to, next_of, goes_on, asked}
 use Rattle.fwd_limits.proofs.Losing.{new_loses, it_fits, first_is_lost, among_fits, among_over}
 
 -- ---- a route that is lost

@@ -14,7 +14,8 @@ use Rattle.fwd_table.specs.declared.row.Row.{Row}
 use Rattle.fwd_table.specs.declared.row.RowSeen.{RowSeen}
 use Rattle.fwd_table.specs.Routes.{flying_of, is_to, IsMaskOf}
 use Rattle.fwd_table.specs.Rows.{seen_of}
-use Rattle.fwd_limits.specs.Kept.{is_file, look_of}
+use Rattle.fwd_table.specs.Kept.{is_file}
+use Rattle.fwd_limits.specs.Kept.{look_of}
 
 -- no bit is set past those of a word
 pub none_past : (mask bit : ℕ) → mask < 2 ^ 64 → 64 ≤ bit → eqb (bit_at mask bit) 1 ≡ false

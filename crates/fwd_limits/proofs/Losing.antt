@@ -6,9 +6,10 @@ use Rattle.fwd_base.specs.declared.ids.ChunkId.{ChunkId}
 use Rattle.fwd_base.specs.declared.ids.OutputId.{OutputId}
 use Rattle.fwd_table.specs.declared.row.Row.{Row}
 use Rattle.fwd_limits.specs.declared.loss.Loss.TheVariants.{Fits, NewLoses}
-use Rattle.fwd_limits.specs.Kept.{size_of}
+use Rattle.fwd_table.specs.Kept.{size_of}
 use Rattle.fwd_table.specs.Rows.{is_row_of}
-use Rattle.fwd_limits.specs.Losses.{flying_to, lost_among, first_chunk, loss_of, fixed, others_for, next_of, IsShortest}
+use Rattle.fwd_table.specs.Kept.{flying_to}
+use Rattle.fwd_limits.specs.Losses.{lost_among, first_chunk, loss_of, fixed, others_for, next_of, IsShortest}
 
 pub shortest : (room : ℕ) (rows : List Row) → IsShortest room rows (lost_among room rows)
 shortest room [] = record { left = []; first = refl; fits = omega arith; shortest = λ n less. absurd (omega (arith, less)) }

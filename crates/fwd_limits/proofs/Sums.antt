@@ -16,7 +16,7 @@ use Rattle.fwd_limits.specs.Losses.{first_chunk}
 use Rattle.fwd_table.specs.declared.row.Row.{Row}
 use Rattle.fwd_table.specs.declared.route.Route.{Route}
 use Rattle.fwd_table.specs.Routes.{mask_of}
-use Rattle.fwd_limits.specs.Kept.{size_of}
+use Rattle.fwd_table.specs.Kept.{size_of}
 
 -- a row more
 kept_row : (p : Row → Bool) (rows : List Row) (i : ℕ) (row : Row) → slice_get rows i ≡ Some row → filter p (take (i + 1) rows) ≡ filter p (take i rows) ++ cond (p row) (row ∷ []) []

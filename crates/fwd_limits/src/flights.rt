@@ -1,7 +1,7 @@
 //! How much is in flight.
 
 ghost use Rattle.std.specs.Prelude.{◌≡◌, ◌-◌, ◌^◌, min};
-ghost use Rattle.fwd_limits.specs.Kept.{files_up, found_up};
+ghost use Rattle.fwd_table.specs.Kept.{files_up, found_up};
 ghost use Rattle.fwd_limits.specs.Looks.{file_count, found_size};
 
 use crate::rows::is_file;

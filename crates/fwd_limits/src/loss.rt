@@ -2,8 +2,9 @@
 
 ghost use Rattle.std.specs.Prelude.{◌≡◌, ◌-◌, ◌^◌, min, filter};
 ghost use Rattle.fwd_table.specs.Rows.{is_row_of};
-ghost use Rattle.fwd_limits.specs.Kept.{size_of};
-ghost use Rattle.fwd_limits.specs.Losses.{flying_to, others_for, first_chunk, next_of};
+ghost use Rattle.fwd_table.specs.Kept.{size_of};
+ghost use Rattle.fwd_table.specs.Kept.{flying_to};
+ghost use Rattle.fwd_limits.specs.Losses.{others_for, first_chunk, next_of};
 ghost use Rattle.fwd_limits.specs.Looks.{flying_size, waiting_size, waits_beside, own_size};
 
 use crate::rows::{Look, look_at};

@@ -2,7 +2,8 @@
 
 ghost use Rattle.std.specs.Prelude.{◌≡◌, ◌↔◌, ℕ, ◌-◌, ◌^◌, ◌≤◌, length, min, IsBitSet};
 ghost use Rattle.fwd_base.specs.Limits.{most_inputs};
-ghost use Rattle.fwd_limits.specs.Pausing.{memory_of, reaches, IsPaused};
+ghost use Rattle.fwd_table.specs.Kept.{memory_of};
+ghost use Rattle.fwd_limits.specs.Pausing.{reaches, IsPaused};
 ghost use Rattle.fwd_limits.specs.Looks.{memory_size};
 
 use crate::rows::is_file;

@@ -2,7 +2,8 @@
 
 ghost use Rattle.std.specs.Prelude.{◌≡◌, ◌<◌, ◌==◌, ◌&&◌, not, Some, length, option_map, slice_get};
 ghost use Rattle.std.specs.Int.{bit_at};
-ghost use Rattle.fwd_limits.specs.Kept.{is_file, look_of};
+ghost use Rattle.fwd_table.specs.Kept.{is_file};
+ghost use Rattle.fwd_limits.specs.Kept.{look_of};
 
 use fwd_base::{ChunkId, OutputId};
 use fwd_outside::Home;

@@ -11,7 +11,7 @@ use Rattle.fwd_table.specs.declared.route.Route.{Route as Owed}
 use Rattle.fwd_table.specs.declared.row.Row.{Row}
 use Rattle.fwd_table.specs.Routes.{is_to}
 use Rattle.fwd_table.specs.Rows.{is_row_of, on_chunk, resolved_to, owed_rows, is_owed_row, waits_for, is_idle_in}
-use Rattle.fwd_limits.specs.Kept.{size_of, in_file, is_waiting}
+use Rattle.fwd_table.specs.Kept.{size_of, in_file, is_waiting}
 use Rattle.fwd_limits.specs.Losses.{others_for, fixed, lost_among, lost_to}
 use Rattle.fwd_written.specs.Fact.{History, Route, OnRoute, Lost}
 use Rattle.fwd_written.specs.Setup.{limit_at}

@@ -11,7 +11,7 @@ use Rattle.fwd_table.specs.declared.route.Route.{Route as Owed}
 use Rattle.fwd_table.specs.declared.row.Row.{Row}
 use Rattle.fwd_table.specs.Routes.{is_to}
 use Rattle.fwd_table.specs.Rows.{row_at, waits_for}
-use Rattle.fwd_limits.specs.Kept.{in_file, is_file}
+use Rattle.fwd_table.specs.Kept.{in_file, is_file}
 use Rattle.fwd_written.specs.Fact.{History}
 use Rattle.fwd_written.specs.Chunks.{ChunkOf, chunks_of, chunk_at, is_shut, next}
 use Rattle.fwd_written.specs.Limits.{losses_for, lost_at}

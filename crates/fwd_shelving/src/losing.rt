@@ -4,7 +4,7 @@ ghost use Rattle.std.specs.Prelude.{◌≡◌, ◌≤◌, true, false, Option, S
 ghost use Rattle.std.specs.Option.{option_map_or};
 ghost use Rattle.fwd_settings.specs.declared.chosen.AllSettings.{AllSettings};
 ghost use Rattle.fwd_table.specs.Rows.{row_at};
-ghost use Rattle.fwd_limits.specs.Kept.{in_file, is_file};
+ghost use Rattle.fwd_table.specs.Kept.{in_file, is_file};
 ghost use Rattle.fwd_written.specs.Fact.{History, Route};
 ghost use Rattle.fwd_written.specs.Setup.{limit_at};
 ghost use Rattle.fwd_written.specs.Routes.{route, is_idle};

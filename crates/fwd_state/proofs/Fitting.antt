@@ -8,7 +8,7 @@ use Rattle.fwd_table.specs.Routes.{flying_of}
 use Rattle.fwd_table.specs.Rows.{is_row_of, row_at, seen_of}
 use Rattle.fwd_table.specs.declared.row.Row.{Row}
 use Rattle.fwd_table.specs.declared.row.RowSeen.{RowSeen}
-use Rattle.fwd_limits.specs.Kept.{in_file, is_nobody, files_up, found_up}
+use Rattle.fwd_table.specs.Kept.{in_file, is_nobody, files_up, found_up}
 use Rattle.fwd_limits.proofs.Sums.{mask_none}
 use Rattle.fwd_written.specs.Walk.{fits_row}
 use Rattle.fwd_state.specs.Rooms.{fits_seen}

@@ -17,7 +17,7 @@ use Rattle.fwd_table.specs.Rows.{ChunksRise, is_row_of, on_chunk, resolved_to, o
 use Rattle.fwd_table.proofs.Chunks.{rise-on_chunk}
 use Rattle.fwd_limits.specs.declared.loss.Loss.{Loss}
 use Rattle.fwd_limits.specs.declared.loss.Loss.TheVariants.{Fits, Lose, NewLoses}
-use Rattle.fwd_limits.specs.Kept.{in_file, is_flying, is_waiting, size_of}
+use Rattle.fwd_table.specs.Kept.{in_file, is_flying, is_waiting, size_of}
 use Rattle.fwd_limits.specs.Losses.{others_for, fixed, lost_among, lost_to, first_chunk, loss_of, next_of, goes_on, asked}
 use Rattle.fwd_limits.proofs.Asking.{asked_is}
 use Rattle.fwd_written.specs.Fact.{History, OnRoute, Lost}

@@ -6,7 +6,8 @@ use Rattle.std.specs.Option.{option_and_then}
 use Rattle.std.proofs.lemmas.Option.{slice_get-map, slice_get_within}
 use Rattle.fwd_settings.specs.declared.chosen.AllSettings.{AllSettings}
 use Rattle.fwd_settings.specs.declared.chosen.InputSet.{InputSet}
-use Rattle.fwd_limits.specs.Pausing.{IsPaused, reaches, memory_of}
+use Rattle.fwd_table.specs.Kept.{memory_of}
+use Rattle.fwd_limits.specs.Pausing.{IsPaused, reaches}
 use Rattle.fwd_written.specs.Fact.{History}
 use Rattle.fwd_written.specs.Setup.{mem_limit_at}
 use Rattle.fwd_written.specs.Clock.{stopped}

@@ -10,7 +10,7 @@ use Rattle.fwd_table.specs.declared.route.Route.{Route as Owed}
 use Rattle.fwd_table.specs.declared.row.Row.{Row}
 use Rattle.fwd_table.specs.Routes.{is_to, without_output}
 use Rattle.fwd_table.specs.Rows.{is_row_of, on_chunk, resolved_to, owed_rows, is_owed_row, waits_for, is_idle_in}
-use Rattle.fwd_limits.specs.Kept.{is_file}
+use Rattle.fwd_table.specs.Kept.{is_file}
 use Rattle.fwd_limits.specs.Losses.{next_of}
 use Rattle.fwd_limits.specs.declared.loss.Loss.TheVariants.{Fits, Lose, NewLoses}
 use Rattle.fwd_written.specs.Fact.{History, Route, OnRoute, Lost}

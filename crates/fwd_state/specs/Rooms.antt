@@ -2,7 +2,7 @@
 use Rattle.std.specs.Prelude.{ℕ, ◌+◌, ◌==◌, ◌&&◌, ◌||◌, nat_lt, nat_le, not, Bool, List}
 use Rattle.fwd_table.specs.declared.row.Row.{Row}
 use Rattle.fwd_table.specs.declared.row.RowSeen.{RowSeen}
-use Rattle.fwd_limits.specs.Kept.{is_file, is_nobody, files_up, found_up}
+use Rattle.fwd_table.specs.Kept.{is_file, is_nobody, files_up, found_up}
 
 abbrev pub fits_seen : ℕ → ℕ → List Row → RowSeen → Bool
 fits_seen max_up limit rows seen =

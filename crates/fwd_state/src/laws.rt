@@ -10,7 +10,7 @@ ghost use Rattle.fwd_written.specs.Chunks.{ChunkOf, chunk_at, next};
 ghost use Rattle.fwd_written.specs.Routes.{route, tries, begun, is_idle, owed, owes, home_of, rows_of};
 ghost use Rattle.fwd_written.specs.Setup.{limit_at};
 ghost use Rattle.fwd_written.specs.Limits.{losses_to, lost_at};
-ghost use Rattle.fwd_limits.specs.Kept.{is_file};
+ghost use Rattle.fwd_table.specs.Kept.{is_file};
 ghost use Rattle.fwd_state.specs.Losing.{losses_left, WaitsForOthers};
 ghost use Rattle.fwd_limits.specs.Losses.{next_of};
 ghost use Rattle.fwd_limits.specs.declared.loss.Loss.TheVariants.{Fits, Lose, NewLoses};

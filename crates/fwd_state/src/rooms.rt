@@ -3,7 +3,7 @@
 ghost use Rattle.std.specs.Prelude.{◌≡◌, ◌-◌, ◌^◌, min};
 ghost use Rattle.fwd_settings.specs.declared.chosen.AllSettings.{AllSettings};
 ghost use Rattle.fwd_table.specs.Rows.{row_at};
-ghost use Rattle.fwd_limits.specs.Kept.{found_up};
+ghost use Rattle.fwd_table.specs.Kept.{found_up};
 ghost use Rattle.fwd_limits.specs.Looks.{found_size};
 ghost use Rattle.fwd_written.specs.Walk.{fits_row};
 ghost use Rattle.fwd_state.specs.Rooms.{fits_seen};

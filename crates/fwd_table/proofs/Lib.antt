@@ -5,3 +5,5 @@ pub mod Bits
 pub mod Chunks
 pub mod Places
 pub mod Waits
+pub mod Summing
+pub mod Kept

@@ -1,11 +1,11 @@
 -- Where the row of a chunk stands among rows that rise, and what a change of that one row is.
 use Rattle.std.proofs.Common.{◌≡◌, ◌≢◌, ◌⊎◌, inl, inr, ℕ, zero, suc, ◌<◌, ◌≤◌, true, false, List, [], ◌∷◌, length, get_or, set, Some, None, Result, Ok, Err, refl, sym, ap, arith}
-use Rattle.std.specs.Prelude.{All}
+use Rattle.std.specs.Prelude.{All, filter, option_to_list}
 use Rattle.std.specs.List.{remove}
 use Rattle.std.specs.List.Sorted.{IsSearchInRange, IsBinarySearchResult, IsNonDecreasingBy}
 use Rattle.std.specs.Ordering.{nat_cmp, ordering_index}
 use Rattle.std.specs.Result.{result_ok}
-use Rattle.std.proofs.lemmas.Bool.{cases_lt, eq-eqb, ne_eqb}
+use Rattle.std.proofs.lemmas.Bool.{cases_eq, cases_lt, eq-eqb, ne_eqb}
 use Rattle.std.proofs.lemmas.Bool.Decides.{nat_tests}
 use Rattle.std.proofs.lemmas.Cmp.{ranked}
 use Rattle.std.proofs.lemmas.List.Elements.{All-head, All-tail}
@@ -61,10 +61,10 @@ module _ (chunk : ChunkId) where
 
   -- ---- the row at a place is
 
-  behind_rise : (row : Row) (rows : List Row) → ChunksRise (row ∷ rows) → ChunksRise rows
+  pub behind_rise : (row : Row) (rows : List Row) → ChunksRise (row ∷ rows) → ChunksRise rows
   behind_rise row rows rise i j d less within = rise (suc i) (suc j) d (omega (arith, less)) (omega (arith, within))
 
-  others_behind : (row : Row) (rows : List Row) → ChunksRise (row ∷ rows) → row.chunk.0 ≡ chunk.0 → All IsOther rows
+  pub others_behind : (row : Row) (rows : List Row) → ChunksRise (row ∷ rows) → row.chunk.0 ≡ chunk.0 → All IsOther rows
   others_behind row rows rise own k d within same =
       let less : row.chunk.0 < (get_or rows k d).chunk.0 = rise 0 (suc k) d (omega arith) (omega (arith, within)) in
       omega (arith, less, own, same)
@@ -94,3 +94,15 @@ module _ (chunk : ChunkId) where
   one_at (row ∷ rows) (suc i) d rise within own =
       let below : i < length rows = omega (arith, within) in
       rw (is_other row (other_before row rows i d rise below own)) (one_at rows i d (behind_rise row rows rise) below own)
+
+  -- no other row is
+  pub alone_in : (rows : List Row) → ChunksRise rows → filter (is_row_of chunk) rows ≡ option_to_list (row_at chunk rows)
+  alone_in [] rise = refl
+  alone_in (row ∷ rows) rise = elim (cases_eq row.chunk.0 chunk.0) [
+    | inl own ↦ rw (is_own row own, none_kept rows (others_behind row rows rise own)) refl
+    | inr other ↦ rw (is_other row other) (alone_in rows (behind_rise row rows rise))
+  ]
+    where
+      none_kept : (rows : List Row) → All IsOther rows → filter (is_row_of chunk) rows ≡ []
+      none_kept [] others = refl
+      none_kept (row ∷ rows) others = rw (is_other row (All-head IsOther row rows others)) (none_kept rows (All-tail IsOther row rows others))

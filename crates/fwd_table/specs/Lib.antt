@@ -2,3 +2,5 @@ pub mod Answers
 pub mod Routes
 pub mod Rows
 pub mod Changes
+pub mod Kept
+pub mod Sums

@@ -112,11 +112,6 @@ seen_of row = record {
 abbrev pub WaitsTill : ℕ → Row → Type 0
 WaitsTill reading row = IsTrue row.shut → All (λ r. r.flying ≡ false → reading ≤ r.due) row.routes
 
--- the rows rise, and none of their idle routes is due before a reading
-pub record IsKept (reading : ℕ) (rows : List Row) : Type 0 where
-  pub rise : ChunksRise rows
-  pub wait : All (WaitsTill reading) rows
-
 -- ---- what happens to its rows
 
 -- a new row, open and owed to the outputs whose bits are set in a mask

@@ -5,6 +5,7 @@
 mod answer;
 mod route;
 mod row;
+mod sums;
 mod table;
 mod tally;
 

@@ -1,11 +1,11 @@
 //! Routes: the outputs that a chunk is owed to still.
 
-ghost use Rattle.std.specs.Prelude.{◌≡◌, ◌==◌, ◌≤◌, [], All, false, fold, filter, find, length, map, nat_le, OnOk, option_copied, option_map, vec_capacity, if◌then◌else◌};
+ghost use Rattle.std.specs.Prelude.{◌≡◌, ◌==◌, ◌≤◌, [], All, false, fold, filter, find, length, map, nat_le, not, OnOk, option_copied, option_map, vec_capacity, if◌then◌else◌};
 ghost use Rattle.std.specs.BTreeSet.{insert_key};
 ghost use Rattle.fwd_base.specs.Limits.{most_outputs};
 ghost use Rattle.fwd_retry.specs.Timer.{by_time, earlier as earlier_of, is_next};
 ghost use Rattle.fwd_retry.specs.declared.timer.Timer.{Timer};
-ghost use Rattle.fwd_table.specs.Routes.{idle_at, due_at, is_to, on_output, without_output, timer_of, idle_timers, tries_to, routes_below, routes_to, mask_of, flying_of, IsMaskOf};
+ghost use Rattle.fwd_table.specs.Routes.{idle_at, due_at, is_to, on_output, without_output, timer_of, idle_timers, tries_to, routes_below, routes_to, mask_of, flying_of, IsMaskOf, RiseFrom};
 ghost use Rattle.fwd_table.specs.Changes.{changed, due_by};
 
 use fwd_base::limits::MOST_OUTPUTS;
@@ -174,6 +174,20 @@ impl Routes {
         ensures { result ≡ (length self.now == 0) }
     {
         self.routes.is_empty()
+    }
+
+    pub fn as_slice(&self) -> &[Route]
+        ensures value { result.now ≡ self.now }
+        ensures rise { RiseFrom 0 self.now }
+    {
+        self.routes.as_slice()
+    }
+
+    /// Whether one of them is under way.
+    pub fn any_flies(&self) -> bool
+        ensures { result ≡ not (length (flying_of self.now) == 0) }
+    {
+        self.routes.iter().any(|route| route.flying)
     }
 
     /// Whether the route to an output is under way, if it is owed.

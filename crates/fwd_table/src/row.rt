@@ -1,15 +1,17 @@
 //! Rows: a chunk and its routes.
 
-ghost use Rattle.std.specs.Prelude.{◌≡◌, All, fold, filter, nat_le, option_copied, IfOk, OnOk};
+ghost use Rattle.std.specs.Prelude.{◌≡◌, ◌<◌, ◌^◌, length, All, fold, filter, nat_le, option_copied, IfOk, OnOk};
 ghost use Rattle.std.specs.List.{flat_map};
 ghost use Rattle.std.specs.BTreeSet.{insert_key};
 ghost use Rattle.fwd_retry.specs.declared.timer.Timer.{Timer};
 ghost use Rattle.fwd_retry.specs.Timer.{by_time, earlier as earlier_of, first, in_time, is_next};
-ghost use Rattle.fwd_table.specs.Rows.{ChunksRise, IsPlaceOf, WaitsTill, on_chunk, row_at, seen_of, waiting, flies_to, waits_for, flights_to};
+ghost use Rattle.fwd_table.specs.Rows.{ChunksRise, IsPlaceOf, WaitsTill, on_chunk, row_at, seen_of, waiting, waits_for};
 ghost use Rattle.fwd_table.specs.Routes.{flying_of, IsMaskOf};
 ghost use Rattle.fwd_table.specs.Changes.{row_changed, row_due_by};
+ghost use Rattle.fwd_table.specs.Sums.{AreSums, IsSound};
 
 use crate::route::{Change, Routes};
+use crate::sums::{Sums, Way};
 use fwd_base::{Bytes, ChunkId, InputId, Memory, OutputId};
 use fwd_outside::Home;
 use fwd_retry::Timer;
@@ -72,7 +74,8 @@ impl RowChange {
 
 impl Row {
     fn apply(&mut self, change: RowChange)
-        ensures { self.new ≡ row_changed change self.old }
+        ensures row { self.new ≡ row_changed change self.old }
+        ensures sound { IsSound self.old → IsSound self.new }
     {
         match change {
             RowChange::Grows { size } => self.size = size,
@@ -99,13 +102,6 @@ impl Row {
             flying: self.routes.flying(),
             shut: self.shut,
         }
-    }
-
-    /// Whether the route to an output is owed and under way.
-    pub fn flies_to(&self, output: OutputId) -> bool
-        ensures { result ≡ flies_to output self.now }
-    {
-        self.routes.is_flying(output) == Some(true)
     }
 
     /// Whether the row is shut, and the route to an output is owed and not under way.
@@ -155,13 +151,20 @@ pub fn place_of(rows: &[Row], chunk: ChunkId) -> Option<usize>
     rows.binary_search_by_key(&chunk.0, |row| row.chunk.0).ok()
 }
 
-/// Changes the row of a chunk, if there is one.
-pub fn change_row(rows: &mut [Row], chunk: ChunkId, change: RowChange)
-    requires { ChunksRise rows.old }
-    ensures { rows.new ≡ on_chunk chunk (row_changed change) rows.old }
+/// Changes the row of a chunk, if there is one, and the sums with it.
+pub fn change_row(rows: &mut [Row], sums: &mut Sums, chunk: ChunkId, change: RowChange)
+    requires rise { ChunksRise rows.old }
+    requires sound { All IsSound rows.old }
+    requires sums { AreSums sums.old rows.old }
+    requires few { length rows.old < 2 ^ 64 }
+    ensures rows { rows.new ≡ on_chunk chunk (row_changed change) rows.old }
+    ensures sound { All IsSound rows.new }
+    ensures sums { AreSums sums.new rows.new }
 {
     if let Some(place) = place_of(rows, chunk) {
+        sums.shift(&rows[place], Way::Out);
         rows[place].apply(change);
+        sums.shift(&rows[place], Way::In);
     }
 }
 
@@ -172,13 +175,6 @@ pub fn find_row(rows: &[Row], chunk: ChunkId) -> Option<&Row>
 {
     let place = place_of(rows, chunk)?;
     Some(&rows[place])
-}
-
-/// How many rows have a route to an output that is under way.
-pub fn flights_in(rows: &[Row], output: OutputId) -> u64
-    ensures { result ≡ flights_to output rows.now }
-{
-    rows.iter().filter(|row| row.flies_to(output)).count() as u64
 }
 
 /// The first one of the timers of idle routes that are due at `now` and come after the given one.
@@ -220,4 +216,17 @@ pub fn due_in(alloc: Global, rows: &[Row], now: u64) -> Result<Vec<Timer>, Memor
     let mut timers = BTreeSet::new(alloc);
     put_due_in(rows, now, &mut timers)?;
     Ok(timers.into_iter().collect(alloc)?)
+}
+
+/// The sums over rows.
+pub fn sums_of(rows: &[Row]) -> Sums
+    requires sound { All IsSound rows.now }
+    requires few { length rows.now < 2 ^ 64 }
+    ensures { AreSums result rows.now }
+{
+    let mut sums = Sums::new();
+    for row in rows {
+        sums.shift(row, Way::In);
+    }
+    sums
 }

@@ -1,18 +1,21 @@
 //! The table of chunks and their routes.
 
-ghost use Rattle.std.specs.Prelude.{◌≡◌, ◌↔◌, ◌+◌, ◌*◌, ◌<◌, ◌≤◌, [], ◌∷◌, ◌++◌, length, slice_get, All, filter, option_map, IfOk, IfSome, IsTrue, MatchOption, OnOk, nat_le};
+ghost use Rattle.std.specs.Prelude.{◌≡◌, ◌↔◌, ◌+◌, ◌*◌, ◌<◌, ◌≤◌, [], ◌∷◌, ◌++◌, length, slice_get, All, filter, option_map, IfOk, IfSome, IsTrue, MatchOption, OnOk, nat_le, option_to_list};
 ghost use Rattle.fwd_retry.specs.declared.timer.Timer.{Timer};
 ghost use Rattle.fwd_retry.specs.Timer.{first, in_time, is_next, IsFirst};
 ghost use Rattle.fwd_table.specs.Answers.{due_after, may_retry, is_tried_again, outcome_of, resolved};
 ghost use Rattle.fwd_table.specs.Routes.{flying_of, mask_of, IsMaskOf};
 ghost use Rattle.fwd_table.specs.Changes.{row_changed};
-ghost use Rattle.fwd_table.specs.Rows.{IsIdle, IsOwedToNobody, has_row, is_idle_in, flights_to, owed_rows, row_at, routes_at, tries_of, owes_nothing, idle_timers_of, seen_of, opened, on_chunk, without_chunk, grown, shut_at, started_to, stayed_to, answered_by, resolved_to};
+ghost use Rattle.fwd_table.specs.Kept.{size_of, flying_to, waiting_for, memory_of, files_up, found_up};
+ghost use Rattle.fwd_base.specs.Limits.{most_inputs};
+ghost use Rattle.fwd_table.specs.Rows.{IsIdle, IsOwedToNobody, has_row, is_row_of, is_idle_in, flights_to, owed_rows, row_at, routes_at, tries_of, owes_nothing, idle_timers_of, seen_of, opened, on_chunk, without_chunk, grown, shut_at, started_to, stayed_to, answered_by, resolved_to};
 
 use crate::answer::{due_after, may_retry, resolved, spent};
 use crate::route::{Change, Route, Routes};
 use crate::row::{
-    Row, RowChange, change_row, due_in, find_row, flights_in, next_in, place_of, soonest_in,
+    Row, RowChange, change_row, due_in, find_row, next_in, place_of, soonest_in, sums_of,
 };
+use crate::sums::{Sums, Way};
 use crate::{Answer, Outcome, RowSeen};
 use fwd_base::limits::MOST_OUTPUTS;
 use fwd_base::{Bytes, ChunkId, InputId, Memory, OutputId, Retries};
@@ -32,18 +35,20 @@ pub struct Table {
     storage: Vec<Route>,
     /// A clock reading in milliseconds before which no idle route is due.
     soonest: u64,
+    sums: Sums,
     alloc: Global,
 }
 
 impl Model for Table {
     ghost use Rattle.std.specs.Prelude.{◌-◌, vec_len, vec_capacity};
-    ghost use Rattle.fwd_table.specs.Rows.{TableSeen, spare_of, IsKept};
+    ghost use Rattle.fwd_table.specs.Rows.{TableSeen, spare_of};
+    ghost use Rattle.fwd_table.specs.Sums.{IsKept};
 
     ghost Value = { TableSeen };
 
     ghost view = { λ t. record { rows = t.rows.items; spare = spare_of (vec_capacity t.storage) (vec_capacity t.rows - vec_len t.rows) } };
 
-    ghost invariant = { λ t. IsKept t.soonest t.rows.items };
+    ghost invariant = { λ t. IsKept t.soonest t.sums t.rows.items };
 }
 
 impl Table {
@@ -55,6 +60,7 @@ impl Table {
             rows: Vec::new(alloc),
             storage: Vec::new(alloc),
             soonest: u64::MAX,
+            sums: Sums::new(),
             alloc,
         }
     }
@@ -88,7 +94,7 @@ impl Table {
         ensures spare { self.old.spare ≤ self.new.spare + 1 }
     {
         let storage = mem::replace(&mut self.storage, Vec::new(self.alloc));
-        self.rows.push_reserved(Row {
+        let row = Row {
             chunk,
             input,
             home,
@@ -96,7 +102,9 @@ impl Table {
             size,
             shut: false,
             routes: Routes::to(storage, owed),
-        });
+        };
+        self.sums.shift(&row, Way::In);
+        self.rows.push_reserved(row);
     }
 
     /// Whether a chunk has a row.
@@ -247,26 +255,79 @@ impl Table {
     pub fn forget(&mut self, chunk: ChunkId)
         requires { IsOwedToNobody chunk self.old.rows }
         ensures rows { self.new.rows ≡ without_chunk chunk self.old.rows }
+        ensures owed { owed_rows self.new.rows ≡ owed_rows self.old.rows }
         ensures spare { self.old.spare ≤ self.new.spare }
     {
         if let Some(place) = place_of(&self.rows, chunk) {
-            self.rows.remove(place);
+            let row = self.rows.remove(place);
+            self.sums.shift(&row, Way::Out);
         }
     }
 
-    /// Takes away the rows that are owed to nobody.
-    pub fn keep_owed(&mut self)
+    /// Takes away the rows that are owed to nobody. That of this chunk is tried first, and most calls look at no other.
+    pub fn keep_owed(&mut self, chunk: ChunkId)
         ensures rows { self.new.rows ≡ owed_rows self.old.rows }
         ensures spare { self.old.spare ≤ self.new.spare }
     {
-        self.rows.retain(|row| !row.routes.is_empty());
+        if self.is_owed_to_nobody(chunk) {
+            self.forget(chunk);
+        }
+        self.sweep();
     }
 
     /// How many chunks are under way to an output.
     pub fn flights_to(&self, output: OutputId) -> u64
         ensures { result ≡ flights_to output self.now.rows }
     {
-        flights_in(&self.rows, output)
+        self.sums.flights(output) as u64
+    }
+
+    /// How many bytes of chunks in files are under way to an output.
+    pub fn flying_bytes(&self, output: OutputId) -> u128
+        ensures { result ≡ size_of (flying_to output self.now.rows) }
+    {
+        self.sums.flying(output)
+    }
+
+    /// How many bytes of closed chunks in files wait for an output.
+    pub fn waiting_bytes(&self, output: OutputId) -> u128
+        ensures { result ≡ size_of (waiting_for output self.now.rows) }
+    {
+        self.sums.waiting(output)
+    }
+
+    /// How many bytes of memory the chunks of an input fill that are open or owed to an output. It asks for one of the
+    /// inputs that there may be.
+    pub fn memory_bytes(&self, input: InputId) -> u128
+        requires { input.0 < most_inputs }
+        ensures { result ≡ memory_of input.0 self.now.rows }
+    {
+        self.sums.memory(input)
+    }
+
+    /// How many chunks in files are under way, to whatever outputs.
+    pub fn files_up(&self) -> u64
+        ensures { result ≡ files_up self.now.rows }
+    {
+        self.sums.files_up() as u64
+    }
+
+    /// How many bytes of found chunks are under way, to whatever outputs: each chunk counts once.
+    pub fn found_bytes(&self) -> u128
+        ensures { result ≡ found_up self.now.rows }
+    {
+        self.sums.found_up()
+    }
+
+    /// The row of a chunk, if there is one. No other row is of that chunk.
+    pub fn find(&self, chunk: ChunkId) -> Option<RowSeen>
+        ensures value { result ≡ option_map seen_of (row_at chunk self.now.rows) }
+        ensures alone { filter (is_row_of chunk) self.now.rows ≡ option_to_list (row_at chunk self.now.rows) }
+        ensures owed { IfSome (row_at chunk self.now.rows) (λ row. IfSome result (λ seen. IsMaskOf row.routes seen.owed)) }
+        ensures flying { IfSome (row_at chunk self.now.rows) (λ row. IfSome result (λ seen. IsMaskOf (flying_of row.routes) seen.flying)) }
+    {
+        let row = find_row(&self.rows, chunk)?;
+        Some(row.seen())
     }
 
     /// The number of rows.
@@ -295,13 +356,24 @@ impl Table {
         self.rows[index as usize].tag.as_slice()
     }
 
+    /// Takes away the rows that are owed to nobody, if there are such.
+    fn sweep(&mut self)
+        ensures rows { self.new.rows ≡ owed_rows self.old.rows }
+        ensures spare { self.old.spare ≤ self.new.spare }
+    {
+        if self.sums.has_unowed() {
+            self.rows.retain(|row| !row.routes.is_empty());
+            self.sums = sums_of(&self.rows);
+        }
+    }
+
     /// Changes the row of a chunk, if there is one.
     fn change(&mut self, chunk: ChunkId, change: RowChange)
         ensures rows { self.new.rows ≡ on_chunk chunk (row_changed change) self.old.rows }
         ensures spare { self.old.spare ≤ self.new.spare }
     {
         self.soonest = self.soonest.min(change.due());
-        change_row(&mut self.rows, chunk, change);
+        change_row(&mut self.rows, &mut self.sums, chunk, change);
     }
 
     fn tries_so_far(&self, chunk: ChunkId, output: OutputId) -> u64

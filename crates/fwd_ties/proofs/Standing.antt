@@ -9,7 +9,7 @@ use Rattle.fwd_base.specs.declared.ids.ChunkId.{ChunkId}
 use Rattle.fwd_base.specs.declared.ids.OutputId.{OutputId}
 use Rattle.fwd_table.specs.declared.row.Row.{Row}
 use Rattle.fwd_table.specs.Rows.{is_row_of, row_at, waits_for}
-use Rattle.fwd_limits.specs.Kept.{is_file, in_file, is_waiting, size_of}
+use Rattle.fwd_table.specs.Kept.{is_file, in_file, is_waiting, size_of}
 use Rattle.fwd_limits.specs.Losses.{fixed, others_for, lost_among, lost_to}
 use Rattle.fwd_flush.specs.Flight.{Progress}
 use Rattle.fwd_settings.specs.declared.chosen.AllSettings.{AllSettings}

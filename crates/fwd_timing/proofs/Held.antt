@@ -10,8 +10,9 @@ use Rattle.fwd_outside.specs.Loop.{Wait}
 use Rattle.fwd_outside.specs.declared.ends.Ends.{Ends}
 use Rattle.fwd_outside.specs.declared.happening.Happening.{Happening}
 use Rattle.fwd_table.specs.declared.row.Row.{Row}
-use Rattle.fwd_limits.specs.Kept.{is_file, in_file, size_of}
-use Rattle.fwd_limits.specs.Pausing.{memory_of, reaches, is_from as row_is_from}
+use Rattle.fwd_table.specs.Kept.{is_file, in_file, size_of}
+use Rattle.fwd_table.specs.Kept.{memory_of, is_from as row_is_from}
+use Rattle.fwd_limits.specs.Pausing.{reaches}
 use Rattle.fwd_settings.specs.declared.chosen.AllSettings.{AllSettings}
 use Rattle.fwd_settings.specs.declared.chosen.InputSet.{InputSet}
 use Rattle.fwd_written.specs.Fact.{History}

@@ -1,6 +1,6 @@
 -- Which inputs are held back.
 use Rattle.std.specs.Prelude.{◌≡◌, ◌⊎◌, ℕ, ◌<◌, ◌≤◌, ◌&&◌, ◌||◌, not, Bool, length, filter, sum_by, Some}
-use Rattle.fwd_limits.specs.Kept.{is_file}
+use Rattle.fwd_table.specs.Kept.{is_file}
 use Rattle.fwd_settings.specs.declared.chosen.AllSettings.{AllSettings}
 use Rattle.fwd_settings.specs.declared.chosen.InputSet.{InputSet}
 use Rattle.fwd_written.specs.Fact.{History}

@@ -12,7 +12,7 @@ use Rattle.fwd_table.specs.Routes.{is_to, flying_of}
 use Rattle.fwd_table.specs.Rows.{is_row_of, waits_for}
 use Rattle.fwd_table.specs.declared.row.Row.{Row}
 use Rattle.fwd_table.specs.declared.route.Route.{Route as Owed}
-use Rattle.fwd_limits.specs.Kept.{is_file, in_file, is_flying, is_waiting, size_of}
+use Rattle.fwd_table.specs.Kept.{is_file, in_file, is_flying, is_waiting, size_of}
 use Rattle.fwd_limits.specs.Losses.{fixed, others_for, lost_among, lost_to}
 use Rattle.fwd_settings.specs.declared.chosen.AllSettings.{AllSettings}
 use Rattle.fwd_written.specs.Fact.{History, Route}

@@ -2,9 +2,10 @@
 use Rattle.std.specs.Prelude.{ℕ, ◌^◌, ◌||◌, Bool, if◌then◌else◌, List, [], length, map, sum_by, Option, Some, None, is_some}
 use Rattle.std.specs.List.{flat_map, range_with_len}
 use Rattle.fwd_base.specs.declared.ids.ChunkId.{ChunkId}
-use Rattle.fwd_limits.specs.Kept.{is_file}
+use Rattle.fwd_table.specs.Kept.{is_file}
 use Rattle.fwd_limits.specs.Losses.{lost_to}
-use Rattle.fwd_limits.specs.Pausing.{memory_of, reaches}
+use Rattle.fwd_table.specs.Kept.{memory_of}
+use Rattle.fwd_limits.specs.Pausing.{reaches}
 use Rattle.fwd_settings.specs.declared.chosen.AllSettings.{AllSettings}
 use Rattle.fwd_written.specs.Fact.{History, Route}
 use Rattle.fwd_written.specs.Setup.{limit_at, mem_limit_at}

@@ -4,7 +4,7 @@ use Rattle.fwd_retry.specs.declared.timer.Timer.{Timer}
 pub use Rattle.fwd_retry.specs.Timer.{by_time, in_time}
 use Rattle.fwd_table.specs.declared.row.Row.{Row}
 use Rattle.fwd_table.specs.Rows.{idle_timers_of, row_at}
-use Rattle.fwd_limits.specs.Kept.{in_file, was_found, flies, files_up, found_up}
+use Rattle.fwd_table.specs.Kept.{in_file, was_found, flies, files_up, found_up}
 use Rattle.fwd_settings.specs.declared.chosen.AllSettings.{AllSettings}
 use Rattle.fwd_written.specs.Fact.{History, Route}
 use Rattle.fwd_written.specs.Setup.{output_at, places_at}

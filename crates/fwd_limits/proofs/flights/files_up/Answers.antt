@@ -2,7 +2,7 @@ use Rattle.std.proofs.Common.{Bool, ℕ, ◌+◌, ◌≤◌, refl, sym, ap, ◌�
 use Rattle.fwd_table.specs.declared.row.Row.{Row}
 use Rattle.fwd_table.specs.Rows.{seen_of}
 use Rattle.fwd_table.specs.Routes.{flying_of}
-use Rattle.fwd_limits.specs.Kept.{in_file, flies, is_file}
+use Rattle.fwd_table.specs.Kept.{in_file, flies, is_file}
 use Rattle.fwd_limits.specs.Looks.{file_count}
 use Rattle.std.proofs.Common.{eqb}
 use Rattle.fwd_limits.proofs.Sums.{count_step, mask_none, small_part}

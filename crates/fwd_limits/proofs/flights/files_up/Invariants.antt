@@ -1,5 +1,5 @@
 use Rattle.std.proofs.Common.{◌≡◌, ◌≤◌, take}
-use Rattle.fwd_limits.specs.Kept.{files_up}
+use Rattle.fwd_table.specs.Kept.{files_up}
 use Rattle.fwd_limits.proofs.flights.files_up.Given as goal
 
 abbrev pub invariant-loop-index : goal.invariant-loop-index

@@ -3,7 +3,7 @@ use Prim.Native.Nat.{◌^◌}
 use Rattle.std.proofs.Common.{Bool}
 use Rattle.fwd_table.specs.Rows.{seen_of}
 use Rattle.fwd_table.specs.Routes.{flying_of}
-use Rattle.fwd_limits.specs.Kept.{was_found, flies}
+use Rattle.fwd_table.specs.Kept.{was_found, flies}
 use Rattle.fwd_limits.proofs.Sums.{mask_none}
 use Rattle.fwd_limits.specs.Looks.{found_size}
 use Rattle.fwd_table.specs.declared.row.Row.{Row}

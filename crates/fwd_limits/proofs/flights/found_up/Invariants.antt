@@ -1,6 +1,6 @@
 use Rattle.std.proofs.Common.{◌≡◌, ◌-◌, take, min}
 use Prim.Native.Nat.{◌^◌}
-use Rattle.fwd_limits.specs.Kept.{found_up}
+use Rattle.fwd_table.specs.Kept.{found_up}
 use Rattle.fwd_limits.proofs.flights.found_up.Given as goal
 
 abbrev pub invariant-loop-index : goal.invariant-loop-index

@@ -1,6 +1,7 @@
 use Rattle.std.proofs.Common.{◌-◌, refl, ◌∙◌, ◌&&◌}
 use Prim.Native.Nat.{◌^◌}
-use Rattle.fwd_limits.specs.Kept.{look_of, in_file, is_flying}
+use Rattle.fwd_table.specs.Kept.{in_file, is_flying}
+use Rattle.fwd_limits.specs.Kept.{look_of}
 use Rattle.fwd_limits.specs.Looks.{flying_size}
 use Rattle.fwd_table.specs.declared.row.Row.{Row}
 use Rattle.fwd_limits.proofs.Sums.{sum_goes}

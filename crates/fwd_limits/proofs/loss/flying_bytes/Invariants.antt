@@ -1,7 +1,7 @@
 use Rattle.std.proofs.Common.{◌≡◌, ◌-◌, take, min}
 use Prim.Native.Nat.{◌^◌}
-use Rattle.fwd_limits.specs.Kept.{size_of}
-use Rattle.fwd_limits.specs.Losses.{flying_to}
+use Rattle.fwd_table.specs.Kept.{size_of}
+use Rattle.fwd_table.specs.Kept.{flying_to}
 use Rattle.fwd_limits.proofs.loss.flying_bytes.Given as goal
 
 abbrev pub invariant-loop-index : goal.invariant-loop-index

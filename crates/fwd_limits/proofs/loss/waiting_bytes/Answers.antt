@@ -1,6 +1,7 @@
 use Rattle.std.proofs.Common.{◌-◌, refl, ◌∙◌, ◌&&◌, not}
 use Prim.Native.Nat.{◌^◌}
-use Rattle.fwd_limits.specs.Kept.{look_of, in_file, is_waiting}
+use Rattle.fwd_table.specs.Kept.{in_file, is_waiting}
+use Rattle.fwd_limits.specs.Kept.{look_of}
 use Rattle.fwd_table.specs.Rows.{is_row_of}
 use Rattle.fwd_limits.specs.Looks.{waiting_size}
 use Rattle.fwd_table.specs.declared.row.Row.{Row}

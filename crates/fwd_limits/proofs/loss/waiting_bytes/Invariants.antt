@@ -1,6 +1,6 @@
 use Rattle.std.proofs.Common.{◌≡◌, ◌-◌, take, min}
 use Prim.Native.Nat.{◌^◌}
-use Rattle.fwd_limits.specs.Kept.{size_of}
+use Rattle.fwd_table.specs.Kept.{size_of}
 use Rattle.fwd_limits.specs.Losses.{others_for}
 use Rattle.fwd_limits.proofs.loss.waiting_bytes.Given as goal
 

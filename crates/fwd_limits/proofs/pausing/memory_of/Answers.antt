@@ -2,10 +2,10 @@ use Rattle.std.proofs.Common.{◌-◌, sym, ap, ◌&&◌, ◌||◌, not, eqb, co
 use Prim.Native.Nat.{◌^◌}
 use Rattle.std.proofs.Common.{Bool}
 use Rattle.fwd_table.specs.Rows.{seen_of}
-use Rattle.fwd_limits.specs.Kept.{in_file}
+use Rattle.fwd_table.specs.Kept.{in_file}
 use Rattle.fwd_limits.proofs.Sums.{mask_none}
 use Rattle.fwd_limits.specs.Looks.{memory_size}
-use Rattle.fwd_limits.specs.Pausing.{is_from}
+use Rattle.fwd_table.specs.Kept.{is_from}
 use Rattle.fwd_table.specs.declared.row.Row.{Row}
 use Rattle.fwd_limits.proofs.Sums.{sum_goes}
 use Rattle.fwd_limits.proofs.pausing.memory_of.Goals as goal

@@ -1,6 +1,6 @@
 use Rattle.std.proofs.Common.{◌≡◌, ◌-◌, take, min}
 use Prim.Native.Nat.{◌^◌}
-use Rattle.fwd_limits.specs.Pausing.{memory_of}
+use Rattle.fwd_table.specs.Kept.{memory_of}
 use Rattle.fwd_limits.proofs.pausing.memory_of.Given as goal
 
 abbrev pub invariant-loop-index : goal.invariant-loop-index

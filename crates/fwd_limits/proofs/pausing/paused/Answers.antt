@@ -3,7 +3,8 @@ use Rattle.std.specs.Prelude.{IsSomeAnd}
 use Rattle.std.specs.List.{slice_get}
 use Rattle.std.proofs.lemmas.Option.{slice_get-get_or, slice_get_within}
 use Rattle.fwd_table.specs.declared.row.Row.{Row}
-use Rattle.fwd_limits.specs.Pausing.{IsPaused, reaches, memory_of}
+use Rattle.fwd_table.specs.Kept.{memory_of}
+use Rattle.fwd_limits.specs.Pausing.{IsPaused, reaches}
 use Rattle.fwd_limits.proofs.Masks.{MaskBelow, mask_whole, mask_skip, mask_more}
 use Rattle.fwd_limits.proofs.pausing.paused.Goals as goal
 use Rattle.fwd_limits.proofs.pausing.paused.Goals.{then-is_reached, else-is_reached}

@@ -5,7 +5,7 @@ use Rattle.std.proofs.lemmas.List.{take_all}
 use Rattle.fwd_table.specs.declared.row.Row.{Row}
 use Rattle.fwd_table.specs.declared.row.RowSeen.{RowSeen}
 use Rattle.fwd_table.specs.Rows.{is_row_of, seen_of}
-use Rattle.fwd_limits.specs.Kept.{in_file}
+use Rattle.fwd_table.specs.Kept.{in_file}
 use Rattle.fwd_limits.proofs.Sums.{none_goes}
 use Rattle.fwd_state.proofs.Fitting.{none_there}
 use Rattle.fwd_shelving.proofs.losing.is_in_file.Goals as goal

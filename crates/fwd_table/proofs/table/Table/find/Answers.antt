@@ -1,0 +1,8 @@
+use Rattle.fwd_table.proofs.Places.{alone_in}
+use Rattle.fwd_table.proofs.table.Table.find.Goals as goal
+
+pub returns-in_err-row-clause-alone : goal.returns-in_err-row-clause-alone
+returns-in_err-row-clause-alone c = rw (← c.self.view_is) (alone_in c.args.chunk c.self.inside.rows.items c.self.invariant.rise)
+
+pub returns-clause-alone : goal.returns-clause-alone
+returns-clause-alone c = rw (← c.self.view_is) (alone_in c.args.chunk c.self.inside.rows.items c.self.invariant.rise)

@@ -1,0 +1,6 @@
+use Rattle.std.proofs.Common.{◌∙◌}
+use Rattle.fwd_table.proofs.Kept.{found_are}
+use Rattle.fwd_table.proofs.table.Table.found_bytes.Goals as goal
+
+pub returns : goal.returns
+returns c = rw (← c.self.view_is) (c.found_up.ensures ∙ found_are c.self.inside.sums c.self.inside.rows.items c.self.invariant.summed c.self.invariant.sound)
