@@ -136,6 +136,10 @@ goes_out sums rows i d are within counted key below =
     let one = get_or-le-sum_by (part counted key) rows i d within in
     omega (arith, is, one)
 
+pub goes_out_as : (sums : Sums) (rows : List Row) (i : ℕ) (row : Row) → AreSums sums rows → i < length rows → row ≡ get_or rows i row → (counted : Counted) (key : ℕ) → key < 64 → part counted key row ≤ total counted key sums
+goes_out_as sums rows i row are within is counted key below =
+    subst (λ (r : Row). part counted key r ≤ total counted key sums) (sym is) (goes_out sums rows i row are within counted key below)
+
 pub comes_in : (counted : Counted) (key : ℕ) (rows : List Row) (sum : ℕ) (row : Row) → All IsSound rows → IsSound row → length rows < 2 ^ 64 → sum ≤ sum_by (part counted key) rows → sum + part counted key row < 2 ^ 128
 comes_in counted key rows sum row sound one few within =
     let all = parts_few counted key rows sound in
@@ -217,6 +221,9 @@ module _ (what : ByOutput) (way : Way) (row : Row) (items : List Route) (i : ℕ
 
 pub sound_at : (rows : List Row) (i : ℕ) (d : Row) → All IsSound rows → i < length rows → IsSound (get_or rows i d)
 sound_at rows i d sound within = sound i d within
+
+pub sound_as : (rows : List Row) (i : ℕ) (row : Row) → All IsSound rows → i < length rows → row ≡ get_or rows i row → IsSound row
+sound_as rows i row sound within is = subst IsSound (sym is) (sound i row within)
 
 pub sound_set : (rows : List Row) (i : ℕ) (new : Row) → All IsSound rows → IsSound new → All IsSound (set rows i new)
 sound_set rows i new sound one = All-set IsSound rows i new one sound

@@ -3,6 +3,7 @@
 ghost use Rattle.std.specs.Prelude.{◌≡◌, ◌<◌, ◌^◌, length, All, fold, filter, nat_le, option_copied, IfOk, OnOk};
 ghost use Rattle.std.specs.List.{flat_map};
 ghost use Rattle.std.specs.BTreeSet.{insert_key};
+ghost use Rattle.std.specs.VecDeque.{deque_capacity, deque_len};
 ghost use Rattle.fwd_retry.specs.declared.timer.Timer.{Timer};
 ghost use Rattle.fwd_retry.specs.Timer.{by_time, earlier as earlier_of, first, in_time, is_next};
 ghost use Rattle.fwd_table.specs.Rows.{ChunksRise, IsPlaceOf, WaitsTill, on_chunk, row_at, seen_of, waiting, waits_for};
@@ -16,7 +17,7 @@ use fwd_base::{Bytes, ChunkId, InputId, Memory, OutputId};
 use fwd_outside::Home;
 use fwd_retry::Timer;
 use std::alloc::Global;
-use std::collections::BTreeSet;
+use std::collections::{BTreeSet, VecDeque};
 
 /// A chunk, and the outputs that it is owed to still.
 #[derive(Debug, Drop)]
@@ -144,22 +145,23 @@ impl Row {
 }
 
 /// The place of a chunk's row, if there is one.
-pub fn place_of(rows: &[Row], chunk: ChunkId) -> Option<usize>
-    requires { ChunksRise rows.now }
-    ensures { IsPlaceOf chunk rows.now result }
+pub fn place_of(rows: &VecDeque<Row>, chunk: ChunkId) -> Option<usize>
+    requires { ChunksRise rows.now.items }
+    ensures { IsPlaceOf chunk rows.now.items result }
 {
     rows.binary_search_by_key(&chunk.0, |row| row.chunk.0).ok()
 }
 
 /// Changes the row of a chunk, if there is one, and the sums with it.
-pub fn change_row(rows: &mut [Row], sums: &mut Sums, chunk: ChunkId, change: RowChange)
-    requires rise { ChunksRise rows.old }
-    requires sound { All IsSound rows.old }
-    requires sums { AreSums sums.old rows.old }
-    requires few { length rows.old < 2 ^ 64 }
-    ensures rows { rows.new ≡ on_chunk chunk (row_changed change) rows.old }
-    ensures sound { All IsSound rows.new }
-    ensures sums { AreSums sums.new rows.new }
+pub fn change_row(rows: &mut VecDeque<Row>, sums: &mut Sums, chunk: ChunkId, change: RowChange)
+    requires rise { ChunksRise rows.old.items }
+    requires sound { All IsSound rows.old.items }
+    requires sums { AreSums sums.old rows.old.items }
+    requires few { length rows.old.items < 2 ^ 64 }
+    ensures rows { rows.new.items ≡ on_chunk chunk (row_changed change) rows.old.items }
+    ensures sound { All IsSound rows.new.items }
+    ensures sums { AreSums sums.new rows.new.items }
+    ensures room { (deque_capacity rows.new ≡ deque_capacity rows.old) × (deque_len rows.new ≡ deque_len rows.old) }
 {
     if let Some(place) = place_of(rows, chunk) {
         sums.shift(&rows[place], Way::Out);
@@ -169,49 +171,49 @@ pub fn change_row(rows: &mut [Row], sums: &mut Sums, chunk: ChunkId, change: Row
 }
 
 /// The row of a chunk, if there is one.
-pub fn find_row(rows: &[Row], chunk: ChunkId) -> Option<&Row>
-    requires { ChunksRise rows.now }
-    ensures { option_copied result ≡ row_at chunk rows.now }
+pub fn find_row(rows: &VecDeque<Row>, chunk: ChunkId) -> Option<&Row>
+    requires { ChunksRise rows.now.items }
+    ensures { option_copied result ≡ row_at chunk rows.now.items }
 {
     let place = place_of(rows, chunk)?;
     Some(&rows[place])
 }
 
 /// The first one of the timers of idle routes that are due at `now` and come after the given one.
-pub fn next_in(rows: &[Row], now: u64, after: Option<Timer>) -> Option<Timer>
-    ensures { result ≡ first (filter (is_next now after) (flat_map waiting rows.now)) }
+pub fn next_in(rows: &VecDeque<Row>, now: u64, after: Option<Timer>) -> Option<Timer>
+    ensures { result ≡ first (filter (is_next now after) (flat_map waiting rows.now.items)) }
 {
     let mut first = None;
-    for row in rows {
-        first = row.next(now, after, first);
+    for index in 0..rows.len() {
+        first = rows[index].next(now, after, first);
     }
     first
 }
 
 /// A clock reading before which no idle route is due.
-pub fn soonest_in(rows: &[Row]) -> u64
-    ensures { All (WaitsTill result) rows.now }
+pub fn soonest_in(rows: &VecDeque<Row>) -> u64
+    ensures { All (WaitsTill result) rows.now.items }
 {
     let mut soonest = u64::MAX;
-    for row in rows {
-        soonest = soonest.min(row.soonest());
+    for index in 0..rows.len() {
+        soonest = soonest.min(rows[index].soonest());
     }
     soonest
 }
 
 /// Puts the timers of the idle routes that are due at `now` into a set.
-fn put_due_in(rows: &[Row], now: u64, timers: &mut BTreeSet<Timer>) -> Result<(), Memory>
-    ensures { OnOk result (timers.new.keys ≡ fold (insert_key by_time) timers.old.keys (filter (λ (t : Timer). nat_le t.due now) (flat_map waiting rows.now))) }
+fn put_due_in(rows: &VecDeque<Row>, now: u64, timers: &mut BTreeSet<Timer>) -> Result<(), Memory>
+    ensures { OnOk result (timers.new.keys ≡ fold (insert_key by_time) timers.old.keys (filter (λ (t : Timer). nat_le t.due now) (flat_map waiting rows.now.items))) }
 {
-    for row in rows {
-        row.put_due(now, timers)?;
+    for index in 0..rows.len() {
+        rows[index].put_due(now, timers)?;
     }
     Ok(())
 }
 
 /// The timers of the idle routes that are due at `now`, by due time, then chunk, then output.
-pub fn due_in(alloc: Global, rows: &[Row], now: u64) -> Result<Vec<Timer>, Memory>
-    ensures { IfOk result (λ timers. timers.items ≡ in_time (filter (λ (t : Timer). nat_le t.due now) (flat_map waiting rows.now))) }
+pub fn due_in(alloc: Global, rows: &VecDeque<Row>, now: u64) -> Result<Vec<Timer>, Memory>
+    ensures { IfOk result (λ timers. timers.items ≡ in_time (filter (λ (t : Timer). nat_le t.due now) (flat_map waiting rows.now.items))) }
 {
     let mut timers = BTreeSet::new(alloc);
     put_due_in(rows, now, &mut timers)?;
@@ -219,14 +221,14 @@ pub fn due_in(alloc: Global, rows: &[Row], now: u64) -> Result<Vec<Timer>, Memor
 }
 
 /// The sums over rows.
-pub fn sums_of(rows: &[Row]) -> Sums
-    requires sound { All IsSound rows.now }
-    requires few { length rows.now < 2 ^ 64 }
-    ensures { AreSums result rows.now }
+pub fn sums_of(rows: &VecDeque<Row>) -> Sums
+    requires sound { All IsSound rows.now.items }
+    requires few { length rows.now.items < 2 ^ 64 }
+    ensures { AreSums result rows.now.items }
 {
     let mut sums = Sums::new();
-    for row in rows {
-        sums.shift(row, Way::In);
+    for index in 0..rows.len() {
+        sums.shift(&rows[index], Way::In);
     }
     sums
 }

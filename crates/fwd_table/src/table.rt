@@ -22,6 +22,7 @@ use fwd_base::{Bytes, ChunkId, InputId, Memory, OutputId, Retries};
 use fwd_outside::Home;
 use fwd_retry::Timer;
 use std::alloc::Global;
+use std::collections::VecDeque;
 use std::marker::Model;
 use std::mem;
 
@@ -30,7 +31,7 @@ use std::mem;
 /// memory. The row of a chunk is found by halving.
 #[derive(Debug, Drop)]
 pub struct Table {
-    rows: Vec<Row>,
+    rows: VecDeque<Row>,
     /// Where the routes of the next row go.
     storage: Vec<Route>,
     /// A clock reading in milliseconds before which no idle route is due.
@@ -40,13 +41,14 @@ pub struct Table {
 }
 
 impl Model for Table {
-    ghost use Rattle.std.specs.Prelude.{◌-◌, vec_len, vec_capacity};
+    ghost use Rattle.std.specs.Prelude.{◌-◌, vec_capacity};
+    ghost use Rattle.std.specs.VecDeque.{deque_len, deque_capacity};
     ghost use Rattle.fwd_table.specs.Rows.{TableSeen, spare_of};
     ghost use Rattle.fwd_table.specs.Sums.{IsKept};
 
     ghost Value = { TableSeen };
 
-    ghost view = { λ t. record { rows = t.rows.items; spare = spare_of (vec_capacity t.storage) (vec_capacity t.rows - vec_len t.rows) } };
+    ghost view = { λ t. record { rows = t.rows.items; spare = spare_of (vec_capacity t.storage) (deque_capacity t.rows - deque_len t.rows) } };
 
     ghost invariant = { λ t. IsKept t.soonest t.sums t.rows.items };
 }
@@ -57,7 +59,7 @@ impl Table {
         ensures { result.rows ≡ [] }
     {
         Table {
-            rows: Vec::new(alloc),
+            rows: VecDeque::new(alloc),
             storage: Vec::new(alloc),
             soonest: u64::MAX,
             sums: Sums::new(),
@@ -104,7 +106,7 @@ impl Table {
             routes: Routes::to(storage, owed),
         };
         self.sums.shift(&row, Way::In);
-        self.rows.push_reserved(row);
+        self.rows.push_back_reserved(row);
     }
 
     /// Whether a chunk has a row.
@@ -259,8 +261,9 @@ impl Table {
         ensures spare { self.old.spare ≤ self.new.spare }
     {
         if let Some(place) = place_of(&self.rows, chunk) {
-            let row = self.rows.remove(place);
-            self.sums.shift(&row, Way::Out);
+            if let Some(row) = self.rows.remove(place) {
+                self.sums.shift(&row, Way::Out);
+            }
         }
     }
 

@@ -5,7 +5,7 @@ use Rattle.fwd_retry.specs.Timer.{earlier, first, is_next}
 use Rattle.fwd_table.specs.Rows.{waiting}
 use Rattle.fwd_table.proofs.row.next_in.Given as goal
 
-abbrev pub invariant-loop-row : goal.invariant-loop-row
-invariant-loop-row l =
-    fold (λ found timer. Some (earlier found timer)) l.first (filter (is_next l.now l.after) (flat_map waiting (drop l.row-index l.rows)))
-    ≡ first (filter (is_next l.now l.after) (flat_map waiting l.rows))
+abbrev pub invariant-loop-index : goal.invariant-loop-index
+invariant-loop-index l =
+    fold (λ found timer. Some (earlier found timer)) l.first (filter (is_next l.now l.after) (flat_map waiting (drop l.index l.rows.items)))
+    ≡ first (filter (is_next l.now l.after) (flat_map waiting l.rows.items))

@@ -1,4 +1,5 @@
-use Rattle.std.proofs.Common.{rules}
+use Rattle.std.proofs.Common.{length, rules}
+use Rattle.std.specs.List.Sorted.{IsSearchInRange}
 use Rattle.std.proofs.lemmas.List.Sorted.{answers_always}
 use Rattle.fwd_table.specs.declared.row.Row.{Row}
 use Rattle.fwd_table.proofs.Places.{place_found}
@@ -8,4 +9,5 @@ pub returns : goal.returns
 returns c =
     let facts = c.binary_search_by_key.ensures in
     let by_number = facts.position (λ (row : Row). row.chunk.0) (answers_always _ _ _ (λ f a r g called. search rules)) in
-    rw c.ok.ensures.value (place_found c.args.chunk c.args.rows.now c.binary_search_by_key.result c.requires facts.bound by_number)
+    let within : IsSearchInRange c.binary_search_by_key.result (length c.args.rows.now.items) = rw (← c.args.rows.now.ok.0) facts.bound in
+    rw c.ok.ensures.value (place_found c.args.chunk c.args.rows.now.items c.binary_search_by_key.result c.requires within by_number)

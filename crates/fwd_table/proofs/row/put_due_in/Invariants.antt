@@ -7,7 +7,7 @@ use Rattle.fwd_retry.specs.Timer.{by_time}
 use Rattle.fwd_table.specs.Rows.{waiting}
 use Rattle.fwd_table.proofs.row.put_due_in.Given as goal
 
-abbrev pub invariant-loop-row : goal.invariant-loop-row
-invariant-loop-row l =
-    fold (insert_key by_time) l.timers.keys (filter (λ (t : Timer). nat_le t.due l.now) (flat_map waiting (drop l.row-index l.rows)))
-    ≡ fold (insert_key by_time) l.initial.timers.keys (filter (λ (t : Timer). nat_le t.due l.now) (flat_map waiting l.rows))
+abbrev pub invariant-loop-index : goal.invariant-loop-index
+invariant-loop-index l =
+    fold (insert_key by_time) l.timers.keys (filter (λ (t : Timer). nat_le t.due l.now) (flat_map waiting (drop l.index l.rows.items)))
+    ≡ fold (insert_key by_time) l.initial.timers.keys (filter (λ (t : Timer). nat_le t.due l.now) (flat_map waiting l.rows.items))

@@ -10,11 +10,10 @@ use Rattle.fwd_table.specs.Sums.{IsSound, Unowed}
 use Rattle.fwd_table.proofs.Kept.{none_unowed}
 use Rattle.fwd_table.proofs.table.Table.sweep.Goals as goal
 
-kept : (c : goal.After-deref) → c.retain.new.self.items ≡ owed_rows c.self.inside.rows.items
-kept c = filter_same _ _ _ (λ x b f' k. search rules) _ _ c.retain.ensures.filtered
-
 pub sums_of-self-inside-requires-clause-sound : goal.sums_of-self-inside-requires-clause-sound
-sums_of-self-inside-requires-clause-sound c = rw (c.deref.ensures.value, kept c) (All-filter is_owed_row IsSound c.self.inside.rows.items c.self.invariant.sound)
+sums_of-self-inside-requires-clause-sound c =
+    let kept : c.retain.new.self.items ≡ owed_rows c.self.inside.rows.items = filter_same _ _ _ (λ x b f' k. search rules) _ _ c.retain.ensures.filtered in
+    rw kept (All-filter is_owed_row IsSound c.self.inside.rows.items c.self.invariant.sound)
 
 pub invariant_of-self : goal.invariant_of-self
 invariant_of-self c =
@@ -23,7 +22,7 @@ invariant_of-self c =
       rise = rw kept (AllPairs-filter (λ (row behind : Row). row.chunk.0 < behind.chunk.0) is_owed_row _ c.self.invariant.rise);
       sound = rw kept (All-filter is_owed_row IsSound _ c.self.invariant.sound);
       wait = rw kept (All-filter is_owed_row (WaitsTill c.self.inside.soonest) _ c.self.invariant.wait);
-      summed = rw (← c.deref.ensures.value) c.sums_of-self-inside.ensures;
+      summed = c.sums_of-self-inside.ensures;
     }
 
 pub returns-then-has_unowed-clause-rows : goal.returns-then-has_unowed-clause-rows

@@ -16,7 +16,7 @@ shift-requires c counted key below =
 pub invariant_of-self : goal.invariant_of-self
 invariant_of-self c =
     let above : All (λ (row : Row). row.chunk.0 < c.args.chunk.0) c.self.inside.rows.items = rw (← c.self.view_is) at c.requires.above in
-    rw c.push_reserved.ensures.items
+    rw c.push_back_reserved.ensures.items
     (record {
       rise = all_pairs_push (λ (row behind : Row). row.chunk.0 < behind.chunk.0) c.self.inside.rows.items _ c.self.invariant.rise above;
       sound = All-push IsSound c.self.inside.rows.items _ c.self.invariant.sound (opened_sound c.args.chunk c.args.input c.args.home c.args.tag c.args.size c.args.owed c.to.result c.ranges.size.fits c.to.ensures.value);
