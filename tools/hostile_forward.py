@@ -138,12 +138,7 @@ def a_text_without_end(trial):
         too_long(trial, b"\x93" + TAG + HUGE["bin"], bytes(100_000))
 
 
-@forward(
-    "the first 16,777,216 bytes of a message, in a buffer that doubles",
-    64,
-    known="16 MB without an end are read as values once more before they are dropped, some 40 bytes of memory for each byte",
-    shows="of memory",
-)
+@forward("the first 16,777,216 bytes of a message, in a buffer that doubles", 64)
 def a_list_without_end(trial):
     """A list that says to have 2^32 - 1 members comes, member for member; it is dropped behind 16 MB."""
     while trial.goes_on():
@@ -163,7 +158,7 @@ def list_of(count, member):
 @forward(
     "a message of 16,777,216 bytes, as it came, as values and as a payload",
     256,
-    known="a whole message is read as values, some 40 to 90 bytes of memory for each byte, and copied as such; each flight reads it so again",
+    known="a whole message is read as values, some 30 to 60 bytes of memory for each byte; each flight reads it so again",
     shows="of memory|good line",
 )
 def small_values_in_a_large_message(trial):

@@ -5,7 +5,7 @@ use Rattle.fwd_wire.specs.declared.fault.ConnFault.{ConnFault}
 use Rattle.fwd_wire.specs.declared.message.Message.{Message}
 use Rattle.fwd_wire.specs.Message.{Said}
 use Rattle.fwd_wire.specs.Answer.{IsAnswer, short}
-use Rattle.fwd_wire.specs.Stream.{Ending, waiting, Streams}
+use Rattle.fwd_wire.specs.Stream.{Ending, waiting, broken, Breaks, Streams}
 use Rattle.fwd_in_forward.specs.Conn.{ending_of, all_said}
 use Rattle.fwd_in_forward.proofs.Joining.{joined, stays_broken}
 
@@ -32,6 +32,17 @@ waits_on rest more all None e ms some is joins h none stream before s =
     let old = subst (λ (x : Ending). Streams before x stream) (sym is) s in
     let on = joined before [] (waiting all) rest stream more old (sym joins, subst (λ (x : List ℕ). IsAnswer x short) joins h) in
     subst (λ (x : List Message). Streams (before ++ all_said x) (waiting all) (stream ++ more)) (sym none) on
+
+-- the stream breaks in the piece
+pub breaks_now : (rest more all : List ℕ) (fault : Option ConnFault) (why : ConnFault) (e new : Ending) (ms : List Message)
+    → is_some fault ≡ false → ending_of rest fault ≡ e → all ≡ rest ++ more → Breaks why all → new ≡ broken why → ms ≡ []
+    → (stream : List ℕ) (before : List Said) → Streams before e stream → Streams (before ++ all_said ms) new (stream ++ more)
+breaks_now rest more all (Some fault) why e new ms some is joins h now none stream before s = absurd cc
+breaks_now rest more all None why e new ms some is joins h now none stream before s =
+    let old = subst (λ (x : Ending). Streams before x stream) (sym is) s in
+    let on = joined before [] (broken why) rest stream more old (subst (Breaks why) joins h) in
+    let same = subst (λ (x : List Message). Streams (before ++ all_said x) (broken why) (stream ++ more)) (sym none) on in
+    subst (λ (x : Ending). Streams (before ++ all_said ms) x (stream ++ more)) (sym now) same
 
 -- messages came of the rest and the piece
 pub settled_on : {X E : Type 0} (said : X → List Said) (r : Result X E) (rest more all : List ℕ) (fault : Option ConnFault) (e new : Ending)

@@ -1,12 +1,13 @@
 //! A connection of a forward peer.
 
-ghost use Rattle.std.specs.Prelude.{◌≡◌, ◌≤◌, ◌++◌, ℕ, List, [], length, take, All, IfOk, OnErr, IsTrue};
+ghost use Rattle.std.specs.Prelude.{◌≡◌, ◌≤◌, ◌<◌, ◌++◌, ℕ, List, [], length, take, Some, All, IfOk, OnErr};
+ghost use Rattle.fwd_base.specs.Limits.{longest_message};
 ghost use Rattle.fwd_wire.specs.Message.{Said};
-ghost use Rattle.fwd_wire.specs.Answer.{IsAnswer, short};
+ghost use Rattle.fwd_wire.specs.Answer.{front};
 ghost use Rattle.fwd_wire.specs.Fits.{SaidFits};
 ghost use Rattle.fwd_wire.specs.Stream.{waiting, broken, Streams};
 ghost use Rattle.fwd_wire.specs.declared.fault.ConnFault.{ConnFault};
-ghost use Rattle.fwd_in_forward.specs.Conn.{Scans, ending_of, fault_of, all_said};
+ghost use Rattle.fwd_in_forward.specs.Conn.{Scans, KnownIs, ending_of, fault_of, all_said};
 
 use crate::reading::{AllRead, Messages, all_messages};
 use fwd_base::limits::LONGEST_MESSAGE;
@@ -44,28 +45,61 @@ impl Model for ForwardConn {
     ghost invariant = { λ c. Scans c.scan c.rest };
 }
 
-/// Whether the bytes go on with a message that began before the last of them, the piece, and has no end yet.
-fn waits(scan: &mut Option<Scan>, rest: &[u8], before: usize) -> bool
+/// What a scan says of the bytes behind the last whole message.
+#[derive(Clone, Copy)]
+enum Known {
+    /// They begin a message, and more is wanted.
+    Waits,
+    /// No message begins them, nor will.
+    Breaks(ConnFault),
+    /// A value may be whole in them, which is to be read.
+    Open,
+}
+
+/// The bytes from a place on that a message may have.
+fn piece_of(rest: &[u8], before: usize) -> &[u8]
+    requires within { before ≤ length rest.now }
+    requires shorter { before ≤ longest_message }
+    ensures joins { take before rest.now ++ result.now ≡ front rest.now }
+    ensures shorter { length result.now ≤ length rest.now }
+{
+    let (front, _) = rest.split_at(LONGEST_MESSAGE.min(rest.len()));
+    let (_, piece) = front.split_at(before);
+    piece
+}
+
+/// What is known of bytes whose last ones, the piece, go on with a message that began before. No value is read.
+fn looked(scan: &mut Option<Scan>, rest: &[u8], before: usize) -> Known
     requires within { before ≤ length rest.now }
     requires scan { Scans scan.old (take before rest.now) }
-    ensures waits { IsTrue result → IsAnswer rest.now short }
+    ensures known { KnownIs rest.now result }
     ensures scan { Scans scan.new rest.now }
 {
-    let Some(known) = scan else {
-        return false;
+    let Some(going) = scan else {
+        return Known::Open;
     };
-    let (_, piece) = rest.split_at(before);
-    match known.feed(piece) {
-        Scanned::More => rest.len() < LONGEST_MESSAGE,
-        Scanned::Whole { .. } | Scanned::Unused { .. } | Scanned::TooDeep { .. } => {
+    match going.feed(piece_of(rest, before)) {
+        Scanned::More => {
+            if rest.len() < LONGEST_MESSAGE {
+                return Known::Waits;
+            }
             *scan = None;
-            false
+            Known::Breaks(ConnFault::TooLong)
+        }
+        Scanned::Whole { .. } => {
+            *scan = None;
+            Known::Open
+        }
+        Scanned::Unused { .. } | Scanned::TooDeep { .. } => {
+            *scan = None;
+            Known::Breaks(ConnFault::NotAMessage)
         }
     }
 }
 
 /// A scan that was fed these bytes, where they begin a value.
 fn scanned(alloc: Global, rest: &[u8]) -> Result<Option<Scan>, Memory>
+    requires { length rest.now < longest_message }
     ensures { IfOk result (λ scan. Scans scan rest.now) }
 {
     if rest.is_empty() {
@@ -111,13 +145,29 @@ impl ForwardConn {
         }
         let before = self.rest.len();
         self.rest.extend_from_slice(piece)?;
-        if waits(&mut self.scan, self.rest.as_slice(), before) {
-            return Ok(Fed {
+        match looked(&mut self.scan, self.rest.as_slice(), before) {
+            Known::Waits => Ok(Fed {
                 messages: Messages::new(self.alloc),
                 fault: None,
-            });
+            }),
+            Known::Breaks(fault) => Ok(self.broken_by(fault)),
+            Known::Open => self.settle(before),
         }
-        self.settle(before)
+    }
+
+    /// The stream is broken, and nothing of it is kept.
+    fn broken_by(&mut self, fault: ConnFault) -> Fed
+        ensures broken { self.new ≡ broken fault }
+        ensures messages { result.messages ≡ [] }
+        ensures fault { result.fault ≡ Some fault }
+    {
+        self.rest = Bytes::new(self.alloc);
+        self.fault = Some(fault);
+        self.scan = None;
+        Fed {
+            messages: Messages::new(self.alloc),
+            fault: Some(fault),
+        }
     }
 
     /// Takes the whole messages off the rest. After `Memory` it has the bytes of before.

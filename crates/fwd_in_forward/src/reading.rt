@@ -1,6 +1,7 @@
 //! All messages that bytes begin with.
 
-ghost use Rattle.std.specs.Prelude.{◌≡◌, Ok, All, IfOk};
+ghost use Rattle.std.specs.Prelude.{◌≡◌, ◌<◌, length, Ok, All, IfOk};
+ghost use Rattle.fwd_base.specs.Limits.{longest_message};
 ghost use Rattle.fwd_wire.specs.Fits.{SaidFits};
 ghost use Rattle.fwd_wire.specs.Stream.{Streams};
 ghost use Rattle.fwd_in_forward.specs.Conn.{ending_of, all_said};
@@ -55,6 +56,7 @@ fn next_in(alloc: Global, bytes: &[u8]) -> Result<Next, Memory>
 pub fn all_messages(alloc: Global, bytes: &[u8]) -> Result<AllRead, Memory>
     ensures streams { IfOk result (λ read. Streams (all_said read.messages) (ending_of read.rest read.fault) bytes.now) }
     ensures fits { IfOk result (λ read. All SaidFits (all_said read.messages)) }
+    ensures short { IfOk result (λ read. length read.rest < longest_message) }
 {
     let mut messages = Items::new(alloc);
     let mut rest = bytes;

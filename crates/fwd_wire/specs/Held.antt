@@ -1,10 +1,9 @@
 -- What the code holds and returns, in the words of the definitions.
-use Rattle.std.specs.Prelude.{◌≡◌, ℕ, nat_lt, if◌then◌else◌, Bool, true, false, List, [], ◌∷◌, ◌++◌, map, Option, Some, None, option_map, Result, Ok, Err}
+use Rattle.std.specs.Prelude.{◌≡◌, ℕ, nat_lt, if◌then◌else◌, Bool, true, false, List, [], ◌∷◌, ◌++◌, Option, Some, None, option_map, Result, Ok, Err}
 use Rattle.std.specs.Borrow.{Bor}
 use Rattle.fwd_base.specs.Limits.{longest_message}
 use Rattle.fwd_value.specs.Val.{vals_of}
 use Rattle.fwd_value.specs.View.{val_of}
-use Rattle.fwd_body.specs.Keys.{Body}
 use Rattle.fwd_msgpack.specs.declared.errors.DecodeErr.{DecodeErr}
 use Rattle.fwd_msgpack.specs.declared.errors.DecodeErr.TheVariants as decoding
 use Rattle.fwd_event.specs.declared.event.Event.{Event}
@@ -23,14 +22,9 @@ said_of Nothing = nothing
 said_of (Batch t es k) = batch t es (option_map val_of k)
 
 abbrev pub carried_of : Held → Carried
-carried_of (held.One time body) = one (val_of time.now) (val_of body.now)
-carried_of (held.Many vs) = many (vals_of (map val_of vs.now))
-carried_of (held.Packed b) = packed b.now
-
--- the pairs of an option, none where it is absent
-abbrev pub option_read : Option (Bor Body) → Option Body
-option_read None = Some []
-option_read (Some pairs) = Some pairs.now
+carried_of (held.One time body) = one (val_of time) (val_of body)
+carried_of (held.Many vs) = many (vals_of vs)
+carried_of (held.Packed b) = packed b
 
 -- bytes, where there are some
 abbrev pub bytes_read : Option (Bor (List ℕ)) → Option (List ℕ)

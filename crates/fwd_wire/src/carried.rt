@@ -1,6 +1,6 @@
 //! The events that a message carries.
 
-ghost use Rattle.std.specs.Prelude.{◌≡◌, Some, [], map, IfOk};
+ghost use Rattle.std.specs.Prelude.{◌≡◌, Some, [], IfOk};
 ghost use Rattle.fwd_value.specs.Val.{vals_of};
 ghost use Rattle.fwd_value.specs.View.{val_of};
 ghost use Rattle.fwd_event.specs.Event.{event_of};
@@ -9,7 +9,7 @@ ghost use Rattle.fwd_wire.specs.Held.{CarriesOnly, Pushes};
 
 use fwd_base::{Items, Memory};
 use fwd_event::{Event, EventErr, Events, event_of, event_of_two, read_events};
-use fwd_msgpack::Value;
+use fwd_msgpack::{Value, Values};
 use std::alloc::Global;
 
 /// The list of one event, where there is one.
@@ -24,28 +24,18 @@ fn alone(alloc: Global, event: Option<Event>) -> Result<Option<Events>, Memory>
     Ok(Some(events))
 }
 
-/// The event that a value is.
-fn event(alloc: Global, value: &Value) -> Result<Option<Event>, Memory>
-    ensures { IfOk result (λ event. event ≡ event_of (val_of value.now)) }
-{
-    let value = value.try_clone(alloc)?;
-    Ok(event_of(alloc, value))
-}
-
 /// The event of a time and a record.
-pub fn single(alloc: Global, time: &Value, body: &Value) -> Result<Option<Events>, Memory>
-    ensures { IfOk result (λ events. CarriesOnly (one (val_of time.now) (val_of body.now)) events) }
+pub fn single(alloc: Global, time: Value, body: Value) -> Result<Option<Events>, Memory>
+    ensures { IfOk result (λ events. CarriesOnly (one (val_of time) (val_of body)) events) }
 {
-    let time = time.try_clone(alloc)?;
-    let body = body.try_clone(alloc)?;
     alone(alloc, event_of_two(alloc, time, body))
 }
 
 /// Puts the event that a value is at the end, and says whether it is one.
-fn push_event(alloc: Global, events: &mut Events, value: &Value) -> Result<bool, Memory>
-    ensures { IfOk result (λ is. Pushes is events.old events.new (event_of (val_of value.now))) }
+fn push_event(alloc: Global, events: &mut Events, value: Value) -> Result<bool, Memory>
+    ensures { IfOk result (λ is. Pushes is events.old events.new (event_of (val_of value))) }
 {
-    match event(alloc, value)? {
+    match event_of(alloc, value) {
         Some(event) => {
             events.push(event)?;
             Ok(true)
@@ -54,12 +44,13 @@ fn push_event(alloc: Global, events: &mut Events, value: &Value) -> Result<bool,
     }
 }
 
-/// The events that values are, if all of them are events.
-pub fn listed(alloc: Global, values: &[Value]) -> Result<Option<Events>, Memory>
-    ensures { IfOk result (λ events. events ≡ events_of (vals_of (map val_of values.now))) }
+/// The events that values are, if all of them are events. Each value is taken apart, and behind one that is no event
+/// none is looked at.
+pub fn listed(alloc: Global, values: Values) -> Result<Option<Events>, Memory>
+    ensures { IfOk result (λ events. events ≡ events_of (vals_of values)) }
 {
     let mut events = Items::new(alloc);
-    for value in values {
+    for value in values.into_vec() {
         if !push_event(alloc, &mut events, value)? {
             return Ok(None);
         }

@@ -1,10 +1,10 @@
 //! The parts of a message: its tag, what it carries and its option.
 
-ghost use Rattle.std.specs.Prelude.{◌≡◌, map, option_map, IfOk};
+ghost use Rattle.std.specs.Prelude.{◌≡◌, Some, option_map, IfOk};
 ghost use Rattle.fwd_value.specs.Val.{text, list, vals_of};
 ghost use Rattle.fwd_value.specs.View.{val_of};
 ghost use Rattle.fwd_wire.specs.Message.{is_tag, tag_of, option_of, is_plain, option_value, chunk_key, text_word, tagged_by, with_option, with_time, in_mode, parts_of, CarriedSays, PlainSays, PartsSay, MessageSays};
-ghost use Rattle.fwd_wire.specs.Held.{carried_of, option_read, bytes_read, CarriesOnly, Meets};
+ghost use Rattle.fwd_wire.specs.Held.{carried_of, bytes_read, CarriesOnly, Meets};
 ghost use Rattle.fwd_wire.specs.declared.message.Message.TheVariants.{Batch as batch_of};
 ghost use Rattle.fwd_body.specs.Keys.{is_text};
 
@@ -12,30 +12,30 @@ use crate::carried::{listed, single, unpacked};
 use crate::{Message, WireErr};
 use fwd_base::limits::LONGEST_TAG;
 use fwd_base::{Bytes, Memory, is_utf8};
-use fwd_body::{is_text, value_of};
+use fwd_body::{is_text, place_of, value_of};
 use fwd_event::Events;
-use fwd_msgpack::{Pairs, Value};
+use fwd_msgpack::{Pairs, Value, Values};
 use std::alloc::Global;
 
 /// A whole value that is no message.
 const NO_MESSAGE: WireErr = WireErr::NotAMessage { at: 0 };
 
 /// What a message carries: the time and the record of one event, events in a list, or the bytes of events.
-#[derive(Clone, Copy)]
-pub enum Carried<'m> {
-    One(&'m Value, &'m Value),
-    Many(&'m [Value]),
-    Packed(&'m [u8]),
+#[derive(Drop)]
+pub enum Carried {
+    One(Value, Value),
+    Many(Values),
+    Packed(Bytes),
 }
 
 /// The events that are carried, if what is carried is events.
-fn events_in(alloc: Global, carried: Carried<'_>) -> Result<Option<Events>, Memory>
-    ensures { IfOk result (λ events. CarriesOnly (carried_of carried.entry) events) }
+fn events_in(alloc: Global, carried: Carried) -> Result<Option<Events>, Memory>
+    ensures { IfOk result (λ events. CarriesOnly (carried_of carried) events) }
 {
     match carried {
         Carried::One(time, body) => single(alloc, time, body),
         Carried::Many(values) => listed(alloc, values),
-        Carried::Packed(bytes) => unpacked(alloc, bytes),
+        Carried::Packed(bytes) => unpacked(alloc, bytes.as_slice()),
     }
 }
 
@@ -84,12 +84,15 @@ fn is_word(alloc: Global, value: &Value) -> Result<bool, Memory>
 }
 
 /// The chunk that the option wants acknowledged.
-fn chunk_of(alloc: Global, option: &Pairs) -> Result<Option<Value>, Memory>
-    ensures { IfOk result (λ chunk. option_map val_of chunk ≡ option_value option.now chunk_key) }
+fn chunk_of(alloc: Global, mut option: Pairs) -> Result<Option<Value>, Memory>
+    ensures { IfOk result (λ chunk. option_map val_of chunk ≡ option_value option chunk_key) }
 {
     let key = Bytes::from_slice(alloc, b"chunk")?;
-    match value_of(option, &key) {
-        Some(value) => Ok(Some(value.try_clone(alloc)?)),
+    match place_of(&option, &key) {
+        Some(place) => {
+            let (_, chunk) = option.remove(place);
+            Ok(Some(chunk))
+        }
         None => Ok(None),
     }
 }
@@ -109,10 +112,10 @@ fn batch(alloc: Global, tag: &[u8], events: Events, chunk: Option<Value>) -> Res
 fn carried_batch(
     alloc: Global,
     tag: &[u8],
-    carried: Carried<'_>,
+    carried: Carried,
     chunk: Option<Value>,
 ) -> Result<Message, WireErr>
-    ensures { Meets (CarriedSays tag.now (option_map val_of chunk) (carried_of carried.entry)) result }
+    ensures { Meets (CarriedSays tag.now (option_map val_of chunk) (carried_of carried)) result }
 {
     match events_in(alloc, carried)? {
         Some(events) => Ok(batch(alloc, tag, events, chunk)?),
@@ -124,12 +127,12 @@ fn carried_batch(
 fn plain_batch(
     alloc: Global,
     tag: &[u8],
-    carried: Carried<'_>,
-    option: &Pairs,
+    carried: Carried,
+    option: Pairs,
 ) -> Result<Message, WireErr>
-    ensures { Meets (PlainSays (is_plain option.now) tag.now (option_value option.now chunk_key) (carried_of carried.entry)) result }
+    ensures { Meets (PlainSays (is_plain option) tag.now (option_value option chunk_key) (carried_of carried)) result }
 {
-    if !is_plain(alloc, option)? {
+    if !is_plain(alloc, &option)? {
         return Err(WireErr::Compressed);
     }
     let chunk = chunk_of(alloc, option)?;
@@ -137,36 +140,23 @@ fn plain_batch(
 }
 
 /// What a tag, something carried and an option say.
-fn tagged(
-    alloc: Global,
-    tag: &Value,
-    carried: Carried<'_>,
-    option: Option<&Pairs>,
-) -> Result<Message, WireErr>
-    ensures { Meets (PartsSay (tagged_by (tag_of (val_of tag.now)) (option_read option.entry) (carried_of carried.entry))) result }
+fn tagged(alloc: Global, tag: &Value, carried: Carried, option: Pairs) -> Result<Message, WireErr>
+    ensures { Meets (PartsSay (tagged_by (tag_of (val_of tag.now)) (Some option) (carried_of carried))) result }
 {
     let Some(tag) = tag_of(tag) else {
         return Err(NO_MESSAGE);
     };
-    match option {
-        Some(option) => plain_batch(alloc, tag, carried, option),
-        None => carried_batch(alloc, tag, carried, None),
-    }
+    plain_batch(alloc, tag, carried, option)
 }
 
 /// What a tag, something carried and a value as their option say.
 #[tactic(auto, using(fwd_event::proofs::Parts::pairs_back))]
-fn optioned(
-    alloc: Global,
-    tag: &Value,
-    carried: Carried<'_>,
-    option: &Value,
-) -> Result<Message, WireErr>
-    ensures { Meets (PartsSay (tagged_by (tag_of (val_of tag.now)) (option_of (val_of option.now)) (carried_of carried.entry))) result }
+fn optioned(alloc: Global, tag: &Value, carried: Carried, option: Value) -> Result<Message, WireErr>
+    ensures { Meets (PartsSay (tagged_by (tag_of (val_of tag.now)) (option_of (val_of option)) (carried_of carried))) result }
 {
     match option {
-        Value::Nil => tagged(alloc, tag, carried, None),
-        Value::Map(pairs) => tagged(alloc, tag, carried, Some(pairs)),
+        Value::Nil => tagged(alloc, tag, carried, Pairs::new(alloc)),
+        Value::Map(pairs) => tagged(alloc, tag, carried, pairs),
         _ => Err(NO_MESSAGE),
     }
 }
@@ -175,59 +165,67 @@ fn optioned(
 fn with_option(
     alloc: Global,
     tag: &Value,
-    carried: Carried<'_>,
-    behind: &[Value],
+    carried: Carried,
+    mut behind: Values,
 ) -> Result<Message, WireErr>
-    ensures { Meets (PartsSay (with_option (val_of tag.now) (carried_of carried.entry) (vals_of (map val_of behind.now)))) result }
+    ensures { Meets (PartsSay (with_option (val_of tag.now) (carried_of carried) (vals_of behind))) result }
 {
-    match behind {
-        [] => tagged(alloc, tag, carried, None),
-        [option] => optioned(alloc, tag, carried, option),
-        [_, _, ..] => Err(NO_MESSAGE),
+    if 1 < behind.len() {
+        return Err(NO_MESSAGE);
+    }
+    match behind.pop() {
+        Some(option) => optioned(alloc, tag, carried, option),
+        None => tagged(alloc, tag, carried, Pairs::new(alloc)),
     }
 }
 
 /// What a tag and a time say, with a record and at most one option behind them.
-fn with_time(alloc: Global, tag: &Value, time: &Value, behind: &[Value]) -> Result<Message, WireErr>
-    ensures { Meets (PartsSay (with_time (val_of tag.now) (val_of time.now) (vals_of (map val_of behind.now)))) result }
+fn with_time(
+    alloc: Global,
+    tag: &Value,
+    time: Value,
+    mut behind: Values,
+) -> Result<Message, WireErr>
+    ensures { Meets (PartsSay (with_time (val_of tag.now) (val_of time) (vals_of behind))) result }
 {
-    match behind {
-        [] => Err(NO_MESSAGE),
-        [body, behind @ ..] => with_option(alloc, tag, Carried::One(time, body), behind),
+    if behind.is_empty() {
+        return Err(NO_MESSAGE);
     }
+    let body = behind.remove(0);
+    with_option(alloc, tag, Carried::One(time, body), behind)
 }
 
 /// What a tag, a second member, which tells the mode, and what stands behind them say.
-fn in_mode(alloc: Global, tag: &Value, second: &Value, behind: &[Value]) -> Result<Message, WireErr>
-    ensures { Meets (PartsSay (in_mode (val_of tag.now) (val_of second.now) (vals_of (map val_of behind.now)))) result }
+fn in_mode(alloc: Global, tag: &Value, second: Value, behind: Values) -> Result<Message, WireErr>
+    ensures { Meets (PartsSay (in_mode (val_of tag.now) (val_of second) (vals_of behind))) result }
 {
     match second {
-        Value::List(entries) => {
-            with_option(alloc, tag, Carried::Many(entries.as_slice()), behind)
-        }
-        Value::Text(bytes) => with_option(alloc, tag, Carried::Packed(bytes.as_slice()), behind),
-        Value::Bin(bytes) => with_option(alloc, tag, Carried::Packed(bytes.as_slice()), behind),
+        Value::List(entries) => with_option(alloc, tag, Carried::Many(entries), behind),
+        Value::Text(bytes) => with_option(alloc, tag, Carried::Packed(bytes), behind),
+        Value::Bin(bytes) => with_option(alloc, tag, Carried::Packed(bytes), behind),
         time => with_time(alloc, tag, time, behind),
     }
 }
 
 /// What the values of a list say.
-fn members(alloc: Global, values: &[Value]) -> Result<Message, WireErr>
-    ensures { Meets (PartsSay (parts_of (list (vals_of (map val_of values.now))))) result }
+fn members(alloc: Global, mut values: Values) -> Result<Message, WireErr>
+    ensures { Meets (PartsSay (parts_of (list (vals_of values)))) result }
 {
-    match values {
-        [tag, second, behind @ ..] => in_mode(alloc, tag, second, behind),
-        _ => Err(NO_MESSAGE),
+    if values.len() < 2 {
+        return Err(NO_MESSAGE);
     }
+    let second = values.remove(1);
+    let tag = values.remove(0);
+    in_mode(alloc, &tag, second, values)
 }
 
-/// What a value says as a message.
-pub fn message_of(alloc: Global, value: &Value) -> Result<Message, WireErr>
-    ensures { Meets (MessageSays (val_of value.now)) result }
+/// What a value says as a message. The value is taken apart: what it carries isn't copied.
+pub fn message_of(alloc: Global, value: Value) -> Result<Message, WireErr>
+    ensures { Meets (MessageSays (val_of value)) result }
 {
     match value {
         Value::Nil => Ok(Message::Nothing),
-        Value::List(values) => members(alloc, values.as_slice()),
+        Value::List(values) => members(alloc, values),
         _ => Err(NO_MESSAGE),
     }
 }

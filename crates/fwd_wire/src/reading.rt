@@ -45,7 +45,7 @@ fn read(alloc: Global, bytes: &[u8]) -> Result<(Message, u64), WireErr>
 {
     match decode(alloc, front(bytes)) {
         Ok((value, length)) => {
-            let message = message_of(alloc, &value)?;
+            let message = message_of(alloc, value)?;
             Ok((message, length))
         }
         Err(error) => Err(refused(error, bytes.len())),

@@ -1,4 +1,4 @@
-use Rattle.std.proofs.Common.{List, arith, subst, sym}
+use Rattle.std.proofs.Common.{List, length, ap, arith, subst, sym}
 use Rattle.fwd_wire.specs.Held.{said_of}
 use Rattle.fwd_wire.specs.declared.message.Message.{Message}
 use Rattle.fwd_wire.specs.Stream.{Streams, waiting, broken}
@@ -35,3 +35,8 @@ pub returns-in-Broken-clause-streams : goal.returns-in-Broken-clause-streams
 returns-in-Broken-clause-streams c =
     let next = subst (NextIs c.reading.rest.now) c.in-Broken.is c.in_ok-message.ensures.is in
     read_all c.args.bytes.now c.reading.rest.now c.reading.messages (broken c.in-Broken.fault) c.reading.invariant.reads next
+
+pub returns-in-Short-clause-short : goal.returns-in-Short-clause-short
+returns-in-Short-clause-short c =
+    let next = subst (NextIs c.reading.rest.now) c.in-Short.is c.in_ok-message.ensures.is in
+    omega (arith, next.0, ap length c.in_ok-from_slice-in-Short.ensures)

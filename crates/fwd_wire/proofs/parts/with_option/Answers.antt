@@ -4,5 +4,5 @@ use Rattle.fwd_wire.specs.Held.{carried_of}
 use Rattle.fwd_wire.proofs.Members.{many_options}
 use Rattle.fwd_wire.proofs.parts.with_option.Goals as goal
 
-pub returns-in-len2-up : goal.returns-in-len2-up
-returns-in-len2-up c = (many_options (val_of c.args.tag.now) (carried_of c.args.carried) c.args.behind.now (omega (arith, c.in-len2-up.len_at_least)), refl)
+pub returns-then-len-gt1 : goal.returns-then-len-gt1
+returns-then-len-gt1 c = (many_options (val_of c.args.tag.now) (carried_of c.args.carried) c.args.behind (omega (arith, c.len.ensures, c.if-len-gt1.true)), refl)
