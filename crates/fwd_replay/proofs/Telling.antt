@@ -22,10 +22,13 @@ told_is script given entries is =
     let told : LoopGiven × List LoopEntry = (given, entries) in
     tells script.fails_to_start now told is
 
-grown : (silent : Bool) (given now : LoopGiven) (old new entries : List LoopEntry) → Grew (Some (given, old)) (if silent then None else Some (now, new)) entries
-    → (if silent then None else Some (now, new)) ≡ Some (given, old ++ entries)
+abbrev calls : LoopGiven → List LoopEntry → LoopGiven × List LoopEntry
+calls given entries = (given, entries)
+
+grown : (silent : Bool) (given now : LoopGiven) (old new entries : List LoopEntry) → Grew (Some (given, old)) (if silent then None else Some (calls now new)) entries
+    → (if silent then None else Some (calls now new)) ≡ Some (given, old ++ entries)
 grown true given now old new entries grew = absurd grew
-grown false given now old new entries grew = ap (λ (g : LoopGiven). Some (g, new)) grew.0 ∙ ap (λ (es : List LoopEntry). Some (given, es)) grew.1
+grown false given now old new entries grew = ap (λ (g : LoopGiven). Some (calls g new)) grew.0 ∙ ap (λ (es : List LoopEntry). Some (calls given es)) grew.1
 
 -- what it tells behind further calls
 pub told_grown : (script : ScriptHeld) (given : LoopGiven) (old entries : List LoopEntry) → Grew (Some (given, old)) (told_of script) entries → told_of script ≡ Some (given, old ++ entries)
