@@ -1,5 +1,5 @@
 -- Calls that were played, behind one call more.
-use Rattle.std.proofs.Common.{◌≡◌, ℕ, Bool, List, [], ◌∷◌, ◌++◌, map, find, Option, Some, None, is_some, refl, sym, ap, subst, ◌∙◌}
+use Rattle.std.proofs.Common.{◌≡◌, ℕ, Bool, false, List, [], ◌∷◌, ◌++◌, map, find, Option, Some, None, is_some, refl, sym, ap, subst, ◌∙◌}
 use Rattle.std.proofs.lemmas.List.{map-append}
 use Rattle.fwd_outside.specs.declared.happening.Happening.{Happening}
 use Rattle.fwd_outside.specs.Loop.{LoopCall, LoopEntry, Start, Wait, Dial, Push, Close, Reply, DropConn, Word}
@@ -131,11 +131,11 @@ module _ (lines : List Planned) (answers : List Given) (notes : List LoopNote) (
       (goes ∙ ap (λ (l : List Coming). without_first (hears paused) l) same) (waits left here paused stands_here)
 
 held_by : List Planned → List Given → Bool → List LoopNote → ℕ → ScriptHeld
-held_by l a b m n = record { lines = l; answers = a; crashes = b; changed = 0; notes = m; brought = 0; greatest = n; faults = 0 }
+held_by l a b m n = record { lines = l; answers = a; crashes = b; changed = 0; notes = m; brought = 0; greatest = n; fails_to_start = false; faults = 0 }
 
 -- a life that nothing was asked of
 pub new_is : (life : Life) (lines : List Planned) (answers : List Given) (crashes : Bool) (notes : List LoopNote) (greatest : ℕ) → lines ≡ life.lines → answers ≡ life.answers → crashes ≡ is_some life.cut → notes ≡ [] → greatest ≡ 0
-    → record { lines = lines; answers = answers; crashes = crashes; changed = 0; notes = notes; brought = 0; greatest = greatest; faults = 0 } ≡ new_held life
+    → record { lines = lines; answers = answers; crashes = crashes; changed = 0; notes = notes; brought = 0; greatest = greatest; fails_to_start = false; faults = 0 } ≡ new_held life
 unfolding held_by
 new_is life lines answers crashes notes greatest same given cut empty none =
     ap (λ (l : List Planned). held_by l answers crashes notes greatest) same

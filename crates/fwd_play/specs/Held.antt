@@ -1,5 +1,5 @@
 -- A script: what it tells, what is still ahead of it, and the changes of files before that.
-use Rattle.std.specs.Prelude.{◌≡◌, ℕ, ◌&&◌, max, List, [], ◌∷◌, drop, take, find, Option, Some, None, is_some}
+use Rattle.std.specs.Prelude.{◌≡◌, ℕ, ◌&&◌, if◌then◌else◌, max, List, [], ◌∷◌, drop, take, find, Option, Some, None, is_some}
 use Rattle.std.specs.List.{filter_map}
 use Rattle.fwd_outside.specs.Loop.{LoopCall, LoopCounts, LoopEntry, LoopTold, Wait}
 use Rattle.fwd_script.specs.declared.schedule.FileChange.{FileChange}
@@ -21,10 +21,11 @@ use Rattle.std.specs.Prelude.{Bool, false}
 
 -- a life that nothing was asked of
 abbrev pub new_held : Life → ScriptHeld
-new_held life = record { lines = life.lines; answers = life.answers; crashes = is_some life.cut; changed = 0; notes = []; brought = 0; greatest = 0; faults = 0 }
+new_held life = record { lines = life.lines; answers = life.answers; crashes = is_some life.cut; changed = 0; notes = []; brought = 0; greatest = 0; fails_to_start = false; faults = 0 }
 
+-- one that is to fail at its start, which no life says, tells nothing
 abbrev pub told_of : ScriptHeld → LoopTold
-told_of held = Some (given_in held.lines held.answers, entries_of held.notes)
+told_of held = if held.fails_to_start then None else Some (given_in held.lines held.answers, entries_of held.notes)
 
 abbrev pub counts_of : ScriptHeld → LoopCounts
 counts_of held = record { happenings = held.brought; greatest = held.greatest; endless = false }

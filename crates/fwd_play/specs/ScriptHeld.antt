@@ -12,11 +12,13 @@ pub record ScriptHeld : Type 0 where
   pub crashes : Bool
   -- the changes of files of so many of the first lines were taken out
   pub changed : ℕ
-  -- the calls, the oldest first
+  -- the calls, the oldest first, but for starts that failed
   pub notes : List LoopNote
   -- how many happenings it gave, which stops at 2^64 - 1
   pub brought : ℕ
   -- the greatest number of a link
   pub greatest : ℕ
+  -- whether it is to fail at its start
+  pub fails_to_start : Bool
   -- how often a call has failed
   pub faults : ℕ

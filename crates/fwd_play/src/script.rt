@@ -1,6 +1,6 @@
 //! A loop in memory that plays a life.
 
-ghost use Rattle.std.specs.Prelude.{◌≡◌, ◌≤◌, ◌++◌, [], IfOk, OnOk, OnErr};
+ghost use Rattle.std.specs.Prelude.{◌≡◌, ◌≤◌, ◌++◌, [], true, IsTrue, IfOk, OnOk, OnErr};
 ghost use Rattle.std.specs.List.{cons_option};
 ghost use Rattle.fwd_program.specs.Told.{Grew, asking};
 ghost use Rattle.fwd_program.specs.Cause.{HasCause};
@@ -38,6 +38,7 @@ pub struct Script {
     left: Answers,
     notes: Vec<LoopNote>,
     brought: u64,
+    fails_to_start: bool,
     faults: u64,
 }
 
@@ -47,7 +48,7 @@ impl Model for Script {
 
     ghost Value = { ScriptHeld };
 
-    ghost view = { λ s. record { lines = s.course.unread.lines; answers = s.answers; crashes = s.crashes; changed = s.changed; notes = s.notes.items; brought = s.brought; greatest = length s.left.links.items; faults = s.faults } };
+    ghost view = { λ s. record { lines = s.course.unread.lines; answers = s.answers; crashes = s.crashes; changed = s.changed; notes = s.notes.items; brought = s.brought; greatest = length s.left.links.items; fails_to_start = s.fails_to_start; faults = s.faults } };
 
     ghost use Rattle.fwd_play.specs.Course.{ahead_of};
     ghost use Rattle.fwd_play.specs.Held.{IsKept};
@@ -69,8 +70,16 @@ impl Script {
             left: Answers::new(alloc, &life.answers)?,
             notes: Vec::new(alloc),
             brought: 0,
+            fails_to_start: false,
             faults: 0,
         })
+    }
+
+    /// From here on `start` fails. As no life says so, nothing that is asked of the script is told from here on.
+    pub fn fail_start(&mut self)
+        ensures { self.new ≡ record self.old { fails_to_start = true } }
+    {
+        self.fails_to_start = true;
     }
 
     /// Each answer so far is the one that the life gives at its place.
@@ -128,7 +137,13 @@ impl Loop for Script {
         ensures cause { HasCause self.old.faults self.new.faults (result ≡ begun.Failed) }
         ensures same { counts_of self.new ≡ counts_of self.old }
         ensures failed { self.new.faults ≡ counted (start_fails result) self.old.faults }
+        ensures answer { start_fails result ≡ self.old.fails_to_start }
+        ensures only_counted { IsTrue self.old.fails_to_start → self.new ≡ record self.old { faults = counted true self.old.faults } }
     {
+        if self.fails_to_start {
+            self.faults = self.faults.saturating_add(1);
+            return Begun::Failed;
+        }
         let Ok(()) = self.notes.reserve(1) else {
             return Begun::Memory;
         };

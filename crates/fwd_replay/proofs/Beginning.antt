@@ -38,6 +38,7 @@ use Rattle.fwd_engine.specs.declared.engine.Engine.{Engine}
 use Rattle.fwd_ties.specs.Waiting.{is_wait, waits_in}
 use Rattle.fwd_replay.specs.Changing.{Course, behind_call, behind, IsAnswer, FilesAnswered, brings_last, has_last}
 use Rattle.fwd_replay.specs.Lives.{Start, disk_of, course_of, has_cut}
+use Rattle.fwd_replay.proofs.Telling.{told_grown, told_is}
 use Rattle.fwd_replay.specs.Stage.{FilesStand, Finds, IsTold, IsUnderWay, EndedSo, EngineStarts, LoopStarts, Starts}
 use Rattle.fwd_replay.specs.declared.going.Going.{Going}
 use Rattle.fwd_replay.specs.declared.starting.StartErr.{StartErr}
@@ -225,16 +226,16 @@ module _ (s : AllSettings) (turns : ℕ) where
 
 -- what a loop in memory tells that was started
 pub told_start : (planned : Life) (old new : ScriptHeld) (ends : Ends) (answer : Option (Unit {0})) → old ≡ new_held planned → Grew (told_of old) (told_of new) (entry (Starting ends) answer ∷ [])
-    → (given_in new.lines new.answers ≡ given_of planned) × (entries_of new.notes ≡ entry (Starting ends) answer ∷ [])
+    → told_of new ≡ Some (given_of planned, entry (Starting ends) answer ∷ [])
 told_start planned old new ends answer is grew =
     let at : Grew (told_of (new_held planned)) (told_of new) (entry (Starting ends) answer ∷ []) = subst (λ (held : ScriptHeld). Grew (told_of held) (told_of new) (entry (Starting ends) answer ∷ [])) is grew in
-    (at.0, at.1)
+    told_grown new (given_of planned) [] (entry (Starting ends) answer ∷ []) at
 
 -- one that couldn't start
 pub failed_start : (planned : Life) (old new : ScriptHeld) (ends : Ends) → old ≡ new_held planned → Grew (told_of old) (told_of new) (entry (Starting ends) None ∷ [])
     → place.IsPlayed (given_in new.lines new.answers) (entries_of new.notes) → LoopStarts planned ends (Err why.LoopFailed)
 failed_start planned old new ends is grew played =
-    let told = told_start planned old new ends None is grew in
+    let told = told_is new (given_of planned) (entry (Starting ends) None ∷ []) (told_start planned old new ends None is grew) in
     subst (λ (es : List LoopEntry). place.IsPlayed (given_of planned) es) told.1 (subst (λ (g : LoopGiven). place.IsPlayed g (entries_of new.notes)) told.0 played)
 
 module _ (s : AllSettings) (start : Start) (planned : Life) (calls : List Told) where
@@ -303,7 +304,7 @@ module _ (s : AllSettings) (start : Start) (planned : Life) (calls : List Told) 
           waits = no_waits trace (whole_still h loaded (Some tt)) ∙ sym untaken;
           uncut = no_cut start planned trace (whole_still h loaded (Some tt));
           loop =
-              ap (λ (g : LoopGiven). Some (g, entries_of new.notes)) told.0 ∙ ap (λ (es : List LoopEntry). Some (given_of planned, es)) (told.1 ∙ sym (whole_loop h loaded (Some tt)));
+              told ∙ ap (λ (es : List LoopEntry). Some (given_of planned, es)) (sym (whole_loop h loaded (Some tt)));
           asked = loaded.asked;
           disk_is = seen_is ∙ loaded.disk_is;
           are = whole_disk h loaded (Some tt);

@@ -3,7 +3,7 @@ use Rattle.std.proofs.Common.{arith, ◌≡◌, ℕ, suc, ◌+◌, ◌-◌, ◌%
 use Rattle.std.proofs.lemmas.List.{append-nil, map-append}
 use Rattle.fwd_program.specs.Program.{Return, Way}
 use Rattle.fwd_outside.specs.declared.happening.Happening.{Happening}
-use Rattle.fwd_outside.specs.Loop.{LoopEntry, LoopGiven, LoopTold}
+use Rattle.fwd_outside.specs.Loop.{LoopEntry, LoopGiven}
 use Rattle.fwd_outside.specs.Disk.{DiskEntry}
 use Rattle.fwd_outside.specs.Files.{found}
 use Rattle.fwd_disk_mem.specs.declared.told.Told.{Told}
@@ -41,6 +41,7 @@ use Rattle.fwd_ties.proofs.Waiting.{ArePlain, step_plain}
 use Rattle.fwd_replay.specs.Changing.{FilesAt, behind, content_behind, is_last_next}
 use Rattle.fwd_replay.specs.Lives.{EndsIn, IsAnswered, IsCutIn, IsLife, Start, course_of, disk_of, first_calls, has_cut}
 use Rattle.fwd_replay.specs.Naming.{IsNamed, IsNamedOf}
+use Rattle.fwd_replay.proofs.Telling.{told_is}
 use Rattle.fwd_replay.specs.Stage.{AreRenewed, CameBy, ComesBy, EndedSo, Finds, HasFailed, HavePlayed, IsCrashed, IsOver, IsReady, IsUnderWay, Stands, WasCut, is_wanting, memory}
 use Rattle.fwd_replay.specs.Text.{life_text}
 use Rattle.fwd_replay.specs.declared.going.Going.{Going}
@@ -56,16 +57,13 @@ use Rattle.fwd_replay.proofs.Turns.{asked_turn, asked_wait, more_is, over_is, tu
 
 -- ---- what a life gave
 
--- what a loop tells is played
-abbrev Plays : LoopTold → Type 0
-Plays None = Unit {0}
-Plays (Some told) = place.IsPlayed told.0 told.1
-
 abbrev pub ScriptPlays : ScriptHeld → Type 0
 ScriptPlays script = place.IsPlayed (given_in script.lines script.answers) (entries_of script.notes)
 
 loop_played : (script : ScriptHeld) (given : LoopGiven) (entries : List LoopEntry) → told_of script ≡ Some (given, entries) → ScriptPlays script → place.IsPlayed given entries
-loop_played script given entries is played = subst Plays is played
+loop_played script given entries is played =
+    let told = told_is script given entries is in
+    subst (λ (es : List LoopEntry). place.IsPlayed given es) told.1 (subst (λ (g : LoopGiven). place.IsPlayed g (entries_of script.notes)) told.0 played)
 
 abbrev pub reported : List ℕ → Ending → Reported
 reported text end = record { text = text; ending = end }

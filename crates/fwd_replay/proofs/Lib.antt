@@ -1,3 +1,4 @@
+pub mod Telling
 pub mod Masking
 pub mod Naming
 pub mod Showing

@@ -2,7 +2,7 @@
 use Rattle.std.proofs.Common.{◌≡◌, ℕ, zero, suc, ◌==◌, Bool, false, if◌then◌else◌, List, [], ◌∷◌, ◌++◌, Option, Some, None, refl, ap, ◌∙◌}
 use Rattle.std.proofs.lemmas.Nat.Bits.{bit_at-zero}
 use Rattle.std.specs.Prelude.{slice_get}
-use Rattle.fwd_outside.specs.Loop.{LoopCall, LoopAnswer, LoopEntry, LoopTold, Start, Wait, Dial, Push, Close, Reply, DropConn, Word}
+use Rattle.fwd_outside.specs.Loop.{LoopCall, LoopAnswer, LoopEntry, Start, Wait, Dial, Push, Close, Reply, DropConn, Word}
 use Rattle.fwd_settings.specs.declared.chosen.AllSettings.{AllSettings}
 use Rattle.fwd_play.specs.Handed.{dialed_by, handed, is_one_of, leads_to, taken_by, taken_of}
 use Rattle.fwd_play.specs.Held.{told_of}
@@ -12,6 +12,7 @@ use Rattle.fwd_play.specs.Told.{entries_of}
 use Rattle.fwd_script.specs.declared.schedule.Life.{Life}
 use Rattle.fwd_written.specs.Fact.{History}
 use Rattle.fwd_written.specs.Trace.{TraceEntry, loop_part}
+use Rattle.fwd_replay.proofs.Telling.{told_is}
 use Rattle.fwd_replay.specs.Naming.{printed_mask}
 use Rattle.fwd_replay.specs.Text.{life_text, report, stdout_mask, with_line_end}
 use Rattle.fwd_replay.specs.declared.reported.Shown.{Shown}
@@ -45,15 +46,11 @@ none_handed links (e ∷ es) =
 
 -- ---- the text of a life
 
-abbrev pub calls_told : LoopTold → List LoopEntry
-calls_told None = []
-calls_told (Some told) = told.1
-
 -- by its script
 abbrev pub text_behind : Shown → AllSettings → ScriptHeld → History → List ℕ
 text_behind shown s script h = with_line_end (handed (printed_mask shown s.outputs) [] (entries_of script.notes)) ++ report s h
 
 pub text_is : (shown : Shown) (s : AllSettings) (planned : Life) (script : ScriptHeld) (trace : List TraceEntry) (h : History) → told_of script ≡ Some (given_of planned, loop_part trace)
     → text_behind shown s script h ≡ life_text shown s trace h
-text_is All s planned script trace h told = ap (λ (es : List LoopEntry). with_line_end (handed (stdout_mask s.outputs) [] es) ++ report s h) (ap calls_told told)
+text_is All s planned script trace h told = ap (λ (es : List LoopEntry). with_line_end (handed (stdout_mask s.outputs) [] es) ++ report s h) (told_is script (given_of planned) (loop_part trace) told).1
 text_is Report s planned script trace h told = ap (λ (l : List ℕ). with_line_end l ++ report s h) (none_handed [] (entries_of script.notes))

@@ -6,7 +6,7 @@ use Rattle.fwd_program.specs.Told.{Grew}
 use Rattle.fwd_program.proofs.Leading.{way_trans, way_bind}
 use Rattle.fwd_outside.specs.declared.happening.Happening.{Happening}
 use Rattle.fwd_outside.specs.declared.happening.Happening.TheVariants as happening
-use Rattle.fwd_outside.specs.Loop.{LoopEntry, LoopGiven, LoopTold, Wait}
+use Rattle.fwd_outside.specs.Loop.{LoopEntry, LoopTold, Wait}
 use Rattle.fwd_outside.specs.Disk.{DiskEntry}
 use Rattle.fwd_outside.specs.Files.{FilesEntry, FilesGiven}
 use Rattle.fwd_disk_mem.specs.declared.told.Told.{Told}
@@ -26,7 +26,7 @@ use Rattle.fwd_script.specs.MemFiles as files
 use Rattle.fwd_play.specs.declared.queue.Coming.{Coming}
 use Rattle.fwd_play.specs.Heard.{hears}
 use Rattle.fwd_play.specs.Held.{ahead_behind, changes_between, next_in as script_next, told_of}
-use Rattle.fwd_play.specs.Lines.{coming, ends_life, given_in, given_of, line_ahead, place_in}
+use Rattle.fwd_play.specs.Lines.{coming, ends_life, given_of, line_ahead, place_in}
 use Rattle.fwd_play.specs.ScriptHeld.{ScriptHeld}
 use Rattle.fwd_play.specs.Told.{entries_of}
 use Rattle.fwd_play.proofs.Placed.{coming_is}
@@ -49,6 +49,7 @@ use Rattle.fwd_engine.specs.declared.engine.Turn.TheVariants as turn
 use Rattle.fwd_ties.proofs.Waiting.{ArePlain, plain_waitless, step_plain, waits_append}
 use Rattle.fwd_replay.specs.Changing.{Course, FilesAt, behind, behind_wait, is_last_next, next_in}
 use Rattle.fwd_replay.specs.Lives.{Start, course_of, disk_of}
+use Rattle.fwd_replay.proofs.Telling.{told_is}
 use Rattle.fwd_replay.specs.Stage.{FilesStand, IsReady, IsUnderWay, Stands}
 use Rattle.fwd_replay.specs.Stage as stage
 use Rattle.fwd_replay.specs.declared.going.Going.{Going}
@@ -171,16 +172,11 @@ module _ (s : AllSettings) (start : Start) (planned : Life) (h : History) (trace
 
 -- ---- a turn is prepared
 
-same_told : (a b : LoopGiven × List LoopEntry) → Some a ≡ Some b → (a.0 ≡ b.0) × (a.1 ≡ b.1)
-same_told a b is = let same : a ≡ b = cc is in (ap (λ (p : LoopGiven × List LoopEntry). p.0) same, ap (λ (p : LoopGiven × List LoopEntry). p.1) same)
-
 -- what a script would bring is what comes next of its life
 next_is : (start : Start) (planned : Life) (script : ScriptHeld) (trace : List TraceEntry) (mask : ℕ) → told_of script ≡ Some (given_of planned, loop_part trace)
     → script_next mask script ≡ next_in mask (behind (course_of start planned) trace)
 next_is start planned script trace mask told =
-    let tells : LoopGiven × List LoopEntry = (given_in script.lines script.answers, entries_of script.notes) in
-    let is : LoopGiven × List LoopEntry = (given_of planned, loop_part trace) in
-    let same = same_told tells is told in
+    let same = told_is script (given_of planned) (loop_part trace) told in
     ap (λ (l : List Coming). find (hears mask) (ahead_behind l (entries_of script.notes))) (coming_is script.lines planned.lines script.answers planned.answers same.0)
     ∙ ap (λ (es : List LoopEntry). find (hears mask) (ahead_behind (coming 0 planned.lines) es)) same.1
     ∙ ap (λ (l : List Coming). find (hears mask) l) (ahead_is (course_of start planned) trace)

@@ -143,7 +143,7 @@ pub record EndedSo (s : AllSettings) (start : Start) (planned : Life) (comes : L
 
 -- the loop of a life was started with these ends, or it couldn't start; nothing is said where memory was wanting
 abbrev pub LoopStarts : Life → Ends → Result ScriptHeld StartErr → Type 0
-LoopStarts planned ends (Ok script) = (given_in script.lines script.answers ≡ given_of planned) × (entries_of script.notes ≡ entry (Starting ends) (Some tt) ∷ [])
+LoopStarts planned ends (Ok script) = told_of script ≡ Some (given_of planned, entry (Starting ends) (Some tt) ∷ [])
 LoopStarts planned ends (Err start_err.DiskFailed) = ⊥
 LoopStarts planned ends (Err start_err.LoopFailed) = place.IsPlayed (given_of planned) (entry (Starting ends) None ∷ [])
 LoopStarts planned ends (Err start_err.Memory) = Unit {0}
