@@ -6,7 +6,6 @@ ghost use Rattle.fwd_filters.specs.Through.{filtered};
 
 use crate::parallel::in_parallel;
 use crate::ready::Filters;
-use crate::runs::Run;
 use crate::sifting::sift;
 use crate::{FilterStep, FilterSteps};
 use fwd_base::Memory;
@@ -60,8 +59,7 @@ fn alone(alloc: Global, steps: &FilterSteps, tag: &[u8], events: Events) -> Resu
     ensures { IfOk result (λ left. left ≡ filtered steps.now tag.now events) }
 {
     let mut ready = steps.ready(alloc, tag)?;
-    let part = sift(alloc, &mut ready, Run { first: 0, events }, &Open)?;
-    Ok(part.left)
+    sift(alloc, &mut ready, events)
 }
 
 /// Whether no filter's glob matches the tag.

@@ -6,7 +6,7 @@ ghost use Rattle.fwd_filters.specs.Step.{through};
 
 use crate::ready::Filters;
 use crate::runs::{Part, Run, cut, joined};
-use crate::sifting::sift;
+use crate::sifting::sift_run;
 use fwd_base::Memory;
 use fwd_event::Events;
 use fwd_outside::Gate;
@@ -44,7 +44,7 @@ pub fn in_parallel<F: Filters + Sync, G: Gate>(
                 ensures { IfOk result (λ part. part.left ≡ filter_map (through (F.kinds filters.entry.now tag.entry.now)) run.events) }
             {
                 let mut ready = filters.ready(alloc, tag)?;
-                sift(alloc, &mut ready, run, gate)
+                sift_run(alloc, &mut ready, run, gate)
             },
         )
         .collect::<Result<Vec<Part>, Memory>>(rt, alloc)??;

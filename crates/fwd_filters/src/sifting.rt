@@ -1,4 +1,4 @@
-//! A run of events is filtered.
+//! Events are filtered by one thread: a whole list, or a run of one.
 
 ghost use Rattle.std.specs.Prelude.{◌≡◌, map, IfOk};
 ghost use Rattle.std.specs.List.{filter_map};
@@ -12,8 +12,25 @@ use fwd_event::Events;
 use fwd_outside::Gate;
 use std::alloc::Global;
 
+/// The events that the filters leave, in order.
+pub fn sift(
+    alloc: Global,
+    filters: &mut Vec<ReadyFilter<'_>>,
+    events: Events,
+) -> Result<Events, Memory>
+    ensures { IfOk result (λ left. left ≡ filter_map (through (map kind_of filters.old.items)) events) }
+{
+    let mut left = Events::new(alloc);
+    for event in events.into_vec() {
+        if let After::Left(event) = after_all(alloc, filters, event)? {
+            left.push(event)?;
+        }
+    }
+    Ok(left)
+}
+
 /// What the filters make of a run. Directly before each event the gate is passed, with its place.
-pub fn sift<G: Gate>(
+pub fn sift_run<G: Gate>(
     alloc: Global,
     filters: &mut Vec<ReadyFilter<'_>>,
     run: Run,
