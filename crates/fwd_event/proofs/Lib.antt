@@ -1,4 +1,5 @@
 pub mod Parts
+pub mod Quick
 pub mod Found
 pub mod Apart
 pub mod Lists

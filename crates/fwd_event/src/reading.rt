@@ -1,12 +1,15 @@
 //! Events are read one after another.
 
-ghost use Rattle.std.specs.Prelude.{◌≡◌, ◌≢◌, ◌⊎◌, ◌↔◌, ◌+◌, ◌≤◌, ◌<◌, ◌^◌, ℕ, List, Option, Some, length, take, drop, Result, Ok, Err, IfOk};
-ghost use Rattle.fwd_value.specs.Val.{Val, whole, list, val, no_vals, vals_of, entries_of};
+ghost use Rattle.std.specs.Prelude.{◌≡◌, ◌≢◌, ◌⊎◌, ◌↔◌, ◌+◌, ◌≤◌, ◌<◌, ◌^◌, ℕ, List, Option, Some, length, take, drop, Result, Ok, Err, IfOk, IfSome};
+ghost use Rattle.fwd_value.specs.Val.{Val, whole, list, mapping, val, no_vals, vals_of, entries_of};
+ghost use Rattle.fwd_value.specs.Limits.{entry_nestings};
+ghost use Rattle.fwd_msgpack.specs.Decoding.{SpellsFront};
 ghost use Rattle.fwd_value.specs.View.{val_of};
 ghost use Rattle.fwd_event.specs.Event.{event_time, time_of, timed, headed, event_of, IsWholePrefix};
 ghost use Rattle.fwd_event.specs.declared.errors.EventErr.TheVariants as event_err;
 ghost use Rattle.fwd_event.specs.Reading.{EventsRead, NextIs, IsAnswer, IsMemory};
 
+use crate::writing::{BODY_DEPTH, META_DEPTH};
 use crate::{Event, EventErr, Events};
 use fwd_base::{Items, Memory};
 use fwd_msgpack::{Below, DecodeErr, Pairs, Value, Values, decode};
@@ -155,13 +158,69 @@ fn event_here(alloc: Global, bytes: &[u8], place: u64) -> Result<(Event, usize),
     }
 }
 
+/// The map whose spelling begins the bytes, by its pairs, and the length of that spelling; none where there is no such map
+/// or its keys and values are nested deeper than that.
+fn map_in_front(alloc: Global, bytes: &[u8], depth: u64) -> Option<(Pairs, usize)>
+    ensures { IfSome result (λ x. SpellsFront (mapping (entries_of x.0)) x.1 bytes.now × (entry_nestings (entries_of x.0) ≤ depth)) }
+{
+    let Ok((value, length)) = decode(alloc, bytes) else {
+        return None;
+    };
+    match value {
+        Value::Map(pairs) => {
+            if pairs.nest_within(depth) {
+                Some((pairs, length as usize))
+            } else {
+                None
+            }
+        }
+        _ => None,
+    }
+}
+
+/// The event whose spelling begins the bytes, and the length of that spelling, where it is in the form in which events are
+/// written: its parts are then read without the lists that they stand in.
+fn written_event(alloc: Global, bytes: &[u8]) -> Option<(Event, usize)>
+    ensures { IfSome result (λ x. (v : Val) × SpellsFront v x.1 bytes.now × (event_of v ≡ Some x.0)) }
+{
+    let [0x92, 0x92, 0xd7, 0x00, parts @ ..] = bytes else {
+        return None;
+    };
+    if parts.len() < 8 {
+        return None;
+    }
+    let (time, maps) = parts.split_at(8);
+    let (sec, nsec) = event_time(time)?;
+    let (meta, meta_length) = map_in_front(alloc, maps, META_DEPTH)?;
+    let (_, last) = maps.split_at(meta_length);
+    let (body, body_length) = map_in_front(alloc, last, BODY_DEPTH)?;
+    let event = Event {
+        sec,
+        nsec,
+        meta,
+        body,
+    };
+    Some((event, 12 + meta_length + body_length))
+}
+
+/// The event whose spelling begins the bytes, which stand at a place, and the length of that spelling, in any form.
+fn event_in_front(alloc: Global, bytes: &[u8], place: u64) -> Result<(Event, usize), EventErr>
+    requires { place + length bytes.now < 2 ^ 64 }
+    ensures { NextIs place bytes.now result }
+{
+    match written_event(alloc, bytes) {
+        Some(found) => Ok(found),
+        None => event_here(alloc, bytes, place),
+    }
+}
+
 /// The event whose spelling stands at a place, and the length of that spelling.
 fn next_event(alloc: Global, bytes: &[u8], at: usize) -> Result<(Event, usize), EventErr>
     requires { at < length bytes.now }
     ensures { NextIs at (drop at bytes.now) result }
 {
     let (_, rest) = bytes.split_at(at);
-    event_here(alloc, rest, at as u64)
+    event_in_front(alloc, rest, at as u64)
 }
 
 /// The events that bytes are. Both forms are taken, an EventTime in any spelling.

@@ -13,10 +13,10 @@ use fwd_base::{Bytes, Memory};
 use fwd_msgpack::{can_encode_map, encode_map};
 
 /// How deep lists and maps may be nested in metadata, which stands in a map in two lists.
-const META_DEPTH: u64 = DEEPEST as u64 - 3;
+pub const META_DEPTH: u64 = DEEPEST as u64 - 3;
 
 /// How deep they may be nested in a body, which is a map in a list.
-const BODY_DEPTH: u64 = DEEPEST as u64 - 2;
+pub const BODY_DEPTH: u64 = DEEPEST as u64 - 2;
 
 /// Whether an event can be written: its body is nested at most 63, its metadata at most 62, and each length in them is
 /// below 2^32.

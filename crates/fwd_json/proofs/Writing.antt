@@ -1,6 +1,6 @@
 -- Writing texts one after the other, as a loop does.
-use Rattle.std.proofs.Common.{◌≡◌, ℕ, zero, suc, ◌+◌, ◌<◌, List, [], ◌∷◌, ◌++◌, map, length, take, get_or, refl, sym, ap, ◌∙◌, append_assoc, add-one, arith}
-use Rattle.std.proofs.lemmas.List.{append-nil}
+use Rattle.std.proofs.Common.{◌≡◌, ℕ, zero, suc, ◌+◌, ◌-◌, ◌<◌, ◌≤◌, List, [], ◌∷◌, ◌++◌, map, length, take, drop, get_or, refl, sym, ap, ◌∙◌, append_assoc, add-one, arith}
+use Rattle.std.proofs.lemmas.List.{append-nil, take-append-drop, take_all, take_more}
 use Rattle.fwd_value.specs.Val.{vals_of, entries_of}
 use Rattle.fwd_value.specs.View.{val_of, pair_of}
 use Rattle.fwd_value.specs.Weight.{weight, weights, entry_weights}
@@ -14,6 +14,30 @@ escapes_suc (c ∷ bytes) (suc i) lt = ap (λ (t : List ℕ). escaped c ++ t) (e
 
 pub escapes_more : (bytes : List ℕ) (i : ℕ) → i < length bytes → escapes (take (i + 1) bytes) ≡ escapes (take i bytes) ++ escaped (get_or bytes i 0)
 escapes_more bytes i lt = rw add-one (escapes_suc bytes i lt)
+
+-- bytes that stay what they are are followed by one more
+pub plain_more : (bytes : List ℕ) (i : ℕ) → i < length bytes → escapes (take i bytes) ≡ take i bytes → escaped (get_or bytes i 0) ≡ get_or bytes i 0 ∷ []
+    → escapes (take (i + 1) bytes) ≡ take (i + 1) bytes
+plain_more bytes i lt so_far plain =
+    escapes_more bytes i lt ∙ ap (λ (t : List ℕ). t ++ escaped (get_or bytes i 0)) so_far ∙ ap (λ (t : List ℕ). take i bytes ++ t) plain ∙ sym (take_more bytes i 0 lt)
+
+escapes-append : (a b : List ℕ) → escapes (a ++ b) ≡ escapes a ++ escapes b
+escapes-append [] b = refl
+escapes-append (c ∷ a) b = ap (λ (t : List ℕ). escaped c ++ t) (escapes-append a b) ∙ sym (append_assoc (escaped c) (escapes a) (escapes b))
+
+-- a run of bytes that stay what they are, and what stands behind it
+pub escapes_run : (bytes : List ℕ) (n : ℕ) → escapes (take n bytes) ≡ take n bytes → escapes bytes ≡ take n bytes ++ escapes (drop n bytes)
+escapes_run bytes n plain =
+    ap escapes (sym (take-append-drop n bytes)) ∙ escapes-append (take n bytes) (drop n bytes) ∙ ap (λ (t : List ℕ). t ++ escapes (drop n bytes)) plain
+
+-- a run is followed by another byte
+pub runs_on : (before all out run_out new rest behind : List ℕ) (n : ℕ) → out ++ escapes rest ≡ before ++ escapes all → escapes (take n rest) ≡ take n rest → run_out ≡ out ++ take n rest
+    → behind ≡ drop n rest → 1 ≤ length behind → new ≡ run_out ++ escaped (get_or behind 0 0) → new ++ escapes (take (length behind - 1) (drop 1 behind)) ≡ before ++ escapes all
+runs_on before all out run_out new rest [] n so_far plain ran is some put = absurd (omega (arith, some))
+runs_on before all out run_out new rest (c ∷ more) n so_far plain ran is some put =
+    ap (λ (t : List ℕ). new ++ escapes t) (take_all (length (c ∷ more) - 1) more (omega arith)) ∙ ap (λ (t : List ℕ). t ++ escapes more) put ∙ append_assoc run_out (escaped c) (escapes more)
+    ∙ ap (λ (t : List ℕ). t ++ escapes (c ∷ more)) ran ∙ append_assoc out (take n rest) (escapes (c ∷ more)) ∙ ap (λ (t : List ℕ). out ++ (take n rest ++ escapes t)) is
+    ∙ ap (λ (t : List ℕ). out ++ t) (sym (escapes_run rest n plain)) ∙ so_far
 
 values_suc : (vs : List Value) (i : ℕ) (v : Value) → i < length vs → v ≡ get_or vs i v
     → more_values (vals_of (map val_of (take (suc i) vs))) ≡ more_values (vals_of (map val_of (take i vs))) ++ 44 ∷ json (val_of v)

@@ -1,15 +1,15 @@
 //! The text of a value. It is put together in a buffer of its own and then appended in one copy, so that want of memory
 //! leaves nothing half written.
 
-ghost use Rattle.std.specs.Prelude.{◌≡◌, ◌↔◌, ◌<◌, ◌^◌, ℕ, List, [], ◌∷◌, ◌++◌, codes, map, IsTrue, OnOk, OnErr};
+ghost use Rattle.std.specs.Prelude.{◌≡◌, ◌↔◌, ◌<◌, ◌≤◌, ◌^◌, ℕ, List, [], ◌∷◌, ◌++◌, true, codes, length, map, take, IsTrue, OnOk, OnErr};
 ghost use Rattle.std.specs.Fmt.{decimal, signed_decimal};
 ghost use Rattle.hex.specs.Hex.{encode_lower};
-ghost use Rattle.fwd_value.specs.Val.{vals_of, entries_of, text};
+ghost use Rattle.fwd_value.specs.Val.{vals_of, entries_of, mapping, text};
 ghost use Rattle.fwd_value.specs.View.{val_of, pair_of};
 ghost use Rattle.fwd_json.specs.Text.{escaped, escapes, quoted, tagged, string, key_text, pair_text, json, values_text, more_values, pairs_text, more_pairs};
 
 use fwd_base::{Bytes, Memory, is_utf8};
-use fwd_value::Value;
+use fwd_value::{Pairs, Value};
 use itoa::Buffer;
 use std::alloc::Global;
 
@@ -60,13 +60,40 @@ fn put_quoted(out: &mut Bytes, bytes: &[u8]) -> Result<(), Memory>
     out.push(b'"')
 }
 
+/// Whether a byte stands within quotes as what it is.
+#[tactic(auto, unfolding(crate::specs::Text::escaped))]
+fn is_plain(byte: u8) -> bool
+    ensures { result ≡ true → escaped byte ≡ byte ∷ [] }
+{
+    byte >= 0x20 && byte != b'"' && byte != b'\\'
+}
+
+/// How many bytes in front stand within quotes as what they are.
+fn plain_run(bytes: &[u8]) -> usize
+    ensures plain { escapes (take result bytes.now) ≡ take result bytes.now }
+    ensures within { result ≤ length bytes.now }
+{
+    let mut run = 0;
+    while run < bytes.len() && is_plain(bytes[run]) {
+        run += 1;
+    }
+    run
+}
+
+/// Appends bytes as they stand within quotes. Those that stay what they are come in runs.
 fn put_escapes(out: &mut Bytes, bytes: &[u8]) -> Result<(), Memory>
     ensures { OnOk result (out.new ≡ out.old ++ escapes bytes.now) }
 {
-    for byte in bytes {
-        put_escaped(out, *byte)?;
+    let mut rest = bytes;
+    'runs: loop {
+        let (run, behind) = rest.split_at(plain_run(rest));
+        out.extend_from_slice(run)?;
+        let [first, more @ ..] = behind else {
+            return Ok(());
+        };
+        put_escaped(out, *first)?;
+        rest = more;
     }
-    Ok(())
 }
 
 /// Appends a tag and hex digits within quotes.
@@ -238,4 +265,21 @@ pub fn json_text(alloc: Global, value: &Value, out: &mut Bytes) -> Result<(), Me
     let mut text = Bytes::new(alloc);
     write_value(alloc, value, &mut text)?;
     out.extend_from_slice(text.as_slice())
+}
+
+/// Appends the JSON text of a map, given by its pairs, as `json_text` does. After `Err` some of it may stand at the end.
+pub fn map_text(alloc: Global, pairs: &Pairs, out: &mut Bytes) -> Result<(), Memory>
+    ensures { OnOk result (out.new ≡ out.old ++ json (mapping (entries_of pairs.now))) }
+{
+    out.push(b'{')?;
+    write_pairs(alloc, pairs.as_slice(), out)?;
+    out.push(b'}')
+}
+
+/// Appends pairs as they stand in the text of a map behind another pair: each with a comma before it. After `Err` some of
+/// them may stand at the end.
+pub fn more_pairs_text(alloc: Global, pairs: &Pairs, out: &mut Bytes) -> Result<(), Memory>
+    ensures { OnOk result (out.new ≡ out.old ++ more_pairs (entries_of pairs.now)) }
+{
+    write_more_pairs(alloc, pairs.as_slice(), out)
 }

@@ -1,0 +1,11 @@
+use Rattle.std.proofs.Common.{refl, subst}
+use Rattle.fwd_value.specs.View.{val_of}
+use Rattle.fwd_value.specs.declared.value.Value.{Value}
+use Rattle.fwd_msgpack.specs.Decoding.{SpellsFront}
+use Rattle.fwd_event.proofs.Found.{value_found}
+use Rattle.fwd_event.proofs.reading.map_in_front.Goals as goal
+
+pub returns-then-nest_within : goal.returns-then-nest_within
+returns-then-nest_within c =
+    let found = value_found (c.in-Ok.value, c.in-Ok.length) c.args.bytes.now c.in-Ok.ensures.value in
+    (subst (λ (v : Value). SpellsFront (val_of v) c.in-Ok.length c.args.bytes.now) c.in-Map.is found, c.if-nest_within.ensures.0 refl)
