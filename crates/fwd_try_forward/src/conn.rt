@@ -193,6 +193,61 @@ fn a_longer_message_is_refused(rt: HostRuntime) {
     assert!(rt; matches!(long_in_pieces(rt.alloc(), 16_777_205, 65_536), Ok(1_000)));
 }
 
+/// A list that says to have 2^32 - 1 members, and so many of them.
+fn long_list(alloc: Global, members: u32) -> Result<Bytes, Memory> {
+    let mut bytes = Bytes::from_slice(alloc, b"\xdd\xff\xff\xff\xff")?;
+    for _ in 0..members {
+        bytes.push(0xc0)?;
+    }
+    Ok(bytes)
+}
+
+fn list_in_pieces(alloc: Global, members: u32, size: usize) -> Result<usize, Memory>
+    requires { 0 < size }
+{
+    let stream = long_list(alloc, members)?;
+    let mut conn = ForwardConn::new(alloc);
+    counted(&mut conn, stream.as_slice(), size)
+}
+
+#[test]
+fn a_list_without_end_is_refused(rt: HostRuntime) {
+    assert!(rt; matches!(list_in_pieces(rt.alloc(), 16_777_216, 65_536), Ok(1_000)));
+}
+
+/// Streams that break in their second piece, which begins at the place.
+const BREAKS: &[(&[u8], usize)] = &[
+    (b"\x93\xa1t\xc1", 3),
+    (b"\x93\xa1t\x92\xc0\xc0\xc1", 4),
+    (b"\xdd\xff\xff\xff\xff\xc0\xc1", 6),
+];
+
+fn breaks(alloc: Global, stream: &[u8], cut: usize) -> Result<bool, Memory> {
+    let out = cut_at(alloc, stream, cut)?;
+    Ok(out.as_slice() == b"!".as_slice())
+}
+
+fn all_break(alloc: Global) -> Result<bool, Memory> {
+    for &(stream, cut) in BREAKS {
+        if !breaks(alloc, stream, cut)? {
+            return Ok(false);
+        }
+    }
+    Ok(true)
+}
+
+fn deep_breaks(alloc: Global) -> Result<bool, Memory> {
+    let stream = lists(alloc, 64)?;
+    breaks(alloc, stream.as_slice(), 60)
+}
+
+#[test]
+fn what_begins_no_value_breaks_a_stream_that_waits(rt: HostRuntime) {
+    assert!(rt;
+        matches!(all_break(rt.alloc()), Ok(true)) && matches!(deep_breaks(rt.alloc()), Ok(true))
+    );
+}
+
 fn packed(alloc: Global) -> Result<bool, Memory> {
     let out = cut_at(alloc, PACKED, 1)?;
     Ok(
