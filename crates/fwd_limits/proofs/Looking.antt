@@ -15,7 +15,7 @@ use Rattle.fwd_table.specs.declared.row.RowSeen.{RowSeen}
 use Rattle.fwd_table.specs.Routes.{flying_of, is_to, IsMaskOf}
 use Rattle.fwd_table.specs.Rows.{seen_of}
 use Rattle.fwd_table.specs.Kept.{is_file}
-use Rattle.fwd_limits.specs.Kept.{look_of}
+use Rattle.fwd_limits.specs.Kept.{look_of, look_by}
 
 -- no bit is set past those of a word
 pub none_past : (mask bit : ℕ) → mask < 2 ^ 64 → 64 ≤ bit → eqb (bit_at mask bit) 1 ≡ false
@@ -44,18 +44,14 @@ bit_any routes mask output is = by (eqb (bit_at mask output.0) 1) (list_any (is_
         let one = eq-eqb (bit_at mask output.0) 1 set in
         cc
 
-pub look_is : (at : Option Row) (seen : RowSeen) (output : OutputId) (file owed flying waiting : Bool) → Some seen ≡ option_map seen_of at
-    → IfSome at (λ row. IsMaskOf row.routes seen.owed) → IfSome at (λ row. IsMaskOf (flying_of row.routes) seen.flying)
-    → file ≡ is_file seen.home → owed ≡ eqb (bit_at seen.owed output.0) 1 → flying ≡ eqb (bit_at seen.flying output.0) 1 → waiting ≡ (seen.shut && (owed && not flying))
-    → option_map (look_of output) at ≡ Some (record { chunk = seen.chunk; size = seen.size; is_file = file; is_flying = flying; is_waiting = waiting })
-look_is None seen output file owed flying waiting is owes flies a b c d = absurd (cc)
-look_is (Some row) seen output file owed flying waiting is owes flies a b c d =
-    let same : seen ≡ seen_of row = cc in
-    let flying_is : flying ≡ list_any (is_to output) (flying_of row.routes) = c ∙ bit_any (flying_of row.routes) seen.flying output flies in
-    let owed_is : owed ≡ list_any (is_to output) row.routes = b ∙ bit_any row.routes seen.owed output owes in
-    let shut : seen.shut ≡ row.shut = ap (λ (s : RowSeen). s.shut) same in
-    let file_is : file ≡ is_file row.home = a ∙ ap (λ (s : RowSeen). is_file s.home) same in
-    let chunk = ap (λ (s : RowSeen). s.chunk) same in
-    let size = ap (λ (s : RowSeen). s.size) same in
-    let waits : waiting ≡ (row.shut && (list_any (is_to output) row.routes && not (list_any (is_to output) (flying_of row.routes)))) = rw (d, shut, owed_is, flying_is) refl in
-    sym (λ i. Some (record { chunk = chunk i; size = size i; is_file = file_is i; is_flying = flying_is i; is_waiting = waits i }))
+-- a row, as it is seen
+pub seen_as : (row : Row) (seen : RowSeen) (output : OutputId) → seen ≡ seen_of row → IsMaskOf row.routes seen.owed → IsMaskOf (flying_of row.routes) seen.flying → look_by output seen ≡ look_of output row
+seen_as row seen output same owes flies =
+    let owed_is = bit_any row.routes seen.owed output owes in
+    let flying_is = bit_any (flying_of row.routes) seen.flying output flies in
+    λ i. record { chunk = (same i).chunk; size = (same i).size; is_file = is_file (same i).home; is_waiting = (same i).shut && (owed_is i && not (flying_is i)) }
+
+pub look_is : (at : Option Row) (seen : RowSeen) (output : OutputId) → Some seen ≡ option_map seen_of at → IfSome at (λ row. IsMaskOf row.routes seen.owed) → IfSome at (λ row. IsMaskOf (flying_of row.routes) seen.flying)
+    → option_map (look_of output) at ≡ Some (look_by output seen)
+look_is None seen output is owes flies = absurd (cc)
+look_is (Some row) seen output is owes flies = let same : seen ≡ seen_of row = cc in ap Some (sym (seen_as row seen output same owes flies))

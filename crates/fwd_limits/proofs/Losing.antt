@@ -1,14 +1,12 @@
 -- The first chunks, as few as leave room.
-use Rattle.std.proofs.Common.{◌≡◌, ℕ, zero, suc, ◌+◌, ◌-◌, ◌<◌, ◌≤◌, Bool, true, false, cond, List, [], ◌∷◌, length, drop, min, refl, sym, ap, ◌∙◌, arith, Option}
-use Rattle.std.specs.Prelude.{filter, nat_le, nat_lt}
+use Rattle.std.proofs.Common.{◌≡◌, ℕ, zero, suc, ◌-◌, ◌<◌, ◌≤◌, Bool, true, false, cond, List, [], ◌∷◌, length, drop, min, refl, sym, ap, ◌∙◌, arith, Option}
+use Rattle.std.specs.Prelude.{nat_le, nat_lt}
 use Rattle.std.proofs.lemmas.Bool.Decides.{nat_tests}
 use Rattle.fwd_base.specs.declared.ids.ChunkId.{ChunkId}
 use Rattle.fwd_base.specs.declared.ids.OutputId.{OutputId}
 use Rattle.fwd_table.specs.declared.row.Row.{Row}
 use Rattle.fwd_limits.specs.declared.loss.Loss.TheVariants.{Fits, NewLoses}
 use Rattle.fwd_table.specs.Kept.{size_of}
-use Rattle.fwd_table.specs.Rows.{is_row_of}
-use Rattle.fwd_table.specs.Kept.{flying_to}
 use Rattle.fwd_limits.specs.Losses.{lost_among, first_chunk, loss_of, fixed, others_for, next_of, IsShortest}
 
 pub shortest : (room : ℕ) (rows : List Row) → IsShortest room rows (lost_among room rows)
@@ -39,7 +37,8 @@ among_first : (room : ℕ) (rows : List Row) → room < size_of rows → first_c
 among_first room [] over = refl
 among_first room (row ∷ rows) over = let test : nat_le (size_of (row ∷ rows)) room ≡ false = grind (arith, nat_tests) in rw test refl
 
--- by sums that stop at a last value
+-- ---- what is lost next
+
 pub new_loses : (output : OutputId) (limit : ℕ) (chunk : ChunkId) (rows : List Row) → limit < fixed output chunk rows → next_of output limit chunk rows ≡ NewLoses
 new_loses output limit chunk rows over = let test : nat_lt limit (fixed output chunk rows) ≡ true = grind (arith, nat_tests) in rw test refl
 
@@ -56,23 +55,10 @@ pub first_is_lost : (output : OutputId) (limit : ℕ) (chunk : ChunkId) (rows : 
 first_is_lost output limit chunk rows first within over is =
     next_within output limit chunk rows within ∙ ap loss_of (among_first (limit - fixed output chunk rows) (others_for output chunk rows) over ∙ sym is)
 
--- ---- by sums that stop at a last value
+-- ---- by a sum that stops at a last value
 
-pub loses_by : (output : OutputId) (limit : ℕ) (chunk : ChunkId) (rows : List Row) (flying own both most : ℕ) → flying ≡ min (size_of (flying_to output rows)) most → own ≡ min (size_of (filter (is_row_of chunk) rows)) most → both ≡ min (flying + own) most
-    → limit < both → next_of output limit chunk rows ≡ NewLoses
-loses_by output limit chunk rows flying own both most a b c over = new_loses output limit chunk rows (omega (arith, a, b, c, over))
-
-fixed_is : (f o flying own both most limit : ℕ) → flying ≡ min f most → own ≡ min o most → both ≡ min (flying + own) most → both ≤ limit → limit < most → f + o ≡ both
-fixed_is f o flying own both most limit a b c within small = omega (arith, a, b, c, within, small)
-
-pub fits_by : (output : OutputId) (limit : ℕ) (chunk : ChunkId) (rows : List Row) (flying own both waiting most : ℕ) → flying ≡ min (size_of (flying_to output rows)) most → own ≡ min (size_of (filter (is_row_of chunk) rows)) most → both ≡ min (flying + own) most
-    → both ≤ limit → limit < most → waiting ≡ min (size_of (others_for output chunk rows)) most → waiting ≤ limit - both → next_of output limit chunk rows ≡ Fits
-fits_by output limit chunk rows flying own both waiting most a b c within small d fits =
-    let same = fixed_is (size_of (flying_to output rows)) (size_of (filter (is_row_of chunk) rows)) flying own both most limit a b c within small in
-    it_fits output limit chunk rows (omega (arith, same, within)) (omega (arith, same, within, small, d, fits))
-
-pub first_by : (output : OutputId) (limit : ℕ) (chunk : ChunkId) (rows : List Row) (flying own both waiting most : ℕ) (first : Option ChunkId) → flying ≡ min (size_of (flying_to output rows)) most → own ≡ min (size_of (filter (is_row_of chunk) rows)) most → both ≡ min (flying + own) most
-    → both ≤ limit → limit < most → waiting ≡ min (size_of (others_for output chunk rows)) most → limit - both < waiting → first ≡ first_chunk (others_for output chunk rows) → next_of output limit chunk rows ≡ loss_of first
-first_by output limit chunk rows flying own both waiting most first a b c within small d over is =
-    let same = fixed_is (size_of (flying_to output rows)) (size_of (filter (is_row_of chunk) rows)) flying own both most limit a b c within small in
-    first_is_lost output limit chunk rows first (omega (arith, same, within)) (omega (arith, same, within, small, d, over)) is
+pub fits_by : (output : OutputId) (limit : ℕ) (chunk : ChunkId) (rows : List Row) (both most : ℕ) → both ≡ min (fixed output chunk rows) most → both ≤ limit → limit < most
+    → size_of (others_for output chunk rows) ≤ limit - both → next_of output limit chunk rows ≡ Fits
+fits_by output limit chunk rows both most is within small fits =
+    let same : both ≡ fixed output chunk rows = omega (arith, is, within, small) in
+    it_fits output limit chunk rows (omega (arith, same, within)) (omega (arith, same, fits))

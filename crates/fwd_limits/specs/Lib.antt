@@ -1,4 +1,3 @@
 pub mod Kept
 pub mod Losses
 pub mod Pausing
-pub mod Looks

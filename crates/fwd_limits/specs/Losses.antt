@@ -4,13 +4,9 @@ use Rattle.fwd_base.specs.declared.ids.ChunkId.{ChunkId}
 use Rattle.fwd_base.specs.declared.ids.OutputId.{OutputId}
 use Rattle.fwd_table.specs.declared.row.Row.{Row}
 use Rattle.fwd_table.specs.Rows.{is_row_of, on_chunk, resolved_to}
+use Rattle.fwd_table.specs.Kept.{in_file, is_waiting, size_of, flying_to}
 use Rattle.fwd_limits.specs.declared.loss.Loss.{Loss}
 use Rattle.fwd_limits.specs.declared.loss.Loss.TheVariants.{Fits, Lose, NewLoses}
-use Rattle.fwd_limits.specs.Kept.{in_file, is_flying, is_waiting, size_of}
-
--- the chunks in files that are on their way to an output
-abbrev pub flying_to : OutputId → List Row → List Row
-flying_to output rows = filter (λ row. in_file row && is_flying output row) rows
 
 -- the closed chunks in files, without this one, that wait for an output, by rising number
 abbrev pub others_for : OutputId → ChunkId → List Row → List Row

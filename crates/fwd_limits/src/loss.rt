@@ -1,13 +1,12 @@
 //! Which chunks an output loses.
 
-ghost use Rattle.std.specs.Prelude.{◌≡◌, ◌-◌, ◌^◌, min, filter};
+ghost use Rattle.std.specs.Prelude.{◌≡◌, filter};
 ghost use Rattle.fwd_table.specs.Rows.{is_row_of};
-ghost use Rattle.fwd_table.specs.Kept.{size_of};
-ghost use Rattle.fwd_table.specs.Kept.{flying_to};
+ghost use Rattle.fwd_table.specs.Kept.{size_of, waiting_for};
+ghost use Rattle.fwd_limits.specs.Kept.{waiting_size, waits_beside};
 ghost use Rattle.fwd_limits.specs.Losses.{others_for, first_chunk, next_of};
-ghost use Rattle.fwd_limits.specs.Looks.{flying_size, waiting_size, waits_beside, own_size};
 
-use crate::rows::{Look, look_at};
+use crate::rows::{Look, look_at, look_by};
 use fwd_base::{ChunkId, OutputId};
 use fwd_table::Table;
 
@@ -22,71 +21,49 @@ pub enum Loss {
     NewLoses,
 }
 
-/// How many bytes of a chunk are on their way to the output.
-fn flying_part(look: Look) -> u64
-    ensures { result ≡ flying_size look }
+/// How many bytes of a chunk wait in a file for the output.
+fn waiting_part(look: Look) -> u64
+    ensures { result ≡ waiting_size look }
 {
-    if look.is_file && look.is_flying {
+    if look.is_file && look.is_waiting {
         look.size
     } else {
         0
     }
 }
 
-/// How many bytes wait for the output, of another chunk than this.
-fn waiting_part(look: Look, chunk: ChunkId) -> u64
-    ensures { result ≡ waiting_size chunk look }
-{
-    if is_other(look, chunk) { look.size } else { 0 }
-}
-
+/// Whether a chunk waits in a file for the output, and is another one than this.
 fn is_other(look: Look, chunk: ChunkId) -> bool
     ensures { result ≡ waits_beside chunk look }
 {
     look.is_file && look.is_waiting && look.chunk != chunk
 }
 
-/// How many bytes are of this chunk.
-fn own_part(look: Look, chunk: ChunkId) -> u64
-    ensures { result ≡ own_size chunk look }
+/// How many bytes a chunk has.
+fn own_bytes(table: &Table, chunk: ChunkId) -> u64
+    ensures { result ≡ size_of (filter (is_row_of chunk) table.now.rows) }
 {
-    if look.chunk == chunk { look.size } else { 0 }
+    match table.find(chunk) {
+        Some(row) => row.size,
+        None => 0,
+    }
 }
 
-/// How many bytes of chunks in files are on their way to the output. Sums stop at their last value.
-fn flying_bytes(table: &Table, output: OutputId) -> u128
-    ensures { result ≡ min (size_of (flying_to output table.now.rows)) (2 ^ 128 - 1) }
+/// How many of them wait in a file for the output.
+fn own_waiting(table: &Table, output: OutputId, chunk: ChunkId) -> u64
+    ensures { result ≡ size_of (waiting_for output (filter (is_row_of chunk) table.now.rows)) }
 {
-    let mut total: u128 = 0;
-    for index in 0..table.len() {
-        total = total.saturating_add(u128::from(flying_part(look_at(table, index, output))));
+    match table.find(chunk) {
+        Some(row) => waiting_part(look_by(&row, output)),
+        None => 0,
     }
-    total
 }
 
 /// How many bytes of chunks in files wait for the output, without this chunk.
-fn waiting_bytes(table: &Table, output: OutputId, chunk: ChunkId) -> u128
-    ensures { result ≡ min (size_of (others_for output chunk table.now.rows)) (2 ^ 128 - 1) }
+fn others_bytes(table: &Table, output: OutputId, chunk: ChunkId) -> u128
+    ensures { result ≡ size_of (others_for output chunk table.now.rows) }
 {
-    let mut total: u128 = 0;
-    for index in 0..table.len() {
-        total = total.saturating_add(u128::from(waiting_part(
-            look_at(table, index, output),
-            chunk,
-        )));
-    }
-    total
-}
-
-/// How many bytes a chunk has.
-fn own_bytes(table: &Table, output: OutputId, chunk: ChunkId) -> u128
-    ensures { result ≡ min (size_of (filter (is_row_of chunk) table.now.rows)) (2 ^ 128 - 1) }
-{
-    let mut total: u128 = 0;
-    for index in 0..table.len() {
-        total = total.saturating_add(u128::from(own_part(look_at(table, index, output), chunk)));
-    }
-    total
+    table.waiting_bytes(output) - u128::from(own_waiting(table, output, chunk))
 }
 
 /// The first chunk in a file that waits for the output, without this chunk.
@@ -112,11 +89,12 @@ pub fn next_loss(table: &Table, output: OutputId, limit: u64, chunk: ChunkId) ->
     ensures { result ≡ next_of output limit chunk table.now.rows }
 {
     let limit = u128::from(limit);
-    let fixed = flying_bytes(table, output).saturating_add(own_bytes(table, output, chunk));
+    let own = u128::from(own_bytes(table, chunk));
+    let fixed = table.flying_bytes(output).saturating_add(own);
     if fixed > limit {
         return Loss::NewLoses;
     }
-    if waiting_bytes(table, output, chunk) <= limit - fixed {
+    if others_bytes(table, output, chunk) <= limit - fixed {
         return Loss::Fits;
     }
     match first_waiting(table, output, chunk) {

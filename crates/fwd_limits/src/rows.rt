@@ -3,11 +3,11 @@
 ghost use Rattle.std.specs.Prelude.{◌≡◌, ◌<◌, ◌==◌, ◌&&◌, not, Some, length, option_map, slice_get};
 ghost use Rattle.std.specs.Int.{bit_at};
 ghost use Rattle.fwd_table.specs.Kept.{is_file};
-ghost use Rattle.fwd_limits.specs.Kept.{look_of};
+ghost use Rattle.fwd_limits.specs.Kept.{look_of, look_by};
 
 use fwd_base::{ChunkId, OutputId};
 use fwd_outside::Home;
-use fwd_table::Table;
+use fwd_table::{RowSeen, Table};
 
 /// How a chunk stands to an output.
 #[derive(Clone, Copy, Debug, PartialEq, Eq)]
@@ -17,9 +17,7 @@ pub struct Look {
     pub size: u64,
     /// Whether it is kept in a file.
     pub is_file: bool,
-    /// Whether it is on its way to the output.
-    pub is_flying: bool,
-    /// Whether it is closed, owed to the output, and not on its way.
+    /// Whether it is closed, owed to the output, and not on its way to it.
     pub is_waiting: bool,
 }
 
@@ -33,7 +31,7 @@ fn is_set(mask: u64, bit: u32) -> bool
     }
 }
 
-pub fn is_file(home: Home) -> bool
+fn is_file(home: Home) -> bool
     ensures { result ≡ is_file home }
 {
     match home {
@@ -50,18 +48,23 @@ fn waits(is_shut: bool, is_owed: bool, is_flying: bool) -> bool
 }
 
 /// How the chunk of a row stands to an output.
-pub fn look_at(table: &Table, index: u64, output: OutputId) -> Look
-    requires { index < length table.now.rows }
-    ensures { option_map (look_of output) (slice_get table.now.rows index) ≡ Some result }
+pub fn look_by(row: &RowSeen, output: OutputId) -> Look
+    ensures { result ≡ look_by output row.now }
 {
-    let row = table.row(index);
     let is_owed = is_set(row.owed, output.0);
     let is_flying = is_set(row.flying, output.0);
     Look {
         chunk: row.chunk,
         size: row.size,
         is_file: is_file(row.home),
-        is_flying,
         is_waiting: waits(row.shut, is_owed, is_flying),
     }
+}
+
+/// How the chunk of the row at a place stands to an output.
+pub fn look_at(table: &Table, index: u64, output: OutputId) -> Look
+    requires { index < length table.now.rows }
+    ensures { option_map (look_of output) (slice_get table.now.rows index) ≡ Some result }
+{
+    look_by(&table.row(index), output)
 }

@@ -3,8 +3,7 @@ use Rattle.fwd_table.specs.declared.row.Row.{Row}
 use Rattle.fwd_table.specs.Rows.{is_row_of}
 use Rattle.fwd_limits.specs.declared.rows.Look.{Look}
 use Rattle.fwd_table.specs.Kept.{in_file, is_waiting}
-use Rattle.fwd_limits.specs.Kept.{look_of}
-use Rattle.fwd_limits.specs.Looks.{waits_beside}
+use Rattle.fwd_limits.specs.Kept.{look_of, waits_beside}
 use Rattle.fwd_limits.proofs.Sums.{none_goes, first_is}
 use Rattle.fwd_limits.proofs.loss.first_waiting.Goals as goal
 

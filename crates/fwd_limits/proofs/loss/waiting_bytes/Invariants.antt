@@ -1,8 +1,0 @@
-use Rattle.std.proofs.Common.{◌≡◌, ◌-◌, take, min}
-use Prim.Native.Nat.{◌^◌}
-use Rattle.fwd_table.specs.Kept.{size_of}
-use Rattle.fwd_limits.specs.Losses.{others_for}
-use Rattle.fwd_limits.proofs.loss.waiting_bytes.Given as goal
-
-abbrev pub invariant-loop-index : goal.invariant-loop-index
-invariant-loop-index l = l.total ≡ min (size_of (others_for l.output l.chunk (take l.index l.table.rows))) (2 ^ 128 - 1)
