@@ -1,5 +1,5 @@
 -- The row of a chunk, and whether it has room.
-use Rattle.std.proofs.Common.{◌≡◌, ℕ, ◌+◌, ◌&&◌, ◌||◌, not, inl, inr, List, [], ◌∷◌, Option, Some, None, refl, sym, ◌∙◌, ap}
+use Rattle.std.proofs.Common.{◌≡◌, ℕ, ◌+◌, false, ◌&&◌, ◌||◌, not, inl, inr, List, [], ◌∷◌, Option, Some, None, refl, sym, ◌∙◌, ap}
 use Rattle.std.specs.Prelude.{◌==◌, nat_lt, nat_le, filter, option_map}
 use Rattle.std.proofs.lemmas.Bool.{cases_Bool}
 use Rattle.fwd_base.specs.declared.ids.ChunkId.{ChunkId}
@@ -18,16 +18,15 @@ fits_as : (s : AllSettings) (max_up limit : ℕ) (rows : List Row) (row : Row) �
 fits_as s max_up limit rows row up backlog = λ i.
     not (in_file row) || (not (mask_none (flying_of row.routes) i) || (nat_lt (files_up rows) (sym up i) && (not (is_nobody row.input) || (nat_le (found_up rows + row.size) (sym backlog i) || found_up rows == 0))))
 
-fits_some : (s : AllSettings) (max_up limit : ℕ) (rows : List Row) (seen : RowSeen) (at : Option Row) → s.service.max_up ≡ max_up → s.service.backlog_limit ≡ limit → Some seen ≡ option_map seen_of at
+pub fits_some : (s : AllSettings) (max_up limit : ℕ) (rows : List Row) (seen : RowSeen) (at : Option Row) → s.service.max_up ≡ max_up → s.service.backlog_limit ≡ limit → Some seen ≡ option_map seen_of at
     → fits_seen max_up limit rows seen ≡ fits_row s rows at
 fits_some s max_up limit rows seen None up backlog is = absurd (cc is)
 fits_some s max_up limit rows seen (Some row) up backlog is = let same : seen ≡ seen_of row = cc is in ap (fits_seen max_up limit rows) same ∙ fits_as s max_up limit rows row up backlog
 
--- the row at a place that is the chunk's
-pub fits_at : (s : AllSettings) (max_up limit : ℕ) (rows : List Row) (seen : RowSeen) (at : Option Row) (chunk : ChunkId) → s.service.max_up ≡ max_up → s.service.backlog_limit ≡ limit
-    → Some seen ≡ option_map seen_of at → at ≡ row_at seen.chunk rows → seen.chunk ≡ chunk → fits_seen max_up limit rows seen ≡ fits_row s rows (row_at chunk rows)
-fits_at s max_up limit rows seen at chunk up backlog is there same =
-    fits_some s max_up limit rows seen at up backlog is ∙ ap (fits_row s rows) (there ∙ ap (λ (c : ChunkId). row_at c rows) same)
+-- none is there
+pub fits_none : (s : AllSettings) (rows : List Row) (at : Option Row) → option_map seen_of at ≡ None → fits_row s rows at ≡ false
+fits_none s rows None is = refl
+fits_none s rows (Some row) is = absurd (cc is)
 
 -- none is the chunk's
 pub none_there : (chunk : ChunkId) (rows : List Row) → filter (is_row_of chunk) rows ≡ [] → row_at chunk rows ≡ None

@@ -1,5 +1,5 @@
 -- A mask that has a bit for each paused input is their sum.
-use Rattle.std.proofs.Common.{◌≡◌, ◌↔◌, ℕ, ◌-◌, ◌<◌, true, false, List, length, map, Option, Some, None, refl, sym, ◌∙◌, ap}
+use Rattle.std.proofs.Common.{◌≡◌, ◌↔◌, ℕ, ◌<◌, true, false, List, length, map, Option, Some, None, refl, sym, ◌∙◌, ap}
 use Rattle.std.specs.Prelude.{slice_get, option_map, IsSomeAnd, is_some}
 use Rattle.std.specs.Int.{IsBitSet}
 use Rattle.std.specs.Option.{option_and_then}

@@ -113,7 +113,7 @@ impl Chunks {
         ensures top { self.new.top ≡ self.old.top }
     {
         self.table.lose(chunk, output);
-        self.table.keep_owed();
+        self.table.keep_owed(chunk);
     }
 
     /// The timers of the idle routes that are due at `now`, by due time, then chunk, then output. All chunks stay.
