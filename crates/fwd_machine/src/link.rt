@@ -8,6 +8,10 @@ use mio::net::TcpStream;
 use std::fs::File;
 use std::io::{self, ErrorKind, Write};
 
+/// So many bytes may come back over a link before the payload that it waits to hand over is taken. A reply that counts is
+/// much shorter.
+const MOST_BACK: u64 = 65_536;
+
 /// What a link said to bytes that it was handed.
 #[derive(Clone, Copy, Debug, PartialEq, Eq)]
 pub enum Handed {
@@ -39,6 +43,8 @@ pub struct Peer {
     pub writable: bool,
     /// Whether it stands in the queue of what may be read.
     pub queued: bool,
+    /// How many bytes came back since it was dialled.
+    came_back: u64,
 }
 
 /// The end of a link.
@@ -71,7 +77,23 @@ impl Peer {
             readable: false,
             writable: false,
             queued: false,
+            came_back: 0,
         }
+    }
+
+    /// Whether room is to be told, which is told once.
+    pub fn tells_room(&mut self) -> bool {
+        let tells = self.wants_room && self.writable;
+        if tells {
+            self.wants_room = false;
+        }
+        tells
+    }
+
+    /// Whether so many bytes more may come back. Only while the link waits for room there is a limit.
+    pub fn may_send(&mut self, count: usize) -> bool {
+        self.came_back = self.came_back.saturating_add(count as u64);
+        !self.wants_room || self.came_back <= MOST_BACK
     }
 
     /// Whether the connection that was begun stands.

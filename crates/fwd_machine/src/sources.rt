@@ -534,59 +534,63 @@ impl Sources {
         }
     }
 
+    /// Reads what came back, and tells of room where there is nothing to read. So a peer that ended its side before bytes
+    /// were handed to it breaks its link before it gets them.
     fn look_at_open(&mut self, alloc: Global, link: LinkId) -> Result<Option<Happening>, Memory>
         ensures { (paused : ℕ) → IfOk result (λ found. IfSome found (MayCome true paused)) }
     {
         let Some(Link::Connected(peer)) = self.links.get_mut(&link.0) else {
             return Ok(None);
         };
-        if peer.wants_room && peer.writable {
-            peer.wants_room = false;
-            peer.queued = peer.readable;
-            if peer.readable {
-                self.ready.push_back(Source::Link(link))?;
-            }
-            return Ok(Some(Happening::Room { link }));
-        }
         if !peer.readable {
-            return Ok(None);
+            return self.unread_link(link, Unread::Nothing);
         }
-        self.read_link(alloc, link)
+        let mut stream = &peer.stream;
+        match read_from(alloc, &mut stream, &mut self.part) {
+            Ok(bytes) => {
+                if !peer.may_send(bytes.len()) {
+                    peer.standing = Standing::Over;
+                    self.miss();
+                    return Ok(Some(Happening::Broken { link }));
+                }
+                peer.queued = true;
+                self.ready.push_back(Source::Link(link))?;
+                Ok(Some(Happening::Back { link, bytes }))
+            }
+            Err(reason) => self.unread_link(link, reason),
+        }
     }
 
-    /// Reads what came back over a link.
-    fn read_link(&mut self, alloc: Global, link: LinkId) -> Result<Option<Happening>, Memory>
+    /// Nothing came back over a link, for this reason.
+    fn unread_link(&mut self, link: LinkId, reason: Unread) -> Result<Option<Happening>, Memory>
         ensures { (paused : ℕ) → IfOk result (λ found. IfSome found (MayCome true paused)) }
     {
         let Some(Link::Connected(peer)) = self.links.get_mut(&link.0) else {
             return Ok(None);
         };
-        let mut stream = &peer.stream;
-        match read_from(alloc, &mut stream, &mut self.part) {
-            Ok(bytes) => {
-                peer.queued = true;
-                self.ready.push_back(Source::Link(link))?;
-                Ok(Some(Happening::Back { link, bytes }))
-            }
-            Err(Unread::Nothing) => {
+        match reason {
+            Unread::Nothing => {
                 peer.readable = false;
+                if peer.tells_room() {
+                    return Ok(Some(Happening::Room { link }));
+                }
                 Ok(None)
             }
-            Err(Unread::Interrupted) => {
+            Unread::Interrupted => {
                 peer.queued = true;
                 self.ready.push_back(Source::Link(link))?;
                 Ok(None)
             }
-            Err(Unread::Over) => {
+            Unread::Over => {
                 peer.standing = Standing::Over;
                 Ok(Some(Happening::Broken { link }))
             }
-            Err(Unread::Failed) => {
+            Unread::Failed => {
                 peer.standing = Standing::Over;
                 self.miss();
                 Ok(Some(Happening::Broken { link }))
             }
-            Err(Unread::Memory) => Err(Memory),
+            Unread::Memory => Err(Memory),
         }
     }
 }

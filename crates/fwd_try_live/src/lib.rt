@@ -1,9 +1,11 @@
 //! Tests of the devices of the machine, by their public calls: files, standard output, a disk of folders, and the loop with
-//! peers on loopback, among them ones that reset, half-close, dribble and are slow to read.
+//! peers on loopback, among them ones that reset, half-close, dribble, are slow to read or answer early.
 #![tactic(auto)]
 
 #[cfg(test)]
 mod disk;
+#[cfg(test)]
+mod early;
 #[cfg(test)]
 mod files;
 #[cfg(test)]
