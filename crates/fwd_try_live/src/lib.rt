@@ -1,5 +1,5 @@
 //! Tests of the devices of the machine, by their public calls: files, standard output, a disk of folders, and the loop with
-//! peers on loopback, among them ones that reset, half-close, dribble, are slow to read or answer early.
+//! peers on loopback, among them ones that reset, half-close, dribble, are slow to read, answer early or are silent.
 #![tactic(auto)]
 
 #[cfg(test)]
@@ -12,5 +12,7 @@ mod files;
 mod live_loop;
 #[cfg(test)]
 mod peers;
+#[cfg(test)]
+mod silence;
 #[cfg(test)]
 mod stage;
