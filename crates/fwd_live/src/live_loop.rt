@@ -5,7 +5,7 @@ ghost use Rattle.fwd_outside.specs.Loop.{LoopGiven};
 
 use crate::answers::given;
 use crate::loop_calls::LoopCalls;
-use fwd_machine::{Handed, Machine};
+use fwd_machine::{Handed, Machine, USUAL_PATIENCE};
 use fwd_outside::{
     Begun, ConnId, Dialed, Ends, Happening, InputId, LinkId, Loop, Memory, OutputId, Pushed,
     Replied,
@@ -13,7 +13,9 @@ use fwd_outside::{
 use std::alloc::Global;
 use std::io;
 
-/// A loop over sockets of peers, standard input and output, and files that are appended to. It has no end.
+/// A loop over sockets of peers, standard input and output, and files that are appended to. It has no end. A peer of an
+/// output that is silent for longer than `USUAL_PATIENCE` of `fwd_machine` breaks its link, and so does one that sends more than
+/// 65,536 bytes before it has taken what it is handed.
 #[derive(Drop)]
 pub struct LiveLoop {
     machine: Machine,
@@ -29,7 +31,7 @@ impl LiveLoop {
         ghost brought: { LoopGiven }
         ensures { IfOk result (λ l. (l.calls.given ≡ brought) × (l.calls.entries ≡ [])) }
     {
-        let machine = Machine::new(rt)?;
+        let machine = Machine::new(rt, USUAL_PATIENCE)?;
         Ok(LiveLoop {
             machine,
             faults: 0,

@@ -13,6 +13,9 @@ pub struct Clock {
     since: Instant,
     /// The last reading.
     last: u64,
+    /// When it was made, and how many milliseconds had passed since then when that was asked last.
+    begun: Instant,
+    passed: u64,
 }
 
 fn millis_of(time: Duration) -> u64 {
@@ -29,11 +32,27 @@ fn read_machine(rt: &HostRuntime) -> io::Result<u64> {
 
 impl Clock {
     pub fn new(rt: &HostRuntime) -> io::Result<Clock> {
+        let begun = Instant::now(rt)?;
         Ok(Clock {
             sure: 0,
-            since: Instant::now(rt)?,
+            since: begun,
             last: 0,
+            begun,
+            passed: 0,
         })
+    }
+
+    /// How many milliseconds have passed since it was made, by the machine's monotonic clock alone. Where that can't be
+    /// read, as many as when it was asked last.
+    pub fn passed(&mut self, rt: &HostRuntime) -> u64
+        ensures rises { self.old.passed ≤ result }
+        ensures kept { self.new.passed ≡ result }
+    {
+        if let Ok(instant) = Instant::now(rt) {
+            let passed = millis_of(instant.duration_since(self.begun));
+            self.passed = self.passed.max(passed);
+        }
+        self.passed
     }
 
     /// What it reads, in milliseconds.

@@ -5,9 +5,11 @@ ghost use Rattle.fwd_outside.specs.Loop.{MayCome};
 ghost use Rattle.fwd_machine.specs.Handed.{TakesAtMost};
 
 use crate::clock::Clock;
+use crate::descriptors::most_conns;
 use crate::input::{Feed, Input, listen};
 use crate::link::{Handed, Link, Peer};
 use crate::names::{addresses_of, file_of_tag, path_in, text, without_memory};
+use crate::patience::Patience;
 use crate::source::Source;
 use crate::sources::Sources;
 use fwd_outside::{ConnId, Ends, Happening, InEnd, InputId, LinkId, Memory, OutEnd, OutputId};
@@ -50,14 +52,15 @@ pub struct Machine {
 }
 
 impl Machine {
-    pub fn new(rt: HostRuntime) -> io::Result<Machine> {
+    /// Nothing is open yet. A peer of an output that is silent for longer than this patience breaks its link.
+    pub fn new(rt: HostRuntime, patience: Patience) -> io::Result<Machine> {
         let alloc = rt.alloc();
         Ok(Machine {
             rt,
             poll: Poll::new(&rt)?,
             events: Events::with_capacity(alloc, EVENTS)?,
             outputs: Vec::new(alloc),
-            sources: Sources::new(rt).map_err(without_memory)?,
+            sources: Sources::new(rt, patience).map_err(without_memory)?,
             looks: 0,
             clock: Clock::new(&rt)?,
             told: 0,
@@ -92,6 +95,7 @@ impl Machine {
         for end in ends.inputs.as_slice() {
             self.add_input(end)?;
         }
+        self.sources.most_conns = most_conns(&self.rt, ends.inputs.len(), ends.outputs.len());
         Ok(())
     }
 
@@ -181,6 +185,8 @@ impl Machine {
                 return Ok(Happening::Failed);
             };
             self.sources.set_now(now)?;
+            let passed = self.clock.passed(&self.rt);
+            self.sources.set_passed(passed)?;
             if self.is_late(now, until) {
                 self.tells(now);
                 return Ok(Happening::Tick { now });
@@ -195,7 +201,9 @@ impl Machine {
             }
             self.turns = 0;
             let next = until.min(self.sources.again_at());
-            if !self.ask(next.saturating_sub(now))? {
+            let most = next.saturating_sub(now);
+            let walk = self.sources.walks_at().saturating_sub(passed);
+            if !self.ask(most.min(walk))? {
                 return Ok(Happening::Failed);
             }
         }
@@ -207,7 +215,9 @@ impl Machine {
         let both = Interest::READABLE | Interest::WRITABLE;
         let token = Source::Link(link).token();
         self.poll.registry().register(&mut stream, token, both)?;
-        Ok(Link::Connected(Peer::new(output, stream)))
+        let passed = self.clock.passed(&self.rt);
+        self.sources.note_dial(passed);
+        Ok(Link::Connected(Peer::new(output, stream, passed)))
     }
 
     /// Begins a connection to a peer, at its next address where the last one never came to stand.
@@ -259,12 +269,13 @@ impl Machine {
         Ok(())
     }
 
-    /// Hands bytes to a link.
+    /// Hands bytes to a link. One that was broken for its silence, or for what it sent, takes nothing.
     pub fn push(&mut self, link: LinkId, bytes: &[u8]) -> Handed
         ensures { TakesAtMost bytes.now result }
     {
+        let passed = self.clock.passed(&self.rt);
         match self.sources.links.get_mut(&link.0) {
-            Some(link) => link.push(&self.rt, bytes),
+            Some(link) => link.push(&self.rt, bytes, passed),
             None => Handed::Broken,
         }
     }

@@ -8,6 +8,7 @@ use crate::conn::Conn;
 use crate::input::{Feed, Input};
 use crate::link::{Link, Standing};
 use crate::masks::is_heard;
+use crate::patience::Patience;
 use crate::source::Source;
 use fwd_base::limits::LONGEST_PIECE;
 use fwd_outside::{Bytes, ConnId, Happening, InputId, LinkId, Memory, OutputId};
@@ -23,6 +24,9 @@ use std::os::fd::AsRawFd;
 
 /// After so many milliseconds accepting is tried again where no descriptor was left.
 const AGAIN: u64 = 1_000;
+
+/// So many milliseconds lie at least between two walks over links for their silence.
+const WALKS: u64 = 1_000;
 
 /// Why reading gave no bytes.
 #[derive(Clone, Copy, Debug, PartialEq, Eq)]
@@ -43,17 +47,24 @@ pub struct Sources {
     pub inputs: Vec<Input>,
     pub conns: HashMap<u64, Conn>,
     pub links: HashMap<u64, Link>,
+    /// So many connections there may be at once.
+    pub most_conns: usize,
     /// How many connections to the peer of an output never came to stand, by output.
     unanswered: HashMap<u32, u64>,
     /// What may have something.
     ready: VecDeque<Source>,
     /// The same, of inputs that were paused when they were looked at.
     held: VecDeque<Source>,
-    /// Inputs that couldn't accept a peer, for want of a descriptor.
+    /// Inputs that couldn't accept a peer, for want of a descriptor, or of a place among the connections.
     refused: VecDeque<Source>,
     /// When these are to try again.
     again_at: u64,
     now: u64,
+    patience: Patience,
+    /// How many milliseconds have passed by the monotonic clock.
+    passed: u64,
+    /// When links are to be looked over for their silence, by that clock.
+    walks_at: u64,
     paused: u64,
     /// What is read stands here first.
     part: Vec<u8>,
@@ -81,7 +92,7 @@ fn read_from<R: Read>(alloc: Global, from: &mut R, part: &mut [u8]) -> Result<By
 }
 
 impl Sources {
-    pub fn new(rt: HostRuntime) -> Result<Sources, Memory> {
+    pub fn new(rt: HostRuntime, patience: Patience) -> Result<Sources, Memory> {
         let alloc = rt.alloc();
         let mut part = Vec::new(alloc);
         part.resize(LONGEST_PIECE, 0)?;
@@ -90,12 +101,16 @@ impl Sources {
             inputs: Vec::new(alloc),
             conns: HashMap::new(alloc),
             links: HashMap::new(alloc),
+            most_conns: usize::MAX,
             unanswered: HashMap::new(alloc),
             ready: VecDeque::new(alloc),
             held: VecDeque::new(alloc),
             refused: VecDeque::new(alloc),
             again_at: u64::MAX,
             now: 0,
+            patience,
+            passed: 0,
+            walks_at: u64::MAX,
             paused: 0,
             part,
             newest: 0,
@@ -142,6 +157,44 @@ impl Sources {
         self.inputs.push(Input { feed, queued })?;
         if queued {
             self.ready.push_back(Source::Input(input))?;
+        }
+        Ok(())
+    }
+
+    /// When links are to be looked over for their silence, by the monotonic clock.
+    pub fn walks_at(&self) -> u64 {
+        self.walks_at
+    }
+
+    /// A peer was dialled at this time by the monotonic clock.
+    pub fn note_dial(&mut self, passed: u64) {
+        let dialled_by = passed.saturating_add(self.patience.dial);
+        self.walks_at = self.walks_at.min(dialled_by);
+    }
+
+    /// So many milliseconds have passed by the monotonic clock. Links that were silent for too long are to be looked at.
+    pub fn set_passed(&mut self, passed: u64) -> Result<(), Memory> {
+        self.passed = passed;
+        if self.walks_at <= passed {
+            self.walk_links()?;
+        }
+        Ok(())
+    }
+
+    fn walk_links(&mut self) -> Result<(), Memory> {
+        let soonest = self.passed.saturating_add(WALKS);
+        self.walks_at = u64::MAX;
+        for (number, link) in self.links.iter_mut() {
+            match link {
+                Link::Connected(peer) => {
+                    let silent_at = peer.silent_at(self.patience);
+                    self.walks_at = self.walks_at.min(silent_at.max(soonest));
+                    if silent_at <= self.passed && peer.falls_due() {
+                        self.ready.push_back(Source::Link(LinkId(*number)))?;
+                    }
+                }
+                Link::Stdout | Link::Appended(_) => {}
+            }
         }
         Ok(())
     }
@@ -270,10 +323,15 @@ impl Sources {
             self.held.push_back(Source::Input(input))?;
             return Ok(None);
         }
+        let is_full = self.most_conns <= self.conns.len();
         let Some(there) = self.inputs.get(input.0 as usize) else {
             return Ok(None);
         };
         match &there.feed {
+            Feed::Listening(_) if is_full => {
+                self.refused.push_back(Source::Input(input))?;
+                Ok(None)
+            }
             Feed::Listening(listener) => match listener.accept() {
                 Ok((stream, _)) => {
                     self.ready.push_back(Source::Input(input))?;
@@ -527,66 +585,75 @@ impl Sources {
                     self.miss();
                     return Ok(Some(Happening::Broken { link }));
                 }
-                peer.standing = Standing::Open;
+                peer.open(self.passed);
                 self.look_at_open(alloc, link)
             }
             Standing::Open => self.look_at_open(alloc, link),
         }
     }
 
+    /// Reads what came back, and tells of room where there is nothing to read. So a peer that ended its side before bytes
+    /// were handed to it breaks its link before it gets them.
     fn look_at_open(&mut self, alloc: Global, link: LinkId) -> Result<Option<Happening>, Memory>
         ensures { (paused : ℕ) → IfOk result (λ found. IfSome found (MayCome true paused)) }
     {
         let Some(Link::Connected(peer)) = self.links.get_mut(&link.0) else {
             return Ok(None);
         };
-        if peer.wants_room && peer.writable {
-            peer.wants_room = false;
-            peer.queued = peer.readable;
-            if peer.readable {
-                self.ready.push_back(Source::Link(link))?;
-            }
-            return Ok(Some(Happening::Room { link }));
-        }
         if !peer.readable {
-            return Ok(None);
+            return self.unread_link(link, Unread::Nothing);
         }
-        self.read_link(alloc, link)
+        let mut stream = &peer.stream;
+        match read_from(alloc, &mut stream, &mut self.part) {
+            Ok(bytes) => {
+                if !peer.note_back(bytes.len(), self.passed) {
+                    peer.standing = Standing::Over;
+                    self.miss();
+                    return Ok(Some(Happening::Broken { link }));
+                }
+                peer.queued = true;
+                self.ready.push_back(Source::Link(link))?;
+                Ok(Some(Happening::Back { link, bytes }))
+            }
+            Err(reason) => self.unread_link(link, reason),
+        }
     }
 
-    /// Reads what came back over a link.
-    fn read_link(&mut self, alloc: Global, link: LinkId) -> Result<Option<Happening>, Memory>
+    /// Nothing came back over a link, for this reason.
+    fn unread_link(&mut self, link: LinkId, reason: Unread) -> Result<Option<Happening>, Memory>
         ensures { (paused : ℕ) → IfOk result (λ found. IfSome found (MayCome true paused)) }
     {
         let Some(Link::Connected(peer)) = self.links.get_mut(&link.0) else {
             return Ok(None);
         };
-        let mut stream = &peer.stream;
-        match read_from(alloc, &mut stream, &mut self.part) {
-            Ok(bytes) => {
-                peer.queued = true;
-                self.ready.push_back(Source::Link(link))?;
-                Ok(Some(Happening::Back { link, bytes }))
-            }
-            Err(Unread::Nothing) => {
+        match reason {
+            Unread::Nothing => {
                 peer.readable = false;
-                Ok(None)
-            }
-            Err(Unread::Interrupted) => {
-                peer.queued = true;
-                self.ready.push_back(Source::Link(link))?;
-                Ok(None)
-            }
-            Err(Unread::Over) => {
-                peer.standing = Standing::Over;
-                Ok(Some(Happening::Broken { link }))
-            }
-            Err(Unread::Failed) => {
+                if peer.tells_room() {
+                    return Ok(Some(Happening::Room { link }));
+                }
+                if self.passed < peer.silent_at(self.patience) {
+                    return Ok(None);
+                }
                 peer.standing = Standing::Over;
                 self.miss();
                 Ok(Some(Happening::Broken { link }))
             }
-            Err(Unread::Memory) => Err(Memory),
+            Unread::Interrupted => {
+                peer.queued = true;
+                self.ready.push_back(Source::Link(link))?;
+                Ok(None)
+            }
+            Unread::Over => {
+                peer.standing = Standing::Over;
+                Ok(Some(Happening::Broken { link }))
+            }
+            Unread::Failed => {
+                peer.standing = Standing::Over;
+                self.miss();
+                Ok(Some(Happening::Broken { link }))
+            }
+            Unread::Memory => Err(Memory),
         }
     }
 }

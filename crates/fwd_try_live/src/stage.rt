@@ -41,7 +41,7 @@ fn listening(alloc: Global) -> Result<Items<InEnd>, Memory> {
 }
 
 /// One listener, and one output.
-fn ends(alloc: Global, output: OutEnd) -> Result<Ends, Memory> {
+pub fn ends(alloc: Global, output: OutEnd) -> Result<Ends, Memory> {
     let outputs = one(alloc, output)?;
     Ok(Ends {
         inputs: listening(alloc)?,
