@@ -1,5 +1,6 @@
 mod Making
 mod Results
+mod Rising
 mod Opening
 mod Holding
 mod Sound

@@ -1,6 +1,10 @@
 -- The open chunks as the entries of a map.
-use Rattle.std.proofs.Common.{◌≡◌, ℕ, ◌==◌, Bool, true, false, not, cond, if◌then◌else◌, List, [], ◌∷◌, ◌++◌, map, filter, Option, Some, None, slice_get, refl, ◌∙◌, ap}
-use Rattle.std.specs.Map.{lookup}
+use Rattle.std.proofs.Common.{◌≡◌, ℕ, zero, suc, ◌<◌, ◌≤◌, ◌+◌, ◌==◌, ◌&&◌, nat_lt, Bool, true, false, not, cond, if◌then◌else◌, List, [], ◌∷◌, ◌++◌, map, filter, drop, length, Option, Some, None, is_some, slice_get, position, refl, ◌∙◌, ap, arith}
+use Rattle.std.proofs.lemmas.Bool.Decides.{Decides-eqb}
+use Rattle.std.specs.Cmp.Lexicographic.{bytes_decides}
+use Rattle.std.specs.List.{position_or_len, AllByRecursion, IsDistinct}
+use Rattle.std.specs.Map.{lookup, keys_of}
+use Rattle.std.specs.Str.{bytes_eq}
 use Rattle.fwd_store.specs.declared.opened.Source.{Source}
 use Rattle.fwd_store.specs.Source.{opened_at}
 use Rattle.fwd_store.specs.Opened.{Opened, is_for, open_for, without, first_of}
@@ -11,10 +15,6 @@ found input tag test same [] = refl
 found input tag test same (e ∷ es) =
     ap (λ (b : Bool). cond b (Some e.1) (lookup test es)) (same e.0 e.1)
     ∙ ap (λ (rest : Option ℕ). cond (is_for input tag (opened_at e)) (Some e.1) rest) (found input tag test same es)
-
-pub first_entry : (es : List (Source × ℕ)) → first_of (map opened_at es) ≡ (elim es as (λ _. Option ℕ) [ [] ↦ None | e ∷ es ↦ Some e.1 ])
-first_entry [] = refl
-first_entry (e ∷ es) = refl
 
 -- a new one stands behind the others
 pub one_more : (es : List (Source × ℕ)) (e : Source × ℕ) → map opened_at (es ++ e ∷ []) ≡ map opened_at es ++ opened_at e ∷ []
@@ -31,10 +31,106 @@ others n (e ∷ es) = by (not (e.1 == n)) (others n es)
     by true rest = ap (λ (l : List Opened). opened_at e ∷ l) rest
     by false rest = rest
 
-pub first_at : (es : List (Source × ℕ)) (s : Source) (n : ℕ) → Some (s, n) ≡ slice_get es 0 → Some n ≡ first_of (map opened_at es)
-first_at [] s n is = absurd (cc is)
-first_at (e ∷ es) s n is = ap (λ (o : Option (Source × ℕ)). number o) is
+-- The first ones are closed. The first of the others is where they end.
+abbrev number : Option (Source × ℕ) → Option ℕ
+number None = None
+number (Some e) = Some e.1
+
+first_open : (c : ℕ) (es : List (Source × ℕ)) → number (slice_get es c) ≡ first_of (map opened_at (drop c es))
+first_open zero [] = refl
+first_open zero (e ∷ es) = refl
+first_open (suc c) [] = refl
+first_open (suc c) (e ∷ es) = first_open c es
+
+pub first_at : (c : ℕ) (es : List (Source × ℕ)) (s : Source) (n : ℕ) → Some (s, n) ≡ slice_get es c → Some n ≡ first_of (map opened_at (drop c es))
+first_at c es s n is = ap number is ∙ first_open c es
+
+pub none_at : (c : ℕ) (es : List (Source × ℕ)) → None ≡ slice_get es c → None ≡ first_of (map opened_at (drop c es))
+none_at c es is = ap number is ∙ first_open c es
+
+-- one more is closed
+next_open : (c : ℕ) (es : List (Source × ℕ)) → map opened_at (drop (suc c) es) ≡ drop 1 (map opened_at (drop c es))
+next_open zero [] = refl
+next_open zero (e ∷ es) = refl
+next_open (suc c) [] = refl
+next_open (suc c) (e ∷ es) = next_open c es
+
+pub one_less : (c : ℕ) (es : List (Source × ℕ)) → map opened_at (drop (c + 1) es) ≡ drop 1 (map opened_at (drop c es))
+one_less c es = ap (λ (n : ℕ). map opened_at (drop n es)) (let one : c + 1 ≡ suc c = omega arith in one) ∙ next_open c es
+
+pub none_open : (c : ℕ) (es : List (Source × ℕ)) → length es ≤ c → map opened_at (drop c es) ≡ drop 1 (map opened_at (drop c es))
+none_open zero [] le = refl
+none_open zero (e ∷ es) le = absurd (omega (arith, le))
+none_open (suc c) [] le = refl
+none_open (suc c) (e ∷ es) le = none_open c es (omega (arith, le))
+
+-- a new one stands behind the others that are open
+pub one_more_open : (c : ℕ) (es : List (Source × ℕ)) (e : Source × ℕ) → c ≤ length es → map opened_at (drop c (es ++ e ∷ [])) ≡ map opened_at (drop c es) ++ opened_at e ∷ []
+one_more_open zero es e le = one_more es e
+one_more_open (suc c) [] e le = absurd (omega (arith, le))
+one_more_open (suc c) (x ∷ es) e le = one_more_open c es e (omega (arith, le))
+
+pub none_is : {T : Type 0} (o : Option T) → is_some o ≡ false → o ≡ None
+none_is None is = refl
+none_is (Some x) is = absurd (cc is)
+
+module _ (test : Source → Bool) where
+  -- what isn't there at all isn't open
+  pub not_there : (c : ℕ) (es : List (Source × ℕ)) → lookup test es ≡ None → lookup test (drop c es) ≡ None
+  not_there zero es is = is
+  not_there (suc c) [] is = refl
+  not_there (suc c) (e ∷ es) is = not_there c es (by (test e.0) is)
+    where
+      by : (b : Bool) → cond b (Some e.1) (lookup test es) ≡ None → lookup test es ≡ None
+      by true is = absurd (cc is)
+      by false is = is
+
+  -- what stands first behind the closed ones is open
+  pub still_open : (c : ℕ) (es : List (Source × ℕ)) → c ≤ position_or_len test (keys_of es) → lookup test es ≡ lookup test (drop c es)
+  still_open zero es le = refl
+  still_open (suc c) [] le = refl
+  still_open (suc c) (e ∷ es) le = by (test e.0) le (still_open c es)
+    where
+      by : (b : Bool) → suc c ≤ cond (not b) (1 + position_or_len test (keys_of es)) 0 → (c ≤ position_or_len test (keys_of es) → lookup test es ≡ lookup test (drop c es)) → cond b (Some e.1) (lookup test es) ≡ lookup test (drop c es)
+      by true le rest = absurd (omega (arith, le))
+      by false le rest = rest (omega (arith, le))
+
+  pub place_is : (es : List (Source × ℕ)) (i : ℕ) → Some i ≡ position test (keys_of es) → position_or_len test (keys_of es) ≡ i
+  place_is es i = by (nat_lt (position_or_len test (keys_of es)) (length (keys_of es)))
+    where
+      by : (b : Bool) → Some i ≡ cond b (Some (position_or_len test (keys_of es))) None → position_or_len test (keys_of es) ≡ i
+      by true is = cc is
+      by false is = absurd (cc is)
+
+abbrev pub same_source : Source → Source → Bool
+same_source s t = (s.input.0 == t.input.0) && bytes_eq s.tag.items t.tag.items
+
+both : (a b : Bool) → a && b ≡ true → (a ≡ true) × (b ≡ true)
+both true b is = (refl, is)
+both false b is = absurd (cc is)
+
+alike : (s t u : Source) → same_source s t ≡ true → same_source s u ≡ same_source t u
+alike s t u is =
+    let parts = both (s.input.0 == t.input.0) (bytes_eq s.tag.items t.tag.items) is in
+    ap (λ (i : ℕ). (i == u.input.0) && bytes_eq s.tag.items u.tag.items) ((Decides-eqb s.input.0 t.input.0).0 parts.0)
+    ∙ ap (λ (tag : List ℕ). (t.input.0 == u.input.0) && bytes_eq tag u.tag.items) ((bytes_decides s.tag.items t.tag.items).0 parts.1)
+
+-- no other entry is of the source
+no_other : (s t : Source) (es : List (Source × ℕ)) → same_source s t ≡ true → AllByRecursion (λ u. same_source t u ≡ false) (keys_of es) → lookup (same_source s) es ≡ None
+no_other s t [] is all = refl
+no_other s t (e ∷ es) is all =
+    ap (λ (b : Bool). cond b (Some e.1) (lookup (same_source s) es)) (alike s t e.0 is ∙ all.0) ∙ no_other s t es is all.1
+
+-- what stands among the closed ones isn't open
+pub not_open : (s : Source) (c : ℕ) (es : List (Source × ℕ)) → IsDistinct same_source (keys_of es) → position_or_len (same_source s) (keys_of es) < c → lookup (same_source s) (drop c es) ≡ None
+unfolding IsDistinct
+not_open s zero es distinct less = absurd (omega (arith, less))
+not_open s (suc c) [] distinct less = refl
+not_open s (suc c) (e ∷ es) distinct less =
+    by (same_source s e.0) refl less (λ is. not_there (same_source s) c es (no_other s e.0 es is distinct.0)) (not_open s c es distinct.1)
   where
-    number : Option (Source × ℕ) → Option ℕ
-    number None = None
-    number (Some e) = Some e.1
+    by : (b : Bool) → same_source s e.0 ≡ b → cond (not b) (1 + position_or_len (same_source s) (keys_of es)) 0 < suc c
+        → (same_source s e.0 ≡ true → lookup (same_source s) (drop c es) ≡ None)
+        → (position_or_len (same_source s) (keys_of es) < c → lookup (same_source s) (drop c es) ≡ None) → lookup (same_source s) (drop c es) ≡ None
+    by true is less here rest = here is
+    by false is less here rest = rest (omega (arith, less))

@@ -32,6 +32,14 @@ Grows chunks o = CanGrow (map.get chunks o.chunk)
 none_held : (q : ℕ) → IsSome (map.get (map.empty {X = Kept} {R = nat_cmp}) q) → ⊥
 none_held q is = let none : IsSome {T = Kept} None = subst IsSome (map.get-empty nat_cmp q) is in absurd (cc none)
 
+is_held : (k : Option Kept) → CanGrow k → IsSome k
+is_held None can = absurd can
+is_held (Some kept) can = refl
+
+-- each open chunk has a number below the next
+pub open_below : (s : Stored) → IsSound s → All (λ o. o.chunk < s.next) s.opened
+open_below s sound = All-weaker (Grows s.chunks) (λ o. o.chunk < s.next) (λ o grows. sound.below o.chunk (is_held (map.get s.chunks o.chunk) grows)) s.opened sound.each
+
 -- what is held of each chunk, as one of them comes, changes or goes
 held_new : (root : Option (List ℕ)) (n : ℕ) → IsHeldAs root n (map.get (map.empty {X = Kept} {R = nat_cmp}) n)
 held_new root n = subst (IsHeldAs root n) (sym (map.get-empty nat_cmp n)) tt

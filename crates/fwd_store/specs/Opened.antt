@@ -1,5 +1,5 @@
 -- The open chunks, in the order in which they were opened.
-use Rattle.std.specs.Prelude.{ℕ, Bool, not, ◌==◌, ◌&&◌, if◌then◌else◌, List, [], ◌∷◌, filter, Option, Some, None}
+use Rattle.std.specs.Prelude.{ℕ, ◌<◌, All, Bool, not, ◌==◌, ◌&&◌, if◌then◌else◌, List, [], ◌∷◌, filter, Option, Some, None}
 use Rattle.std.specs.Str.{bytes_eq}
 
 -- an open chunk, by its number, and what it is open for
@@ -24,6 +24,11 @@ without n opened = filter (λ o. not (o.chunk == n)) opened
 abbrev pub first_of : List Opened → Option ℕ
 first_of [] = None
 first_of (o ∷ os) = Some o.chunk
+
+-- the numbers rise
+abbrev pub Rise : List Opened → Type 0
+Rise [] = Unit {0}
+Rise (o ∷ os) = All (λ p. o.chunk < p.chunk) os × Rise os
 
 -- the open chunks, and for how many more there is room
 pub record OpenList : Type 0 where

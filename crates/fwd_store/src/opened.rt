@@ -1,8 +1,10 @@
 //! The open chunks.
 
-ghost use Rattle.std.specs.Prelude.{◌≡◌, ◌==◌, ◌&&◌, ◌<◌, ◌++◌, not, [], ◌∷◌, OnOk, None};
+ghost use Rattle.std.specs.Prelude.{◌≡◌, ℕ, ◌==◌, ◌&&◌, ◌<◌, ◌≤◌, ◌++◌, not, [], ◌∷◌, All, drop, map, OnOk, None};
 ghost use Rattle.std.specs.Str.{bytes_eq};
-ghost use Rattle.fwd_store.specs.Opened.{open_for, without, first_of};
+ghost use Rattle.indexmap.specs.IndexMap.{index_map_len, spare};
+ghost use Rattle.fwd_store.specs.Opened.{open_for, without, first_of, Rise};
+ghost use Rattle.fwd_store.specs.Source.{opened_at};
 
 use fwd_base::{InputId, Memory};
 use indexmap::IndexMap;
@@ -24,22 +26,64 @@ impl Source {
     }
 }
 
-/// The open chunks by input and tag, in the order in which they were opened.
+/// The open chunks by input and tag, in the order in which they were opened. Their numbers rise.
+///
+/// The first `closed` entries are closed already. They go together, once they are about half of all, so closing all
+/// chunks in their order takes linear time.
 #[derive(Drop)]
 pub struct OpenChunks {
     chunks: IndexMap<Source, u64>,
+    closed: usize,
 }
 
 impl Model for OpenChunks {
-    ghost use Rattle.std.specs.Prelude.{ℕ, map};
-    ghost use Rattle.indexmap.specs.IndexMap.{spare};
-    ghost use Rattle.fwd_store.specs.Opened.{OpenList};
+    ghost use Rattle.std.specs.Prelude.{ℕ, ◌≤◌, map, drop};
+    ghost use Rattle.indexmap.specs.IndexMap.{index_map_len, spare};
+    ghost use Rattle.fwd_store.specs.Opened.{OpenList, Rise};
 
     ghost Value = { OpenList };
 
     ghost use Rattle.fwd_store.specs.Source.{opened_at};
 
-    ghost view = { λ o. record { list = map opened_at o.chunks.entries; spare = spare o.chunks } };
+    ghost view = { λ o. record { list = map opened_at (drop o.closed o.chunks.entries); spare = spare o.chunks } };
+
+    ghost invariant = { λ o. (o.closed ≤ index_map_len o.chunks) × Rise (map opened_at (drop o.closed o.chunks.entries)) };
+}
+
+/// Takes the first `closed` entries out.
+fn forget(chunks: &mut IndexMap<Source, u64>, closed: &mut usize)
+    requires { closed.old ≤ index_map_len chunks.old }
+    ensures none { closed.new ≡ 0 }
+    ensures others { chunks.new.entries ≡ drop closed.old chunks.old.entries }
+    ensures room { spare chunks.old ≤ spare chunks.new }
+{
+    drop(chunks.drain(..*closed));
+    *closed = 0;
+}
+
+/// Takes the first `closed` entries out, where they are about half of all or more.
+fn shorten(chunks: &mut IndexMap<Source, u64>, closed: &mut usize)
+    requires { closed.old ≤ index_map_len chunks.old }
+    ensures within { closed.new ≤ index_map_len chunks.new }
+    ensures others { drop closed.new chunks.new.entries ≡ drop closed.old chunks.old.entries }
+{
+    if *closed >= chunks.len() / 2 {
+        forget(chunks, closed);
+    }
+}
+
+/// Takes the first `closed` entries out, where one of them is of this source, which no other entry is.
+fn make_new(chunks: &mut IndexMap<Source, u64>, closed: &mut usize, source: &Source)
+    requires within { closed.old ≤ index_map_len chunks.old }
+    requires new { open_for (map opened_at (drop closed.old chunks.old.entries)) source.now.input.0 source.now.tag.items ≡ None }
+    ensures new { open_for (map opened_at chunks.new.entries) source.now.input.0 source.now.tag.items ≡ None }
+    ensures within { closed.new ≤ index_map_len chunks.new }
+    ensures others { drop closed.new chunks.new.entries ≡ drop closed.old chunks.old.entries }
+    ensures room { spare chunks.old ≤ spare chunks.new }
+{
+    if chunks.contains_key(source) {
+        forget(chunks, closed);
+    }
 }
 
 impl OpenChunks {
@@ -48,6 +92,7 @@ impl OpenChunks {
     {
         OpenChunks {
             chunks: IndexMap::new(alloc),
+            closed: 0,
         }
     }
 
@@ -55,14 +100,21 @@ impl OpenChunks {
     pub fn get(&self, source: &Source) -> Option<u64>
         ensures { result ≡ open_for self.now.list source.now.input.0 source.now.tag.items }
     {
-        self.chunks.get(source).copied()
+        // The length is what says that no two entries are of one source.
+        let _len = self.chunks.len();
+        let (index, _, number) = self.chunks.get_full(source)?;
+        if index < self.closed {
+            return None;
+        }
+        Some(*number)
     }
 
     /// The chunk that is open for this input and tag. It goes over all of them, and takes no memory.
     pub fn find(&self, input: InputId, tag: &[u8]) -> Option<u64>
         ensures { result ≡ open_for self.now.list input.0 tag.now }
     {
-        for (source, number) in self.chunks.iter() {
+        let (_, open) = self.chunks.as_slice().split_at(self.closed);
+        for (source, number) in open.iter() {
             if source.is_for(input, tag) {
                 return Some(*number);
             }
@@ -79,32 +131,70 @@ impl OpenChunks {
         Ok(())
     }
 
-    /// Puts a new one behind the others, where there is room.
+    /// Puts a new one behind the others, where there is room. Its number is above theirs.
     pub fn push(&mut self, source: Source, chunk: u64)
         requires room { 0 < self.old.spare }
         requires new { open_for self.old.list source.input.0 source.tag.items ≡ None }
+        requires rises { All (λ o. o.chunk < chunk) self.old.list }
         ensures { self.new.list ≡ self.old.list ++ record { input = source.input.0; tag = source.tag.items; chunk = chunk } ∷ [] }
     {
+        make_new(&mut self.chunks, &mut self.closed, &source);
         let inserted: Result<_, _> = self.chunks.insert(source, chunk);
         let _ = inserted.unwrap();
     }
 
-    /// Takes out the chunk of this number.
+    /// Takes out the chunk of this number. The first one, and one before it, are found at once.
     pub fn close(&mut self, chunk: u64)
         ensures { self.new.list ≡ without chunk self.old.list }
     {
-        self.chunks.retain(
-            |_source: &Source, number: &mut u64| -> bool
-                ensures { (result ≡ not (number.old == chunk)) × (number.new ≡ number.old) }
-            { *number != chunk },
-        );
+        self.rises();
+        match self.first() {
+            Some(first) => {
+                if first == chunk {
+                    self.close_first();
+                } else if first < chunk {
+                    self.take_out(chunk);
+                }
+            }
+            None => {}
+        }
     }
 
     /// The number of the one that was opened first.
     pub fn first(&self) -> Option<u64>
         ensures { result ≡ first_of self.now.list }
     {
-        let (_, chunk) = self.chunks.first()?;
+        let (_, chunk) = self.chunks.get_index(self.closed)?;
         Some(*chunk)
+    }
+
+    // The numbers rise.
+    fn rises(&self)
+        ensures { Rise self.now.list }
+    {
+        let _ = &self.closed;
+    }
+
+    // The first one counts as closed, where there is one.
+    fn close_first(&mut self)
+        ensures { self.new.list ≡ drop 1 self.old.list }
+    {
+        if self.closed == self.chunks.len() {
+            return;
+        }
+        self.closed += 1;
+        shorten(&mut self.chunks, &mut self.closed);
+    }
+
+    // Goes over all of them.
+    fn take_out(&mut self, chunk: u64)
+        ensures { self.new.list ≡ without chunk self.old.list }
+    {
+        forget(&mut self.chunks, &mut self.closed);
+        self.chunks.retain(
+            |_source: &Source, number: &mut u64| -> bool
+                ensures { (result ≡ not (number.old == chunk)) × (number.new ≡ number.old) }
+            { *number != chunk },
+        );
     }
 }

@@ -1,11 +1,11 @@
-use Rattle.std.proofs.Common.{ap, ◌∙◌, map, not, ◌==◌, rules}
-use Rattle.indexmap.proofs.CallerLemmas.{filter-RetainsPairs}
-use Rattle.fwd_store.specs.Source.{opened_at}
-use Rattle.fwd_store.specs.Opened.{OpenList, without}
-use Rattle.fwd_store.proofs.Opening.{others}
+use Rattle.std.proofs.Common.{Some, ap, sym, ◌∙◌}
+use Rattle.fwd_store.proofs.Rising.{without_first, without_none}
 use Rattle.fwd_store.proofs.opened.OpenChunks.close.Goals as goal
 
-pub returns : goal.returns
-returns c =
-    ap (map opened_at) (filter-RetainsPairs _ (λ e. not (e.1 == c.args.chunk)) _ (λ k v b w g call. search rules) _ _ c.retain.ensures.filtered)
-    ∙ others c.args.chunk c.self.inside.chunks.entries ∙ ap (λ (o : OpenList). without c.args.chunk o.list) c.self.view_is
+pub returns-then-first-chunk : goal.returns-then-first-chunk
+returns-then-first-chunk c =
+    c.close_first.ensures ∙ without_first c.args.chunk _ c.rises.ensures (ap Some (sym c.if-first-chunk.true) ∙ sym c.in-Some.is ∙ c.first.ensures)
+
+pub returns-else-first-chunk-2 : goal.returns-else-first-chunk-2
+returns-else-first-chunk-2 c =
+    without_none c.args.chunk c.in-Some.first _ c.rises.ensures (sym c.in-Some.is ∙ c.first.ensures) c.if-first-chunk-2.false c.if-first-chunk.false

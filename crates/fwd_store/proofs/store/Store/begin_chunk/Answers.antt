@@ -1,4 +1,4 @@
-use Rattle.std.proofs.Common.{Some, ap, ◌∙◌, ◌++◌, [], ◌∷◌, ◌<◌, ℕ, List, sym, subst}
+use Rattle.std.proofs.Common.{Some, ap, ◌∙◌, ◌++◌, [], ◌∷◌, ◌<◌, ℕ, List, All, sym, subst}
 use Rattle.std.specs.FinMap as map
 use Rattle.fwd_base.specs.Limits.{past_numbers}
 use Rattle.fwd_kept.specs.declared.kept.Kept.{Kept}
@@ -7,7 +7,7 @@ use Rattle.fwd_store.specs.Stored.{Held, Stored}
 use Rattle.fwd_store.specs.Store.{begins_as, new_name, CanGrow, IsHeldAs, kept_as}
 use Rattle.fwd_kept.specs.Name.{file_name}
 use Rattle.fwd_store.proofs.Making.{nothing_accepted}
-use Rattle.fwd_store.proofs.Sound.{sound_as_new, IsNamedNew, can_begin, begins_held, begins_named}
+use Rattle.fwd_store.proofs.Sound.{sound_as_new, IsNamedNew, open_below, can_begin, begins_held, begins_named}
 use Rattle.fwd_store.proofs.store.Store.begin_chunk.Goals as goal
 
 pub returns-in_err-reserve-clause-calls : goal.returns-in_err-reserve-clause-calls
@@ -17,6 +17,10 @@ returns-in_err-reserve-clause-calls g c =
 pub returns-in_err-reserve-2-clause-calls : goal.returns-in_err-reserve-2-clause-calls
 returns-in_err-reserve-2-clause-calls g c =
     nothing_accepted (g.D.Disk.told c.args.disk.now) (begins_as (new_name c.args.self.now c.args.stream.now) c.args.tag.now c.args.home c.args.batch.now c.args.outputs.now) c.from_residual-in_err-reserve-2.result c.from_residual-in_err-reserve-2.ensures.1
+
+pub push-requires-clause-rises : goal.push-requires-clause-rises
+push-requires-clause-rises g c =
+    subst (λ (l : List Opened). All (λ o. o.chunk < c.self.inside.next) l) (sym c.reserve-2.ensures.same) (open_below _ c.self.invariant)
 
 pub invariant_of-self-in-Ok : goal.invariant_of-self-in-Ok
 invariant_of-self-in-Ok g c =
