@@ -15,7 +15,6 @@ ghost use Rattle.fwd_parts.specs.Heard.{IsUnheard};
 
 use crate::landing::land;
 use crate::sizes::may_be_handed;
-use crate::tags::tag_of;
 use fwd_base::{Bytes, Memory};
 use fwd_delivery::{Flush, Reader, deliver};
 use fwd_event::Events;
@@ -65,7 +64,7 @@ fn new_flush(
     if !may_be_handed(events) {
         return Err(Memory);
     }
-    let tag = tag_of(state.table(), route.chunk);
+    let tag = state.table().tag_of(route.chunk);
     if tag.len() as u64 > u64::from(u32::MAX) {
         return Err(Memory);
     }
@@ -98,7 +97,7 @@ fn hand_over<L: Loop, D: Disk>(
         tries,
         flush,
     };
-    let tag = tag_of(parts.state.table(), route.chunk);
+    let tag = parts.state.table().tag_of(route.chunk);
     let poll = flight.flush.start(alloc, outside, tag)?;
     land(run, parts, outside, disk, flight, 0, poll)
 }

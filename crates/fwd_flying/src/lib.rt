@@ -8,7 +8,6 @@
 mod beginning;
 mod landing;
 mod sizes;
-mod tags;
 mod walking;
 
 pub use walking::{back, broken, room, walk};

@@ -110,13 +110,10 @@ fn is_file(home: Home) -> bool
 fn is_in_file(table: &Table, chunk: ChunkId) -> bool
     ensures { result ≡ option_map_or in_file (row_at chunk table.now.rows) false }
 {
-    for index in 0..table.len() {
-        let row = table.row(index);
-        if row.chunk == chunk {
-            return is_file(row.home);
-        }
+    match table.find(chunk) {
+        Some(row) => is_file(row.home),
+        None => false,
     }
-    false
 }
 
 /// The outputs that a chunk waits for, in their order.

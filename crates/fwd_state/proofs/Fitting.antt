@@ -1,11 +1,9 @@
 -- The row of a chunk, and whether it has room.
-use Rattle.std.proofs.Common.{◌≡◌, ℕ, ◌+◌, false, ◌&&◌, ◌||◌, not, inl, inr, List, [], ◌∷◌, Option, Some, None, refl, sym, ◌∙◌, ap}
-use Rattle.std.specs.Prelude.{◌==◌, nat_lt, nat_le, filter, option_map}
-use Rattle.std.proofs.lemmas.Bool.{cases_Bool}
-use Rattle.fwd_base.specs.declared.ids.ChunkId.{ChunkId}
+use Rattle.std.proofs.Common.{◌≡◌, ℕ, ◌+◌, false, ◌&&◌, ◌||◌, not, List, Option, Some, None, refl, sym, ◌∙◌, ap}
+use Rattle.std.specs.Prelude.{◌==◌, nat_lt, nat_le, option_map}
 use Rattle.fwd_settings.specs.declared.chosen.AllSettings.{AllSettings}
 use Rattle.fwd_table.specs.Routes.{flying_of}
-use Rattle.fwd_table.specs.Rows.{is_row_of, row_at, seen_of}
+use Rattle.fwd_table.specs.Rows.{seen_of}
 use Rattle.fwd_table.specs.declared.row.Row.{Row}
 use Rattle.fwd_table.specs.declared.row.RowSeen.{RowSeen}
 use Rattle.fwd_table.specs.Kept.{in_file, is_nobody, files_up, found_up}
@@ -27,11 +25,3 @@ fits_some s max_up limit rows seen (Some row) up backlog is = let same : seen �
 pub fits_none : (s : AllSettings) (rows : List Row) (at : Option Row) → option_map seen_of at ≡ None → fits_row s rows at ≡ false
 fits_none s rows None is = refl
 fits_none s rows (Some row) is = absurd (cc is)
-
--- none is the chunk's
-pub none_there : (chunk : ChunkId) (rows : List Row) → filter (is_row_of chunk) rows ≡ [] → row_at chunk rows ≡ None
-none_there chunk [] none = refl
-none_there chunk (row ∷ rows) none = elim (cases_Bool (is_row_of chunk row)) [
-  | inl is ↦ absurd (cc (rw is at none))
-  | inr isnt ↦ rw isnt (none_there chunk rows (rw isnt at none))
-]

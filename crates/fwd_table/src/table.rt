@@ -1,8 +1,10 @@
 //! The table of chunks and their routes.
 
 ghost use Rattle.std.specs.Prelude.{◌≡◌, ◌↔◌, ◌+◌, ◌*◌, ◌<◌, ◌≤◌, [], ◌∷◌, ◌++◌, length, slice_get, All, filter, option_map, IfOk, IfSome, IsTrue, MatchOption, OnOk, nat_le, option_to_list};
+ghost use Rattle.std.specs.Option.{option_map_or};
 ghost use Rattle.fwd_retry.specs.declared.timer.Timer.{Timer};
 ghost use Rattle.fwd_retry.specs.Timer.{first, in_time, is_next, IsFirst};
+ghost use Rattle.fwd_table.specs.declared.row.Row.{Row};
 ghost use Rattle.fwd_table.specs.Answers.{due_after, may_retry, is_tried_again, outcome_of, resolved};
 ghost use Rattle.fwd_table.specs.Routes.{flying_of, mask_of, IsMaskOf};
 ghost use Rattle.fwd_table.specs.Changes.{row_changed};
@@ -276,6 +278,16 @@ impl Table {
             self.forget(chunk);
         }
         self.sweep();
+    }
+
+    /// The tag of a chunk that has a row; that of another is empty.
+    pub fn tag_of(&self, chunk: ChunkId) -> &[u8]
+        ensures { result.now ≡ option_map_or (λ (row : Row). row.tag) (row_at chunk self.now.rows) [] }
+    {
+        match find_row(&self.rows, chunk) {
+            Some(row) => row.tag.as_slice(),
+            None => &[],
+        }
     }
 
     /// How many chunks are under way to an output.
