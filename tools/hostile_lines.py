@@ -5,7 +5,7 @@ import socket
 import time
 
 from hostile_case import LINES_TO_FILE, case
-from hostile_room import MEGABYTE, reset
+from hostile_room import MEGABYTE, KeptPeer, reset
 from live_room import HOST, content, until
 
 LONGEST_LINE = 32_768
@@ -145,12 +145,11 @@ def a_flood_of_lines(trial):
 
 @case(
     LINES_TO_FILE,
-    "the limit of the process on descriptors",
+    "the limit of the process on descriptors, of which inputs get those that nothing else needs",
     16,
+    good=KeptPeer,
     quiet=True,
     before="ulimit -v 8000000; ulimit -n 128",
-    known="silent peers may hold all descriptors for good: no limit on the connections of an input, no time limit on a silent one, none kept for outputs",
-    shows="good line",
 )
 def silent_peers_take_all_descriptors(trial):
     """More silent peers than the program has descriptors. A file output opens its file anew for each chunk."""

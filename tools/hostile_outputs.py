@@ -35,7 +35,10 @@ def to_collector(kind, inputs=STORED):
 FLIGHTS = "four flights of a chunk each, with what comes back of them; other chunks are in files"
 HEAD = "8,192 bytes of a reply up to the end of its head and a piece of 65,536, for each of four flights"
 ACK = "1,024 bytes of a reply and a piece of 65,536, for each of four flights"
-UNREAD = "nothing: what comes back while a payload isn't taken is kept, however much it is, and is judged later"
+UNREAD = "65,536 bytes of what comes back while a payload isn't taken and a piece of 65,536, for each of four flights"
+# after so many seconds a link is broken over which nothing came and nothing was taken
+SILENCE = 60
+
 KNOWN_TCP = "a tcp output has no acknowledgement: what the socket took counts as delivered"
 
 
@@ -58,6 +61,16 @@ def burst(trial):
             trial.send(link, line * 1_000)
 
 
+def outlive(trial):
+    """Other connections get lines once those that are silent have been so for the longest that is borne."""
+    begun = time.monotonic()
+    try:
+        until(lambda: trial.collector.numbers or not trial.alive(), "", SILENCE + 15)
+        trial.tell(f"lines came to the collector {time.monotonic() - begun:.0f} s after the attack")
+    except Failed:
+        trial.complain("no line came to the collector, which treats all but four connections as it should")
+
+
 def collected(name, treats, kind, limit, memory=64, inputs=STORED, bursts=False, **more):
     """A case in which a collector of a kind treats its connections so."""
 
@@ -66,9 +79,9 @@ def collected(name, treats, kind, limit, memory=64, inputs=STORED, bursts=False,
         if bursts:
             burst(trial)
         trial.rest()
-        trial.count(peers=len(trial.collector.links), sent=trial.collector.sent)
         if treats is treat.first_four_are_silent:
-            trial.hopes(trial.collector.numbers, "no line came to the collector, which treats all but four connections as it should")
+            outlive(trial)
+        trial.count(peers=len(trial.collector.links), sent=trial.collector.sent)
 
     attack.__name__ = name
     configuration = to_collector(kind, inputs)
@@ -140,11 +153,11 @@ CASES = (
     collected("http_body_without_end", treat.body_without_end, "http", HEAD),
     collected("http_a_byte_at_a_time", treat.byte_at_a_time, "http", HEAD, quiet=True),
     collected("http_never_answers", treat.reads_and_is_silent, "http", FLIGHTS, quiet=True),
-    collected("http_answers_before_it_reads", treat.answers_before_it_reads, "http", UNREAD, bursts=True, known=UNREAD, shows="of memory"),
+    collected("http_answers_before_it_reads", treat.answers_before_it_reads, "http", UNREAD, bursts=True),
     collected("forward_never_acknowledges", treat.reads_and_is_silent, "forward", FLIGHTS, quiet=True),
     collected("forward_wrong_acknowledgement", treat.wrong_acknowledgement, "forward", ACK, quiet=True),
     collected("forward_acknowledgement_without_end", treat.acknowledgement_without_end, "forward", ACK),
-    collected("forward_answers_before_it_reads", treat.answers_before_it_reads, "forward", UNREAD, bursts=True, known=UNREAD, shows="of memory"),
+    collected("forward_answers_before_it_reads", treat.answers_before_it_reads, "forward", UNREAD, bursts=True),
     collected("tcp_answers_before_it_reads", treat.answers_before_it_reads, "tcp", FLIGHTS, bursts=True, known=KNOWN_TCP, shows="don't come to the collector"),
     collected("http_accepts_and_closes", treat.closes, "http", FLIGHTS, quiet=True),
     collected("forward_accepts_and_closes", treat.closes, "forward", FLIGHTS, quiet=True),
@@ -158,8 +171,6 @@ CASES = (
         "http",
         FLIGHTS,
         quiet=True,
-        known="nothing ends the wait for a silent collector, and an output has four flights at a time",
-        shows="no line came to the collector",
     ),
     collected(
         "http_never_answers_and_memory_is_full",
@@ -168,7 +179,7 @@ CASES = (
         "Mem_Buf_Limit: the input is paused where chunks that any output is owed have so many bytes",
         inputs=LIMITED,
         quiet=True,
-        known="an input that is paused for one output is paused for all, and nothing ends the wait for a silent collector",
+        known="an input that is paused for one output is paused for all, however often its chunks are tried again",
         shows="good line",
     ),
     many_chunks_wait_for_a_silent_collector,

@@ -161,6 +161,13 @@ class GoodPeer:
         return max((self.arrivals.at[number] - at for number, at in self.sent.items() if number in self.arrivals.at), default=0)
 
 
+class KeptPeer(GoodPeer):
+    """The same over the connection that it keeps alone."""
+
+    def comes_anew(self):
+        pass
+
+
 class GoodSender(GoodPeer):
     """The same over the forward protocol, where each message is waited for to be acknowledged."""
 
