@@ -14,6 +14,8 @@ mod disk_mem;
 #[cfg(test)]
 mod found;
 #[cfg(test)]
+mod many_open;
+#[cfg(test)]
 mod outcomes;
 #[cfg(test)]
 mod samples;
