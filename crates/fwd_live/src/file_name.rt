@@ -1,6 +1,7 @@
 //! Names of files within a folder.
 
-ghost use Rattle.std.specs.Prelude.{◌≡◌, All, Some, IfOk, IfSome};
+ghost use Rattle.std.specs.Prelude.{◌≡◌, ◌↔◌, List, ℕ, All, Some, IfOk, IfSome};
+ghost use Rattle.std.specs.List.{Contains};
 ghost use Rattle.std.specs.Cmp.{partial_equiv_from_equiv};
 ghost use Rattle.std.specs.Cmp.Lexicographic.{slice_cmp, nat_list_eq_equiv, nat_list_cmp_total, texts_ties, texts_po};
 ghost use Rattle.std.specs.Ordering.{nat_cmp};
@@ -92,10 +93,11 @@ fn copied_names(alloc: Global, files: &[FileName]) -> Result<Names, Memory>
     Ok(names)
 }
 
-/// Names, sorted, each once.
+/// Names, sorted, each once: these and no others.
 pub fn listing(alloc: Global, names: Vec<FileName>) -> Result<Names, Memory>
     requires { All IsFileName names.items }
-    ensures { IfOk result IsListing }
+    ensures sorted { IfOk result IsListing }
+    ensures same { IfOk result (λ listed. (name : List ℕ) → Contains listed name ↔ Contains names.items name) }
 {
     let mut names = names;
     names.sort()?;
