@@ -97,8 +97,8 @@ CHUNKS = 10_000
     64,
     good=GoodSender,
     after=owed_lines_come,
-    known="a walk looks at all rows for each row that is due",
-    shows="of memory|good line|the good peer|don't come to the collector|hadn't ended",
+    known="four flights of an output begin at a tick, so that lines behind 10,000 chunks come late",
+    shows="don't come to the collector",
 )
 def many_chunks_wait_for_a_silent_collector(trial):
     """As many chunks wait as one a second makes in three hours."""
