@@ -260,14 +260,15 @@ def folder_without_rights(room):
     holds(re.fullmatch(r"output file\.0: ok 1 retry [1-9][0-9]* error 0 spent 0 lost 0 taken [0-9]+", report[2]), f"the report is another: {report}")
 
 
-def no_descriptor_left(room):
-    """Of thirty peers some can't be accepted till others go. None is lost, and the program goes on."""
+def peers_leave_descriptors(room):
+    """Of thirty peers some aren't accepted till others go, so descriptors are left for the file. None is lost."""
     port = free_port()
     with Program(room, "descriptors", TO_FILE.format(port=port, path="."), before="ulimit -n 24") as program:
         peers = [program.connect(port) for _ in range(30)]
         for number, peer in enumerate(peers):
             peer.sendall(b'{"n":%d}\n' % number)
-        until(lambda: len(os.listdir(f"/proc/{program.process.pid}/fd")) == 24, "no descriptor is left", 10)
+        until(lambda: len(program.lines("out")) == 12, "half of the descriptors have peers that are heard", 30)
+        left = 24 - len(os.listdir(f"/proc/{program.process.pid}/fd"))
         for peer in peers[:20]:
             peer.close()
         until(lambda: len(program.lines("out")) == 30, "all peers are heard", 30)
@@ -276,6 +277,7 @@ def no_descriptor_left(room):
             peer.close()
         numbers = {int(re.search(rb'"n":([0-9]+)', line)[1]) for line in program.lines("out")}
     holds(status == 0, f"status {status}: {program.stderr().decode(errors='replace')}")
+    holds(left > 0, "peers of the input have all descriptors")
     holds(numbers == set(range(30)), f"of thirty peers {len(numbers)} were heard")
 
 
@@ -303,7 +305,7 @@ def pasted_lines(room):
     holds(program.lines("app.log") == [printed[0].encode()], f"the file has {program.lines('app.log')}")
 
 
-CASES = (lines_of_five_peers, port_that_is_taken, folder_without_rights, no_descriptor_left, so_many_ticks, pasted_lines)
+CASES = (lines_of_five_peers, port_that_is_taken, folder_without_rights, peers_leave_descriptors, so_many_ticks, pasted_lines)
 
 
 def passes(case, room):
