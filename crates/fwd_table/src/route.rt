@@ -11,8 +11,10 @@ ghost use Rattle.fwd_table.specs.Changes.{changed, due_by};
 use fwd_base::limits::MOST_OUTPUTS;
 use fwd_base::{ChunkId, Memory, OutputId};
 use fwd_retry::{Timer, earlier};
+use std::alloc::Global;
 use std::collections::BTreeSet;
 use std::marker::Model;
+use std::mem;
 
 /// An output that a chunk is owed to still.
 #[derive(Clone, Copy, Debug, PartialEq, Eq)]
@@ -168,6 +170,15 @@ impl Routes {
         storage.clear();
         put_routes(&mut storage, owed, MOST_OUTPUTS as u32);
         Routes { routes: storage }
+    }
+
+    /// Moves the routes to storage of just their number, and gives the storage that they had.
+    pub fn tighten(&mut self, alloc: Global) -> Result<Vec<Route>, Memory>
+        ensures { self.new ≡ self.old }
+    {
+        let mut tight = Vec::with_capacity(alloc, self.routes.len())?;
+        tight.extend_from_slice(&self.routes)?;
+        Ok(mem::replace(&mut self.routes, tight))
     }
 
     pub fn is_empty(&self) -> bool
