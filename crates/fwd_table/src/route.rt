@@ -141,14 +141,29 @@ fn change_routes(routes: &mut [Route], output: OutputId, change: Change)
     }
 }
 
+/// A clock reading before which none of the idle routes is due: the first of their due times, where there is one.
+fn soonest_of(routes: &[Route]) -> u64
+    ensures { All (λ r. r.flying ≡ false → result ≤ r.due) routes.now }
+{
+    let mut soonest = u64::MAX;
+    for route in routes {
+        if !route.flying {
+            soonest = soonest.min(route.due);
+        }
+    }
+    soonest
+}
+
 /// The routes of a chunk, by rising output.
 #[derive(Debug, Drop)]
 pub struct Routes {
     routes: Vec<Route>,
+    /// A clock reading in milliseconds before which none of the idle ones is due.
+    soonest: u64,
 }
 
 impl Model for Routes {
-    ghost use Rattle.std.specs.Prelude.{List};
+    ghost use Rattle.std.specs.Prelude.{◌≡◌, ◌≤◌, List, All, false};
     ghost use Rattle.fwd_table.specs.declared.route.Route.{Route};
     ghost use Rattle.fwd_table.specs.Routes.{RiseFrom};
 
@@ -156,7 +171,7 @@ impl Model for Routes {
 
     ghost view = { λ r. r.routes.items };
 
-    ghost invariant = { λ r. RiseFrom 0 r.routes.items };
+    ghost invariant = { λ r. RiseFrom 0 r.routes.items × All (λ route. route.flying ≡ false → r.soonest ≤ route.due) r.routes.items };
 }
 
 impl Routes {
@@ -169,7 +184,11 @@ impl Routes {
     {
         storage.clear();
         put_routes(&mut storage, owed, MOST_OUTPUTS as u32);
-        Routes { routes: storage }
+        let soonest = soonest_of(&storage);
+        Routes {
+            routes: storage,
+            soonest,
+        }
     }
 
     /// Moves the routes to storage of just their number, and gives the storage that they had.
@@ -226,6 +245,7 @@ impl Routes {
         ensures { self.new ≡ map (due_at due) self.old }
     {
         begin_routes(&mut self.routes, due);
+        self.soonest = soonest_of(&self.routes);
     }
 
     /// Changes the route to an output, if it is owed.
@@ -233,6 +253,7 @@ impl Routes {
         ensures { self.new ≡ on_output output (changed change) self.old }
     {
         change_routes(&mut self.routes, output, change);
+        self.soonest = soonest_of(&self.routes);
     }
 
     /// Takes the route to an output away, if it is owed.
@@ -240,6 +261,7 @@ impl Routes {
         ensures { self.new ≡ without_output output self.old }
     {
         self.routes.retain(|route| route.output != output);
+        self.soonest = soonest_of(&self.routes);
     }
 
     /// The mask of the outputs.
@@ -288,17 +310,11 @@ impl Routes {
         first
     }
 
-    /// A clock reading before which none of the idle routes is due: the first of their due times, where there is one.
+    /// A clock reading before which none of the idle routes is due.
     pub fn soonest(&self) -> u64
         ensures { All (λ r. r.flying ≡ false → result ≤ r.due) self.now }
     {
-        let mut soonest = u64::MAX;
-        for route in &self.routes {
-            if !route.flying {
-                soonest = soonest.min(route.due);
-            }
-        }
-        soonest
+        self.soonest
     }
 
     /// Puts the timers of the idle routes that are due at `now` to others.
@@ -310,6 +326,9 @@ impl Routes {
     ) -> Result<(), Memory>
         ensures { OnOk result (timers.new.keys ≡ fold (insert_key by_time) timers.old.keys (filter (λ (t : Timer). nat_le t.due now) (idle_timers chunk self.now))) }
     {
+        if now < self.soonest {
+            return Ok(());
+        }
         for route in &self.routes {
             if !route.flying && route.due <= now {
                 timers.insert(route.timer(chunk))?;
