@@ -8,15 +8,17 @@ ghost use Rattle.fwd_written.specs.Routes.{route};
 ghost use Rattle.fwd_written.specs.Payloads.{delivery_to, message_to, silent, answered};
 ghost use Rattle.fwd_out_http.specs.Request.{http_payload};
 ghost use Rattle.fwd_out_http.specs.Reply.{http_judged};
+ghost use Rattle.fwd_delivery.specs.Content.{MadeOf};
 ghost use Rattle.fwd_delivery.specs.Reader.{Delivers, IsFor};
 
 use crate::Reader;
+use crate::sizes::may_be_handed;
 use fwd_base::{Bytes, ChunkId, Form, Memory, OutputId};
-use fwd_event::Events;
+use fwd_event::{Events, whole_prefix};
 use fwd_flush::Flush;
 use fwd_out_http::{HttpReader, payload_http};
 use fwd_out_net::{EndReader, chunk_id, entries_are_short};
-use fwd_out_text::payload_text;
+use fwd_out_text::payload_of_content;
 use fwd_settings::OutputKind;
 use fwd_wire::write_forward;
 use std::alloc::Global;
@@ -27,19 +29,35 @@ struct Parcel {
     reader: Reader,
 }
 
-/// A text, to which nothing is answered.
-fn text(alloc: Global, form: Form, tag: &[u8], events: &Events) -> Result<Parcel, Memory>
-    requires { All EventFits events.now }
-    ensures { IfOk result (λ parcel. Delivers (silent (payload_of form tag.now events.now)) parcel.payload parcel.reader) }
+/// The events that bytes spell; none where they are no list of events. There is no memory for events of 2^32 bytes or more.
+fn events_of(alloc: Global, content: &[u8]) -> Result<Option<Events>, Memory>
+    ensures { MadeOf content.now (λ events read. (read ≡ events) × All EventFits events × (length (spelled events) < 2 ^ 32)) result }
 {
-    Ok(Parcel {
-        payload: payload_text(alloc, form, tag, events)?,
-        reader: Reader::End(EndReader::Quiet),
-    })
+    let (events, length) = whole_prefix(alloc, content)?;
+    if length != content.len() as u64 {
+        return Ok(None);
+    }
+    if !may_be_handed(&events) {
+        return Err(Memory);
+    }
+    Ok(Some(events))
+}
+
+/// A text, to which nothing is answered.
+fn text(alloc: Global, form: Form, tag: &[u8], content: &[u8]) -> Result<Option<Parcel>, Memory>
+    ensures { MadeOf content.now (λ events parcel. Delivers (silent (payload_of form tag.now events)) parcel.payload parcel.reader) result }
+{
+    match payload_of_content(alloc, form, tag, content)? {
+        Some(payload) => Ok(Some(Parcel {
+            payload,
+            reader: Reader::End(EndReader::Quiet),
+        })),
+        None => Ok(None),
+    }
 }
 
 /// A forward message, which asks for an acknowledgement where one is wanted.
-fn message(
+fn message_with(
     alloc: Global,
     ack: bool,
     whole_time: bool,
@@ -69,8 +87,28 @@ fn message(
     }
 }
 
+/// The same of the events that bytes spell.
+fn message(
+    alloc: Global,
+    ack: bool,
+    whole_time: bool,
+    tag: &[u8],
+    chunk: ChunkId,
+    output: OutputId,
+    content: &[u8],
+) -> Result<Option<Parcel>, Memory>
+    requires { length tag.now < 2 ^ 32 }
+    ensures { MadeOf content.now (λ events parcel. Delivers (message_to ack whole_time tag.now (route chunk.0 output.0) events) parcel.payload parcel.reader) result }
+{
+    let Some(events) = events_of(alloc, content)? else {
+        return Ok(None);
+    };
+    let parcel = message_with(alloc, ack, whole_time, tag, chunk, output, &events)?;
+    Ok(Some(parcel))
+}
+
 /// A request over HTTP, whose reply is read.
-fn request(
+fn request_with(
     alloc: Global,
     host: &[u8],
     port: u16,
@@ -88,6 +126,25 @@ fn request(
     })
 }
 
+/// The same of the events that bytes spell.
+fn request(
+    alloc: Global,
+    host: &[u8],
+    port: u16,
+    uri: &[u8],
+    form: Form,
+    tag: &[u8],
+    content: &[u8],
+) -> Result<Option<Parcel>, Memory>
+    ensures { MadeOf content.now (λ events parcel. Delivers (answered (http_payload host.now port uri.now form tag.now events) http_judged) parcel.payload parcel.reader) result }
+{
+    let Some(events) = events_of(alloc, content)? else {
+        return Ok(None);
+    };
+    let parcel = request_with(alloc, host, port, uri, form, tag, &events)?;
+    Ok(Some(parcel))
+}
+
 /// What an output of a kind is handed, and who reads its reply.
 fn packed(
     alloc: Global,
@@ -95,22 +152,20 @@ fn packed(
     tag: &[u8],
     chunk: ChunkId,
     output: OutputId,
-    events: &Events,
-) -> Result<Parcel, Memory>
-    requires fits { All EventFits events.now }
-    requires tag { length tag.now < 2 ^ 32 }
-    requires size { length (spelled events.now) < 2 ^ 32 }
-    ensures { IfOk result (λ parcel. Delivers (delivery_to kind.now tag.now (route chunk.0 output.0) events.now) parcel.payload parcel.reader) }
+    content: &[u8],
+) -> Result<Option<Parcel>, Memory>
+    requires { length tag.now < 2 ^ 32 }
+    ensures { MadeOf content.now (λ events parcel. Delivers (delivery_to kind.now tag.now (route chunk.0 output.0) events) parcel.payload parcel.reader) result }
 {
     match kind {
         OutputKind::Stdout { form }
         | OutputKind::File { form, .. }
-        | OutputKind::Tcp { form, .. } => text(alloc, *form, tag, events),
+        | OutputKind::Tcp { form, .. } => text(alloc, *form, tag, content),
         OutputKind::Forward {
             ack,
             whole_time,
             ..
-        } => message(alloc, *ack, *whole_time, tag, chunk, output, events),
+        } => message(alloc, *ack, *whole_time, tag, chunk, output, content),
         OutputKind::Http {
             host,
             port,
@@ -123,26 +178,26 @@ fn packed(
             uri.as_slice(),
             *form,
             tag,
-            events,
+            content,
         ),
     }
 }
 
-/// A flight that hands the events of a chunk of this tag to an output of a kind. It isn't started. The events have
-/// spellings of their own, of less than 2^32 bytes together.
+/// A flight that hands the events which a chunk's content spells to an output of a kind; none where the content is no
+/// list of events. It isn't started. There is no memory for a forward message or a request of 2^32 bytes or more.
 pub fn deliver(
     alloc: Global,
     kind: &OutputKind,
     tag: &[u8],
     chunk: ChunkId,
     output: OutputId,
-    events: &Events,
-) -> Result<Flush<Reader>, Memory>
-    requires fits { All EventFits events.now }
-    requires tag { length tag.now < 2 ^ 32 }
-    requires size { length (spelled events.now) < 2 ^ 32 }
-    ensures { IfOk result (IsFor (delivery_to kind.now tag.now (route chunk.0 output.0) events.now) output) }
+    content: &[u8],
+) -> Result<Option<Flush<Reader>>, Memory>
+    requires { length tag.now < 2 ^ 32 }
+    ensures { MadeOf content.now (λ events flush. IsFor (delivery_to kind.now tag.now (route chunk.0 output.0) events) output flush) result }
 {
-    let Parcel { payload, reader } = packed(alloc, kind, tag, chunk, output, events)?;
-    Ok(Flush::new(alloc, output, payload, reader))
+    match packed(alloc, kind, tag, chunk, output, content)? {
+        Some(Parcel { payload, reader }) => Ok(Some(Flush::new(alloc, output, payload, reader))),
+        None => Ok(None),
+    }
 }

@@ -7,6 +7,7 @@
 
 mod delivering;
 mod replies;
+mod sizes;
 
 pub use delivering::deliver;
 pub use fwd_flush::Flush;

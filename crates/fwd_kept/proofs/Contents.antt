@@ -18,7 +18,7 @@ use Rattle.fwd_chunk.specs.Layout.{part}
 use Rattle.fwd_kept.specs.declared.kept.Kept.{Kept}
 use Rattle.fwd_kept.specs.declared.kept.Kept.TheVariants.{InFile, Adopted, InMemory}
 use Rattle.fwd_kept.specs.declared.content.PartErr.TheVariants.{DiskFailed, Damaged, Memory}
-use Rattle.fwd_kept.specs.Content.{piece, piece_read, reads_on, ContentRead, EventsRead, AreRead, Gives, reads_content, IsContentOf, StandsIn, AreKept, IsGiven, AreGiven}
+use Rattle.fwd_kept.specs.Content.{piece, piece_read, reads_on, ContentRead, EventsRead, AreAsMany, AreRead, Gives, reads_content, IsContentOf, StandsIn, AreKept, IsGiven, AreGiven}
 use Rattle.fwd_kept.specs.Kept.{size_of}
 use Rattle.fwd_kept.specs.declared.content.PartErr.{PartErr}
 
@@ -185,6 +185,22 @@ events_as_they_stand a b kept content (Err (Damaged all got)) are gives =
     (λ first last q. events_judged kept content gives.0 (Err (Damaged all got)) are gives.2 (q gives.0 refl))
 events_as_they_stand a b kept content (Err DiskFailed) are gives = λ given before since is_old is_new first last ends good went. tt
 events_as_they_stand a b kept content (Err Memory) are gives = λ given before since is_old is_new first last ends good went. tt
+
+bytes_judged : (kept : Kept) (content read : List ℕ) (r : ContentRead) → AreKept kept content → AreAsMany (size_of kept) read r → read ≡ content → IsGiven content r
+bytes_judged kept content read (Ok bytes) are is same = is.0 ∙ same
+bytes_judged kept content read (Err (Damaged all got)) are is same = is.2 (is.1 ∙ ap length same ∙ are.long)
+bytes_judged kept content read (Err DiskFailed) are is same = tt
+bytes_judged kept content read (Err Memory) are is same = tt
+
+pub bytes_as_they_stand : (a b : DiskTold) (kept : Kept) (content : List ℕ) (r : ContentRead) → AreKept kept content → Gives a b (reads_content kept) (AreAsMany (size_of kept)) r → DiskAfter a b (StandsIn kept content) (λ _ _. IsGiven content r)
+bytes_as_they_stand a b kept content (Ok bytes) are gives =
+    after_did Steps stood a b (reads_content kept) (Some gives.0) (StandsIn kept content) (λ first now. now ≡ first) (λ _. Only content) (λ _ _. IsGiven content (Ok bytes)) gives.1 (holds_content kept content)
+    (λ first last q. bytes_judged kept content gives.0 (Ok bytes) are gives.2 (q gives.0 refl))
+bytes_as_they_stand a b kept content (Err (Damaged all got)) are gives =
+    after_did Steps stood a b (reads_content kept) (Some gives.0) (StandsIn kept content) (λ first now. now ≡ first) (λ _. Only content) (λ _ _. IsGiven content (Err (Damaged all got))) gives.1 (holds_content kept content)
+    (λ first last q. bytes_judged kept content gives.0 (Err (Damaged all got)) are gives.2 (q gives.0 refl))
+bytes_as_they_stand a b kept content (Err DiskFailed) are gives = λ given before since is_old is_new first last ends good went. tt
+bytes_as_they_stand a b kept content (Err Memory) are gives = λ given before since is_old is_new first last ends good went. tt
 
 -- what is in memory is read at once
 pub read_at_once : (a : DiskTold) (kept : Kept) (content bytes : List ℕ) (n : ℕ) (r : EventsRead) → kept ≡ InMemory content → bytes ≡ content → n ≡ length content → AreRead n bytes r → Gives a a (reads_content kept) (AreRead (size_of kept)) r

@@ -45,6 +45,13 @@ IsJudged kept bytes (Err (Damaged all got)) = (all ≡ kept) × (got ≢ kept) �
 IsJudged kept bytes (Err DiskFailed) = ⊥
 IsJudged kept bytes (Err Memory) = Unit {0}
 
+-- the same, where they are given as they were read, whatever they spell
+abbrev pub AreAsMany : ℕ → List ℕ → ContentRead → Type 0
+AreAsMany kept bytes (Ok content) = (content ≡ bytes) × (length bytes ≡ kept)
+AreAsMany kept bytes (Err (Damaged all got)) = (all ≡ kept) × (got ≡ length bytes) × (got ≢ kept)
+AreAsMany kept bytes (Err DiskFailed) = ⊥
+AreAsMany kept bytes (Err Memory) = Unit {0}
+
 abbrev pub EventsRead : Type 0
 EventsRead = Result (List Event) PartErr
 

@@ -6,7 +6,7 @@ ghost use Rattle.fwd_program.specs.Cause.{HasCause};
 ghost use Rattle.fwd_outside.specs.Disk.{disk_outcome};
 ghost use Rattle.fwd_outside.specs.declared.errors.DiskErr.TheVariants.{Failed};
 ghost use Rattle.fwd_kept.specs.declared.content.PartErr.TheVariants as part_err;
-ghost use Rattle.fwd_kept.specs.Content.{reads_part, IsJudged, AreRead, Gives};
+ghost use Rattle.fwd_kept.specs.Content.{reads_part, IsJudged, AreAsMany, AreRead, Gives};
 
 use fwd_base::limits::LONGEST_PIECE;
 use fwd_event::{Events, whole_prefix};
@@ -19,8 +19,8 @@ use thiserror::Error;
 pub enum PartErr {
     #[error("the disk has failed")]
     DiskFailed,
-    /// The file doesn't have the content that the store keeps count of: of what was read, so many bytes are whole events,
-    /// where so many are kept.
+    /// The file doesn't have the content that the store keeps count of: of what was read, so many bytes are whole events, or
+    /// there, where so many are kept.
     #[error("of {kept} bytes of content {got} are whole events")]
     Damaged { kept: u64, got: u64 },
     #[error("out of memory")]
@@ -88,6 +88,37 @@ pub fn read_back<D: Disk>(
 {
     match read_part(alloc, disk, name, from, kept) {
         Ok(bytes) => judge(alloc, bytes, kept),
+        Err(DiskErr::Failed) => Err(PartErr::DiskFailed),
+        Err(DiskErr::Memory) => Err(PartErr::Memory),
+    }
+}
+
+/// The bytes, where they are as many as are kept.
+fn as_many(bytes: Bytes, kept: u64) -> Result<Bytes, PartErr>
+    ensures { AreAsMany kept bytes result }
+{
+    let got = bytes.len() as u64;
+    if got == kept {
+        Ok(bytes)
+    } else {
+        Err(PartErr::Damaged { kept, got })
+    }
+}
+
+/// Reads as many bytes of a file from an offset on as are kept, and gives them as they are.
+pub fn read_bytes<D: Disk>(
+    alloc: Global,
+    disk: &mut D,
+    name: &[u8],
+    from: u64,
+    kept: u64,
+) -> Result<Bytes, PartErr>
+    requires { from + kept < 2 ^ 64 }
+    ensures calls { Gives (D.told disk.old) (D.told disk.new) (reads_part name.now from kept) (AreAsMany kept) result }
+    ensures cause { HasCause (D.faults disk.old) (D.faults disk.new) (IsErrOf result part_err.DiskFailed) }
+{
+    match read_part(alloc, disk, name, from, kept) {
+        Ok(bytes) => as_many(bytes, kept),
         Err(DiskErr::Failed) => Err(PartErr::DiskFailed),
         Err(DiskErr::Memory) => Err(PartErr::Memory),
     }

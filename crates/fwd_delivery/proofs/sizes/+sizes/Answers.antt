@@ -2,8 +2,8 @@ use Rattle.std.proofs.Common.{arith, add-one}
 use Rattle.std.specs.Prelude.{pos}
 use Rattle.fwd_value.specs.Val.{vals_of, entries_of}
 use Rattle.fwd_msgpack.proofs.Writing.{value_weighs_less, pair_weighs_less}
-use Rattle.fwd_flying.proofs.Spelled.{whole_size, text_size, bin_size, ext_size, list_size, map_size, values_size, pairs_size}
-use Rattle.fwd_flying.proofs.sizes.+sizes.Goals as goal
+use Rattle.fwd_delivery.proofs.Spelled.{whole_size, text_size, bin_size, ext_size, list_size, map_size, values_size, pairs_size}
+use Rattle.fwd_delivery.proofs.sizes.+sizes.Goals as goal
 
 pub size_of-returns-in-Uint : goal.size_of-returns-in-Uint
 size_of-returns-in-Uint t c = rw c.in-Uint.is (omega (arith, whole_size (pos c.in-Uint.field-0)))

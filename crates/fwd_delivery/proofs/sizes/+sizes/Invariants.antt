@@ -3,7 +3,7 @@ use Rattle.fwd_value.specs.Val.{vals_of, entries_of}
 use Rattle.fwd_value.specs.View.{val_of, pair_of}
 use Rattle.fwd_value.specs.Weight.{weight, weights, entry_weights}
 use Rattle.fwd_msgpack.specs.Canonical.{canonical_all, canonical_entries}
-use Rattle.fwd_flying.proofs.sizes.+sizes.Given as goal
+use Rattle.fwd_delivery.proofs.sizes.+sizes.Given as goal
 
 abbrev pub decreases-size_of : goal.decreases-size_of
 decreases-size_of l = weight (val_of l.value.now)

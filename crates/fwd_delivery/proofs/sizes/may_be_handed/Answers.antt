@@ -1,6 +1,6 @@
 use Rattle.std.proofs.Common.{arith, add-one}
-use Rattle.fwd_flying.proofs.Spelled.{events_size, events_fit}
-use Rattle.fwd_flying.proofs.sizes.may_be_handed.Goals as goal
+use Rattle.fwd_delivery.proofs.Spelled.{events_size, events_fit}
+use Rattle.fwd_delivery.proofs.sizes.may_be_handed.Goals as goal
 
 pub loop-event-preserved : goal.loop-event-preserved
 loop-event-preserved c =

@@ -1,7 +1,7 @@
 use Rattle.std.proofs.Common.{arith}
 use Rattle.fwd_value.specs.Val.{entries_of}
-use Rattle.fwd_flying.proofs.Spelled.{map_size, event_size}
-use Rattle.fwd_flying.proofs.sizes.event_size.Goals as goal
+use Rattle.fwd_delivery.proofs.Spelled.{map_size, event_size}
+use Rattle.fwd_delivery.proofs.sizes.event_size.Goals as goal
 
 pub returns : goal.returns
 returns c =
