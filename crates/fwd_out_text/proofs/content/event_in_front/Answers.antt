@@ -1,0 +1,7 @@
+use Rattle.std.proofs.Common.{sym}
+use Rattle.fwd_value.specs.View.{val_of}
+use Rattle.fwd_event.proofs.Found.{value_found}
+use Rattle.fwd_out_text.proofs.content.event_in_front.Goals as goal
+
+pub returns-in-Some-clause-given : goal.returns-in-Some-clause-given
+returns-in-Some-clause-given c = (val_of c.in-Ok.value, value_found (c.in-Ok.value, c.in-Ok.length) c.args.bytes.now c.in-Ok.ensures.value, sym c.in-Some.ensures)
