@@ -52,16 +52,6 @@ AreAsMany kept bytes (Err (Damaged all got)) = (all ≡ kept) × (got ≡ length
 AreAsMany kept bytes (Err DiskFailed) = ⊥
 AreAsMany kept bytes (Err Memory) = Unit {0}
 
-abbrev pub EventsRead : Type 0
-EventsRead = Result (List Event) PartErr
-
--- the same, where their events are given
-abbrev pub AreRead : ℕ → List ℕ → EventsRead → Type 0
-AreRead kept bytes (Ok events) = (length bytes ≡ kept) × AreEvents events bytes
-AreRead kept bytes (Err (Damaged all got)) = (all ≡ kept) × (got ≢ kept) × (events : List Event) × IsWholePrefix events got bytes
-AreRead kept bytes (Err DiskFailed) = ⊥
-AreRead kept bytes (Err Memory) = Unit {0}
-
 -- The calls are those of the program, to its end; a failure is told, and the bytes that it gave are judged. For want of
 -- memory the calls may have ended before.
 abbrev pub Gives : {T : Type 0} → DiskTold → DiskTold → DiskProgram (Option (List ℕ)) → (List ℕ → Result T PartErr → Type 0) → Result T PartErr → Type 0
@@ -97,9 +87,3 @@ abbrev pub IsGiven : List ℕ → ContentRead → Type 0
 IsGiven content (Ok bytes) = bytes ≡ content
 IsGiven content (Err (Damaged kept got)) = ⊥
 IsGiven content (Err refusal) = Unit {0}
-
--- the events of this content were given, or none for want of memory or a failure of the disk
-abbrev pub AreGiven : List ℕ → EventsRead → Type 0
-AreGiven content (Ok events) = AreEvents events content
-AreGiven content (Err (Damaged kept got)) = ⊥
-AreGiven content (Err refusal) = Unit {0}

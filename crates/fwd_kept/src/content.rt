@@ -6,10 +6,10 @@ ghost use Rattle.fwd_program.specs.Cause.{HasCause};
 ghost use Rattle.fwd_outside.specs.Disk.{disk_outcome};
 ghost use Rattle.fwd_outside.specs.declared.errors.DiskErr.TheVariants.{Failed};
 ghost use Rattle.fwd_kept.specs.declared.content.PartErr.TheVariants as part_err;
-ghost use Rattle.fwd_kept.specs.Content.{reads_part, IsJudged, AreAsMany, AreRead, Gives};
+ghost use Rattle.fwd_kept.specs.Content.{reads_part, IsJudged, AreAsMany, Gives};
 
 use fwd_base::limits::LONGEST_PIECE;
-use fwd_event::{Events, whole_prefix};
+use fwd_event::whole_prefix;
 use fwd_outside::{Bytes, Disk, DiskErr, Memory};
 use std::alloc::Global;
 use thiserror::Error;
@@ -119,38 +119,6 @@ pub fn read_bytes<D: Disk>(
 {
     match read_part(alloc, disk, name, from, kept) {
         Ok(bytes) => as_many(bytes, kept),
-        Err(DiskErr::Failed) => Err(PartErr::DiskFailed),
-        Err(DiskErr::Memory) => Err(PartErr::Memory),
-    }
-}
-
-/// The events of bytes that are whole events, as many bytes as are kept.
-pub fn events_of(alloc: Global, bytes: &[u8], kept: u64) -> Result<Events, PartErr>
-    requires { length bytes.now ≤ kept }
-    ensures { AreRead kept bytes.now result }
-{
-    let (events, got) = whole_prefix(alloc, bytes)?;
-    if got == kept {
-        Ok(events)
-    } else {
-        Err(PartErr::Damaged { kept, got })
-    }
-}
-
-/// The same of bytes of a file from an offset on.
-pub fn read_events<D: Disk>(
-    alloc: Global,
-    disk: &mut D,
-    name: &[u8],
-    from: u64,
-    kept: u64,
-) -> Result<Events, PartErr>
-    requires { from + kept < 2 ^ 64 }
-    ensures calls { Gives (D.told disk.old) (D.told disk.new) (reads_part name.now from kept) (AreRead kept) result }
-    ensures cause { HasCause (D.faults disk.old) (D.faults disk.new) (IsErrOf result part_err.DiskFailed) }
-{
-    match read_part(alloc, disk, name, from, kept) {
-        Ok(bytes) => events_of(alloc, bytes.as_slice(), kept),
         Err(DiskErr::Failed) => Err(PartErr::DiskFailed),
         Err(DiskErr::Memory) => Err(PartErr::Memory),
     }
