@@ -12,13 +12,13 @@ ghost use Rattle.fwd_delivery.specs.Content.{MadeOf};
 ghost use Rattle.fwd_delivery.specs.Reader.{Delivers, IsFor};
 
 use crate::Reader;
+use crate::content::Content;
 use crate::sizes::may_be_handed;
 use fwd_base::{Bytes, ChunkId, Form, Memory, OutputId};
 use fwd_event::{Events, whole_prefix};
 use fwd_flush::Flush;
 use fwd_out_http::{HttpReader, payload_http};
 use fwd_out_net::{EndReader, chunk_id, entries_are_short};
-use fwd_out_text::payload_of_content;
 use fwd_settings::OutputKind;
 use fwd_wire::write_forward;
 use std::alloc::Global;
@@ -44,10 +44,17 @@ fn events_of(alloc: Global, content: &[u8]) -> Result<Option<Events>, Memory>
 }
 
 /// A text, to which nothing is answered.
-fn text(alloc: Global, form: Form, tag: &[u8], content: &[u8]) -> Result<Option<Parcel>, Memory>
-    ensures { MadeOf content.now (λ events parcel. Delivers (silent (payload_of form tag.now events)) parcel.payload parcel.reader) result }
+fn text(
+    alloc: Global,
+    form: Form,
+    tag: &[u8],
+    content: &mut Content,
+    is_shared: bool,
+) -> Result<Option<Parcel>, Memory>
+    ensures text { MadeOf content.old (λ events parcel. Delivers (silent (payload_of form tag.now events)) parcel.payload parcel.reader) result }
+    ensures same { content.new ≡ content.old }
 {
-    match payload_of_content(alloc, form, tag, content)? {
+    match content.text(alloc, form, tag, is_shared)? {
         Some(payload) => Ok(Some(Parcel {
             payload,
             reader: Reader::End(EndReader::Quiet),
@@ -152,20 +159,30 @@ fn packed(
     tag: &[u8],
     chunk: ChunkId,
     output: OutputId,
-    content: &[u8],
+    content: &mut Content,
+    is_shared: bool,
 ) -> Result<Option<Parcel>, Memory>
     requires { length tag.now < 2 ^ 32 }
-    ensures { MadeOf content.now (λ events parcel. Delivers (delivery_to kind.now tag.now (route chunk.0 output.0) events) parcel.payload parcel.reader) result }
+    ensures parcel { MadeOf content.old (λ events parcel. Delivers (delivery_to kind.now tag.now (route chunk.0 output.0) events) parcel.payload parcel.reader) result }
+    ensures same { content.new ≡ content.old }
 {
     match kind {
         OutputKind::Stdout { form }
         | OutputKind::File { form, .. }
-        | OutputKind::Tcp { form, .. } => text(alloc, *form, tag, content),
+        | OutputKind::Tcp { form, .. } => text(alloc, *form, tag, content, is_shared),
         OutputKind::Forward {
             ack,
             whole_time,
             ..
-        } => message(alloc, *ack, *whole_time, tag, chunk, output, content),
+        } => message(
+            alloc,
+            *ack,
+            *whole_time,
+            tag,
+            chunk,
+            output,
+            content.as_slice(),
+        ),
         OutputKind::Http {
             host,
             port,
@@ -178,25 +195,28 @@ fn packed(
             uri.as_slice(),
             *form,
             tag,
-            content,
+            content.as_slice(),
         ),
     }
 }
 
 /// A flight that hands the events which a chunk's content spells to an output of a kind; none where the content is no
-/// list of events. It isn't started. There is no memory for a forward message or a request of 2^32 bytes or more.
+/// list of events. It isn't started. A text is made once for outputs that want the same of a content, if it is said to be
+/// shared. There is no memory for a forward message or a request of 2^32 bytes or more.
 pub fn deliver(
     alloc: Global,
     kind: &OutputKind,
     tag: &[u8],
     chunk: ChunkId,
     output: OutputId,
-    content: &[u8],
+    content: &mut Content,
+    is_shared: bool,
 ) -> Result<Option<Flush<Reader>>, Memory>
     requires { length tag.now < 2 ^ 32 }
-    ensures { MadeOf content.now (λ events flush. IsFor (delivery_to kind.now tag.now (route chunk.0 output.0) events) output flush) result }
+    ensures flush { MadeOf content.old (λ events flush. IsFor (delivery_to kind.now tag.now (route chunk.0 output.0) events) output flush) result }
+    ensures same { content.new ≡ content.old }
 {
-    match packed(alloc, kind, tag, chunk, output, content)? {
+    match packed(alloc, kind, tag, chunk, output, content, is_shared)? {
         Some(Parcel { payload, reader }) => Ok(Some(Flush::new(alloc, output, payload, reader))),
         None => Ok(None),
     }

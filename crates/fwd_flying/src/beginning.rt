@@ -14,7 +14,7 @@ ghost use Rattle.fwd_parts.specs.Heard.{IsUnheard};
 
 use crate::landing::land;
 use fwd_base::{Bytes, Memory, OutputId};
-use fwd_delivery::{Flush, Reader, deliver};
+use fwd_delivery::{Content, Flush, Reader, deliver};
 use fwd_event::whole_prefix;
 use fwd_kept::PartErr;
 use fwd_out_net::EndReader;
@@ -31,14 +31,24 @@ fn packed(
     alloc: Global,
     route: RouteId,
     tag: &[u8],
-    content: &[u8],
+    content: &mut Content,
+    is_shared: bool,
 ) -> Result<Option<Flush<Reader>>, Memory>
     requires { length tag.now < 2 ^ 32 }
-    ensures { MadeOf content.now (λ events flush. IsFor (delivery_at (output_at run.now route.output.0) tag.now (route_of route) events) route.output flush) result }
+    ensures flush { MadeOf content.old (λ events flush. IsFor (delivery_at (output_at run.now route.output.0) tag.now (route_of route) events) route.output flush) result }
+    ensures same { content.new ≡ content.old }
 {
     match run.output(route.output) {
-        Some(output) => deliver(alloc, &output.kind, tag, route.chunk, route.output, content),
-        None => nothing(alloc, route.output, content),
+        Some(output) => deliver(
+            alloc,
+            &output.kind,
+            tag,
+            route.chunk,
+            route.output,
+            content,
+            is_shared,
+        ),
+        None => nothing(alloc, route.output, content.as_slice()),
     }
 }
 
@@ -61,16 +71,18 @@ fn new_flush(
     run: &RunSettings,
     state: &State,
     route: RouteId,
-    content: &[u8],
+    content: &mut Content,
 ) -> Result<Option<Flush<Reader>>, Memory>
-    ensures { MadeOf content.now (λ events flush. Tells state.now (λ s h. s ≡ run.now → is_idle s h (route_of route) ≡ true
+    ensures flush { MadeOf content.old (λ events flush. Tells state.now (λ s h. s ≡ run.now → is_idle s h (route_of route) ≡ true
         → IsFor (delivery_at (output_at s route.output.0) (tag_for h route.chunk.0) (route_of route) events) route.output flush)) result }
+    ensures same { content.new ≡ content.old }
 {
     let tag = state.table().tag_of(route.chunk);
     if tag.len() as u64 > u64::from(u32::MAX) {
         return Err(Memory);
     }
-    packed(run, state.alloc(), route, tag, content)
+    let is_shared = state.table().owed(route.chunk).count_ones() > 1;
+    packed(run, state.alloc(), route, tag, content, is_shared)
 }
 
 /// A flight of an idle route begins, which hands over what the content spells. Where that is no list of events, the route
@@ -81,10 +93,10 @@ fn hand_over<L: Loop, D: Disk>(
     outside: &mut L,
     disk: &mut D,
     route: RouteId,
-    content: &[u8],
+    content: &mut Content,
 ) -> Result<(), Memory>
     ensures acts { ActsWhere run.now (with_both (L.told outside.old) (D.told disk.old)) (with_both (L.told outside.new) (D.told disk.new)) parts.old parts.new
-        (λ h. is_idle run.now h (route_of route) ≡ true) (λ h. read_behind run.now (route_of route) (length content.now) h (Some content.now)) result }
+        (λ h. is_idle run.now h (route_of route) ≡ true) (λ h. read_behind run.now (route_of route) (length content.old) h (Some content.old)) result }
     ensures unheard { IsUnheard (L.counts outside.old) (L.counts outside.new) }
     ensures later { L.faults outside.old ≤ L.faults outside.new }
     ensures disk_later { D.faults disk.old ≤ D.faults disk.new }
@@ -107,13 +119,15 @@ fn hand_over<L: Loop, D: Disk>(
     land(run, parts, outside, disk, flight, 0, poll)
 }
 
-/// A flight of an idle route begins. Where its content can't be read, or isn't what is kept count of, the route stays idle.
+/// A flight of an idle route begins, with the content that is read. Where that can't be read, or isn't what is kept count
+/// of, the route stays idle.
 pub fn begin<L: Loop, D: Disk>(
     run: &RunSettings,
     parts: &mut Parts,
     outside: &mut L,
     disk: &mut D,
     route: RouteId,
+    content: &mut Content,
 ) -> Result<(), Memory>
     ensures acts { ActsWhere run.now (with_both (L.told outside.old) (D.told disk.old)) (with_both (L.told outside.new) (D.told disk.new)) parts.old parts.new
         (λ h. is_idle run.now h (route_of route) ≡ true) (λ h. begins run.now (route_of route) h) result }
@@ -126,7 +140,10 @@ pub fn begin<L: Loop, D: Disk>(
     }
     let alloc = parts.state.alloc();
     match parts.store.bytes(alloc, disk, route.chunk) {
-        Ok(content) => hand_over(run, parts, outside, disk, route, content.as_slice()),
+        Ok(bytes) => {
+            content.hold(bytes);
+            hand_over(run, parts, outside, disk, route, content)
+        }
         Err(PartErr::DiskFailed) => {
             parts.state.faults();
             Ok(())

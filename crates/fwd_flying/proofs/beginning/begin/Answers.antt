@@ -24,8 +24,8 @@ returns-in-Ok-clause-acts g c others h shows idle =
     let k = held _ (sym c.holds.ensures ∙ c.if-not-holds.false) in
     let is : kept_of s h r.chunk ≡ Some k.0 = sym (shows.store.chunks r.chunk) ∙ k.1 in
     let w = with_loop (g.L.Loop.told c.args.outside.now) others in
-    let leads = content_leads w _ _ s r h k.0 c.in-Ok.content is shows.sound (c.in-Ok.ensures.calls k.0 k.1) in
-    meets_after _ _ _ _ c.hand_over.result (rw (← c.as_slice.ensures) at leads) (c.hand_over.ensures.acts others h shows idle)
+    let leads = content_leads w _ _ s r h k.0 c.in-Ok.bytes is shows.sound (c.in-Ok.ensures.calls k.0 k.1) in
+    meets_after _ _ _ _ c.hand_over.result (rw (← c.hold.ensures) at leads) (c.hand_over.ensures.acts others h shows idle)
 
 pub returns-in-Err-DiskFailed-clause-acts : goal.returns-in-Err-DiskFailed-clause-acts
 returns-in-Err-DiskFailed-clause-acts g c others h shows idle =

@@ -32,7 +32,7 @@ returns-in_err-flush-clause-acts g c others h shows idle =
 
 pub returns-in_default-clause-acts : goal.returns-in_default-clause-acts
 returns-in_default-clause-acts g c others h shows idle =
-    let none : (events : List Event) → AreEvents events c.args.content.now → ⊥ = rw c.in_default.is at c.in_ok-flush.ensures in
+    let none : (events : List Event) → AreEvents events c.args.content.now → ⊥ = rw c.in_default.is at c.in_ok-flush.ensures.flush in
     rw (no_spelling_waits c.args.run.now (route_of c.args.route) h c.args.content.now none) (acted_idle _ _ h shows)
 
 pub returns-in_err-poll-clause-acts : goal.returns-in_err-poll-clause-acts
@@ -40,7 +40,7 @@ returns-in_err-poll-clause-acts g c others h shows idle =
     let s = c.args.run.now in
     let r = route_of c.args.route in
     let content = c.args.content.now in
-    let spelled = rw c.in-Some.is at c.in_ok-flush.ensures in
+    let spelled = rw c.in-Some.is at c.in_ok-flush.ensures.flush in
     let events = spelled.0 in
     let flush = c.in-Some.flush in
     let made = spelled.2 s h None shows.state refl idle in
@@ -63,7 +63,7 @@ returns-clause-acts g c others h shows idle =
     let s = c.args.run.now in
     let r = route_of c.args.route in
     let content = c.args.content.now in
-    let spelled = rw c.in-Some.is at c.in_ok-flush.ensures in
+    let spelled = rw c.in-Some.is at c.in_ok-flush.ensures.flush in
     let events = spelled.0 in
     let flush = c.in-Some.flush in
     let made = spelled.2 s h None shows.state refl idle in

@@ -11,8 +11,8 @@ use Rattle.fwd_state.proofs.Idle.{idle_has}
 use Rattle.fwd_flying.proofs.Reading.{tag_there, made_more}
 use Rattle.fwd_flying.proofs.beginning.new_flush.Goals as goal
 
-pub returns : goal.returns
-returns c =
+pub returns-clause-flush : goal.returns-clause-flush
+returns-clause-flush c =
     made_more c.args.content.now c.packed.result _ _ (λ events flush made. λ s h out stands same idle.
     let r = route_of c.args.route in
     let tag : c.tag_of-tag.result.now ≡ tag_for h r.chunk =
@@ -20,4 +20,4 @@ returns c =
     ∙ tag_there s h r.chunk stands.numbers (idle_has s h r idle) in
     subst (λ (d : Delivery). IsFor d c.args.route.output flush)
     (λ i. delivery_at (output_at (sym same i) r.output) (tag i) r events) made)
-    c.packed.ensures
+    c.packed.ensures.flush

@@ -11,12 +11,13 @@ use Rattle.fwd_written.specs.Payloads.{delivery_at}
 use Rattle.fwd_state.specs.Sight.{route_of}
 use Rattle.fwd_flying.proofs.beginning.packed.Goals as goal
 
-pub returns-in-Some : goal.returns-in-Some
-returns-in-Some c =
+pub returns-in-Some-clause-flush : goal.returns-in-Some-clause-flush
+returns-in-Some-clause-flush c =
     let at : Some c.in-Some.output.now ≡ output_at c.args.run.now c.args.route.output.0 = sym (ap option_copied c.in-Some.is) ∙ c.output.ensures in
-    subst (λ (o : Option OutputSet). MadeOf c.args.content.now (λ (events : List Event) (flush : Flown Reader). IsFor (delivery_at o c.args.tag.now (route_of c.args.route) events) c.args.route.output flush) c.deliver.result) at c.deliver.ensures
+    subst (λ (o : Option OutputSet). MadeOf c.args.content.now (λ (events : List Event) (flush : Flown Reader). IsFor (delivery_at o c.args.tag.now (route_of c.args.route) events) c.args.route.output flush) c.deliver.result) at c.deliver.ensures.flush
 
-pub returns-in-None : goal.returns-in-None
-returns-in-None c =
+pub returns-in-None-clause-flush : goal.returns-in-None-clause-flush
+returns-in-None-clause-flush c =
     let at : None ≡ output_at c.args.run.now c.args.route.output.0 = sym (ap option_copied c.in-None.is) ∙ c.output.ensures in
-    subst (λ (o : Option OutputSet). MadeOf c.args.content.now (λ (events : List Event) (flush : Flown Reader). IsFor (delivery_at o c.args.tag.now (route_of c.args.route) events) c.args.route.output flush) c.nothing.result) at c.nothing.ensures
+    let made = rw c.as_slice.ensures at c.nothing.ensures in
+    subst (λ (o : Option OutputSet). MadeOf c.args.content.now (λ (events : List Event) (flush : Flown Reader). IsFor (delivery_at o c.args.tag.now (route_of c.args.route) events) c.args.route.output flush) c.nothing.result) at made
