@@ -17,7 +17,7 @@ use crate::sizes::may_be_handed;
 use fwd_base::{Bytes, ChunkId, Form, Memory, OutputId};
 use fwd_event::{Events, whole_prefix};
 use fwd_flush::Flush;
-use fwd_out_http::{HttpReader, payload_http};
+use fwd_out_http::{HttpReader, request_of};
 use fwd_out_net::{EndReader, chunk_id, entries_are_short};
 use fwd_settings::OutputKind;
 use fwd_wire::write_forward;
@@ -115,25 +115,6 @@ fn message(
 }
 
 /// A request over HTTP, whose reply is read.
-fn request_with(
-    alloc: Global,
-    host: &[u8],
-    port: u16,
-    uri: &[u8],
-    form: Form,
-    tag: &[u8],
-    events: &Events,
-) -> Result<Parcel, Memory>
-    requires { All EventFits events.now }
-    ensures { IfOk result (λ parcel. Delivers (answered (http_payload host.now port uri.now form tag.now events.now) http_judged) parcel.payload parcel.reader) }
-{
-    Ok(Parcel {
-        payload: payload_http(alloc, host, port, uri, form, tag, events)?,
-        reader: Reader::Http(HttpReader),
-    })
-}
-
-/// The same of the events that bytes spell.
 fn request(
     alloc: Global,
     host: &[u8],
@@ -141,15 +122,19 @@ fn request(
     uri: &[u8],
     form: Form,
     tag: &[u8],
-    content: &[u8],
+    content: &mut Content,
+    is_shared: bool,
 ) -> Result<Option<Parcel>, Memory>
-    ensures { MadeOf content.now (λ events parcel. Delivers (answered (http_payload host.now port uri.now form tag.now events) http_judged) parcel.payload parcel.reader) result }
+    ensures request { MadeOf content.old (λ events parcel. Delivers (answered (http_payload host.now port uri.now form tag.now events) http_judged) parcel.payload parcel.reader) result }
+    ensures same { content.new ≡ content.old }
 {
-    let Some(events) = events_of(alloc, content)? else {
-        return Ok(None);
-    };
-    let parcel = request_with(alloc, host, port, uri, form, tag, &events)?;
-    Ok(Some(parcel))
+    match content.text(alloc, form, tag, is_shared)? {
+        Some(body) => Ok(Some(Parcel {
+            payload: request_of(alloc, host, port, uri, form, body.as_slice())?,
+            reader: Reader::Http(HttpReader),
+        })),
+        None => Ok(None),
+    }
 }
 
 /// What an output of a kind is handed, and who reads its reply.
@@ -195,14 +180,15 @@ fn packed(
             uri.as_slice(),
             *form,
             tag,
-            content.as_slice(),
+            content,
+            is_shared,
         ),
     }
 }
 
 /// A flight that hands the events which a chunk's content spells to an output of a kind; none where the content is no
 /// list of events. It isn't started. A text is made once for outputs that want the same of a content, if it is said to be
-/// shared. There is no memory for a forward message or a request of 2^32 bytes or more.
+/// shared. There is no memory for a forward message of 2^32 bytes or more.
 pub fn deliver(
     alloc: Global,
     kind: &OutputKind,
