@@ -27,6 +27,10 @@ LeadsMap n rest b = (head : List ℕ) × (b ≡ head ++ rest) × ((es : Entries)
 abbrev pub LeadsBody : ℕ → ℕ → List ℕ → List ℕ → Type 0
 LeadsBody sec nsec rest b = (time : List ℕ) × (b ≡ 146 ∷ 146 ∷ 215 ∷ 0 ∷ (time ++ 128 ∷ rest)) × (length time ≡ 8) × (event_time time ≡ Some (sec, nsec))
 
+-- so begins an event with so many pairs, which come next
+abbrev pub LeadsEvent : ℕ → ℕ → ℕ → List ℕ → List ℕ → Type 0
+LeadsEvent sec nsec count rest b = (body : List ℕ) × LeadsBody sec nsec body b × LeadsMap count rest body
+
 -- how deep what stands in the body of an event may be nested: the event and the body are two deeper
 abbrev pub deepest_member : ℕ
 deepest_member = deepest - 2

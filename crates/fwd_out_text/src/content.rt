@@ -7,7 +7,7 @@ ghost use Rattle.fwd_out_text.specs.Content.{Begins, BeginsNone};
 ghost use Rattle.fwd_out_text.specs.Payload.{record_of, payload_of};
 
 use crate::payload::write_record;
-use crate::straight::write_spelled_line;
+use crate::straight::write_spelled;
 use fwd_base::{Bytes, Form, Memory};
 use fwd_event::{Event, can_write, event_of};
 use fwd_msgpack::{DecodeErr, decode};
@@ -24,6 +24,7 @@ pub fn payload_of_content(
     ensures none { IfOk result (λ payload. payload ≡ None → (events : List Event) → AreEvents events content.now → ⊥) }
 {
     let mut payload = Bytes::new(alloc);
+    payload.reserve(content.len())?;
     if write_content(alloc, form, tag, content, &mut payload)? {
         Ok(Some(payload))
     } else {
@@ -68,26 +69,9 @@ fn write_next(
     ensures none { IfOk result (λ found. found ≡ None → BeginsNone (drop at content.now)) }
 {
     let (_, rest) = content.split_at(at);
-    match write_straight(alloc, form, rest, out)? {
+    match write_spelled(alloc, form, tag, rest, out)? {
         Some(length) => Ok(Some(length)),
         None => write_read(alloc, form, tag, rest, out),
-    }
-}
-
-/// Appends what is written for the event whose spelling begins the bytes, and gives the length of that spelling, where that
-/// can be done without reading the event; appends nothing where none is given.
-fn write_straight(
-    alloc: Global,
-    form: Form,
-    bytes: &[u8],
-    out: &mut Bytes,
-) -> Result<Option<usize>, Memory>
-    ensures given { (tag : List ℕ) → IfOk result (λ found. IfSome found (λ n. (e : Event) × Begins e n bytes.now × (out.new ≡ out.old ++ record_of form tag e))) }
-    ensures none { IfOk result (λ found. found ≡ None → out.new ≡ out.old) }
-{
-    match form {
-        Form::JsonLines => write_spelled_line(alloc, bytes, out),
-        Form::OutFile | Form::MsgPack => Ok(None),
     }
 }
 

@@ -1,7 +1,7 @@
 //! One event as a line of text.
 
 ghost use Rattle.std.specs.Prelude.{◌≡◌, ◌++◌, OnOk};
-ghost use Rattle.fwd_out_text.specs.Payload.{nanoseconds, time_text, date_text, json_line, tagged_line};
+ghost use Rattle.fwd_out_text.specs.Payload.{nanoseconds, time_text, date_text, tag_text, json_line, tagged_line};
 
 use fwd_base::{Bytes, Memory};
 use fwd_event::Event;
@@ -49,6 +49,16 @@ pub fn write_json_line(alloc: Global, event: &Event, out: &mut Bytes) -> Result<
     out.extend_from_slice(b"}\n")
 }
 
+/// Appends `TAG: [TIME, `.
+pub fn write_tag(tag: &[u8], sec: u32, nsec: u32, out: &mut Bytes) -> Result<(), Memory>
+    ensures { OnOk result (out.new ≡ out.old ++ tag_text tag.now sec nsec) }
+{
+    out.extend_from_slice(tag)?;
+    out.extend_from_slice(b": [")?;
+    write_moment(sec, nsec, out)?;
+    out.extend_from_slice(b", ")
+}
+
 /// Appends `TAG: [TIME, BODY]` and a line feed.
 pub fn write_tagged_line(
     alloc: Global,
@@ -58,10 +68,7 @@ pub fn write_tagged_line(
 ) -> Result<(), Memory>
     ensures { OnOk result (out.new ≡ out.old ++ tagged_line tag.now event.now) }
 {
-    out.extend_from_slice(tag)?;
-    out.extend_from_slice(b": [")?;
-    write_moment(event.sec, event.nsec, out)?;
-    out.extend_from_slice(b", ")?;
+    write_tag(tag, event.sec, event.nsec, out)?;
     map_text(alloc, &event.body, out)?;
     out.extend_from_slice(b"]\n")
 }

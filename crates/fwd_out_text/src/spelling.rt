@@ -4,7 +4,7 @@ ghost use Rattle.std.specs.Prelude.{IfSome};
 ghost use Rattle.fwd_value.specs.Val.{text};
 ghost use Rattle.fwd_msgpack.specs.declared.form.Wide.TheVariants.{One, Two, Four};
 ghost use Rattle.fwd_msgpack.specs.declared.form.Count.TheVariants.{Sized};
-ghost use Rattle.fwd_out_text.specs.Spelling.{Leads, LeadsLength, LeadsText, LeadsMap, LeadsBody};
+ghost use Rattle.fwd_out_text.specs.Spelling.{Leads, LeadsLength, LeadsText, LeadsMap, LeadsBody, LeadsEvent};
 
 /// The text whose spelling begins the bytes, and the bytes behind it; none where no text begins them.
 pub fn text_in_front(bytes: &[u8]) -> Option<(&[u8], &[u8])>
@@ -34,7 +34,7 @@ fn text_head(bytes: &[u8]) -> Option<(usize, &[u8])>
 }
 
 /// How many pairs the map has whose spelling begins the bytes, and the bytes behind its head; none where no map begins them.
-pub fn map_head(bytes: &[u8]) -> Option<(usize, &[u8])>
+fn map_head(bytes: &[u8]) -> Option<(usize, &[u8])>
     ensures { IfSome result (λ x. LeadsMap x.0 x.1.now bytes.now) }
 {
     let [first, rest @ ..] = bytes else {
@@ -78,9 +78,19 @@ fn four_bytes(bytes: &[u8]) -> Option<(usize, &[u8])>
     Some((u32::from_be_bytes([*a, *b, *c, *d]) as usize, rest))
 }
 
+/// The event whose spelling begins the bytes, where it is in the form in which events are written and has no metadata: its
+/// time in seconds and nanoseconds, how many pairs its body has, and the bytes from these pairs on.
+pub fn event_head(bytes: &[u8]) -> Option<(u32, u32, usize, &[u8])>
+    ensures { IfSome result (λ x. LeadsEvent x.0 x.1 x.2 x.3.now bytes.now) }
+{
+    let (sec, nsec, body) = body_in_front(bytes)?;
+    let (count, pairs) = map_head(body)?;
+    Some((sec, nsec, count, pairs))
+}
+
 /// The time of the event whose spelling begins the bytes, in seconds and nanoseconds, and the bytes from its body on, where
 /// it is in the form in which events are written and has no metadata.
-pub fn body_in_front(bytes: &[u8]) -> Option<(u32, u32, &[u8])>
+fn body_in_front(bytes: &[u8]) -> Option<(u32, u32, &[u8])>
     ensures { IfSome result (λ x. LeadsBody x.0 x.1 x.2.now bytes.now) }
 {
     let [0x92, 0x92, 0xd7, 0x00, parts @ ..] = bytes else {

@@ -5,8 +5,7 @@ use Rattle.fwd_out_text.proofs.content.write_next.Goals as goal
 
 pub returns-in-Some-clause-given : goal.returns-in-Some-clause-given
 returns-in-Some-clause-given c =
-    let all = c.in_ok-length.ensures.given c.args.tag.now in
-    let found = rw c.in-Some.is at all in
+    let found = rw c.in-Some.is at c.in_ok-length.ensures.given in
     (found.0, subst (λ (b : List ℕ). Begins found.0 c.in-Some.length b) c.split_at.ensures.back found.1, found.2)
 
 pub returns-in-None-clause-none : goal.returns-in-None-clause-none
