@@ -7,6 +7,7 @@ ghost use Rattle.fwd_out_text.specs.Content.{Begins, BeginsNone};
 ghost use Rattle.fwd_out_text.specs.Payload.{record_of, payload_of};
 
 use crate::payload::write_record;
+use crate::straight::write_spelled;
 use fwd_base::{Bytes, Form, Memory};
 use fwd_event::{Event, can_write, event_of};
 use fwd_msgpack::{DecodeErr, decode};
@@ -23,6 +24,7 @@ pub fn payload_of_content(
     ensures none { IfOk result (λ payload. payload ≡ None → (events : List Event) → AreEvents events content.now → ⊥) }
 {
     let mut payload = Bytes::new(alloc);
+    payload.reserve(content.len())?;
     if write_content(alloc, form, tag, content, &mut payload)? {
         Ok(Some(payload))
     } else {
@@ -67,9 +69,27 @@ fn write_next(
     ensures none { IfOk result (λ found. found ≡ None → BeginsNone (drop at content.now)) }
 {
     let (_, rest) = content.split_at(at);
-    match event_in_front(alloc, rest)? {
+    match write_spelled(alloc, form, tag, rest, out)? {
+        Some(length) => Ok(Some(length)),
+        None => write_read(alloc, form, tag, rest, out),
+    }
+}
+
+/// Appends what is written for the event whose spelling begins the bytes, and gives the length of that spelling; none where
+/// no event begins them.
+fn write_read(
+    alloc: Global,
+    form: Form,
+    tag: &[u8],
+    bytes: &[u8],
+    out: &mut Bytes,
+) -> Result<Option<usize>, Memory>
+    ensures given { IfOk result (λ found. IfSome found (λ n. (e : Event) × Begins e n bytes.now × (out.new ≡ out.old ++ record_of form tag.now e))) }
+    ensures none { IfOk result (λ found. found ≡ None → BeginsNone bytes.now) }
+{
+    match event_in_front(alloc, bytes)? {
         Some((event, length)) => {
-            write_read(alloc, form, tag, &event, out)?;
+            write_checked(alloc, form, tag, &event, out)?;
             Ok(Some(length))
         }
         None => Ok(None),
@@ -92,7 +112,7 @@ fn event_in_front(alloc: Global, bytes: &[u8]) -> Result<Option<(Event, usize)>,
 }
 
 /// Appends what is written for an event that was read.
-fn write_read(
+fn write_checked(
     alloc: Global,
     form: Form,
     tag: &[u8],

@@ -9,6 +9,8 @@
 mod content;
 mod payload;
 mod record_text;
+mod spelling;
+mod straight;
 
 pub use content::payload_of_content;
 pub use fwd_base::{Bytes, Form, Memory};
