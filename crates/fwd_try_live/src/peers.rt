@@ -78,6 +78,25 @@ fn a_peer_that_resets_is_gone_and_others_are_heard(rt: HostRuntime) -> Result<()
     Ok(())
 }
 
+/// Behind a drop nothing more is taken for the peer, and it comes to its end.
+fn drops(live: &mut LiveLoop, peer: &mut TcpStream) -> Result<bool, Fail> {
+    live.drop_conn(ConnId(1))?;
+    let mut one = [0; 1];
+    Ok(live.reply(ConnId(1), b"late") == Replied::Broken && peer.read(&mut one)? == 0)
+}
+
+fn is_dropped(live: &mut LiveLoop, rt: HostRuntime) -> Result<bool, Fail> {
+    let mut peer = connect(&rt, live)?;
+    Ok(is_heard(live, rt.alloc(), &mut peer)? && drops(live, &mut peer)?)
+}
+
+#[test]
+fn a_connection_that_is_dropped_ends_for_its_peer(rt: HostRuntime) -> Result<(), Fail> {
+    let mut live = started(rt, OutEnd::Stdout)?;
+    assert!(rt; is_dropped(&mut live, rt)?);
+    Ok(())
+}
+
 /// Replies until no more is taken. Answers how many bytes were.
 fn replied(live: &mut LiveLoop) -> u64 {
     let mut taken = 0u64;
