@@ -1,15 +1,15 @@
 //! The payload of a chunk, straight from its content: each event is read, written and let go before the next.
 
-ghost use Rattle.std.specs.Prelude.{◌≡◌, ◌<◌, ◌++◌, List, ℕ, length, drop, IsTrue, IfOk, IfSome, OnOk, None};
+ghost use Rattle.std.specs.Prelude.{◌≡◌, ◌<◌, ◌++◌, List, ℕ, length, drop, IsTrue, IfOk, IfSome, None};
 ghost use Rattle.fwd_event.specs.declared.event.Event.{Event};
-ghost use Rattle.fwd_event.specs.Event.{AreEvents};
+ghost use Rattle.fwd_event.specs.Event.{AreEvents, EventFits};
 ghost use Rattle.fwd_out_text.specs.Content.{Begins, BeginsNone};
 ghost use Rattle.fwd_out_text.specs.Payload.{record_of, payload_of};
 
 use crate::payload::write_record;
 use crate::straight::write_spelled;
 use fwd_base::{Bytes, Form, Memory};
-use fwd_event::{Event, can_write, event_of};
+use fwd_event::{Event, event_of};
 use fwd_msgpack::{DecodeErr, decode};
 use std::alloc::Global;
 
@@ -89,7 +89,7 @@ fn write_read(
 {
     match event_in_front(alloc, bytes)? {
         Some((event, length)) => {
-            write_checked(alloc, form, tag, &event, out)?;
+            write_record(alloc, form, tag, &event, out)?;
             Ok(Some(length))
         }
         None => Ok(None),
@@ -99,6 +99,7 @@ fn write_read(
 /// The event whose spelling begins the bytes, and the length of that spelling; none where no event begins them.
 fn event_in_front(alloc: Global, bytes: &[u8]) -> Result<Option<(Event, usize)>, Memory>
     ensures given { IfOk result (λ found. IfSome found (λ x. Begins x.0 x.1 bytes.now)) }
+    ensures fits { IfOk result (λ found. IfSome found (λ x. EventFits x.0)) }
     ensures none { IfOk result (λ found. found ≡ None → BeginsNone bytes.now) }
 {
     match decode(alloc, bytes) {
@@ -108,22 +109,5 @@ fn event_in_front(alloc: Global, bytes: &[u8]) -> Result<Option<(Event, usize)>,
         },
         Err(DecodeErr::Memory) => Err(Memory),
         Err(_) => Ok(None),
-    }
-}
-
-/// Appends what is written for an event that was read.
-fn write_checked(
-    alloc: Global,
-    form: Form,
-    tag: &[u8],
-    event: &Event,
-    out: &mut Bytes,
-) -> Result<(), Memory>
-    ensures { OnOk result (out.new ≡ out.old ++ record_of form tag.now event.now) }
-{
-    if can_write(event) {
-        write_record(alloc, form, tag, event, out)
-    } else {
-        Err(Memory)
     }
 }
