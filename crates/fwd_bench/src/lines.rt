@@ -81,11 +81,11 @@ fn parted(alloc: Global, stream: &[u8]) -> Result<u64, Memory> {
 }
 
 /// How many of the lines a parser reads with the time that stands in them.
-fn timed(alloc: Global, parser: &Parser, lines: &Lines) -> Result<u64, Memory> {
+fn timed(alloc: Global, parser: &Parser, lines: Lines) -> Result<u64, Memory> {
     let mut reader = parser.reader(alloc)?;
     let mut count: u64 = 0;
-    for line in lines.as_slice() {
-        let event = reader.read(alloc, line.bytes.as_slice(), 0)?;
+    for line in lines.into_vec() {
+        let event = reader.take(alloc, line.bytes, 0)?;
         if event.sec > 0 {
             count = count.saturating_add(1);
         }
@@ -98,7 +98,7 @@ fn parsed(alloc: Global, parser: &Parser, stream: &[u8]) -> Result<u64, Memory> 
     let mut frames = Frames::new(alloc);
     let mut count: u64 = 0;
     for piece in stream.chunks(PIECE) {
-        count = count.saturating_add(timed(alloc, parser, &frames.feed(piece)?)?);
+        count = count.saturating_add(timed(alloc, parser, frames.feed(piece)?)?);
     }
     Ok(count)
 }

@@ -49,9 +49,9 @@ fn read_lines(
     alloc: Global,
     input: InputId,
     now: u64,
-    lines: &Lines,
+    lines: Lines,
 ) -> Result<Events, Memory>
-    ensures { IfOk result (λ events. events ≡ events_of (input_at run.now input.0) now lines.now) }
+    ensures { IfOk result (λ events. events ≡ events_of (input_at run.now input.0) now lines) }
 {
     match run.input(input) {
         Some(set) => events_at(alloc, set, now, lines),
@@ -66,9 +66,9 @@ fn batch(
     alloc: Global,
     input: InputId,
     now: u64,
-    lines: &Lines,
+    lines: Lines,
 ) -> Result<Events, Memory>
-    ensures is { IfOk result (λ events. events ≡ filtered run.now.filters (tag_at run.now input.0) (events_of (input_at run.now input.0) now lines.now)) }
+    ensures is { IfOk result (λ events. events ≡ filtered run.now.filters (tag_at run.now input.0) (events_of (input_at run.now input.0) now lines)) }
     ensures shallow { IfOk result (λ events. are_shallow events ≡ true) }
 {
     let events = read_lines(run, alloc, input, now, lines)?;
@@ -82,9 +82,9 @@ pub fn take_lines<D: Disk>(
     parts: &mut Parts,
     disk: &mut D,
     input: InputId,
-    lines: &Lines,
+    lines: Lines,
 ) -> Result<(), Memory>
-    ensures acts { Acts run.now (with_disk (D.told disk.old)) (with_disk (D.told disk.new)) parts.old parts.new (λ h. takes run.now (batch_of run.now h input.0 lines.now) h) result }
+    ensures acts { Acts run.now (with_disk (D.told disk.old)) (with_disk (D.told disk.new)) parts.old parts.new (λ h. takes run.now (batch_of run.now h input.0 lines) h) result }
     ensures later { D.faults disk.old ≤ D.faults disk.new }
 {
     let now = parts.state.clock();

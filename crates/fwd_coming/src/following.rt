@@ -33,7 +33,7 @@ fn poll_file<D: Disk, F: Files>(
     ensures files_later { F.faults files.old ≤ F.faults files.new }
 {
     match parts.following.poll(files, input, index) {
-        Ok(lines) => take_lines(rt, run, parts, disk, input, &lines),
+        Ok(lines) => take_lines(rt, run, parts, disk, input, lines),
         Err(TailErr::FileFault) => {
             parts.state.faults();
             Ok(())

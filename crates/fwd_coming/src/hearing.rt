@@ -57,7 +57,7 @@ fn hear_lines<D: Disk>(
     ensures later { D.faults disk.old ≤ D.faults disk.new }
 {
     let lines = parts.hearing.peer_says(conn, bytes)?;
-    take_lines(rt, run, parts, disk, input, &lines)
+    take_lines(rt, run, parts, disk, input, lines)
 }
 
 /// Bytes come over the standard input that an input reads.
@@ -74,7 +74,7 @@ fn hear_standard<D: Disk>(
     ensures later { D.faults disk.old ≤ D.faults disk.new }
 {
     let lines = parts.hearing.input_says(input, bytes)?;
-    take_lines(rt, run, parts, disk, input, &lines)
+    take_lines(rt, run, parts, disk, input, lines)
 }
 
 /// Bytes come over a connection or a standard input: the lines that end in them are a batch, and so is each message. A
@@ -118,5 +118,5 @@ pub fn end_input<D: Disk>(
         return Ok(());
     }
     parts.state.stops();
-    take_lines(rt, run, parts, disk, input, &lines)
+    take_lines(rt, run, parts, disk, input, lines)
 }

@@ -5,9 +5,12 @@
 //! replies that its output asks for.
 #![tactic(auto)]
 
+mod content;
 mod delivering;
 mod replies;
+mod sizes;
 
+pub use content::Content;
 pub use delivering::deliver;
 pub use fwd_flush::Flush;
 pub use replies::Reader;

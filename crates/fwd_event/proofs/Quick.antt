@@ -1,7 +1,7 @@
 -- An event in the form in which events are written is read part by part.
 use Rattle.std.proofs.Common.{◌≡◌, ℕ, ◌+◌, ◌-◌, ◌≤◌, pos, List, [], ◌∷◌, ◌++◌, length, take, drop, get_or, Option, Some, refl, sym, ap, subst, ◌∙◌, append_assoc, arith}
 use Rattle.std.proofs.lemmas.List.{append-nil, length-append, length-take, take-append-drop, take_all}
-use Rattle.fwd_value.specs.Val.{Val, ext, list, mapping, no_vals, val, Entries, entries_of}
+use Rattle.fwd_value.specs.Val.{Val, ext, list, mapping, no_vals, val, Entries, no_entries, entries_of}
 use Rattle.fwd_value.specs.Limits.{entry_nestings}
 use Rattle.fwd_msgpack.specs.Table.{form_of}
 use Rattle.fwd_msgpack.specs.Spelling.{Spells}
@@ -57,3 +57,13 @@ event_spelled b time maps m k sec nsec meta body is eight moment one shallow two
     let event : event_of v ≡ Some (record { sec = sec; nsec = nsec; meta = meta; body = body }) =
     ap (λ (o : Option Moment). timed o (entries_of meta) (entries_of body)) moment ∙ (λ i. Some (record { sec = sec; nsec = nsec; meta = pairs_back meta i; body = pairs_back body i })) in
     (v, (within, subst (Spells v) (sym front) (spells time first second (entries_of meta) (entries_of body) eight one.1 two.1), omega (arith, shallow, low)), event)
+
+-- a map without pairs is one byte
+pub empty_spelled : (b : List ℕ) (pairs : List (Val × Val)) → pairs ≡ [] → 1 ≤ length b → get_or b 0 0 ≡ 128 → SpellsFront (mapping (entries_of pairs)) 1 b × (entry_nestings (entries_of pairs) ≡ 0)
+unfolding form_of
+empty_spelled [] pairs none long is = absurd (omega (arith, long))
+empty_spelled (x ∷ b) pairs none long is =
+    let one : Spells (mapping no_entries) (128 ∷ []) = ([], [], (refl, refl), refl, refl) in
+    let front : Spells (mapping no_entries) (take 1 (x ∷ b)) = subst (λ (n : ℕ). Spells (mapping no_entries) (n ∷ [])) (sym is) one in
+    let empty : SpellsFront (mapping no_entries) 1 (x ∷ b) × (entry_nestings no_entries ≡ 0) = ((long, front, omega arith), refl) in
+    subst (λ (l : List (Val × Val)). SpellsFront (mapping (entries_of l)) 1 (x ∷ b) × (entry_nestings (entries_of l) ≡ 0)) (sym none) empty

@@ -158,11 +158,17 @@ fn event_here(alloc: Global, bytes: &[u8], place: u64) -> Result<(Event, usize),
     }
 }
 
+/// The spelling of a map without pairs.
+const EMPTY_MAP: u8 = 0x80;
+
 /// The map whose spelling begins the bytes, by its pairs, and the length of that spelling; none where there is no such map
 /// or its keys and values are nested deeper than that.
 fn map_in_front(alloc: Global, bytes: &[u8], depth: u64) -> Option<(Pairs, usize)>
     ensures { IfSome result (λ x. SpellsFront (mapping (entries_of x.0)) x.1 bytes.now × (entry_nestings (entries_of x.0) ≤ depth)) }
 {
+    if let [EMPTY_MAP, ..] = bytes {
+        return Some((Pairs::new(alloc), 1));
+    }
     let Ok((value, length)) = decode(alloc, bytes) else {
         return None;
     };

@@ -1,5 +1,4 @@
 pub mod Heard
 pub mod Standing
 pub mod Turning
-pub mod Spelled
 pub mod Reading

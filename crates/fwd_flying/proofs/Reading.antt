@@ -1,22 +1,24 @@
 -- What a flight begins with: the tag of its chunk, and what the reading of its content comes to.
-use Rattle.std.proofs.Common.{◌≡◌, ◌≢◌, ℕ, ◌+◌, ◌≤◌, ◌<◌, IfOk, Result, true, false, inl, inr, List, [], ◌∷◌, length, take, map, Option, Some, None, Ok, Err, refl, sym, ◌∙◌, ap, subst, arith}
+use Rattle.std.proofs.Common.{◌≡◌, ℕ, ◌+◌, ◌<◌, true, false, inl, inr, List, [], ◌∷◌, length, take, map, Option, Some, None, Result, Ok, Err, refl, sym, ◌∙◌, ap, subst, arith}
 use Rattle.std.specs.Prelude.{◌==◌, filter, find, is_some}
 use Rattle.std.specs.Option.{option_map_or}
-use Rattle.std.proofs.lemmas.Bool.{cases_Bool, cases_eq, eq-eqb, ne_eqb}
+use Rattle.std.proofs.lemmas.Bool.{cases_Bool, cases_eq, eq-eqb, eqb-true, ne_eqb}
+use Rattle.std.proofs.Math.Seq.{take-length}
 use Rattle.fwd_program.specs.Program.{Return, Way, bind}
 use Rattle.fwd_program.specs.Told.{Grew, Leads as LeadsOne, Did as DidOne}
 use Rattle.fwd_program.proofs.Grown.{grew_none}
 use Rattle.fwd_outside.specs.Disk.{DiskTold, DiskEntry, DiskProgram}
+use Rattle.fwd_base.specs.declared.memory.Memory.{Memory as NoMemory}
 use Rattle.fwd_event.specs.declared.event.Event.{Event}
-use Rattle.fwd_event.specs.Event.{AreEvents, IsWholePrefix}
+use Rattle.fwd_event.specs.Event.{AreEvents}
 use Rattle.fwd_event.specs.Whole.{events_in}
-use Rattle.fwd_event.proofs.Lists.{events_same}
 use Rattle.fwd_event.proofs.Whole.{whole_prefix_of, all_events}
 use Rattle.fwd_kept.specs.declared.kept.Kept.{Kept}
 use Rattle.fwd_kept.specs.declared.kept.Kept.TheVariants.{InFile, Adopted, InMemory}
 use Rattle.fwd_kept.specs.declared.content.PartErr.TheVariants.{DiskFailed, Damaged, Memory}
 use Rattle.fwd_kept.specs.Kept.{size_of}
-use Rattle.fwd_kept.specs.Content.{Gives, reads_content, AreRead}
+use Rattle.fwd_kept.specs.Content.{Gives, reads_content, AreAsMany}
+use Rattle.fwd_delivery.specs.Content.{MadeOf}
 use Rattle.fwd_settings.specs.declared.chosen.AllSettings.{AllSettings}
 use Rattle.fwd_table.specs.Rows.{row_at, has_row}
 use Rattle.fwd_table.specs.declared.row.Row.{Row}
@@ -70,15 +72,6 @@ pub held : {T : Type 0} (o : Option T) → is_some o ≡ true → (x : T) × (o 
 held None is = absurd (cc is)
 held (Some x) is = (x, refl)
 
--- the whole prefix of bytes is one
-prefix_is : (es : List Event) (n : ℕ) (b : List ℕ) → IsWholePrefix es n b → (es ≡ (events_in b).0) × (n ≡ (events_in b).1)
-prefix_is es n b p =
-    let q = whole_prefix_of b in
-    let one : n ≤ (events_in b).1 = q.longest n es p.within p.are in
-    let two : (events_in b).1 ≤ n = p.longest (events_in b).1 (events_in b).0 q.within q.are in
-    let same : n ≡ (events_in b).1 = omega (arith, one, two) in
-    (events_same es (events_in b).0 (take n b) p.are (subst (λ (m : ℕ). AreEvents (events_in b).0 (take m b)) (sym same) q.are), same)
-
 pub begins_is : (s : AllSettings) (r : Route) (h : History) (o : Option Kept) → kept_of s h r.chunk ≡ o → begins s r h ≡ begins_as s r o h
 unfolding begins
 begins_is s r h o is = ap (λ (x : Option Kept). begins_as s r x h) is
@@ -108,77 +101,83 @@ whole_is kept b es long are =
     let all : (events_in b).1 ≡ length b = ap (λ (x : List Event × ℕ). x.1) (all_events es b are) in
     rw (eq-eqb (length b) kept long, eq-eqb (events_in b).1 kept (all ∙ long)) refl
 
--- bytes that are fewer events than are kept
-whole_isnt : (kept got : ℕ) (b : List ℕ) (es : List Event) → got ≢ kept → IsWholePrefix es got b → is_whole kept b ≡ false
-whole_isnt kept got b es differs p =
-    let apart : ((events_in b).1 == kept) ≡ false = ne_eqb (events_in b).1 kept (λ e. differs ((prefix_is es got b p).1 ∙ e)) in
-    elim (cases_Bool (length b == kept)) [ inl long ↦ rw (long, apart) refl | inr short ↦ rw short refl ]
+-- content that is events is handed over as these
+pub spelling_begins : (s : AllSettings) (r : Route) (h : History) (b : List ℕ) (es : List Event) → AreEvents es b → read_behind s r (length b) h (Some b) ≡ begins_with s r es h
+spelling_begins s r h b es are =
+    let whole : is_whole (length b) b ≡ true = whole_is (length b) b es refl are in
+    let same : (events_in b).0 ≡ es = ap (λ (x : List Event × ℕ). x.0) (all_events es b are) in
+    rw whole (ap (λ (events : List Event). begins_with s r events h) same)
+
+-- content that is no list of events isn't
+pub no_spelling_waits : (s : AllSettings) (r : Route) (h : History) (b : List ℕ) → ((es : List Event) → AreEvents es b → ⊥) → read_behind s r (length b) h (Some b) ≡ Return h
+no_spelling_waits s r h b none = elim (cases_Bool ((events_in b).1 == length b)) [
+  | inl all ↦
+      let long : (events_in b).1 ≡ length b = eqb-true (events_in b).1 (length b) all in
+      let are : AreEvents (events_in b).0 (take (length b) b) = subst (λ (n : ℕ). AreEvents (events_in b).0 (take n b)) long (whole_prefix_of b).are in
+      absurd (none (events_in b).0 (subst (AreEvents (events_in b).0) (take-length b) are))
+  | inr torn ↦ rw (eq-eqb (length b) (length b) refl, torn) refl
+]
 
 -- the content of a file is read first
 abbrev from_file : AllSettings → Route → History → Kept → Act History
 from_file s r h kept = bind (on_disk (reads_content kept)) (read_behind s r (size_of kept) h)
 
-file_leads : (others : World) (old new : DiskTold) (s : AllSettings) (r : Route) (h : History) (kept : Kept) (events : List Event) (bytes : List ℕ)
-    → DidOne old new (reads_content kept) (Some bytes) → AreRead (size_of kept) bytes (Ok events) → Leads (with_disk old others) (with_disk new others) (from_file s r h kept) (begins_with s r events h)
-file_leads others old new s r h kept events bytes did read =
-    let whole : is_whole (size_of kept) bytes ≡ true = whole_is (size_of kept) bytes events read.0 read.1 in
-    let same : (events_in bytes).0 ≡ events = ap (λ (x : List Event × ℕ). x.0) (all_events events bytes read.1) in
-    let to : read_behind s r (size_of kept) h (Some bytes) ≡ begins_with s r events h = rw whole (ap (λ (es : List Event). begins_with s r es h) same) in
-    subst (λ (q : Act History). Leads (with_disk old others) (with_disk new others) (from_file s r h kept) q) to (disk_did others old new (reads_content kept) (Some bytes) (read_behind s r (size_of kept) h) did)
+file_leads : (others : World) (old new : DiskTold) (s : AllSettings) (r : Route) (h : History) (kept : Kept) (bytes read : List ℕ)
+    → DidOne old new (reads_content kept) (Some read) → AreAsMany (size_of kept) read (Ok bytes) → Leads (with_disk old others) (with_disk new others) (from_file s r h kept) (read_behind s r (length bytes) h (Some bytes))
+file_leads others old new s r h kept bytes read did are =
+    let to : read_behind s r (size_of kept) h (Some read) ≡ read_behind s r (length bytes) h (Some bytes) =
+    ap (λ (n : ℕ). read_behind s r n h (Some read)) (sym are.1) ∙ ap (λ (b : List ℕ). read_behind s r (length b) h (Some b)) (sym are.0) in
+    subst (λ (q : Act History). Leads (with_disk old others) (with_disk new others) (from_file s r h kept) q) to (disk_did others old new (reads_content kept) (Some read) (read_behind s r (size_of kept) h) did)
 
-file_damaged : (others : World) (old new : DiskTold) (s : AllSettings) (r : Route) (h : History) (kept : Kept) (all got : ℕ) (bytes : List ℕ)
-    → DidOne old new (reads_content kept) (Some bytes) → AreRead (size_of kept) bytes (Err (Damaged all got)) → Leads (with_disk old others) (with_disk new others) (from_file s r h kept) (Return h)
-file_damaged others old new s r h kept all got bytes did read =
-    let torn : is_whole (size_of kept) bytes ≡ false = whole_isnt (size_of kept) got bytes read.2 read.1 read.3 in
-    let to : read_behind s r (size_of kept) h (Some bytes) ≡ Return h = rw torn refl in
-    subst (λ (q : Act History). Leads (with_disk old others) (with_disk new others) (from_file s r h kept) q) to (disk_did others old new (reads_content kept) (Some bytes) (read_behind s r (size_of kept) h) did)
+file_damaged : (others : World) (old new : DiskTold) (s : AllSettings) (r : Route) (h : History) (kept : Kept) (all got : ℕ) (read : List ℕ)
+    → DidOne old new (reads_content kept) (Some read) → AreAsMany (size_of kept) read (Err (Damaged all got)) → Leads (with_disk old others) (with_disk new others) (from_file s r h kept) (Return h)
+file_damaged others old new s r h kept all got read did are =
+    let short : (length read == size_of kept) ≡ false = ne_eqb (length read) (size_of kept) (λ e. are.2 (are.1 ∙ e)) in
+    let to : read_behind s r (size_of kept) h (Some read) ≡ Return h = rw short refl in
+    subst (λ (q : Act History). Leads (with_disk old others) (with_disk new others) (from_file s r h kept) q) to (disk_did others old new (reads_content kept) (Some read) (read_behind s r (size_of kept) h) did)
 
 -- what is in memory is what was read
 in_memory : (old new : DiskTold) (kept bytes : List ℕ) → DidOne old new (Return (Some kept)) (Some bytes) → kept ≡ bytes
 in_memory old new kept bytes did = let e : Some kept ≡ Some bytes = given old new (Some kept) (Some bytes) did in cc e
 
--- the events of the content were given
-pub events_lead : (others : World) (old new : DiskTold) (s : AllSettings) (r : Route) (h : History) (kept : Kept) (events : List Event) → kept_of s h r.chunk ≡ Some kept → IsSound s h None
-    → Gives old new (reads_content kept) (AreRead (size_of kept)) (Ok events) → Leads (with_disk old others) (with_disk new others) (begins s r h) (begins_with s r events h)
-events_lead others old new s r h (InFile head) events is sound gives = rw (begins_is s r h (Some (InFile head)) is) (file_leads others old new s r h (InFile head) events gives.0 gives.1 gives.2)
-events_lead others old new s r h (Adopted head) events is sound gives = rw (begins_is s r h (Some (Adopted head)) is) (file_leads others old new s r h (Adopted head) events gives.0 gives.1 gives.2)
-events_lead others old new s r h (InMemory kept) events is sound gives =
-    let same : kept ≡ gives.0 = in_memory old new kept gives.0 gives.1 in
-    let own : AreEvents (records h r.chunk) gives.0 = subst (AreEvents (records h r.chunk)) same (sound.memory r.chunk kept is) in
-    let one : records h r.chunk ≡ events = events_same (records h r.chunk) events gives.0 own gives.2.1 in
+-- the content was given
+pub content_leads : (others : World) (old new : DiskTold) (s : AllSettings) (r : Route) (h : History) (kept : Kept) (bytes : List ℕ) → kept_of s h r.chunk ≡ Some kept → IsSound s h None
+    → Gives old new (reads_content kept) (AreAsMany (size_of kept)) (Ok bytes) → Leads (with_disk old others) (with_disk new others) (begins s r h) (read_behind s r (length bytes) h (Some bytes))
+content_leads others old new s r h (InFile head) bytes is sound gives = rw (begins_is s r h (Some (InFile head)) is) (file_leads others old new s r h (InFile head) bytes gives.0 gives.1 gives.2)
+content_leads others old new s r h (Adopted head) bytes is sound gives = rw (begins_is s r h (Some (Adopted head)) is) (file_leads others old new s r h (Adopted head) bytes gives.0 gives.1 gives.2)
+content_leads others old new s r h (InMemory kept) bytes is sound gives =
+    let same : kept ≡ bytes = in_memory old new kept gives.0 gives.1 ∙ sym gives.2.0 in
+    let own : AreEvents (records h r.chunk) bytes = subst (AreEvents (records h r.chunk)) same (sound.memory r.chunk kept is) in
     rw (begins_is s r h (Some (InMemory kept)) is)
-    (subst (λ (es : List Event). Leads (with_disk old others) (with_disk new others) (begins_with s r (records h r.chunk) h) (begins_with s r es h)) one
+    (subst (λ (q : Act History). Leads (with_disk old others) (with_disk new others) (begins_with s r (records h r.chunk) h) q) (sym (spelling_begins s r h bytes (records h r.chunk) own))
     (unasked others old new (Some kept) (Return (Some gives.0)) (begins_with s r (records h r.chunk) h) gives.1))
 
 -- a read failed
-pub events_failed : (others : World) (old new : DiskTold) (s : AllSettings) (r : Route) (h : History) (kept : Kept) → kept_of s h r.chunk ≡ Some kept
-    → Gives {T = List Event} old new (reads_content kept) (AreRead (size_of kept)) (Err DiskFailed) → Leads (with_disk old others) (with_disk new others) (begins s r h) (note Faulted h)
-events_failed others old new s r h (InFile head) is gives =
+pub content_failed : (others : World) (old new : DiskTold) (s : AllSettings) (r : Route) (h : History) (kept : Kept) → kept_of s h r.chunk ≡ Some kept
+    → Gives {T = List ℕ} old new (reads_content kept) (AreAsMany (size_of kept)) (Err DiskFailed) → Leads (with_disk old others) (with_disk new others) (begins s r h) (note Faulted h)
+content_failed others old new s r h (InFile head) is gives =
     rw (begins_is s r h (Some (InFile head)) is) (disk_did others old new (reads_content (InFile head)) None (read_behind s r (size_of (InFile head)) h) gives)
-events_failed others old new s r h (Adopted head) is gives =
+content_failed others old new s r h (Adopted head) is gives =
     rw (begins_is s r h (Some (Adopted head)) is) (disk_did others old new (reads_content (Adopted head)) None (read_behind s r (size_of (Adopted head)) h) gives)
-events_failed others old new s r h (InMemory kept) is gives = absurd (cc (given old new (Some kept) None gives))
+content_failed others old new s r h (InMemory kept) is gives = absurd (cc (given old new (Some kept) None gives))
 
--- something else was read, which what is in memory never is
-pub events_damaged : (others : World) (old new : DiskTold) (s : AllSettings) (r : Route) (h : History) (kept : Kept) (all got : ℕ) → kept_of s h r.chunk ≡ Some kept → IsSound s h None
-    → Gives {T = List Event} old new (reads_content kept) (AreRead (size_of kept)) (Err (Damaged all got)) → Leads (with_disk old others) (with_disk new others) (begins s r h) (Return h)
-events_damaged others old new s r h (InFile head) all got is sound gives = rw (begins_is s r h (Some (InFile head)) is) (file_damaged others old new s r h (InFile head) all got gives.0 gives.1 gives.2)
-events_damaged others old new s r h (Adopted head) all got is sound gives = rw (begins_is s r h (Some (Adopted head)) is) (file_damaged others old new s r h (Adopted head) all got gives.0 gives.1 gives.2)
-events_damaged others old new s r h (InMemory kept) all got is sound gives =
-    let same : kept ≡ gives.0 = in_memory old new kept gives.0 gives.1 in
-    let own : AreEvents (records h r.chunk) gives.0 = subst (AreEvents (records h r.chunk)) same (sound.memory r.chunk kept is) in
-    let whole : is_whole (length kept) gives.0 ≡ true = whole_is (length kept) gives.0 (records h r.chunk) (ap length (sym same)) own in
-    let torn : is_whole (length kept) gives.0 ≡ false = whole_isnt (length kept) got gives.0 gives.2.2 gives.2.1 gives.2.3 in
-    absurd (cc (sym whole ∙ torn))
+-- fewer bytes were read, which never are of what is in memory
+pub content_damaged : (others : World) (old new : DiskTold) (s : AllSettings) (r : Route) (h : History) (kept : Kept) (all got : ℕ) → kept_of s h r.chunk ≡ Some kept
+    → Gives {T = List ℕ} old new (reads_content kept) (AreAsMany (size_of kept)) (Err (Damaged all got)) → Leads (with_disk old others) (with_disk new others) (begins s r h) (Return h)
+content_damaged others old new s r h (InFile head) all got is gives = rw (begins_is s r h (Some (InFile head)) is) (file_damaged others old new s r h (InFile head) all got gives.0 gives.1 gives.2)
+content_damaged others old new s r h (Adopted head) all got is gives = rw (begins_is s r h (Some (Adopted head)) is) (file_damaged others old new s r h (Adopted head) all got gives.0 gives.1 gives.2)
+content_damaged others old new s r h (InMemory kept) all got is gives =
+    absurd (gives.2.2 (gives.2.1 ∙ ap length (sym (in_memory old new kept gives.0 gives.1))))
 
 -- memory was wanting
-pub events_began : (others : World) (old new : DiskTold) (s : AllSettings) (r : Route) (h : History) (kept : Kept) → kept_of s h r.chunk ≡ Some kept
-    → Gives {T = List Event} old new (reads_content kept) (AreRead (size_of kept)) (Err Memory) → Began (with_disk old others) (with_disk new others) (begins s r h)
-events_began others old new s r h (InFile head) is gives = rw (begins_is s r h (Some (InFile head)) is) (disk_began others old new (reads_content (InFile head)) (read_behind s r (size_of (InFile head)) h) gives)
-events_began others old new s r h (Adopted head) is gives = rw (begins_is s r h (Some (Adopted head)) is) (disk_began others old new (reads_content (Adopted head)) (read_behind s r (size_of (Adopted head)) h) gives)
-events_began others old new s r h (InMemory kept) is gives = (begins s r h, unasked others old new (Some kept) gives.0 (begins s r h) gives.1)
+pub content_began : (others : World) (old new : DiskTold) (s : AllSettings) (r : Route) (h : History) (kept : Kept) → kept_of s h r.chunk ≡ Some kept
+    → Gives {T = List ℕ} old new (reads_content kept) (AreAsMany (size_of kept)) (Err Memory) → Began (with_disk old others) (with_disk new others) (begins s r h)
+content_began others old new s r h (InFile head) is gives = rw (begins_is s r h (Some (InFile head)) is) (disk_began others old new (reads_content (InFile head)) (read_behind s r (size_of (InFile head)) h) gives)
+content_began others old new s r h (Adopted head) is gives = rw (begins_is s r h (Some (Adopted head)) is) (disk_began others old new (reads_content (Adopted head)) (read_behind s r (size_of (Adopted head)) h) gives)
+content_began others old new s r h (InMemory kept) is gives = (begins s r h, unasked others old new (Some kept) gives.0 (begins s r h) gives.1)
 
--- what is so at Ok of one thing is so of what follows from it
-pub ok_more : {T E : Type 0} (result : Result T E) (P Q : T → Type 0) → ((x : T) → P x → Q x) → IfOk result P → IfOk result Q
-ok_more (Ok x) P Q more is = more x is
-ok_more (Err e) P Q more is = tt
+-- what is so of what was made of events is so of what follows from it
+pub made_more : {T : Type 0} (content : List ℕ) (made : Result (Option T) NoMemory) (P Q : List Event → T → Type 0) → ((es : List Event) (x : T) → P es x → Q es x) → MadeOf content P made → MadeOf content Q made
+made_more content (Ok (Some x)) P Q more is = (is.0, is.1, more is.0 x is.2)
+made_more content (Ok None) P Q more is = is
+made_more content (Err e) P Q more is = tt

@@ -7,7 +7,6 @@
 
 mod beginning;
 mod landing;
-mod sizes;
 mod walking;
 
 pub use walking::{back, broken, room, walk};

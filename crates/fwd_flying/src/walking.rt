@@ -9,6 +9,7 @@ ghost use Rattle.fwd_parts.specs.Heard.{IsUnheard};
 use crate::beginning::begin;
 use crate::landing::land;
 use fwd_base::{LinkId, Memory};
+use fwd_delivery::Content;
 use fwd_outside::{Disk, Loop};
 use fwd_parts::Parts;
 use fwd_run_settings::RunSettings;
@@ -21,6 +22,7 @@ fn turn<L: Loop, D: Disk>(
     outside: &mut L,
     disk: &mut D,
     route: RouteId,
+    content: &mut Content,
 ) -> Result<(), Memory>
     ensures acts { Acts run.now (with_both (L.told outside.old) (D.told disk.old)) (with_both (L.told outside.new) (D.told disk.new)) parts.old parts.new (λ h. turn run.now (route_of route) h) result }
     ensures unheard { IsUnheard (L.counts outside.old) (L.counts outside.new) }
@@ -35,13 +37,14 @@ fn turn<L: Loop, D: Disk>(
         .state
         .may_start(route, run.places(route.output), limits)
     {
-        begin(run, parts, outside, disk, route)
+        begin(run, parts, outside, disk, route, content)
     } else {
         Ok(())
     }
 }
 
-/// The routes that are idle and due are begun, each that may start still at its turn.
+/// The routes that are idle and due are begun, each that may start still at its turn. Routes of one chunk follow one
+/// another, so a text that several of its outputs want is made once.
 pub fn walk<L: Loop, D: Disk>(
     run: &RunSettings,
     parts: &mut Parts,
@@ -54,8 +57,9 @@ pub fn walk<L: Loop, D: Disk>(
     ensures disk_later { D.faults disk.old ≤ D.faults disk.new }
 {
     let routes = parts.state.due_routes()?;
+    let mut content = Content::new(parts.state.alloc());
     for route in &routes {
-        turn(run, parts, outside, disk, *route)?;
+        turn(run, parts, outside, disk, *route, &mut content)?;
     }
     Ok(())
 }

@@ -267,6 +267,29 @@ pub fn json_text(alloc: Global, value: &Value, out: &mut Bytes) -> Result<(), Me
     out.extend_from_slice(text.as_slice())
 }
 
+/// Appends the JSON text of a value, as `json_text` does, without a buffer of its own. After `Err` some of it may stand at
+/// the end.
+pub fn value_text(alloc: Global, value: &Value, out: &mut Bytes) -> Result<(), Memory>
+    ensures { OnOk result (out.new ≡ out.old ++ json (val_of value.now)) }
+{
+    write_value(alloc, value, out)
+}
+
+/// Appends the JSON text of a text, given by its bytes, as `json_text` does. After `Err` some of it may stand at the end.
+pub fn string_text(alloc: Global, bytes: &[u8], out: &mut Bytes) -> Result<(), Memory>
+    ensures { OnOk result (out.new ≡ out.old ++ json (text bytes.now)) }
+{
+    put_string(alloc, out, bytes)
+}
+
+/// Appends a text, given by its bytes, as it stands in the text of a map as a key. After `Err` some of it may stand at the
+/// end.
+pub fn key_text(alloc: Global, bytes: &[u8], out: &mut Bytes) -> Result<(), Memory>
+    ensures { OnOk result (out.new ≡ out.old ++ key_text (text bytes.now) (json (text bytes.now))) }
+{
+    put_key(alloc, out, bytes)
+}
+
 /// Appends the JSON text of a map, given by its pairs, as `json_text` does. After `Err` some of it may stand at the end.
 pub fn map_text(alloc: Global, pairs: &Pairs, out: &mut Bytes) -> Result<(), Memory>
     ensures { OnOk result (out.new ≡ out.old ++ json (mapping (entries_of pairs.now))) }

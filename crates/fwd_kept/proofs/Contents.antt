@@ -18,7 +18,7 @@ use Rattle.fwd_chunk.specs.Layout.{part}
 use Rattle.fwd_kept.specs.declared.kept.Kept.{Kept}
 use Rattle.fwd_kept.specs.declared.kept.Kept.TheVariants.{InFile, Adopted, InMemory}
 use Rattle.fwd_kept.specs.declared.content.PartErr.TheVariants.{DiskFailed, Damaged, Memory}
-use Rattle.fwd_kept.specs.Content.{piece, piece_read, reads_on, ContentRead, EventsRead, AreRead, Gives, reads_content, IsContentOf, StandsIn, AreKept, IsGiven, AreGiven}
+use Rattle.fwd_kept.specs.Content.{piece, piece_read, reads_on, ContentRead, AreAsMany, Gives, reads_content, IsContentOf, StandsIn, AreKept, IsGiven}
 use Rattle.fwd_kept.specs.Kept.{size_of}
 use Rattle.fwd_kept.specs.declared.content.PartErr.{PartErr}
 
@@ -170,30 +170,18 @@ given_as_it_stands a b kept content (Err (Damaged all got)) are gives =
 given_as_it_stands a b kept content (Err DiskFailed) are gives = λ given before since is_old is_new first last ends good went. tt
 given_as_it_stands a b kept content (Err Memory) are gives = λ given before since is_old is_new first last ends good went. tt
 
-events_judged : (kept : Kept) (content read : List ℕ) (r : EventsRead) → AreKept kept content → AreRead (size_of kept) read r → read ≡ content → AreGiven content r
-events_judged kept content read (Ok events) are is same = subst (AreEvents events) same is.1
-events_judged kept content read (Err (Damaged all got)) are is same = is.1 (not_damaged content read are.events is.2 (size_of kept) got are.long are.are same is.3)
-events_judged kept content read (Err DiskFailed) are is same = tt
-events_judged kept content read (Err Memory) are is same = tt
+bytes_judged : (kept : Kept) (content read : List ℕ) (r : ContentRead) → AreKept kept content → AreAsMany (size_of kept) read r → read ≡ content → IsGiven content r
+bytes_judged kept content read (Ok bytes) are is same = is.0 ∙ same
+bytes_judged kept content read (Err (Damaged all got)) are is same = is.2 (is.1 ∙ ap length same ∙ are.long)
+bytes_judged kept content read (Err DiskFailed) are is same = tt
+bytes_judged kept content read (Err Memory) are is same = tt
 
-pub events_as_they_stand : (a b : DiskTold) (kept : Kept) (content : List ℕ) (r : EventsRead) → AreKept kept content → Gives a b (reads_content kept) (AreRead (size_of kept)) r → DiskAfter a b (StandsIn kept content) (λ _ _. AreGiven content r)
-events_as_they_stand a b kept content (Ok events) are gives =
-    after_did Steps stood a b (reads_content kept) (Some gives.0) (StandsIn kept content) (λ first now. now ≡ first) (λ _. Only content) (λ _ _. AreGiven content (Ok events)) gives.1 (holds_content kept content)
-    (λ first last q. events_judged kept content gives.0 (Ok events) are gives.2 (q gives.0 refl))
-events_as_they_stand a b kept content (Err (Damaged all got)) are gives =
-    after_did Steps stood a b (reads_content kept) (Some gives.0) (StandsIn kept content) (λ first now. now ≡ first) (λ _. Only content) (λ _ _. AreGiven content (Err (Damaged all got))) gives.1 (holds_content kept content)
-    (λ first last q. events_judged kept content gives.0 (Err (Damaged all got)) are gives.2 (q gives.0 refl))
-events_as_they_stand a b kept content (Err DiskFailed) are gives = λ given before since is_old is_new first last ends good went. tt
-events_as_they_stand a b kept content (Err Memory) are gives = λ given before since is_old is_new first last ends good went. tt
-
--- what is in memory is read at once
-pub read_at_once : (a : DiskTold) (kept : Kept) (content bytes : List ℕ) (n : ℕ) (r : EventsRead) → kept ≡ InMemory content → bytes ≡ content → n ≡ length content → AreRead n bytes r → Gives a a (reads_content kept) (AreRead (size_of kept)) r
-read_at_once a kept content bytes n r is same count read =
-    subst (λ (k : Kept). Gives a a (reads_content k) (AreRead (size_of k)) r) (sym is)
-    (at_once r (subst (λ (m : ℕ). AreRead m content r) count (subst (λ (b : List ℕ). AreRead n b r) same read)))
-  where
-    at_once : (r : EventsRead) → AreRead (length content) content r → Gives a a (Return (Some content)) (AreRead (length content)) r
-    at_once (Ok events) read = (content, stays a (Return (Some content)), read)
-    at_once (Err (Damaged all got)) read = (content, stays a (Return (Some content)), read)
-    at_once (Err DiskFailed) read = absurd read
-    at_once (Err Memory) read = (Return (Some content), stays a (Return (Some content)))
+pub bytes_as_they_stand : (a b : DiskTold) (kept : Kept) (content : List ℕ) (r : ContentRead) → AreKept kept content → Gives a b (reads_content kept) (AreAsMany (size_of kept)) r → DiskAfter a b (StandsIn kept content) (λ _ _. IsGiven content r)
+bytes_as_they_stand a b kept content (Ok bytes) are gives =
+    after_did Steps stood a b (reads_content kept) (Some gives.0) (StandsIn kept content) (λ first now. now ≡ first) (λ _. Only content) (λ _ _. IsGiven content (Ok bytes)) gives.1 (holds_content kept content)
+    (λ first last q. bytes_judged kept content gives.0 (Ok bytes) are gives.2 (q gives.0 refl))
+bytes_as_they_stand a b kept content (Err (Damaged all got)) are gives =
+    after_did Steps stood a b (reads_content kept) (Some gives.0) (StandsIn kept content) (λ first now. now ≡ first) (λ _. Only content) (λ _ _. IsGiven content (Err (Damaged all got))) gives.1 (holds_content kept content)
+    (λ first last q. bytes_judged kept content gives.0 (Err (Damaged all got)) are gives.2 (q gives.0 refl))
+bytes_as_they_stand a b kept content (Err DiskFailed) are gives = λ given before since is_old is_new first last ends good went. tt
+bytes_as_they_stand a b kept content (Err Memory) are gives = λ given before since is_old is_new first last ends good went. tt

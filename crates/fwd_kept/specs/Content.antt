@@ -45,15 +45,12 @@ IsJudged kept bytes (Err (Damaged all got)) = (all ≡ kept) × (got ≢ kept) �
 IsJudged kept bytes (Err DiskFailed) = ⊥
 IsJudged kept bytes (Err Memory) = Unit {0}
 
-abbrev pub EventsRead : Type 0
-EventsRead = Result (List Event) PartErr
-
--- the same, where their events are given
-abbrev pub AreRead : ℕ → List ℕ → EventsRead → Type 0
-AreRead kept bytes (Ok events) = (length bytes ≡ kept) × AreEvents events bytes
-AreRead kept bytes (Err (Damaged all got)) = (all ≡ kept) × (got ≢ kept) × (events : List Event) × IsWholePrefix events got bytes
-AreRead kept bytes (Err DiskFailed) = ⊥
-AreRead kept bytes (Err Memory) = Unit {0}
+-- the same, where they are given as they were read, whatever they spell
+abbrev pub AreAsMany : ℕ → List ℕ → ContentRead → Type 0
+AreAsMany kept bytes (Ok content) = (content ≡ bytes) × (length bytes ≡ kept)
+AreAsMany kept bytes (Err (Damaged all got)) = (all ≡ kept) × (got ≡ length bytes) × (got ≢ kept)
+AreAsMany kept bytes (Err DiskFailed) = ⊥
+AreAsMany kept bytes (Err Memory) = Unit {0}
 
 -- The calls are those of the program, to its end; a failure is told, and the bytes that it gave are judged. For want of
 -- memory the calls may have ended before.
@@ -90,9 +87,3 @@ abbrev pub IsGiven : List ℕ → ContentRead → Type 0
 IsGiven content (Ok bytes) = bytes ≡ content
 IsGiven content (Err (Damaged kept got)) = ⊥
 IsGiven content (Err refusal) = Unit {0}
-
--- the events of this content were given, or none for want of memory or a failure of the disk
-abbrev pub AreGiven : List ℕ → EventsRead → Type 0
-AreGiven content (Ok events) = AreEvents events content
-AreGiven content (Err (Damaged kept got)) = ⊥
-AreGiven content (Err refusal) = Unit {0}

@@ -6,10 +6,10 @@ ghost use Rattle.fwd_program.specs.Cause.{HasCause};
 ghost use Rattle.fwd_outside.specs.Disk.{disk_outcome};
 ghost use Rattle.fwd_outside.specs.declared.errors.DiskErr.TheVariants.{Failed};
 ghost use Rattle.fwd_kept.specs.declared.content.PartErr.TheVariants as part_err;
-ghost use Rattle.fwd_kept.specs.Content.{reads_part, IsJudged, AreRead, Gives};
+ghost use Rattle.fwd_kept.specs.Content.{reads_part, IsJudged, AreAsMany, Gives};
 
 use fwd_base::limits::LONGEST_PIECE;
-use fwd_event::{Events, whole_prefix};
+use fwd_event::whole_prefix;
 use fwd_outside::{Bytes, Disk, DiskErr, Memory};
 use std::alloc::Global;
 use thiserror::Error;
@@ -19,8 +19,8 @@ use thiserror::Error;
 pub enum PartErr {
     #[error("the disk has failed")]
     DiskFailed,
-    /// The file doesn't have the content that the store keeps count of: of what was read, so many bytes are whole events,
-    /// where so many are kept.
+    /// The file doesn't have the content that the store keeps count of: of what was read, so many bytes are whole events, or
+    /// there, where so many are kept.
     #[error("of {kept} bytes of content {got} are whole events")]
     Damaged { kept: u64, got: u64 },
     #[error("out of memory")]
@@ -93,33 +93,32 @@ pub fn read_back<D: Disk>(
     }
 }
 
-/// The events of bytes that are whole events, as many bytes as are kept.
-pub fn events_of(alloc: Global, bytes: &[u8], kept: u64) -> Result<Events, PartErr>
-    requires { length bytes.now ≤ kept }
-    ensures { AreRead kept bytes.now result }
+/// The bytes, where they are as many as are kept.
+fn as_many(bytes: Bytes, kept: u64) -> Result<Bytes, PartErr>
+    ensures { AreAsMany kept bytes result }
 {
-    let (events, got) = whole_prefix(alloc, bytes)?;
+    let got = bytes.len() as u64;
     if got == kept {
-        Ok(events)
+        Ok(bytes)
     } else {
         Err(PartErr::Damaged { kept, got })
     }
 }
 
-/// The same of bytes of a file from an offset on.
-pub fn read_events<D: Disk>(
+/// Reads as many bytes of a file from an offset on as are kept, and gives them as they are.
+pub fn read_bytes<D: Disk>(
     alloc: Global,
     disk: &mut D,
     name: &[u8],
     from: u64,
     kept: u64,
-) -> Result<Events, PartErr>
+) -> Result<Bytes, PartErr>
     requires { from + kept < 2 ^ 64 }
-    ensures calls { Gives (D.told disk.old) (D.told disk.new) (reads_part name.now from kept) (AreRead kept) result }
+    ensures calls { Gives (D.told disk.old) (D.told disk.new) (reads_part name.now from kept) (AreAsMany kept) result }
     ensures cause { HasCause (D.faults disk.old) (D.faults disk.new) (IsErrOf result part_err.DiskFailed) }
 {
     match read_part(alloc, disk, name, from, kept) {
-        Ok(bytes) => events_of(alloc, bytes.as_slice(), kept),
+        Ok(bytes) => as_many(bytes, kept),
         Err(DiskErr::Failed) => Err(PartErr::DiskFailed),
         Err(DiskErr::Memory) => Err(PartErr::Memory),
     }

@@ -10,9 +10,9 @@ ghost use Rattle.fwd_chunk.specs.Append.{stages, commits, committed_head};
 ghost use Rattle.fwd_program.specs.Program.{and_then};
 ghost use Rattle.fwd_kept.specs.declared.content.PartErr.TheVariants.{DiskFailed};
 ghost use Rattle.fwd_kept.specs.Kept.{size_of, end_of, file_of, appends, grown, removals, settles_kept, HasRoom, HoldsItsNames};
-ghost use Rattle.fwd_kept.specs.Content.{Gives, reads_content, IsContentOf, AreRead};
+ghost use Rattle.fwd_kept.specs.Content.{Gives, reads_content, IsContentOf, AreAsMany};
 
-use crate::content::{PartErr, events_of, read_back, read_events};
+use crate::content::{PartErr, read_back, read_bytes};
 use fwd_chunk::{ChunkHead, commit, settle, stage};
 use fwd_event::Events;
 use fwd_outside::{Bytes, Disk, DiskErr};
@@ -80,20 +80,20 @@ impl Kept {
         }
     }
 
-    /// The events of the content, read as it is.
-    pub fn events<D: Disk>(&self, alloc: Global, disk: &mut D) -> Result<Events, PartErr>
+    /// The bytes of the content as they are, as many as are kept. Whether they spell events isn't looked at.
+    pub fn bytes<D: Disk>(&self, alloc: Global, disk: &mut D) -> Result<Bytes, PartErr>
         requires { end_of self.now < 2 ^ 64 }
-        ensures calls { Gives (D.told disk.old) (D.told disk.new) (reads_content self.now) (AreRead (size_of self.now)) result }
+        ensures calls { Gives (D.told disk.old) (D.told disk.new) (reads_content self.now) (AreAsMany (size_of self.now)) result }
         ensures cause { HasCause (D.faults disk.old) (D.faults disk.new) (IsErrOf result DiskFailed) }
     {
         match self {
             Kept::InFile(head) => {
-                read_events(alloc, disk, head.name.as_slice(), 24 + head.meta, head.size)
+                read_bytes(alloc, disk, head.name.as_slice(), 24 + head.meta, head.size)
             }
             Kept::Adopted(head) => {
-                read_events(alloc, disk, head.name.as_slice(), 24 + head.meta, head.size)
+                read_bytes(alloc, disk, head.name.as_slice(), 24 + head.meta, head.size)
             }
-            Kept::InMemory(content) => events_of(alloc, content.as_slice(), content.len() as u64),
+            Kept::InMemory(content) => Ok(content.try_clone(alloc)?),
         }
     }
 

@@ -1,6 +1,6 @@
 //! The request that hands over a payload.
 
-ghost use Rattle.std.specs.Prelude.{◌≡◌, ◌++◌, All, IfOk, OnOk, codes, decimal};
+ghost use Rattle.std.specs.Prelude.{◌≡◌, ◌++◌, All, IfOk, OnOk, codes, decimal, length};
 ghost use Rattle.fwd_base.specs.declared.choices.Form.TheVariants.{MsgPack};
 ghost use Rattle.fwd_event.specs.Event.{EventFits};
 ghost use Rattle.fwd_out_http.specs.Request.{content_type, field, http_head, http_payload, request_line, server};
@@ -98,7 +98,21 @@ pub fn payload_http(
     ensures { IfOk result (λ request. request ≡ http_payload host.now port uri.now form tag.now events.now) }
 {
     let body = payload_text(alloc, form, tag, events)?;
+    request_of(alloc, host, port, uri, form, body.as_slice())
+}
+
+/// The same request, whose body was made already.
+pub fn request_of(
+    alloc: Global,
+    host: &[u8],
+    port: u16,
+    uri: &[u8],
+    form: Form,
+    body: &[u8],
+) -> Result<Bytes, Memory>
+    ensures { IfOk result (λ request. request ≡ http_head host.now port uri.now form (length body.now) ++ body.now) }
+{
     let mut request = head(alloc, host, port, uri, form, body.len())?;
-    request.extend_from_slice(body.as_slice())?;
+    request.extend_from_slice(body)?;
     Ok(request)
 }

@@ -13,17 +13,25 @@ use Rattle.fwd_event.specs.Event.{event_val}
 abbrev pub nanoseconds : ℕ → List ℕ
 nanoseconds n = replicate (9 - length (decimal n)) 48 ++ decimal n
 
--- the time in seconds, with its nanoseconds behind a dot
-abbrev pub moment : Event → List ℕ
-moment e = decimal e.sec ++ codes "." ++ nanoseconds e.nsec
+-- a time in seconds, with its nanoseconds behind a dot
+abbrev pub time_text : ℕ → ℕ → List ℕ
+time_text sec nsec = decimal sec ++ codes "." ++ nanoseconds nsec
+
+-- {"date":TIME
+abbrev pub date_text : ℕ → ℕ → List ℕ
+date_text sec nsec = codes "{\"date\":" ++ time_text sec nsec
 
 -- {"date":TIME,"key":value, ..} and a line feed
 abbrev pub json_line : Event → List ℕ
-json_line e = codes "{\"date\":" ++ moment e ++ more_pairs (entries_of e.body) ++ codes "}\n"
+json_line e = date_text e.sec e.nsec ++ more_pairs (entries_of e.body) ++ codes "}\n"
+
+-- TAG: [TIME, and a blank
+abbrev pub tag_text : List ℕ → ℕ → ℕ → List ℕ
+tag_text tag sec nsec = tag ++ codes ": [" ++ time_text sec nsec ++ codes ", "
 
 -- TAG: [TIME, BODY] and a line feed
 abbrev pub tagged_line : List ℕ → Event → List ℕ
-tagged_line tag e = tag ++ codes ": [" ++ moment e ++ codes ", " ++ json (mapping (entries_of e.body)) ++ codes "]\n"
+tagged_line tag e = tag_text tag e.sec e.nsec ++ json (mapping (entries_of e.body)) ++ codes "]\n"
 
 -- what is written for an event of a tag
 abbrev pub record_of : Form → List ℕ → Event → List ℕ

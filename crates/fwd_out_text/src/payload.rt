@@ -23,7 +23,7 @@ pub fn payload_text(alloc: Global, form: Form, tag: &[u8], events: &Events) -> R
 }
 
 /// Appends what is written for one event.
-fn write_record(
+pub fn write_record(
     alloc: Global,
     form: Form,
     tag: &[u8],

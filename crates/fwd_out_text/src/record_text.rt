@@ -1,7 +1,7 @@
 //! One event as a line of text.
 
 ghost use Rattle.std.specs.Prelude.{◌≡◌, ◌++◌, OnOk};
-ghost use Rattle.fwd_out_text.specs.Payload.{nanoseconds, moment, json_line, tagged_line};
+ghost use Rattle.fwd_out_text.specs.Payload.{nanoseconds, time_text, date_text, tag_text, json_line, tagged_line};
 
 use fwd_base::{Bytes, Memory};
 use fwd_event::Event;
@@ -22,24 +22,41 @@ fn write_nanoseconds(out: &mut Bytes, nsec: u32) -> Result<(), Memory>
     out.extend_from_slice(digits)
 }
 
-/// Appends the time of an event in seconds.
-fn write_moment(out: &mut Bytes, event: &Event) -> Result<(), Memory>
-    ensures { OnOk result (out.new ≡ out.old ++ moment event.now) }
+/// Appends a time in seconds.
+fn write_moment(sec: u32, nsec: u32, out: &mut Bytes) -> Result<(), Memory>
+    ensures { OnOk result (out.new ≡ out.old ++ time_text sec nsec) }
 {
     let mut buffer = Buffer::new();
-    out.extend_from_slice(buffer.format(event.sec).as_bytes())?;
+    out.extend_from_slice(buffer.format(sec).as_bytes())?;
     out.push(b'.')?;
-    write_nanoseconds(out, event.nsec)
+    write_nanoseconds(out, nsec)
+}
+
+/// Appends `{"date":TIME`.
+pub fn write_date(sec: u32, nsec: u32, out: &mut Bytes) -> Result<(), Memory>
+    ensures { OnOk result (out.new ≡ out.old ++ date_text sec nsec) }
+{
+    out.extend_from_slice(b"{\"date\":")?;
+    write_moment(sec, nsec, out)
 }
 
 /// Appends `{"date":TIME,"key":value}` and a line feed, with the pairs of the body in their order.
 pub fn write_json_line(alloc: Global, event: &Event, out: &mut Bytes) -> Result<(), Memory>
     ensures { OnOk result (out.new ≡ out.old ++ json_line event.now) }
 {
-    out.extend_from_slice(b"{\"date\":")?;
-    write_moment(out, event)?;
+    write_date(event.sec, event.nsec, out)?;
     more_pairs_text(alloc, &event.body, out)?;
     out.extend_from_slice(b"}\n")
+}
+
+/// Appends `TAG: [TIME, `.
+pub fn write_tag(tag: &[u8], sec: u32, nsec: u32, out: &mut Bytes) -> Result<(), Memory>
+    ensures { OnOk result (out.new ≡ out.old ++ tag_text tag.now sec nsec) }
+{
+    out.extend_from_slice(tag)?;
+    out.extend_from_slice(b": [")?;
+    write_moment(sec, nsec, out)?;
+    out.extend_from_slice(b", ")
 }
 
 /// Appends `TAG: [TIME, BODY]` and a line feed.
@@ -51,10 +68,7 @@ pub fn write_tagged_line(
 ) -> Result<(), Memory>
     ensures { OnOk result (out.new ≡ out.old ++ tagged_line tag.now event.now) }
 {
-    out.extend_from_slice(tag)?;
-    out.extend_from_slice(b": [")?;
-    write_moment(out, event)?;
-    out.extend_from_slice(b", ")?;
+    write_tag(tag, event.sec, event.nsec, out)?;
     map_text(alloc, &event.body, out)?;
     out.extend_from_slice(b"]\n")
 }

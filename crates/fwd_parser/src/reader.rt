@@ -3,7 +3,7 @@
 use crate::Parser;
 use crate::moments::timed;
 use crate::shapes::{body_of, search_of};
-use fwd_base::{Memory, Search};
+use fwd_base::{Bytes, Memory, Search};
 use fwd_event::Event;
 use std::alloc::Global;
 use std::marker::Model;
@@ -42,9 +42,17 @@ impl<'p> LineReader<'p> {
 
     /// The event of a line. `now` is the greatest reading of the clock so far, in milliseconds since 1970 in UTC; above
     /// 4,294,967,295,999 it counts as this. A line that isn't of the parser's shape stays whole under `log`.
-    #[tactic(auto, unfolding(crate::specs::Parsed::parsed))]
     pub fn read(&mut self, alloc: Global, line: &[u8], now: u64) -> Result<Event, Memory>
         ensures event { IfOk result (λ event. event ≡ parsed self.old line.now now) }
+        ensures same { self.new ≡ self.old }
+    {
+        self.take(alloc, Bytes::from_slice(alloc, line)?, now)
+    }
+
+    /// The same of a line that is handed over: where it stays whole, it is moved under `log` and not copied.
+    #[tactic(auto, unfolding(crate::specs::Parsed::parsed))]
+    pub fn take(&mut self, alloc: Global, line: Bytes, now: u64) -> Result<Event, Memory>
+        ensures event { IfOk result (λ event. event ≡ parsed self.old line now) }
         ensures same { self.new ≡ self.old }
     {
         let body = body_of(alloc, &self.parser.shape, &mut self.search, line)?;

@@ -15,21 +15,20 @@ use fwd_json::{JsonErr, pairs_of_json};
 use std::alloc::Global;
 
 /// The whole line, under `log`.
-fn plain(alloc: Global, line: &[u8]) -> Result<Pairs, Memory>
-    ensures { IfOk result (λ body. body ≡ plain line.now) }
+fn plain(alloc: Global, line: Bytes) -> Result<Pairs, Memory>
+    ensures { IfOk result (λ body. body ≡ plain line) }
 {
     let mut body = Pairs::new(alloc);
     let key = Value::Text(Bytes::from_slice(alloc, b"log")?);
-    let value = Value::Text(Bytes::from_slice(alloc, line)?);
-    body.push((key, value))?;
+    body.push((key, Value::Text(line)))?;
     Ok(body)
 }
 
 #[tactic(auto, unfolding(crate::specs::Parsed::body_of))]
-fn json(alloc: Global, line: &[u8]) -> Result<Pairs, Memory>
-    ensures { IfOk result (λ body. body ≡ body_of shape.Json line.now) }
+fn json(alloc: Global, line: Bytes) -> Result<Pairs, Memory>
+    ensures { IfOk result (λ body. body ≡ body_of shape.Json line) }
 {
-    match pairs_of_json(alloc, line) {
+    match pairs_of_json(alloc, line.as_slice()) {
         Ok(pairs) => Ok(pairs),
         Err(JsonErr::Memory) => Err(Memory),
         Err(_) => plain(alloc, line),
@@ -43,16 +42,16 @@ fn groups(
     search: &mut Search<'_>,
     types: &FieldTypes,
     skip_empty: bool,
-    line: &[u8],
+    line: Bytes,
 ) -> Result<Pairs, Memory>
     ensures body { (pattern : Pattern) → SearchesFor pattern search.old →
-        IfOk result (λ body. body ≡ body_of (shape.Groups pattern types.now skip_empty) line.now) }
+        IfOk result (λ body. body ≡ body_of (shape.Groups pattern types.now skip_empty) line) }
     ensures same { SearchesAs search.old search.new }
 {
-    match search.captures(alloc, line)? {
-        Some(groups) => fields_of(alloc, types, skip_empty, groups.as_slice()),
-        None => plain(alloc, line),
+    if let Some(groups) = search.captures(alloc, line.as_slice())? {
+        return fields_of(alloc, types, skip_empty, groups.as_slice());
     }
+    plain(alloc, line)
 }
 
 /// The search for the pattern of a shape that has one.
@@ -66,16 +65,16 @@ pub fn search_of(alloc: Global, shape: &Shape) -> Result<Option<Search<'_>>, Mem
 }
 
 /// The body of a line. One that isn't an object of JSON within the limits, or that the pattern doesn't match, stays under
-/// `log`.
+/// `log`, and isn't copied for that.
 #[tactic(auto, unfolding(crate::specs::Parsed::body_of))]
 pub fn body_of(
     alloc: Global,
     shape: &Shape,
     search: &mut Option<Search<'_>>,
-    line: &[u8],
+    line: Bytes,
 ) -> Result<Pairs, Memory>
     requires { IsReady shape.now search.old }
-    ensures body { IfOk result (λ body. body ≡ body_of shape.now line.now) }
+    ensures body { IfOk result (λ body. body ≡ body_of shape.now line) }
     ensures ready { IsReady shape.now search.new }
 {
     match shape {

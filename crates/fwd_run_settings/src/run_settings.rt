@@ -305,14 +305,16 @@ fn places_of(kind: &OutputKind) -> u64
     }
 }
 
-/// The events of lines at a reading of the clock, as an input's parser reads them.
-pub fn events_at(alloc: Global, input: &InputSet, now: u64, lines: &Lines) -> Result<Events, Memory>
-    ensures { IfOk result (λ events. events ≡ events_of (Some input.now) now lines.now) }
+/// The events of lines at a reading of the clock, as an input's parser reads them. The lines are handed over, so that one
+/// that stays whole isn't copied.
+pub fn events_at(alloc: Global, input: &InputSet, now: u64, lines: Lines) -> Result<Events, Memory>
+    ensures { IfOk result (λ events. events ≡ events_of (Some input.now) now lines) }
 {
     let mut reader = input.parser.reader(alloc)?;
     let mut events = Events::new(alloc);
-    for line in lines.as_slice() {
-        events.push(reader.read(alloc, line.bytes.as_slice(), now)?)?;
+    events.reserve(lines.len())?;
+    for line in lines.into_vec() {
+        events.push(reader.take(alloc, line.bytes, now)?)?;
     }
     Ok(events)
 }

@@ -1,6 +1,7 @@
 pub mod Placing
 pub mod Keeping
 pub mod Sinking
+pub mod Searching
 pub mod Parting
 pub mod Escaping
 pub mod Lining

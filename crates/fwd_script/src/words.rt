@@ -1,6 +1,7 @@
 //! The words of a line, from left to right.
 
-ghost use Rattle.std.specs.Prelude.{◌≡◌, ◌≢◌, List, Option, Some, None, MatchResult, IfOk, IfErr};
+ghost use Rattle.std.specs.Prelude.{◌≡◌, ◌≢◌, ◌≤◌, ◌==◌, List, length, Option, Some, None, MatchResult, IfOk, IfErr};
+ghost use Rattle.std.specs.List.{position_or_len};
 ghost use Rattle.std.specs.Option.{option_copied};
 ghost use Rattle.hex.specs.Hex.{decode_of};
 ghost use Rattle.fwd_script.specs.declared.refused.ScheduleKind.TheVariants.{BadHex, Memory};
@@ -8,10 +9,20 @@ ghost use Rattle.fwd_script.specs.Words.{Reads, decoded, escaped, id, number, nu
 
 use crate::ScheduleKind;
 use fwd_base::limits::LONGEST_PIECE;
-use fwd_base::{Bytes, number, place_of};
+use fwd_base::{Bytes, number};
 use hex::FromHexError;
+use memchr::memchr;
 use std::alloc::Global;
 use std::marker::Model;
+
+/// The place of the first such byte, or the length of the text where there is none. Pieces are long, so `memchr` looks at
+/// many bytes at a time.
+fn place_of(text: &[u8], wanted: u8) -> usize
+    ensures place { result ≡ position_or_len (λ byte. byte == wanted) text.now }
+    ensures within { result ≤ length text.now }
+{
+    memchr(wanted, text).unwrap_or(text.len())
+}
 
 /// What stands before the first of these bytes, and what stands behind it.
 pub fn part(text: &[u8], byte: u8) -> (&[u8], Option<&[u8]>)
@@ -148,29 +159,28 @@ fn escaped_byte(letter: u8) -> Option<u8>
     }
 }
 
-/// What a text with escapes stands for.
+/// What a text with escapes stands for. The bytes between escapes come in runs.
 fn unescape(alloc: Global, text: &[u8]) -> Result<Bytes, ScheduleKind>
     ensures ok { IfOk result (λ bytes. unescaped text.now ≡ Some bytes) }
     ensures err { IfErr result (λ kind. kind ≢ Memory → (kind ≡ BadHex) × (unescaped text.now ≡ None)) }
 {
     let mut bytes = Bytes::new(alloc);
     let mut rest = text;
-    'escapes: while let [first, behind @ ..] = rest {
-        if *first != b'\\' {
-            bytes.push(*first)?;
-            rest = behind;
-            continue;
+    'escapes: loop {
+        let (run, behind) = rest.split_at(place_of(rest, b'\\'));
+        bytes.extend_from_slice(run)?;
+        if behind.is_empty() {
+            return Ok(bytes);
         }
-        let [letter, behind @ ..] = behind else {
+        let [_, letter, more @ ..] = behind else {
             return Err(ScheduleKind::BadHex);
         };
         let Some(byte) = escaped_byte(*letter) else {
             return Err(ScheduleKind::BadHex);
         };
         bytes.push(byte)?;
-        rest = behind;
+        rest = more;
     }
-    Ok(bytes)
 }
 
 /// The value of digits, where it is at most so much.

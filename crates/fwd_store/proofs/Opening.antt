@@ -1,11 +1,10 @@
 -- The open chunks as the entries of a map.
 use Rattle.std.proofs.Common.{◌≡◌, ℕ, zero, suc, ◌<◌, ◌≤◌, ◌+◌, ◌==◌, ◌&&◌, nat_lt, Bool, true, false, not, cond, if◌then◌else◌, List, [], ◌∷◌, ◌++◌, map, filter, drop, length, Option, Some, None, is_some, slice_get, position, refl, ◌∙◌, ap, arith}
-use Rattle.std.proofs.lemmas.Bool.Decides.{Decides-eqb}
-use Rattle.std.specs.Cmp.Lexicographic.{bytes_decides}
 use Rattle.std.specs.List.{position_or_len, AllByRecursion, IsDistinct}
 use Rattle.std.specs.Map.{lookup, keys_of}
 use Rattle.std.specs.Str.{bytes_eq}
 use Rattle.fwd_store.specs.declared.opened.Source.{Source}
+use Rattle.fwd_store.specs.SameSource.{same}
 use Rattle.fwd_store.specs.Source.{opened_at}
 use Rattle.fwd_store.specs.Opened.{Opened, is_for, open_for, without, first_of}
 
@@ -102,35 +101,29 @@ module _ (test : Source → Bool) where
       by true is = cc is
       by false is = absurd (cc is)
 
+abbrev pub is_of : ℕ → List ℕ → Source → Bool
+is_of input tag s = (input == s.input.0) && bytes_eq tag s.tag.items
+
 abbrev pub same_source : Source → Source → Bool
-same_source s t = (s.input.0 == t.input.0) && bytes_eq s.tag.items t.tag.items
+same_source s t = is_of s.input.0 s.tag.items t
 
-both : (a b : Bool) → a && b ≡ true → (a ≡ true) × (b ≡ true)
-both true b is = (refl, is)
-both false b is = absurd (cc is)
+module _ (input : ℕ) (tag : List ℕ) where
+  -- no other entry is of the source
+  no_other : (s : Source) (es : List (Source × ℕ)) → is_of input tag s ≡ true → AllByRecursion (λ t. same_source s t ≡ false) (keys_of es) → lookup (is_of input tag) es ≡ None
+  no_other s [] is all = refl
+  no_other s (e ∷ es) is all =
+      ap (λ (b : Bool). cond b (Some e.1) (lookup (is_of input tag) es)) (same (λ i t. is_of i t e.0) input s.input.0 tag s.tag.items is ∙ all.0) ∙ no_other s es is all.1
 
-alike : (s t u : Source) → same_source s t ≡ true → same_source s u ≡ same_source t u
-alike s t u is =
-    let parts = both (s.input.0 == t.input.0) (bytes_eq s.tag.items t.tag.items) is in
-    ap (λ (i : ℕ). (i == u.input.0) && bytes_eq s.tag.items u.tag.items) ((Decides-eqb s.input.0 t.input.0).0 parts.0)
-    ∙ ap (λ (tag : List ℕ). (t.input.0 == u.input.0) && bytes_eq tag u.tag.items) ((bytes_decides s.tag.items t.tag.items).0 parts.1)
-
--- no other entry is of the source
-no_other : (s t : Source) (es : List (Source × ℕ)) → same_source s t ≡ true → AllByRecursion (λ u. same_source t u ≡ false) (keys_of es) → lookup (same_source s) es ≡ None
-no_other s t [] is all = refl
-no_other s t (e ∷ es) is all =
-    ap (λ (b : Bool). cond b (Some e.1) (lookup (same_source s) es)) (alike s t e.0 is ∙ all.0) ∙ no_other s t es is all.1
-
--- what stands among the closed ones isn't open
-pub not_open : (s : Source) (c : ℕ) (es : List (Source × ℕ)) → IsDistinct same_source (keys_of es) → position_or_len (same_source s) (keys_of es) < c → lookup (same_source s) (drop c es) ≡ None
-unfolding IsDistinct
-not_open s zero es distinct less = absurd (omega (arith, less))
-not_open s (suc c) [] distinct less = refl
-not_open s (suc c) (e ∷ es) distinct less =
-    by (same_source s e.0) refl less (λ is. not_there (same_source s) c es (no_other s e.0 es is distinct.0)) (not_open s c es distinct.1)
-  where
-    by : (b : Bool) → same_source s e.0 ≡ b → cond (not b) (1 + position_or_len (same_source s) (keys_of es)) 0 < suc c
-        → (same_source s e.0 ≡ true → lookup (same_source s) (drop c es) ≡ None)
-        → (position_or_len (same_source s) (keys_of es) < c → lookup (same_source s) (drop c es) ≡ None) → lookup (same_source s) (drop c es) ≡ None
-    by true is less here rest = here is
-    by false is less here rest = rest (omega (arith, less))
+  -- what stands among the closed ones isn't open
+  pub not_open : (c : ℕ) (es : List (Source × ℕ)) → IsDistinct same_source (keys_of es) → position_or_len (is_of input tag) (keys_of es) < c → lookup (is_of input tag) (drop c es) ≡ None
+  unfolding IsDistinct
+  not_open zero es distinct less = absurd (omega (arith, less))
+  not_open (suc c) [] distinct less = refl
+  not_open (suc c) (e ∷ es) distinct less =
+      by (is_of input tag e.0) refl less (λ is. not_there (is_of input tag) c es (no_other e.0 es is distinct.0)) (not_open c es distinct.1)
+    where
+      by : (b : Bool) → is_of input tag e.0 ≡ b → cond (not b) (1 + position_or_len (is_of input tag) (keys_of es)) 0 < suc c
+          → (is_of input tag e.0 ≡ true → lookup (is_of input tag) (drop c es) ≡ None)
+          → (position_or_len (is_of input tag) (keys_of es) < c → lookup (is_of input tag) (drop c es) ≡ None) → lookup (is_of input tag) (drop c es) ≡ None
+      by true is less here rest = here is
+      by false is less here rest = rest (omega (arith, less))

@@ -1,13 +1,15 @@
 //! The open chunks.
 
 ghost use Rattle.std.specs.Prelude.{◌≡◌, ℕ, ◌==◌, ◌&&◌, ◌<◌, ◌≤◌, ◌++◌, not, [], ◌∷◌, All, drop, map, OnOk, None};
+ghost use Rattle.std.specs.Hash as fed;
 ghost use Rattle.std.specs.Str.{bytes_eq};
 ghost use Rattle.indexmap.specs.IndexMap.{index_map_len, spare};
 ghost use Rattle.fwd_store.specs.Opened.{open_for, without, first_of, Rise};
 ghost use Rattle.fwd_store.specs.Source.{opened_at};
+ghost use Rattle.fwd_store.specs.SameSource.{same};
 
 use fwd_base::{InputId, Memory};
-use indexmap::IndexMap;
+use indexmap::{Equivalent, IndexMap};
 use std::alloc::Global;
 use std::marker::Model;
 
@@ -23,6 +25,25 @@ impl Source {
         ensures { result ≡ (input.0 == self.now.input.0) && bytes_eq tag.now self.now.tag.items }
     {
         input == self.input && tag == self.tag.as_slice()
+    }
+}
+
+/// What a chunk is open for, with a tag that stands elsewhere. It finds the source of the same input and tag.
+#[derive(Clone, Copy, PartialEq, Eq, Hash)]
+struct SourceRef<'a> {
+    input: InputId,
+    tag: &'a [u8],
+}
+
+impl<'a> Equivalent<Source> for SourceRef<'a> {
+    ghost equivalent = { λ r s. (r.input.0 == s.input.0) && bytes_eq r.tag.now s.tag.items };
+
+    ghost respects_hash = { λ r s. same (λ input tag. fed.u32 input ++ fed.slice fed.u8 tag) r.input.0 s.input.0 r.tag.now s.tag.items };
+
+    ghost respects_eq = { λ r s t. same (λ input tag. (input == t.input.0) && bytes_eq tag t.tag.items) r.input.0 s.input.0 r.tag.now s.tag.items };
+
+    fn equivalent(&self, key: &Source) -> bool {
+        key.is_for(self.input, self.tag)
     }
 }
 
@@ -100,26 +121,20 @@ impl OpenChunks {
     pub fn get(&self, source: &Source) -> Option<u64>
         ensures { result ≡ open_for self.now.list source.now.input.0 source.now.tag.items }
     {
+        self.find(source.input, source.tag.as_slice())
+    }
+
+    /// The chunk that is open for this input and tag. It takes no memory.
+    pub fn find(&self, input: InputId, tag: &[u8]) -> Option<u64>
+        ensures { result ≡ open_for self.now.list input.0 tag.now }
+    {
         // The length is what says that no two entries are of one source.
         let _len = self.chunks.len();
-        let (index, _, number) = self.chunks.get_full(source)?;
+        let (index, _, number) = self.chunks.get_full(SourceRef { input, tag })?;
         if index < self.closed {
             return None;
         }
         Some(*number)
-    }
-
-    /// The chunk that is open for this input and tag. It goes over all of them, and takes no memory.
-    pub fn find(&self, input: InputId, tag: &[u8]) -> Option<u64>
-        ensures { result ≡ open_for self.now.list input.0 tag.now }
-    {
-        let (_, open) = self.chunks.as_slice().split_at(self.closed);
-        for (source, number) in open.iter() {
-            if source.is_for(input, tag) {
-                return Some(*number);
-            }
-        }
-        None
     }
 
     /// Makes room for one more.

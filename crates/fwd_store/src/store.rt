@@ -21,7 +21,7 @@ ghost use Rattle.fwd_image.specs.Crash.{DiskSince, DiskAfter};
 ghost use Rattle.fwd_kept.specs.declared.content.PartErr.TheVariants as part_err;
 ghost use Rattle.fwd_kept.specs.Name.{file_name};
 ghost use Rattle.fwd_store.specs.Crash.{file_for, KeepsOthers, IsReady, TakesBatch, HasTaken, Goes, IsGone, NamesOutputs, KeepsOutcomes, Recorded};
-ghost use Rattle.fwd_kept.specs.Content.{Gives, reads_content, IsContentOf, AreRead, AreKept, StandsIn, IsGiven, AreGiven};
+ghost use Rattle.fwd_kept.specs.Content.{Gives, reads_content, IsContentOf, AreAsMany, AreKept, StandsIn, IsGiven};
 ghost use Rattle.fwd_kept.specs.Kept.{size_of, size_held, file_held};
 ghost use Rattle.fwd_store.specs.Opened.{first_of};
 ghost use Rattle.fwd_store.specs.Store.{has_room, kept_outcome, IsRefusalOf, begins_as, kept_as, sealed, named, after_failed_append, has_file, IsSound, chunk_for, new_name, accept_outcome, BeganChunk, GrewChunk, Took, GivesUp, Refused, HasFailed, CanGrow, appends_to, goes_to, accepts, has_no_number, drops, dropped, with_kept, head_of, IsWhole, name_found, adopted, IsNew, IsNoLater, settles_for};
@@ -286,23 +286,23 @@ impl Store {
         self.read_content(alloc, disk, chunk.0)
     }
 
-    /// The events of the content of a chunk that is held: what `content` gives, read as it is.
-    pub fn events<D: Disk>(
+    /// The bytes of the content of a chunk that is held, as many as are kept. Whether they spell events isn't looked at.
+    pub fn bytes<D: Disk>(
         &self,
         alloc: Global,
         disk: &mut D,
         chunk: ChunkId,
-    ) -> Result<Events, PartErr>
+    ) -> Result<Bytes, PartErr>
         requires { IsSome (map.get self.now.chunks chunk.0) }
-        ensures calls { (kept : Kept) → map.get self.now.chunks chunk.0 ≡ Some kept → Gives (D.told disk.old) (D.told disk.new) (reads_content kept) (AreRead (size_of kept)) result }
+        ensures calls { (kept : Kept) → map.get self.now.chunks chunk.0 ≡ Some kept → Gives (D.told disk.old) (D.told disk.new) (reads_content kept) (AreAsMany (size_of kept)) result }
 
-        // Where the content stands, its events are given.
+        // Where the content stands, it is what is given.
         ensures stands { (kept : Kept) (content : List ℕ) → map.get self.now.chunks chunk.0 ≡ Some kept → AreKept kept content
-            → DiskAfter (D.told disk.old) (D.told disk.new) (StandsIn kept content) (λ _ _. AreGiven content result) }
+            → DiskAfter (D.told disk.old) (D.told disk.new) (StandsIn kept content) (λ _ _. IsGiven content result) }
         ensures any_moment { DiskSince (D.told disk.old) (D.told disk.new) (λ _. Unit {0}) (λ first now. now ≡ first) }
         ensures cause { HasCause (D.faults disk.old) (D.faults disk.new) (IsErrOf result part_err.DiskFailed) }
     {
-        self.read_events(alloc, disk, chunk.0)
+        self.read_bytes(alloc, disk, chunk.0)
     }
 
     /// Records in the file of a chunk that is held that an output has its outcome. False, and no call, where the chunk is in
@@ -415,18 +415,18 @@ impl Store {
         }
     }
 
-    // Reads the events of a chunk.
-    fn read_events<D: Disk>(
+    // Reads the bytes of a chunk.
+    fn read_bytes<D: Disk>(
         &self,
         alloc: Global,
         disk: &mut D,
         number: u64,
-    ) -> Result<Events, PartErr>
-        ensures calls { (kept : Kept) → map.get self.now.chunks number ≡ Some kept → Gives (D.told disk.old) (D.told disk.new) (reads_content kept) (AreRead (size_of kept)) result }
+    ) -> Result<Bytes, PartErr>
+        ensures calls { (kept : Kept) → map.get self.now.chunks number ≡ Some kept → Gives (D.told disk.old) (D.told disk.new) (reads_content kept) (AreAsMany (size_of kept)) result }
         ensures cause { HasCause (D.faults disk.old) (D.faults disk.new) (IsErrOf result part_err.DiskFailed) }
     {
         match self.chunks.get(number) {
-            Some(kept) => kept.events(alloc, disk),
+            Some(kept) => kept.bytes(alloc, disk),
             None => Err(PartErr::Memory),
         }
     }

@@ -65,7 +65,7 @@ module _ (now n : ℕ) (before : now < n) where
   route_not_due chunk r rs true flies till rest = rw flies rest
   route_not_due chunk r rs false idle till rest = rw (idle, lt-leb r.due now (omega (arith, before, till idle))) rest
 
-  routes_not_due : (chunk : ChunkId) (rs : List Route) → All (Till n) rs → filter is_due (idle_timers chunk rs) ≡ []
+  pub routes_not_due : (chunk : ChunkId) (rs : List Route) → All (Till n) rs → filter is_due (idle_timers chunk rs) ≡ []
   routes_not_due chunk [] till = refl
   routes_not_due chunk (r ∷ rs) till = route_not_due chunk r rs r.flying refl (All-head (Till n) r rs till) (routes_not_due chunk rs (All-tail (Till n) r rs till))
 

@@ -11,8 +11,10 @@ ghost use Rattle.fwd_table.specs.Changes.{changed, due_by};
 use fwd_base::limits::MOST_OUTPUTS;
 use fwd_base::{ChunkId, Memory, OutputId};
 use fwd_retry::{Timer, earlier};
+use std::alloc::Global;
 use std::collections::BTreeSet;
 use std::marker::Model;
+use std::mem;
 
 /// An output that a chunk is owed to still.
 #[derive(Clone, Copy, Debug, PartialEq, Eq)]
@@ -139,14 +141,29 @@ fn change_routes(routes: &mut [Route], output: OutputId, change: Change)
     }
 }
 
+/// A clock reading before which none of the idle routes is due: the first of their due times, where there is one.
+fn soonest_of(routes: &[Route]) -> u64
+    ensures { All (λ r. r.flying ≡ false → result ≤ r.due) routes.now }
+{
+    let mut soonest = u64::MAX;
+    for route in routes {
+        if !route.flying {
+            soonest = soonest.min(route.due);
+        }
+    }
+    soonest
+}
+
 /// The routes of a chunk, by rising output.
 #[derive(Debug, Drop)]
 pub struct Routes {
     routes: Vec<Route>,
+    /// A clock reading in milliseconds before which none of the idle ones is due.
+    soonest: u64,
 }
 
 impl Model for Routes {
-    ghost use Rattle.std.specs.Prelude.{List};
+    ghost use Rattle.std.specs.Prelude.{◌≡◌, ◌≤◌, List, All, false};
     ghost use Rattle.fwd_table.specs.declared.route.Route.{Route};
     ghost use Rattle.fwd_table.specs.Routes.{RiseFrom};
 
@@ -154,7 +171,7 @@ impl Model for Routes {
 
     ghost view = { λ r. r.routes.items };
 
-    ghost invariant = { λ r. RiseFrom 0 r.routes.items };
+    ghost invariant = { λ r. RiseFrom 0 r.routes.items × All (λ route. route.flying ≡ false → r.soonest ≤ route.due) r.routes.items };
 }
 
 impl Routes {
@@ -167,7 +184,20 @@ impl Routes {
     {
         storage.clear();
         put_routes(&mut storage, owed, MOST_OUTPUTS as u32);
-        Routes { routes: storage }
+        let soonest = soonest_of(&storage);
+        Routes {
+            routes: storage,
+            soonest,
+        }
+    }
+
+    /// Moves the routes to storage of just their number, and gives the storage that they had.
+    pub fn tighten(&mut self, alloc: Global) -> Result<Vec<Route>, Memory>
+        ensures { self.new ≡ self.old }
+    {
+        let mut tight = Vec::with_capacity(alloc, self.routes.len())?;
+        tight.extend_from_slice(&self.routes)?;
+        Ok(mem::replace(&mut self.routes, tight))
     }
 
     pub fn is_empty(&self) -> bool
@@ -215,6 +245,7 @@ impl Routes {
         ensures { self.new ≡ map (due_at due) self.old }
     {
         begin_routes(&mut self.routes, due);
+        self.soonest = soonest_of(&self.routes);
     }
 
     /// Changes the route to an output, if it is owed.
@@ -222,6 +253,7 @@ impl Routes {
         ensures { self.new ≡ on_output output (changed change) self.old }
     {
         change_routes(&mut self.routes, output, change);
+        self.soonest = soonest_of(&self.routes);
     }
 
     /// Takes the route to an output away, if it is owed.
@@ -229,6 +261,7 @@ impl Routes {
         ensures { self.new ≡ without_output output self.old }
     {
         self.routes.retain(|route| route.output != output);
+        self.soonest = soonest_of(&self.routes);
     }
 
     /// The mask of the outputs.
@@ -277,17 +310,11 @@ impl Routes {
         first
     }
 
-    /// A clock reading before which none of the idle routes is due: the first of their due times, where there is one.
+    /// A clock reading before which none of the idle routes is due.
     pub fn soonest(&self) -> u64
         ensures { All (λ r. r.flying ≡ false → result ≤ r.due) self.now }
     {
-        let mut soonest = u64::MAX;
-        for route in &self.routes {
-            if !route.flying {
-                soonest = soonest.min(route.due);
-            }
-        }
-        soonest
+        self.soonest
     }
 
     /// Puts the timers of the idle routes that are due at `now` to others.
@@ -299,6 +326,9 @@ impl Routes {
     ) -> Result<(), Memory>
         ensures { OnOk result (timers.new.keys ≡ fold (insert_key by_time) timers.old.keys (filter (λ (t : Timer). nat_le t.due now) (idle_timers chunk self.now))) }
     {
+        if now < self.soonest {
+            return Ok(());
+        }
         for route in &self.routes {
             if !route.flying && route.due <= now {
                 timers.insert(route.timer(chunk))?;

@@ -1,6 +1,7 @@
 //! Rows: a chunk and its routes.
 
-ghost use Rattle.std.specs.Prelude.{◌≡◌, ◌<◌, ◌^◌, length, All, fold, filter, nat_le, option_copied, IfOk, OnOk};
+ghost use Rattle.std.specs.Prelude.{◌≡◌, ◌<◌, ◌≤◌, ◌^◌, length, All, fold, filter, nat_le, option_copied, vec_capacity, IfOk, OnOk};
+ghost use Rattle.fwd_base.specs.Limits.{most_outputs};
 ghost use Rattle.std.specs.List.{flat_map};
 ghost use Rattle.std.specs.BTreeSet.{insert_key};
 ghost use Rattle.std.specs.VecDeque.{deque_capacity, deque_len};
@@ -11,8 +12,9 @@ ghost use Rattle.fwd_table.specs.Routes.{flying_of, IsMaskOf};
 ghost use Rattle.fwd_table.specs.Changes.{row_changed, row_due_by};
 ghost use Rattle.fwd_table.specs.Sums.{AreSums, IsSound};
 
-use crate::route::{Change, Routes};
+use crate::route::{Change, Route, Routes};
 use crate::sums::{Sums, Way};
+use fwd_base::limits::MOST_OUTPUTS;
 use fwd_base::{Bytes, ChunkId, InputId, Memory, OutputId};
 use fwd_outside::Home;
 use fwd_retry::Timer;
@@ -168,6 +170,38 @@ pub fn change_row(rows: &mut VecDeque<Row>, sums: &mut Sums, chunk: ChunkId, cha
         rows[place].apply(change);
         sums.shift(&rows[place], Way::In);
     }
+}
+
+/// Moves the last row's routes to storage of just their number, and gives the storage that they had; an empty one where
+/// there is no row.
+fn tighten_last(alloc: Global, rows: &mut VecDeque<Row>) -> Result<Vec<Route>, Memory>
+    ensures rows { rows.new.items ≡ rows.old.items }
+    ensures room { (deque_capacity rows.new ≡ deque_capacity rows.old) × (deque_len rows.new ≡ deque_len rows.old) }
+{
+    let Some(last) = rows.len().checked_sub(1) else {
+        return Ok(Vec::new(alloc));
+    };
+    rows[last].routes.tighten(alloc)
+}
+
+/// Makes room for the routes of one more row. A row is put into storage with room for all outputs: the last one gives it
+/// up for one of just its routes.
+pub fn make_storage(
+    alloc: Global,
+    rows: &mut VecDeque<Row>,
+    storage: &mut Vec<Route>,
+) -> Result<(), Memory>
+    ensures rows { rows.new.items ≡ rows.old.items }
+    ensures same { (deque_capacity rows.new ≡ deque_capacity rows.old) × (deque_len rows.new ≡ deque_len rows.old) }
+    ensures room { OnOk result (most_outputs ≤ vec_capacity storage.new) }
+    ensures kept { most_outputs ≤ vec_capacity storage.old → most_outputs ≤ vec_capacity storage.new }
+{
+    if storage.capacity() < MOST_OUTPUTS {
+        *storage = tighten_last(alloc, rows)?;
+        storage.clear();
+        storage.reserve(MOST_OUTPUTS)?;
+    }
+    Ok(())
 }
 
 /// The row of a chunk, if there is one.

@@ -15,7 +15,8 @@ ghost use Rattle.fwd_table.specs.Rows.{IsIdle, IsOwedToNobody, has_row, is_row_o
 use crate::answer::{due_after, may_retry, resolved, spent};
 use crate::route::{Change, Route, Routes};
 use crate::row::{
-    Row, RowChange, change_row, due_in, find_row, next_in, place_of, soonest_in, sums_of,
+    Row, RowChange, change_row, due_in, find_row, make_storage, next_in, place_of, soonest_in,
+    sums_of,
 };
 use crate::sums::{Sums, Way};
 use crate::{Answer, Outcome, RowSeen};
@@ -76,8 +77,7 @@ impl Table {
         ensures spare { self.old.spare ≤ self.new.spare }
     {
         self.rows.reserve(1)?;
-        self.storage.reserve(MOST_OUTPUTS)?;
-        Ok(())
+        make_storage(self.alloc, &mut self.rows, &mut self.storage)
     }
 
     /// Puts an open row at the end, owed to the outputs whose bits are set in `owed`. It asks for room that was

@@ -7,7 +7,7 @@ use fwd_store::{ChunkId, Home, InputId, Store};
 use std::alloc::Global;
 
 /// How many inputs have an open chunk. That of the input `n` has the number `n` + 1.
-const MANY: u32 = 2_000;
+const MANY: u32 = 20_000;
 
 /// Puts a line of an input into its open chunk in memory, or into a new one. Whether it went into the chunk of this number.
 fn is_put(
@@ -56,16 +56,16 @@ fn shut_from(store: &mut Store, first: u64, count: u64) -> bool {
 
 /// A closed input opens a chunk again, and the others keep theirs.
 fn open_again(alloc: Global, store: &mut Store, disk: &mut MemDisk) -> Result<bool, Memory> {
-    let again = is_put(alloc, store, disk, 0, 2_001)? && is_put(alloc, store, disk, 0, 2_001)?;
-    Ok(again && is_put(alloc, store, disk, 1_999, 2_000)?)
+    let again = is_put(alloc, store, disk, 0, 20_001)? && is_put(alloc, store, disk, 0, 20_001)?;
+    Ok(again && is_put(alloc, store, disk, 19_999, 20_000)?)
 }
 
 /// A quarter of the chunks close, one of their inputs opens another, and all close in the order in which they were opened.
 fn are_closed(alloc: Global, store: &mut Store, disk: &mut MemDisk) -> Result<bool, Memory> {
     let opened = open_all(alloc, store, disk)?;
-    let quarter = shut_from(store, 1, 499);
+    let quarter = shut_from(store, 1, 4_999);
     let again = open_again(alloc, store, disk)?;
-    let rest = shut_from(store, 500, 1_502);
+    let rest = shut_from(store, 5_000, 15_002);
     Ok(opened && quarter && again && rest && store.first_open().is_none())
 }
 

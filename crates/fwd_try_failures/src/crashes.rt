@@ -58,40 +58,47 @@ const NOTHING: Handed = Handed {
     sent: 0,
 };
 
-/// What the outputs answer to the dials of the first life, and what they are handed at its flush.
+/// What the outputs answer to the dials of the first life; and behind how many calls on the disk of its flush each of them
+/// has all records.
 #[derive(Clone, Copy)]
 struct Dials {
     lines: &'static [u8],
-    handed: Handed,
+    printed_behind: u64,
+    sent_behind: u64,
 }
 
+/// An output whose dial is refused has none.
+const NEVER: u64 = u64::MAX;
+
+/// The content is read for each output in turn. Once one has all, that is recorded and synced; once both have, the file is
+/// removed.
 const DIALS: &[Dials] = &[
     Dials {
         lines: b"",
-        handed: Handed {
-            printed: 2,
-            sent: 2,
-        },
+        printed_behind: 1,
+        sent_behind: 4,
     },
     Dials {
         lines: b"dial 0 refused\n",
-        handed: Handed {
-            printed: 0,
-            sent: 2,
-        },
+        printed_behind: NEVER,
+        sent_behind: 2,
     },
     Dials {
         lines: b"dial 1 refused\n",
-        handed: Handed {
-            printed: 2,
-            sent: 0,
-        },
+        printed_behind: 1,
+        sent_behind: NEVER,
     },
     Dials {
         lines: b"dial 0 refused\ndial 1 refused\n",
-        handed: NOTHING,
+        printed_behind: NEVER,
+        sent_behind: NEVER,
     },
 ];
+
+/// The records of both pieces, which an output has where so many calls were made.
+fn records_behind(calls: u64, behind: u64) -> u64 {
+    if behind <= calls { 2 } else { 0 }
+}
 
 /// What a second life may hand over, and its text then.
 const SECOND_LIVES: &[(Handed, &[u8])] = &[
@@ -159,10 +166,13 @@ impl Crash {
         records
     }
 
-    /// What the first life may have handed over in its last step. Before its first call on the disk it has no content.
+    /// What the first life may have handed over in its last step.
     fn handed_before(&self) -> Handed {
-        if self.at == FLUSH && self.calls > 0 {
-            self.dials.handed
+        if self.at == FLUSH {
+            Handed {
+                printed: records_behind(self.calls, self.dials.printed_behind),
+                sent: records_behind(self.calls, self.dials.sent_behind),
+            }
         } else {
             NOTHING
         }

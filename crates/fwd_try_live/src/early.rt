@@ -1,39 +1,17 @@
 //! Peers of outputs that answer, or end their side, before they take anything.
 
-use crate::stage::{brings, has_room, next, peer_at, started};
+use crate::stage::{
+    LINK, PART, TRIES, brings, dialled, drained, filled, has_room, next, opened, peer_at, started,
+};
 use fwd_live::LiveLoop;
-use fwd_outside::{Dialed, Happening, LinkId, Loop, Memory, OutputId, Pushed};
+use fwd_outside::{Happening, Loop, Memory, Pushed};
 use std::alloc::Global;
 use std::io::{self, Read, Write};
 use std::net::{TcpListener, TcpStream};
 use std::test::Fail;
 
-const LINK: LinkId = LinkId(1);
-
-/// A part of a large payload.
-const PART: [u8; 32_768] = [b'x'; 32_768];
-
 /// So many bytes may come back before a payload is taken.
 const MOST_BACK: u64 = 65_536;
-
-/// So often something is tried.
-const TRIES: u32 = 20_000;
-
-fn dialled(live: &mut LiveLoop) -> bool {
-    live.dial(OutputId(0), b"app") == Dialed::Link(LINK) && live.push(LINK, b"") == Pushed::Again
-}
-
-/// Hands over until there is no room. Answers how many bytes were taken.
-fn filled(live: &mut LiveLoop) -> u64 {
-    let mut all = 0u64;
-    for _ in 0..TRIES {
-        let Pushed::Took(taken) = live.push(LINK, &PART) else {
-            return all;
-        };
-        all = all.saturating_add(taken);
-    }
-    all
-}
 
 /// How many bytes came back before the link broke. None where something else comes.
 fn back(live: &mut LiveLoop, alloc: Global) -> Result<Option<u64>, Memory> {
@@ -74,7 +52,7 @@ fn talked(live: &mut LiveLoop, alloc: Global, peer: &mut TcpStream) -> Result<bo
 }
 
 fn breaks(live: &mut LiveLoop, alloc: Global, listener: &TcpListener) -> Result<bool, Fail> {
-    if !dialled(live) || !has_room(live, alloc, LINK)? {
+    if !opened(live, alloc)? {
         return Ok(false);
     }
     let (mut peer, _) = listener.accept()?;
@@ -88,21 +66,6 @@ fn a_peer_that_sends_much_and_takes_nothing_breaks_its_link(rt: HostRuntime) -> 
     let mut live = started(rt, output)?;
     assert!(rt; breaks(&mut live, rt.alloc(), &listener)?);
     Ok(())
-}
-
-/// Reads so many bytes.
-fn drained(peer: &mut TcpStream, count: u64) -> io::Result<bool> {
-    let mut part = [0; 4096];
-    let mut left = count;
-    for _ in 0..TRIES {
-        if left == 0 {
-            return Ok(true);
-        }
-        let most = left.min(4096) as usize;
-        let got = peer.read(&mut part[..most])? as u64;
-        left = left.saturating_sub(got);
-    }
-    Ok(false)
 }
 
 fn comes_back(live: &mut LiveLoop, alloc: Global) -> Result<bool, Memory> {
@@ -124,7 +87,7 @@ fn answered(live: &mut LiveLoop, alloc: Global, peer: &mut TcpStream) -> Result<
 }
 
 fn is_served(live: &mut LiveLoop, alloc: Global, listener: &TcpListener) -> Result<bool, Fail> {
-    if !dialled(live) || !has_room(live, alloc, LINK)? {
+    if !opened(live, alloc)? {
         return Ok(false);
     }
     let (mut peer, _) = listener.accept()?;

@@ -1,24 +1,15 @@
 //! Peers that reset, half-close, dribble, flood and are slow to read.
 
 use crate::stage::{
-    FIRST, brings, brings_piece, clock, connect, has_room, is_quiet, next, peer_at, started,
+    FIRST, LINK, PART, TRIES, brings, brings_piece, clock, connect, drained, filled, has_room,
+    is_quiet, next, opened, peer_at, started,
 };
 use fwd_live::LiveLoop;
-use fwd_outside::{
-    ConnId, Dialed, Happening, LinkId, Loop, Memory, OutEnd, OutputId, Pushed, Replied,
-};
+use fwd_outside::{ConnId, Happening, Loop, Memory, OutEnd, Pushed, Replied};
 use std::alloc::Global;
 use std::io::{self, ErrorKind, Read, Write};
 use std::net::{Shutdown, TcpListener, TcpStream};
 use std::test::Fail;
-
-const LINK: LinkId = LinkId(1);
-
-/// A part of a large payload.
-const PART: [u8; 32_768] = [b'x'; 32_768];
-
-/// So often something is tried.
-const TRIES: u32 = 20_000;
 
 fn joins(live: &mut LiveLoop, alloc: Global, number: u64) -> Result<bool, Memory> {
     let conn = ConnId(number);
@@ -87,6 +78,25 @@ fn a_peer_that_resets_is_gone_and_others_are_heard(rt: HostRuntime) -> Result<()
     Ok(())
 }
 
+/// Behind a drop nothing more is taken for the peer, and it comes to its end.
+fn drops(live: &mut LiveLoop, peer: &mut TcpStream) -> Result<bool, Fail> {
+    live.drop_conn(ConnId(1))?;
+    let mut one = [0; 1];
+    Ok(live.reply(ConnId(1), b"late") == Replied::Broken && peer.read(&mut one)? == 0)
+}
+
+fn is_dropped(live: &mut LiveLoop, rt: HostRuntime) -> Result<bool, Fail> {
+    let mut peer = connect(&rt, live)?;
+    Ok(is_heard(live, rt.alloc(), &mut peer)? && drops(live, &mut peer)?)
+}
+
+#[test]
+fn a_connection_that_is_dropped_ends_for_its_peer(rt: HostRuntime) -> Result<(), Fail> {
+    let mut live = started(rt, OutEnd::Stdout)?;
+    assert!(rt; is_dropped(&mut live, rt)?);
+    Ok(())
+}
+
 /// Replies until no more is taken. Answers how many bytes were.
 fn replied(live: &mut LiveLoop) -> u64 {
     let mut taken = 0u64;
@@ -145,37 +155,6 @@ fn a_peer_that_half_closes_gets_its_replies(rt: HostRuntime) -> Result<(), Fail>
     let mut live = started(rt, OutEnd::Stdout)?;
     assert!(rt; half_closes(&mut live, rt)?);
     Ok(())
-}
-
-/// Hands over until there is no room. Answers how many bytes were taken.
-fn filled(live: &mut LiveLoop) -> u64 {
-    let mut all = 0u64;
-    for _ in 0..TRIES {
-        let Pushed::Took(taken) = live.push(LINK, &PART) else {
-            return all;
-        };
-        all = all.saturating_add(taken);
-    }
-    all
-}
-
-fn drained(peer: &mut TcpStream, count: u64) -> io::Result<bool> {
-    let mut part = [0; 4096];
-    let mut left = count;
-    for _ in 0..TRIES {
-        if left == 0 {
-            return Ok(true);
-        }
-        let most = left.min(4096) as usize;
-        let got = peer.read(&mut part[..most])? as u64;
-        left = left.saturating_sub(got);
-    }
-    Ok(false)
-}
-
-fn opened(live: &mut LiveLoop, alloc: Global) -> Result<bool, Memory> {
-    let dialed = live.dial(OutputId(0), b"app") == Dialed::Link(LINK);
-    Ok(dialed && live.push(LINK, b"") == Pushed::Again && has_room(live, alloc, LINK)?)
 }
 
 fn read_slowly(live: &mut LiveLoop, alloc: Global, peer: &mut TcpStream) -> Result<bool, Fail> {

@@ -2,16 +2,26 @@
 
 use fwd_live::LiveLoop;
 use fwd_outside::{
-    Begun, Bytes, Ends, Happening, InEnd, InputId, Items, LinkId, Loop, Memory, OutEnd,
+    Begun, Bytes, Dialed, Ends, Happening, InEnd, InputId, Items, LinkId, Loop, Memory, OutEnd,
+    OutputId, Pushed,
 };
 use std::alloc::Global;
 use std::fs::{self, Permissions};
-use std::io;
+use std::io::{self, Read};
 use std::net::TcpStream;
 use std::os::unix::fs::PermissionsExt;
 use std::test::Fail;
 
 pub const FIRST: InputId = InputId(0);
+
+/// The link of the first dial.
+pub const LINK: LinkId = LinkId(1);
+
+/// A part of a large payload.
+pub const PART: [u8; 32_768] = [b'x'; 32_768];
+
+/// So often something is tried.
+pub const TRIES: u32 = 20_000;
 
 /// So many milliseconds are waited at most for what is to come.
 const PATIENCE: u64 = 10_000;
@@ -123,6 +133,43 @@ pub fn connect(rt: &HostRuntime, live: &LiveLoop) -> io::Result<TcpStream> {
 /// Until the link has room.
 pub fn has_room(live: &mut LiveLoop, alloc: Global, link: LinkId) -> Result<bool, Memory> {
     brings(live, alloc, &Happening::Room { link })
+}
+
+/// The first link is dialled, and has no room yet.
+pub fn dialled(live: &mut LiveLoop) -> bool {
+    live.dial(OutputId(0), b"app") == Dialed::Link(LINK) && live.push(LINK, b"") == Pushed::Again
+}
+
+/// The same, until it has room.
+pub fn opened(live: &mut LiveLoop, alloc: Global) -> Result<bool, Memory> {
+    Ok(dialled(live) && has_room(live, alloc, LINK)?)
+}
+
+/// Hands over until there is no room. Answers how many bytes were taken.
+pub fn filled(live: &mut LiveLoop) -> u64 {
+    let mut all = 0u64;
+    for _ in 0..TRIES {
+        let Pushed::Took(taken) = live.push(LINK, &PART) else {
+            return all;
+        };
+        all = all.saturating_add(taken);
+    }
+    all
+}
+
+/// Reads so many bytes.
+pub fn drained(peer: &mut TcpStream, count: u64) -> io::Result<bool> {
+    let mut part = [0; 4096];
+    let mut left = count;
+    for _ in 0..TRIES {
+        if left == 0 {
+            return Ok(true);
+        }
+        let most = left.min(4096) as usize;
+        let got = peer.read(&mut part[..most])? as u64;
+        left = left.saturating_sub(got);
+    }
+    Ok(false)
 }
 
 /// Takes all rights on a folder away, but to list it. False where whoever runs this heeds no rights.

@@ -8,14 +8,14 @@ use Rattle.fwd_coming.proofs.batches.batch.Goals as goal
 pub returns-clause-is : goal.returns-clause-is
 returns-clause-is g c =
     let s = c.args.run.now in
-    let same : filtered c.filters.result.now c.tag_or.result.now c.in_ok-events.events ≡ filtered s.filters (tag_at s c.args.input.0) (events_of (input_at s c.args.input.0) c.args.now c.args.lines.now) =
+    let same : filtered c.filters.result.now c.tag_or.result.now c.in_ok-events.events ≡ filtered s.filters (tag_at s c.args.input.0) (events_of (input_at s c.args.input.0) c.args.now c.args.lines) =
     λ i. filtered (c.filters.ensures i) (c.tag_or.ensures.is i) (c.in_ok-events.ensures i) in
     filter_is _ _ _ _ c.filter.result c.filter.ensures same
 
 pub returns-clause-shallow : goal.returns-clause-shallow
 returns-clause-shallow g c =
     let s = c.args.run.now in
-    let same : filtered c.filters.result.now c.tag_or.result.now c.in_ok-events.events ≡ filtered s.filters (tag_at s c.args.input.0) (events_of (input_at s c.args.input.0) c.args.now c.args.lines.now) =
+    let same : filtered c.filters.result.now c.tag_or.result.now c.in_ok-events.events ≡ filtered s.filters (tag_at s c.args.input.0) (events_of (input_at s c.args.input.0) c.args.now c.args.lines) =
     λ i. filtered (c.filters.ensures i) (c.tag_or.ensures.is i) (c.in_ok-events.ensures i) in
-    batch_shallow s.filters (tag_at s c.args.input.0) (input_at s c.args.input.0) c.args.now c.args.lines.now c.filter.result
+    batch_shallow s.filters (tag_at s c.args.input.0) (input_at s c.args.input.0) c.args.now c.args.lines c.filter.result
     (filter_is _ _ _ _ c.filter.result c.filter.ensures same)

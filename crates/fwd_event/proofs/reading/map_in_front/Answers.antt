@@ -1,9 +1,15 @@
-use Rattle.std.proofs.Common.{refl, subst}
+use Rattle.std.proofs.Common.{refl, subst, arith}
 use Rattle.fwd_value.specs.View.{val_of}
 use Rattle.fwd_value.specs.declared.value.Value.{Value}
 use Rattle.fwd_msgpack.specs.Decoding.{SpellsFront}
 use Rattle.fwd_event.proofs.Found.{value_found}
+use Rattle.fwd_event.proofs.Quick.{empty_spelled}
 use Rattle.fwd_event.proofs.reading.map_in_front.Goals as goal
+
+pub returns-in-128 : goal.returns-in-128
+returns-in-128 c =
+    let empty = empty_spelled c.args.bytes.now c.new.result c.new.ensures c.in-128.len_at_least (omega arith) in
+    (empty.0, omega (arith, empty.1))
 
 pub returns-then-nest_within : goal.returns-then-nest_within
 returns-then-nest_within c =

@@ -8,16 +8,16 @@ use Rattle.fwd_written.specs.Setup.{output_at}
 use Rattle.fwd_written.specs.Payloads.{delivery_at, tag_for}
 use Rattle.fwd_state.specs.Sight.{route_of}
 use Rattle.fwd_state.proofs.Idle.{idle_has}
-use Rattle.fwd_flying.proofs.Reading.{tag_there, ok_more}
+use Rattle.fwd_flying.proofs.Reading.{tag_there, made_more}
 use Rattle.fwd_flying.proofs.beginning.new_flush.Goals as goal
 
-pub returns : goal.returns
-returns c =
-    ok_more c.packed.result _ _ (λ flush made. λ s h out stands same idle.
+pub returns-clause-flush : goal.returns-clause-flush
+returns-clause-flush c =
+    made_more c.args.content.now c.packed.result _ _ (λ events flush made. λ s h out stands same idle.
     let r = route_of c.args.route in
     let tag : c.tag_of-tag.result.now ≡ tag_for h r.chunk =
     c.tag_of-tag.ensures ∙ ap (λ (rows : List Row). option_map_or (λ (row : Row). row.tag) (row_at c.args.route.chunk rows) []) (c.table.ensures s h out stands)
     ∙ tag_there s h r.chunk stands.numbers (idle_has s h r idle) in
     subst (λ (d : Delivery). IsFor d c.args.route.output flush)
-    (λ i. delivery_at (output_at (sym same i) r.output) (tag i) r c.args.events.now) made)
-    c.packed.ensures
+    (λ i. delivery_at (output_at (sym same i) r.output) (tag i) r events) made)
+    c.packed.ensures.flush

@@ -1,0 +1,90 @@
+-- Pairs that are read and written one after another.
+use Rattle.std.proofs.Common.{◌≡◌, ℕ, ◌+◌, ◌≤◌, List, [], ◌∷◌, ◌++◌, length, take, drop, Result, Ok, Err, refl, sym, ap, ◌∙◌, append_assoc, arith}
+use Rattle.std.specs.Prelude.{IfOk}
+use Rattle.std.proofs.lemmas.List.{append-nil, take-append-drop, length-append}
+use Rattle.fwd_value.specs.Val.{Val, text, entries_of}
+use Rattle.fwd_value.specs.Limits.{nesting, entry_nestings}
+use Rattle.fwd_msgpack.specs.Spelling.{Spells, SpellsEntries}
+use Rattle.fwd_msgpack.specs.Decoding.{SpellsFront}
+use Rattle.fwd_json.specs.Text.{json, key_text, pair_text, more_pairs}
+use Rattle.fwd_out_text.specs.Spelling.{deepest_member, Leads, LeadsPair, LeadsPairs}
+
+-- what holds of a value that was given, where more holds of it
+pub if_ok : {A E : Type 0} (r : Result A E) (P Q : A → Type 0) → ((x : A) → P x → Q x) → IfOk r P → IfOk r Q
+if_ok (Ok x) P Q f h = f x h
+if_ok (Err e) P Q f h = tt
+
+pub value_leads : (v : Val) (n : ℕ) (b rest : List ℕ) → SpellsFront v n b → rest ≡ drop n b → Leads v rest b
+value_leads v n b rest s is = (take n b, sym (take-append-drop n b) ∙ ap (λ (t : List ℕ). take n b ++ t) (sym is), s.1)
+
+-- ---- one pair
+
+pub pair_written : (key b behind rest old between colon new : List ℕ) → Leads (text key) behind b → between ≡ old ++ key_text (text key) (json (text key)) → colon ≡ between ++ 58 ∷ []
+    → ((v : Val) × Leads v rest behind × (nesting v ≤ deepest_member) × (new ≡ colon ++ json v)) → (p : Val × Val) × LeadsPair p rest b × (new ≡ old ++ pair_text p)
+pair_written key b behind rest old between colon new k one two w =
+    let v = w.0 in
+    let shown = key_text (text key) (json (text key)) in
+    let read : LeadsPair (text key, v) rest b = record {
+      key = k.0;
+      value = w.1.0;
+      parts = k.1 ∙ ap (λ (t : List ℕ). k.0 ++ t) w.1.1;
+      key_spelled = k.2;
+      value_spelled = w.1.2;
+      key_nested = omega arith;
+      value_nested = w.2;
+    } in
+    let said : new ≡ old ++ (shown ++ 58 ∷ json v) =
+    w.3 ∙ ap (λ (t : List ℕ). t ++ json v) (two ∙ ap (λ (t : List ℕ). t ++ 58 ∷ []) one) ∙ append_assoc (old ++ shown) (58 ∷ []) (json v) ∙ append_assoc old shown (58 ∷ json v) in
+    ((text key, v), read, said)
+
+-- ---- one more pair
+
+spelled_more : (ps : List (Val × Val)) (p : Val × Val) (front key value : List ℕ) → SpellsEntries (entries_of ps) front → Spells p.0 key → Spells p.1 value → SpellsEntries (entries_of (ps ++ p ∷ [])) (front ++ (key ++ value))
+spelled_more [] p front key value s k v = (key, value, [], ap (λ (t : List ℕ). t ++ (key ++ value)) s ∙ ap (λ (t : List ℕ). key ++ t) (sym (append-nil value)), k, v, refl)
+spelled_more (q ∷ ps) p front key value s k v =
+    let first = s.0 in
+    let second = s.1 in
+    let back = s.2 in
+    let more = key ++ value in
+    (first, second, back ++ more, ap (λ (t : List ℕ). t ++ more) s.3 ∙ append_assoc first (second ++ back) more ∙ ap (λ (t : List ℕ). first ++ t) (append_assoc second back more), s.4, s.5, spelled_more ps p back key value s.6 k v)
+
+nested_more : (ps : List (Val × Val)) (p : Val × Val) (n : ℕ) → entry_nestings (entries_of ps) ≤ n → nesting p.0 ≤ n → nesting p.1 ≤ n → entry_nestings (entries_of (ps ++ p ∷ [])) ≤ n
+nested_more [] p n h k v = omega (arith, k, v)
+nested_more (q ∷ ps) p n h k v = let more = nested_more ps p n (omega (arith, h)) k v in omega (arith, h, more)
+
+text_more : (ps : List (Val × Val)) (p : Val × Val) → more_pairs (entries_of (ps ++ p ∷ [])) ≡ more_pairs (entries_of ps) ++ 44 ∷ pair_text p
+text_more [] p = append-nil (44 ∷ pair_text p)
+text_more (q ∷ ps) p =
+    ap (λ (t : List ℕ). (44 ∷ pair_text q) ++ t) (text_more ps p) ∙ sym (append_assoc (44 ∷ pair_text q) (more_pairs (entries_of ps)) (44 ∷ pair_text p))
+
+-- so many pairs were read, and written behind what was there
+pub record IsWritten (old new : List ℕ) (count : ℕ) (rest b : List ℕ) : Type 0 where
+  pub pairs : List (Val × Val)
+  pub many : length pairs ≡ count
+  pub lead : LeadsPairs pairs rest b
+  pub written : new ≡ old ++ more_pairs (entries_of pairs)
+
+pub none_written : (old b : List ℕ) → IsWritten old old 0 b b
+none_written old b = record { pairs = []; many = refl; lead = record { front = []; parts = refl; spelled = refl; nested = omega arith }; written = sym (append-nil old) }
+
+pub one_more : (old between comma new : List ℕ) (count : ℕ) (b behind rest : List ℕ) → IsWritten old between count behind b → comma ≡ between ++ 44 ∷ []
+    → ((p : Val × Val) × LeadsPair p rest behind × (new ≡ comma ++ pair_text p)) → IsWritten old new (count + 1) rest b
+one_more old between comma new count b behind rest so_far said w =
+    let ps = so_far.pairs in
+    let p = w.0 in
+    let front = so_far.lead.front in
+    let pair = w.1 in
+    let before = more_pairs (entries_of ps) in
+    record {
+      pairs = ps ++ p ∷ [];
+      many = length-append ps (p ∷ []) ∙ ap (λ (n : ℕ). n + 1) so_far.many;
+      lead = record {
+        front = front ++ (pair.key ++ pair.value);
+        parts = so_far.lead.parts ∙ ap (λ (t : List ℕ). front ++ t) (pair.parts ∙ sym (append_assoc pair.key pair.value rest)) ∙ sym (append_assoc front (pair.key ++ pair.value) rest);
+        spelled = spelled_more ps p front pair.key pair.value so_far.lead.spelled pair.key_spelled pair.value_spelled;
+        nested = nested_more ps p deepest_member so_far.lead.nested pair.key_nested pair.value_nested;
+      };
+      written =
+          w.2 ∙ ap (λ (t : List ℕ). t ++ pair_text p) (said ∙ ap (λ (t : List ℕ). t ++ 44 ∷ []) so_far.written) ∙ append_assoc (old ++ before) (44 ∷ []) (pair_text p) ∙ append_assoc old before (44 ∷ pair_text p)
+          ∙ ap (λ (t : List ℕ). old ++ t) (sym (text_more ps p));
+    }

@@ -1,0 +1,113 @@
+//! The payload of a chunk, straight from its content: each event is read, written and let go before the next.
+
+ghost use Rattle.std.specs.Prelude.{◌≡◌, ◌<◌, ◌++◌, List, ℕ, length, drop, IsTrue, IfOk, IfSome, None};
+ghost use Rattle.fwd_event.specs.declared.event.Event.{Event};
+ghost use Rattle.fwd_event.specs.Event.{AreEvents, EventFits};
+ghost use Rattle.fwd_out_text.specs.Content.{Begins, BeginsNone};
+ghost use Rattle.fwd_out_text.specs.Payload.{record_of, payload_of};
+
+use crate::payload::write_record;
+use crate::straight::write_spelled;
+use fwd_base::{Bytes, Form, Memory};
+use fwd_event::{Event, event_of};
+use fwd_msgpack::{DecodeErr, decode};
+use std::alloc::Global;
+
+/// The payload for the events that bytes spell, one after another, in a form; none where the bytes are no list of events.
+pub fn payload_of_content(
+    alloc: Global,
+    form: Form,
+    tag: &[u8],
+    content: &[u8],
+) -> Result<Option<Bytes>, Memory>
+    ensures given { IfOk result (λ payload. IfSome payload (λ p. (events : List Event) × AreEvents events content.now × (p ≡ payload_of form tag.now events))) }
+    ensures none { IfOk result (λ payload. payload ≡ None → (events : List Event) → AreEvents events content.now → ⊥) }
+{
+    let mut payload = Bytes::new(alloc);
+    payload.reserve(content.len())?;
+    if write_content(alloc, form, tag, content, &mut payload)? {
+        Ok(Some(payload))
+    } else {
+        Ok(None)
+    }
+}
+
+/// Appends what is written for each of the events that bytes spell, one after another; false where the bytes are no list
+/// of events.
+fn write_content(
+    alloc: Global,
+    form: Form,
+    tag: &[u8],
+    content: &[u8],
+    out: &mut Bytes,
+) -> Result<bool, Memory>
+    ensures given { IfOk result (λ whole. IsTrue whole → (events : List Event) × AreEvents events content.now × (out.new ≡ out.old ++ payload_of form tag.now events)) }
+    ensures none { IfOk result (λ whole. (events : List Event) → AreEvents events content.now → IsTrue whole) }
+{
+    let mut at = 0;
+    while at < content.len() {
+        match write_next(alloc, form, tag, content, at, out)? {
+            Some(length) => at += length,
+            None => return Ok(false),
+        }
+    }
+    Ok(true)
+}
+
+/// Appends what is written for the event that stands at a place, and gives the length of its spelling; none where no event
+/// stands there.
+fn write_next(
+    alloc: Global,
+    form: Form,
+    tag: &[u8],
+    content: &[u8],
+    at: usize,
+    out: &mut Bytes,
+) -> Result<Option<usize>, Memory>
+    requires { at < length content.now }
+    ensures given { IfOk result (λ found. IfSome found (λ n. (e : Event) × Begins e n (drop at content.now) × (out.new ≡ out.old ++ record_of form tag.now e))) }
+    ensures none { IfOk result (λ found. found ≡ None → BeginsNone (drop at content.now)) }
+{
+    let (_, rest) = content.split_at(at);
+    match write_spelled(alloc, form, tag, rest, out)? {
+        Some(length) => Ok(Some(length)),
+        None => write_read(alloc, form, tag, rest, out),
+    }
+}
+
+/// Appends what is written for the event whose spelling begins the bytes, and gives the length of that spelling; none where
+/// no event begins them.
+fn write_read(
+    alloc: Global,
+    form: Form,
+    tag: &[u8],
+    bytes: &[u8],
+    out: &mut Bytes,
+) -> Result<Option<usize>, Memory>
+    ensures given { IfOk result (λ found. IfSome found (λ n. (e : Event) × Begins e n bytes.now × (out.new ≡ out.old ++ record_of form tag.now e))) }
+    ensures none { IfOk result (λ found. found ≡ None → BeginsNone bytes.now) }
+{
+    match event_in_front(alloc, bytes)? {
+        Some((event, length)) => {
+            write_record(alloc, form, tag, &event, out)?;
+            Ok(Some(length))
+        }
+        None => Ok(None),
+    }
+}
+
+/// The event whose spelling begins the bytes, and the length of that spelling; none where no event begins them.
+fn event_in_front(alloc: Global, bytes: &[u8]) -> Result<Option<(Event, usize)>, Memory>
+    ensures given { IfOk result (λ found. IfSome found (λ x. Begins x.0 x.1 bytes.now)) }
+    ensures fits { IfOk result (λ found. IfSome found (λ x. EventFits x.0)) }
+    ensures none { IfOk result (λ found. found ≡ None → BeginsNone bytes.now) }
+{
+    match decode(alloc, bytes) {
+        Ok((value, length)) => match event_of(alloc, value) {
+            Some(event) => Ok(Some((event, length as usize))),
+            None => Ok(None),
+        },
+        Err(DecodeErr::Memory) => Err(Memory),
+        Err(_) => Ok(None),
+    }
+}
