@@ -17,3 +17,5 @@ mod loaded;
 mod meeting;
 #[cfg(test)]
 mod named;
+#[cfg(test)]
+mod wanting;

@@ -21,3 +21,5 @@ mod outcomes;
 mod samples;
 #[cfg(test)]
 mod store;
+#[cfg(test)]
+mod wanting;

@@ -10,7 +10,7 @@ use std::alloc::Global;
 use std::test::Fail;
 
 /// Records the outcome of an output in the file of the first chunk.
-fn settle_first(store: &Store, disk: &mut MemDisk, output: &[u8]) -> Result<bool, DiskErr> {
+pub fn settle_first<D: Disk>(store: &Store, disk: &mut D, output: &[u8]) -> Result<bool, DiskErr> {
     if store.holds(ChunkId(1)) {
         store.settle(disk, ChunkId(1), output)
     } else {

@@ -22,10 +22,10 @@ pub fn new_store(alloc: Global, full: bool, next: u64) -> Result<Store, Fail> {
 }
 
 /// A batch of the input 0 for a tag of at most 1,024 bytes, where there is room.
-pub fn put(
+pub fn put<D: Disk>(
     alloc: Global,
     store: &mut Store,
-    disk: &mut MemDisk,
+    disk: &mut D,
     home: Home,
     tag: &[u8],
     batch: &[u8],
@@ -34,10 +34,10 @@ pub fn put(
     put_named(alloc, store, disk, home, tag, batch, &names)
 }
 
-fn put_named(
+fn put_named<D: Disk>(
     alloc: Global,
     store: &mut Store,
-    disk: &mut MemDisk,
+    disk: &mut D,
     home: Home,
     tag: &[u8],
     batch: &[u8],
@@ -81,7 +81,7 @@ pub fn push_put(
     Ok(())
 }
 
-fn remove(store: &mut Store, disk: &mut MemDisk, chunk: ChunkId) -> Result<(), DiskErr> {
+pub fn remove<D: Disk>(store: &mut Store, disk: &mut D, chunk: ChunkId) -> Result<(), DiskErr> {
     if store.holds(chunk) {
         store.drop_chunk(disk, chunk)
     } else {
@@ -469,7 +469,7 @@ fn content_is_read_back_and_judged(rt: HostRuntime) -> Result<(), Fail> {
 }
 
 /// A file with the event `one`, as it is found.
-fn found_file(alloc: Global) -> Result<Found, Fail> {
+pub fn found_file(alloc: Global) -> Result<Found, Fail> {
     let stream = Bytes::from_slice(alloc, b"tail.9")?;
     Ok(Found {
         stream,
@@ -486,7 +486,7 @@ fn is_short(found: &Found) -> bool
 }
 
 /// A new store that has adopted a file of mark 1 with a short name, where it is one.
-fn adopting(alloc: Global, found: &Found) -> Result<Store, Fail> {
+pub fn adopting(alloc: Global, found: &Found) -> Result<Store, Fail> {
     let root = Bytes::from_slice(alloc, b"S")?;
     let mut store = Store::new(alloc, Some(root), true, 2);
     if let Seen::Whole(brief) = &found.seen {

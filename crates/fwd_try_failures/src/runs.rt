@@ -18,6 +18,8 @@ pub const DISK_FAULT: u8 = 4;
 
 pub const OUT_FAULT: u8 = 6;
 
+pub const MEMORY: u8 = 8;
+
 pub const LOOP_FAULT: u8 = 9;
 
 /// The words of a replay of a schedule `s` by a configuration `c`.
@@ -80,12 +82,17 @@ fn script_of(alloc: Global, schedule: &Schedule) -> Result<Script, Memory> {
     Script::new(alloc, life_of(schedule)?)
 }
 
-/// A loop that brings nothing.
-pub fn quiet(alloc: Global) -> Result<Script, Memory> {
-    match read_schedule(alloc, b"") {
+/// A loop that plays the one life of this text.
+pub fn script_by(alloc: Global, schedule: &[u8]) -> Result<Script, Memory> {
+    match read_schedule(alloc, schedule) {
         Ok(schedule) => script_of(alloc, &schedule),
         Err(_) => Err(Memory),
     }
+}
+
+/// A loop that brings nothing.
+pub fn quiet(alloc: Global) -> Result<Script, Memory> {
+    script_by(alloc, b"")
 }
 
 /// A run that asks nothing of the loop that is handed in.
