@@ -18,7 +18,7 @@ enum Step {
     Accept,
     Shut,
     Content,
-    Events,
+    Bytes,
     Settle,
     Remove,
 }
@@ -29,13 +29,13 @@ const NEW: &[Step] = &[
     Step::Accept,
     Step::Shut,
     Step::Content,
-    Step::Events,
+    Step::Bytes,
     Step::Settle,
     Step::Remove,
 ];
 
 /// A chunk that was found is read twice and removed.
-const FOUND: &[Step] = &[Step::Content, Step::Events, Step::Remove];
+const FOUND: &[Step] = &[Step::Content, Step::Bytes, Step::Remove];
 
 fn accepting(answer: Result<Accepted, StoreRefusal>) -> Ended {
     match answer {
@@ -69,9 +69,9 @@ fn content<D: Disk>(alloc: Global, store: &Store, disk: &mut D) -> Ended {
     }
 }
 
-fn events<D: Disk>(alloc: Global, store: &Store, disk: &mut D) -> Ended {
+fn bytes<D: Disk>(alloc: Global, store: &Store, disk: &mut D) -> Ended {
     if store.holds(ChunkId(1)) {
-        reading(store.events(alloc, disk, ChunkId(1)))
+        reading(store.bytes(alloc, disk, ChunkId(1)))
     } else {
         Ended::Otherwise
     }
@@ -92,7 +92,7 @@ fn ended<D: Disk>(
             Ended::Done
         }
         Step::Content => content(alloc, store, disk),
-        Step::Events => events(alloc, store, disk),
+        Step::Bytes => bytes(alloc, store, disk),
         Step::Settle => changing(settle_first(store, disk, b"stdout.0")),
         Step::Remove => changing(remove(store, disk, ChunkId(1))),
     }
