@@ -21,6 +21,7 @@ pub fn sift(
     ensures { IfOk result (λ left. left ≡ filter_map (through (map kind_of filters.old.items)) events) }
 {
     let mut left = Events::new(alloc);
+    left.reserve(events.len())?;
     for event in events.into_vec() {
         if let After::Left(event) = after_all(alloc, filters, event)? {
             left.push(event)?;
@@ -41,6 +42,7 @@ pub fn sift_run<G: Gate>(
     let Run { first, events } = run;
     let mut place = first;
     let mut left = Events::new(alloc);
+    left.reserve(events.len())?;
     let mut dropped = Events::new(alloc);
     for event in events.into_vec() {
         gate.pass(place);

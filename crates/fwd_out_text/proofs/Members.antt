@@ -1,11 +1,10 @@
 -- Pairs that are read and written one after another.
-use Rattle.std.proofs.Common.{◌≡◌, ℕ, ◌+◌, ◌≤◌, List, [], ◌∷◌, ◌++◌, length, take, drop, Result, Ok, Err, refl, sym, ap, ◌∙◌, append_assoc, arith}
+use Rattle.std.proofs.Common.{◌≡◌, ℕ, ◌+◌, ◌≤◌, List, [], ◌∷◌, ◌++◌, length, Result, Ok, Err, refl, sym, ap, ◌∙◌, append_assoc, arith}
 use Rattle.std.specs.Prelude.{IfOk}
-use Rattle.std.proofs.lemmas.List.{append-nil, take-append-drop, length-append}
+use Rattle.std.proofs.lemmas.List.{append-nil, length-append}
 use Rattle.fwd_value.specs.Val.{Val, text, entries_of}
 use Rattle.fwd_value.specs.Limits.{nesting, entry_nestings}
 use Rattle.fwd_msgpack.specs.Spelling.{Spells, SpellsEntries}
-use Rattle.fwd_msgpack.specs.Decoding.{SpellsFront}
 use Rattle.fwd_json.specs.Text.{json, key_text, pair_text, more_pairs}
 use Rattle.fwd_out_text.specs.Spelling.{deepest_member, Leads, LeadsPair, LeadsPairs}
 
@@ -13,9 +12,6 @@ use Rattle.fwd_out_text.specs.Spelling.{deepest_member, Leads, LeadsPair, LeadsP
 pub if_ok : {A E : Type 0} (r : Result A E) (P Q : A → Type 0) → ((x : A) → P x → Q x) → IfOk r P → IfOk r Q
 if_ok (Ok x) P Q f h = f x h
 if_ok (Err e) P Q f h = tt
-
-pub value_leads : (v : Val) (n : ℕ) (b rest : List ℕ) → SpellsFront v n b → rest ≡ drop n b → Leads v rest b
-value_leads v n b rest s is = (take n b, sym (take-append-drop n b) ∙ ap (λ (t : List ℕ). take n b ++ t) (sym is), s.1)
 
 -- ---- one pair
 
@@ -63,9 +59,6 @@ pub record IsWritten (old new : List ℕ) (count : ℕ) (rest b : List ℕ) : Ty
   pub many : length pairs ≡ count
   pub lead : LeadsPairs pairs rest b
   pub written : new ≡ old ++ more_pairs (entries_of pairs)
-
-pub none_written : (old b : List ℕ) → IsWritten old old 0 b b
-none_written old b = record { pairs = []; many = refl; lead = record { front = []; parts = refl; spelled = refl; nested = omega arith }; written = sym (append-nil old) }
 
 pub one_more : (old between comma new : List ℕ) (count : ℕ) (b behind rest : List ℕ) → IsWritten old between count behind b → comma ≡ between ++ 44 ∷ []
     → ((p : Val × Val) × LeadsPair p rest behind × (new ≡ comma ++ pair_text p)) → IsWritten old new (count + 1) rest b

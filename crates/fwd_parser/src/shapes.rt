@@ -18,10 +18,10 @@ use std::alloc::Global;
 fn plain(alloc: Global, line: Bytes) -> Result<Pairs, Memory>
     ensures { IfOk result (λ body. body ≡ plain line) }
 {
-    let mut body = Pairs::new(alloc);
+    let mut body = Vec::with_capacity(alloc, 1)?;
     let key = Value::Text(Bytes::from_slice(alloc, b"log")?);
     body.push((key, Value::Text(line)))?;
-    Ok(body)
+    Ok(Pairs::from_vec(body))
 }
 
 #[tactic(auto, unfolding(crate::specs::Parsed::body_of))]
