@@ -4,7 +4,7 @@ ghost use Rattle.std.specs.Prelude.{◌≡◌, [], IfOk, IsTrue};
 ghost use Rattle.fwd_filters.specs.Filtered.{AreMatching, IsFiltered};
 ghost use Rattle.fwd_filters.specs.Through.{filtered};
 
-use crate::parallel::in_parallel;
+use crate::parallel::in_runs;
 use crate::ready::Filters;
 use crate::sifting::sift;
 use crate::{FilterStep, FilterSteps};
@@ -15,11 +15,11 @@ use fwd_route::matches;
 use std::alloc::Global;
 use std::thread::Threads;
 
-/// How many events are given to several threads.
+/// So many events may be work for several threads.
 const MANY: usize = 2_048;
 
-/// The events after each filter whose glob matches the tag, in order; those that are left keep their order. 2,048 events
-/// or more are filtered by several threads. Where no glob matches, nothing is done.
+/// The events after each filter whose glob matches the tag, in order; those that are left keep their order. Of 2,048 events
+/// or more as many threads filter as that is work for. Where no glob matches, nothing is done.
 pub fn filter(
     rt: &(impl Threads + Sync),
     alloc: Global,
@@ -50,7 +50,7 @@ pub fn filter_gated<G: Gate>(
     if events.len() < MANY {
         alone(alloc, steps, tag, events)
     } else {
-        in_parallel(rt, alloc, steps, tag, events, gate)
+        in_runs(rt, alloc, steps, tag, events, gate)
     }
 }
 

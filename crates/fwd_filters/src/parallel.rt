@@ -7,6 +7,7 @@ ghost use Rattle.fwd_filters.specs.Step.{through};
 use crate::ready::Filters;
 use crate::runs::{Part, Run, cut, joined};
 use crate::sifting::sift_run;
+use crate::work::worth_threads;
 use fwd_base::Memory;
 use fwd_event::Events;
 use fwd_outside::Gate;
@@ -15,17 +16,9 @@ use rayon::prelude::*;
 use std::alloc::Global;
 use std::thread::Threads;
 
-/// How many events are worth a thread.
-const LEAST_RUN: usize = 2_048;
-
-/// How long the runs are into which a list is cut: one for each thread, or fewer where they would be short, but two.
-fn run_length(events: usize, threads: usize) -> usize {
-    let runs = (events / LEAST_RUN).min(threads).max(2);
-    events.div_ceil(runs)
-}
-
-/// The events that are left, in order. The list is cut into runs, each of which is filtered by one thread.
-pub fn in_parallel<F: Filters + Sync, G: Gate>(
+/// The events that are left, in order. A list that is work for several threads is cut into runs, one for each processor or
+/// fewer.
+pub fn in_runs<F: Filters + Sync, G: Gate>(
     rt: &(impl Threads + Sync),
     alloc: Global,
     filters: &F,
@@ -35,7 +28,42 @@ pub fn in_parallel<F: Filters + Sync, G: Gate>(
 ) -> Result<Events, Memory>
     ensures { IfOk result (λ left. left ≡ filter_map (through (F.kinds filters.now tag.now)) events) }
 {
-    let length = run_length(events.len(), current_num_threads(rt));
+    let worth = worth_threads(&events, filters.only_drop(tag));
+    if worth < 2 {
+        return in_one_run(alloc, filters, tag, events, gate);
+    }
+    let runs = worth.min(current_num_threads(rt)).max(1);
+    let length = events.len().div_ceil(runs);
+    in_parallel(rt, alloc, filters, tag, events, length, gate)
+}
+
+/// The events that are left, in order, by this thread.
+fn in_one_run<F: Filters, G: Gate>(
+    alloc: Global,
+    filters: &F,
+    tag: &[u8],
+    events: Events,
+    gate: &G,
+) -> Result<Events, Memory>
+    ensures { IfOk result (λ left. left ≡ filter_map (through (F.kinds filters.now tag.now)) events) }
+{
+    let mut ready = filters.ready(alloc, tag)?;
+    let part = sift_run(alloc, &mut ready, Run { first: 0, events }, gate)?;
+    Ok(part.left)
+}
+
+/// The events that are left, in order. The list is cut into runs of so many events, each of which is filtered by one thread.
+fn in_parallel<F: Filters + Sync, G: Gate>(
+    rt: &(impl Threads + Sync),
+    alloc: Global,
+    filters: &F,
+    tag: &[u8],
+    events: Events,
+    length: usize,
+    gate: &G,
+) -> Result<Events, Memory>
+    ensures { IfOk result (λ left. left ≡ filter_map (through (F.kinds filters.now tag.now)) events) }
+{
     let parts = cut(alloc, events, length)?
         .into_par_iter()
         .with_min_len(1)

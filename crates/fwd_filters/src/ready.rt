@@ -33,6 +33,9 @@ pub trait Filters {
     /// The filters under the tag, made ready, in order.
     fn ready(&self, alloc: Global, tag: &[u8]) -> Result<Vec<ReadyFilter<'_>>, Memory>
         ensures { IfOk result (λ filters. map kind_of filters.items ≡ kinds self.now tag.now) };
+
+    /// Whether the filters under the tag change no event, and only drop some.
+    fn only_drop(&self, tag: &[u8]) -> bool;
 }
 
 impl Filters for FilterSteps {
@@ -40,6 +43,23 @@ impl Filters for FilterSteps {
 
     fn ready(&self, alloc: Global, tag: &[u8]) -> Result<Vec<ReadyFilter<'_>>, Memory> {
         ready_filters(alloc, self.as_slice(), tag)
+    }
+
+    fn only_drop(&self, tag: &[u8]) -> bool {
+        for step in self.as_slice() {
+            if matches(step.glob.as_slice(), tag) && changes(&step.kind) {
+                return false;
+            }
+        }
+        true
+    }
+}
+
+/// Whether a filter may change an event.
+fn changes(kind: &FilterKind) -> bool {
+    match kind {
+        FilterKind::Grep(_) => false,
+        FilterKind::Modify(_) | FilterKind::Nest(_) | FilterKind::Lift(_) => true,
     }
 }
 

@@ -14,11 +14,14 @@ use fwd_event::{Pairs, Value};
 use fwd_json::{JsonErr, pairs_of_json};
 use std::alloc::Global;
 
+/// How many pairs the body of a whole line has room for: its own, and some that filters add.
+const PAIRS: usize = 4;
+
 /// The whole line, under `log`.
 fn plain(alloc: Global, line: Bytes) -> Result<Pairs, Memory>
     ensures { IfOk result (λ body. body ≡ plain line) }
 {
-    let mut body = Vec::with_capacity(alloc, 1)?;
+    let mut body = Vec::with_capacity(alloc, PAIRS)?;
     let key = Value::Text(Bytes::from_slice(alloc, b"log")?);
     body.push((key, Value::Text(line)))?;
     Ok(Pairs::from_vec(body))

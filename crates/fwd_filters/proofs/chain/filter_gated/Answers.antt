@@ -20,8 +20,8 @@ returns-then-len-lt-MANY g c =
 
 pub returns-else-len-lt-MANY : goal.returns-else-len-lt-MANY
 returns-else-len-lt-MANY g c =
-    IfOk-then c.in_parallel.result _ _ c.in_parallel.ensures (λ left is. (filtered_are c.args.steps.now c.args.tag.now c.args.events left).1 is)
+    IfOk-then c.in_runs.result _ _ c.in_runs.ensures (λ left is. (filtered_are c.args.steps.now c.args.tag.now c.args.events left).1 is)
 
 -- threads may share the filters
-pub in_parallel-requires-sync-F : goal.in_parallel-requires-sync-F
-in_parallel-requires-sync-F g c κs within = search (sendable, std.crosses, crosses) depth 40
+pub in_runs-requires-sync-F : goal.in_runs-requires-sync-F
+in_runs-requires-sync-F g c κs within = search (sendable, std.crosses, crosses) depth 40
