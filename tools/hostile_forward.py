@@ -196,8 +196,6 @@ NEW_TAGS = 50_000
 @forward(
     "a row, an open chunk and its tag for each tag until it is flushed and delivered; Mem_Buf_Limit counts the bytes of their events alone",
     64,
-    known="the open chunk of an input and a tag is looked for among all open ones, with each batch, and nothing bounds the memory of rows",
-    shows="of memory|good line|the good peer|hadn't ended",
 )
 def a_new_tag_with_each_message(trial):
     """A peer sends small messages, each of a tag of its own."""
