@@ -1,6 +1,6 @@
 //! Rows: a chunk and its routes.
 
-ghost use Rattle.std.specs.Prelude.{◌≡◌, ◌<◌, ◌≤◌, ◌^◌, length, All, fold, filter, nat_le, option_copied, vec_capacity, IfOk, OnOk};
+ghost use Rattle.std.specs.Prelude.{◌≡◌, ◌<◌, ◌≤◌, ◌^◌, length, IsTrue, Some, All, fold, filter, nat_le, option_copied, vec_capacity, IfOk, OnOk};
 ghost use Rattle.fwd_base.specs.Limits.{most_outputs};
 ghost use Rattle.std.specs.List.{flat_map};
 ghost use Rattle.std.specs.BTreeSet.{insert_key};
@@ -146,8 +146,39 @@ impl Row {
     }
 }
 
-/// The place of a chunk's row, if there is one.
+/// The place at which a chunk's row stands where each number from the first row's on has one.
+fn place_by_number(rows: &VecDeque<Row>, chunk: ChunkId) -> usize {
+    match rows.front() {
+        Some(first) => chunk.0.wrapping_sub(first.chunk.0) as usize,
+        None => 0,
+    }
+}
+
+/// Whether the row at a place, if there is one, is the chunk's.
+fn is_at(rows: &VecDeque<Row>, place: usize, chunk: ChunkId) -> bool
+    ensures { IsTrue result → IsPlaceOf chunk rows.now.items (Some place) }
+{
+    match rows.get(place) {
+        Some(row) => row.chunk.0 == chunk.0,
+        None => false,
+    }
+}
+
+/// The place of a chunk's row, if there is one. Chunks are numbered one after another, so that it is mostly told by the
+/// number.
 pub fn place_of(rows: &VecDeque<Row>, chunk: ChunkId) -> Option<usize>
+    requires { ChunksRise rows.now.items }
+    ensures { IsPlaceOf chunk rows.now.items result }
+{
+    let place = place_by_number(rows, chunk);
+    if is_at(rows, place, chunk) {
+        return Some(place);
+    }
+    searched_place(rows, chunk)
+}
+
+/// The place of a chunk's row, if there is one, found by halving.
+fn searched_place(rows: &VecDeque<Row>, chunk: ChunkId) -> Option<usize>
     requires { ChunksRise rows.now.items }
     ensures { IsPlaceOf chunk rows.now.items result }
 {

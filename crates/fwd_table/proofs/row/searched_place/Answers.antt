@@ -3,7 +3,7 @@ use Rattle.std.specs.List.Sorted.{IsSearchInRange}
 use Rattle.std.proofs.lemmas.List.Sorted.{answers_always}
 use Rattle.fwd_table.specs.declared.row.Row.{Row}
 use Rattle.fwd_table.proofs.Places.{place_found}
-use Rattle.fwd_table.proofs.row.place_of.Goals as goal
+use Rattle.fwd_table.proofs.row.searched_place.Goals as goal
 
 pub returns : goal.returns
 returns c =
