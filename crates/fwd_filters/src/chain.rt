@@ -59,7 +59,7 @@ fn alone(alloc: Global, steps: &FilterSteps, tag: &[u8], events: Events) -> Resu
     ensures { IfOk result (λ left. left ≡ filtered steps.now tag.now events) }
 {
     let mut ready = steps.ready(alloc, tag)?;
-    sift(alloc, &mut ready, events)
+    sift(alloc, &mut ready, events, &Open)
 }
 
 /// Whether no filter's glob matches the tag.

@@ -6,7 +6,7 @@ ghost use Rattle.fwd_filters.specs.Step.{through};
 
 use crate::ready::Filters;
 use crate::runs::{Part, Run, cut, joined};
-use crate::sifting::sift_run;
+use crate::sifting::{sift, sift_run};
 use crate::work::worth_threads;
 use fwd_base::Memory;
 use fwd_event::Events;
@@ -48,8 +48,7 @@ fn in_one_run<F: Filters, G: Gate>(
     ensures { IfOk result (λ left. left ≡ filter_map (through (F.kinds filters.now tag.now)) events) }
 {
     let mut ready = filters.ready(alloc, tag)?;
-    let part = sift_run(alloc, &mut ready, Run { first: 0, events }, gate)?;
-    Ok(part.left)
+    sift(alloc, &mut ready, events, gate)
 }
 
 /// The events that are left, in order. The list is cut into runs of so many events, each of which is filtered by one thread.

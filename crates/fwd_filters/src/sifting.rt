@@ -12,17 +12,21 @@ use fwd_event::Events;
 use fwd_outside::Gate;
 use std::alloc::Global;
 
-/// The events that the filters leave, in order.
-pub fn sift(
+/// The events that the filters leave, in order. Directly before each event the gate is passed, with its place, from 0.
+pub fn sift<G: Gate>(
     alloc: Global,
     filters: &mut Vec<ReadyFilter<'_>>,
     events: Events,
+    gate: &G,
 ) -> Result<Events, Memory>
     ensures { IfOk result (λ left. left ≡ filter_map (through (map kind_of filters.old.items)) events) }
 {
+    let mut place = 0u64;
     let mut left = Events::new(alloc);
     left.reserve(events.len())?;
     for event in events.into_vec() {
+        gate.pass(place);
+        place = place.wrapping_add(1);
         if let After::Left(event) = after_all(alloc, filters, event)? {
             left.push(event)?;
         }

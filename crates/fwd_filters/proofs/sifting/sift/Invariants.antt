@@ -6,7 +6,7 @@ use Rattle.fwd_filters.specs.Ready.{kind_of}
 use Rattle.fwd_filters.proofs.sifting.sift.Given as goal
 
 abbrev pub invariant-loop-event : goal.invariant-loop-event
-invariant-loop-event l = record {
+invariant-loop-event g l = record {
   left : l.left ++ filter_map (through (map kind_of l.fn.filters.items)) (into_iter_items l.event-iterator) ≡ filter_map (through (map kind_of l.fn.filters.items)) l.fn.events;
   same : map kind_of l.filters.items ≡ map kind_of l.fn.filters.items;
 }
