@@ -1,8 +1,10 @@
-//! How fast events are written and read back, lines become events, forward messages are read, and files of chunks are
-//! appended to, read and loaded. `bench/values`, `bench/lines`, `bench/forward` and `bench/chunks` run it; without words it says what it takes.
+//! How fast events are written and read back, lines become events, forward messages are read, files of chunks are appended
+//! to, read and loaded, and batches filtered. `bench/values`, `bench/lines`, `bench/forward`, `bench/chunks` and
+//! `bench/filters` run it; without words it says what it takes.
 #![tactic(auto)]
 
 mod chunks;
+mod filters;
 mod forward;
 mod lines;
 mod loading;
@@ -19,6 +21,7 @@ enum Measured {
     Chunks,
     Reading,
     Loading,
+    Filters,
 }
 
 /// What is measured, over how many, and how many times over.
@@ -37,6 +40,7 @@ fn measured_of(word: &str) -> Option<Measured> {
         "chunks" => Some(Measured::Chunks),
         "reading" => Some(Measured::Reading),
         "loading" => Some(Measured::Loading),
+        "filters" => Some(Measured::Filters),
         _ => None,
     }
 }
@@ -58,7 +62,9 @@ fn main(rt: HostRuntime) -> io::Result<()> {
         words.push(word)?;
     }
     let Some(measure) = measure_of(&words) else {
-        return rt.println("fwd_bench values|lines|forward|chunks|reading|loading COUNT TURNS");
+        return rt.println(
+            "fwd_bench values|lines|forward|chunks|reading|loading|filters COUNT TURNS",
+        );
     };
     match measure.what {
         Measured::Values => values::measure(&rt, measure.count, measure.turns),
@@ -67,5 +73,6 @@ fn main(rt: HostRuntime) -> io::Result<()> {
         Measured::Chunks => chunks::measure(&rt, measure.count, measure.turns),
         Measured::Reading => chunks::measure_reading(&rt, measure.count, measure.turns),
         Measured::Loading => loading::measure(&rt, &rt, measure.count, measure.turns),
+        Measured::Filters => filters::measure(&rt, &rt, measure.count, measure.turns),
     }
 }
