@@ -1,60 +1,84 @@
 -- How the calls of loading lead through their programs.
-use Rattle.std.proofs.Common.{◌≡◌, Option, Some, None, Result, Ok, Err, IsErrAnd, refl, sym, subst}
-use Rattle.fwd_program.specs.Program.{with_value, and_then}
-use Rattle.fwd_program.specs.Told.{Leads, Makes}
-use Rattle.fwd_program.proofs.Leading.{goes_on, inside, began_after, began_inside}
-use Rattle.fwd_outside.specs.Disk.{DiskTold, DiskProgram, disk_outcome}
+use Rattle.std.proofs.Common.{◌≡◌, ◌≢◌, ℕ, List, [], Option, Some, None, Result, Ok, Err, IsErrAnd, refl, sym, subst}
+use Rattle.fwd_program.specs.Program.{Program, Return, Ask, with_value, and_then}
+use Rattle.fwd_program.specs.Told.{Grew, Leads, Did, Makes, asking}
+use Rattle.fwd_program.proofs.Leading.{goes_on, inside, asked, unasked}
+use Rattle.fwd_outside.specs.Disk.{DiskTold, DiskProgram, DiskCall, DiskAnswer, ListNames, Sync, Read, lists, syncs, reads, disk_outcome}
 use Rattle.fwd_outside.specs.declared.errors.DiskErr.{DiskErr}
 use Rattle.fwd_outside.specs.declared.errors.DiskErr.TheVariants as disk_err
 use Rattle.fwd_backlog.specs.declared.errors.LoadErr.{LoadErr}
 use Rattle.fwd_backlog.specs.declared.errors.LoadErr.TheVariants.{DiskFailed, Memory}
-use Rattle.fwd_backlog.specs.Answer.{answer_of, outcome, Loads}
+use Rattle.fwd_backlog.specs.Answer.{answer_of, Unfailed, Stops, Gives, Loads}
 
--- what an error of loading comes to, whatever the value would have been
-abbrev pub err_outcome : (R : Type 0) → LoadErr → Option (Option R)
-err_outcome R e = outcome {T = R} (Err e)
+-- ---- programs that haven't failed
 
-answers : (R : Type 0) (e : DiskErr) → disk_outcome {T = R} (Err e) ≡ err_outcome R (answer_of e)
-answers R disk_err.Failed = refl
-answers R disk_err.Memory = refl
+abbrev Asks : {C : Type 0} {A : C → Type 0} {R : Type 0} → Program C A R → Type 0
+Asks (Return x) = ⊥
+Asks (Ask call go) = Unit {0}
+
+-- one that makes a call
+pub asks_unfailed : {C : Type 0} {A : C → Type 0} {R : Type 0} (call : C) (go : A call → Program C A (Option R)) → Ask call go ≢ Return None
+asks_unfailed {C = C} {A = A} {R = R} call go same = subst (λ (p : Program C A (Option R)). Asks p) same tt
+
+-- one of two parts, where the second one doesn't begin with a failure
+then_unfailed : {R T : Type 0} (next : R → DiskProgram (Option T)) → ((x : R) → next x ≢ Return None) → (p : DiskProgram (Option R)) → p ≢ Return None → and_then p next ≢ Return None
+then_unfailed next begins (Return (Some x)) unfailed = begins x
+then_unfailed next begins (Return None) unfailed = absurd (unfailed refl)
+then_unfailed next begins (Ask call go) unfailed = asks_unfailed call (λ answer. and_then (go answer) next)
+
+-- ---- one call
+
+-- it was refused for want of memory
+refused : {R : Type 0} (a b : DiskTold) (call : DiskCall) (go : DiskAnswer call → DiskProgram (Option R)) → Grew a b [] → Unfailed a b (Ask call go)
+refused a b call go grew = (Ask call go, unasked (Ask call go) grew, asks_unfailed call go)
+
+module _ (a b : DiskTold) where
+  pub list_error : (folder : List ℕ) (e : DiskErr) → Grew a b (asking (ListNames folder) (disk_outcome {T = List (List ℕ)} (Err e))) → Stops a b (lists folder) (answer_of e)
+  list_error folder disk_err.Failed grew = asked (ListNames folder) None (λ answer. Return answer) grew
+  list_error folder disk_err.Memory grew = refused a b (ListNames folder) (λ answer. Return answer) grew
+
+  pub sync_error : (path : List ℕ) (e : DiskErr) → Grew a b (asking (Sync path) (disk_outcome {T = Unit {0}} (Err e))) → Stops a b (syncs path) (answer_of e)
+  sync_error path disk_err.Failed grew = asked (Sync path) None (λ answer. Return answer) grew
+  sync_error path disk_err.Memory grew = refused a b (Sync path) (λ answer. Return answer) grew
+
+  pub read_error : (path : List ℕ) (at len : ℕ) (e : DiskErr) → Grew a b (asking (Read path at len) (disk_outcome {T = List ℕ} (Err e))) → Stops a b (reads path at len) (answer_of e)
+  read_error path at len disk_err.Failed grew = asked (Read path at len) None (λ answer. Return answer) grew
+  read_error path at len disk_err.Memory grew = refused a b (Read path at len) (λ answer. Return answer) grew
+
+-- ---- by the answer
 
 module _ {R : Type 0} (a b : DiskTold) (p : DiskProgram (Option R)) where
-  pub disk_error : (e : DiskErr) → Makes a b p (disk_outcome {T = R} (Err e)) → Makes a b p (err_outcome R (answer_of e))
-  disk_error e makes = subst (λ (o : Option (Option R)). Makes a b p o) (answers R e) makes
-
   -- the answer is this error
-  pub made_err : (e : LoadErr) (r : Result R LoadErr) → IsErrAnd r (λ x. x ≡ e) → Makes a b p (err_outcome R e) → Makes a b p (outcome r)
-  made_err e (Ok x) is makes = absurd is
-  made_err e (Err x) is makes = subst (λ (y : LoadErr). Makes a b p (err_outcome R y)) (sym is) makes
+  pub given_err : (e : LoadErr) (r : Result R LoadErr) → IsErrAnd r (λ x. x ≡ e) → Stops a b p e → Gives a b p r
+  given_err e (Ok x) is stops = absurd is
+  given_err e (Err x) is stops = subst (λ (y : LoadErr). Stops a b p y) (sym is) stops
 
-  loads_err : {T : Type 0} (Shows : R → T → Type 0) (e : LoadErr) → Makes a b p (err_outcome R e) → Loads {T = T} a b p Shows (Err e)
-  loads_err Shows DiskFailed makes = makes
-  loads_err Shows Memory makes = makes
-
-  pub loaded_err : {T : Type 0} (Shows : R → T → Type 0) (e : LoadErr) (r : Result T LoadErr) → IsErrAnd r (λ x. x ≡ e) → Makes a b p (err_outcome R e) → Loads a b p Shows r
-  loaded_err Shows e (Ok x) is makes = absurd is
-  loaded_err {T = T} Shows e (Err x) is makes = subst (λ (y : LoadErr). Loads {T = T} a b p Shows (Err y)) (sym is) (loads_err {T = T} Shows e makes)
-
-  -- of loading that ended with an error
-  pub err_of : {T : Type 0} (Shows : R → T → Type 0) (e : LoadErr) → Loads {T = T} a b p Shows (Err e) → Makes a b p (err_outcome R e)
-  err_of Shows DiskFailed loads = loads
-  err_of Shows Memory loads = loads
+  pub loaded_err : {T : Type 0} (Shows : R → T → Type 0) (e : LoadErr) (r : Result T LoadErr) → IsErrAnd r (λ x. x ≡ e) → Stops a b p e → Loads a b p Shows r
+  loaded_err Shows e (Ok x) is stops = absurd is
+  loaded_err Shows e (Err x) is stops = subst (λ (y : LoadErr). Stops a b p y) (sym is) stops
 
   -- the calls are some of the program's, to its end or not
   pub made_of : {T : Type 0} (Shows : R → T → Type 0) (r : Result T LoadErr) → Loads a b p Shows r → (o : Option (Option R)) × Makes a b p o
   made_of Shows (Ok value) loads = (Some (Some loads.0), loads.1)
   made_of Shows (Err DiskFailed) loads = (Some None, loads)
-  made_of Shows (Err Memory) loads = (None, loads)
+  made_of Shows (Err Memory) loads = (None, (loads.0, loads.1))
 
--- a part of a program, where the calls before have led to it
+-- ---- a part of a program
+
+-- what stops the rest of a program stops the program
+pub stops_after : {R : Type 0} (a b c : DiskTold) (p q : DiskProgram (Option R)) → Leads a b p q → (e : LoadErr) → Stops b c q e → Stops a c p e
+stops_after a b c p q before DiskFailed did = goes_on before did
+stops_after a b c p q before Memory began = (began.0, goes_on before began.1, began.2)
+
+-- the calls before have led to it
 module _ {R T : Type 0} (a b c : DiskTold) (whole : DiskProgram (Option T)) (p : DiskProgram (Option R)) (next : R → DiskProgram (Option T)) (before : Leads a b whole (and_then p next)) where
-  pub goes : (x : R) → Makes b c p (Some (Some x)) → Leads a c whole (next x)
+  pub goes : (x : R) → Did b c p (Some x) → Leads a c whole (next x)
   goes x did = goes_on before (inside (with_value next) did)
 
-  pub stops : (e : LoadErr) → Makes b c p (err_outcome R e) → Makes a c whole (err_outcome T e)
-  stops DiskFailed did = goes_on before (inside (with_value next) did)
-  stops Memory began = began_after before (began_inside (with_value next) began)
+  pub stops : ((x : R) → next x ≢ Return None) → (e : LoadErr) → Stops b c p e → Stops a c whole e
+  stops begins DiskFailed did = goes_on before (inside (with_value next) did)
+  stops begins Memory began = (and_then began.0 next, goes_on before (inside (with_value next) began.1), then_unfailed next begins began.0 began.2)
 
 -- want of memory leaves the program where it is
-pub rests : {T : Type 0} (a b : DiskTold) (whole q : DiskProgram (Option T)) → Leads a b whole q → Makes a b whole (err_outcome T Memory)
-rests a b whole q before = (q, before)
+pub rests : {T : Type 0} (a b : DiskTold) (whole q : DiskProgram (Option T)) → Leads a b whole q → q ≢ Return None → Stops a b whole Memory
+rests a b whole q before unfailed = (q, before, unfailed)

@@ -3,34 +3,40 @@ use Rattle.std.proofs.Common.{◌≡◌, ℕ, zero, suc, ◌+◌, ◌-◌, ◌�
 use Rattle.std.specs.List.{AllZip}
 use Rattle.std.proofs.lemmas.List.{take_all, length-drop}
 use Rattle.std.proofs.lemmas.List.Elements.{All-nil, All-cons}
-use Rattle.fwd_program.specs.Program.{with_value}
-use Rattle.fwd_program.specs.Told.{Leads, Makes}
-use Rattle.fwd_program.proofs.Leading.{stays, inside, goes_on, makes_after}
-use Rattle.fwd_outside.specs.Disk.{DiskTold, syncs, reads}
+use Rattle.fwd_program.specs.Program.{Return, with_value}
+use Rattle.fwd_program.specs.Told.{Leads, Did}
+use Rattle.fwd_program.proofs.Leading.{stays, inside, goes_on}
+use Rattle.fwd_outside.specs.Disk.{DiskTold, Read, syncs, reads}
 use Rattle.fwd_found.specs.declared.chunk.Found.{Found}
 use Rattle.fwd_found.specs.Seen.{enough}
 use Rattle.fwd_backlog.specs.declared.errors.LoadErr.{LoadErr}
 use Rattle.fwd_backlog.specs.declared.errors.LoadErr.TheVariants.{Memory}
 use Rattle.fwd_backlog.specs.declared.listed.Listed.{Listed}
 use Rattle.fwd_backlog.specs.declared.loading.Backlog.{Backlog}
-use Rattle.fwd_backlog.specs.Answer.{outcome, Loads}
+use Rattle.fwd_backlog.specs.Answer.{Stops, Gives, Loads}
 use Rattle.fwd_backlog.specs.Serial.{next_number}
 use Rattle.fwd_backlog.specs.Listing.{lists_files, in_order}
 use Rattle.fwd_backlog.specs.declared.file_read.FileRead.{FileRead}
 use Rattle.fwd_backlog.specs.Loading.{reads_synced, reads_files, loads, IsFoundOf, IsBacklog}
 use Rattle.fwd_backlog.specs.Groups.{ReadsGroup, HasShortMeta, IsChecked}
-use Rattle.fwd_backlog.proofs.Calling.{err_outcome, goes, stops, rests, made_err, loaded_err, err_of}
+use Rattle.fwd_backlog.proofs.Calling.{asks_unfailed, goes, stops, stops_after, rests, given_err, loaded_err}
+use Rattle.fwd_backlog.proofs.Grouping.{files_unfailed}
 
 -- the sync of a file, and then its read
 module _ (a b : DiskTold) (path : List ℕ) where
-  pub sync_stopped : (e : LoadErr) (r : Result (List ℕ) LoadErr) → IsErrAnd r (λ x. x ≡ e) → Makes a b (syncs path) (err_outcome (Unit {0}) e) → Makes a b (reads_synced path) (outcome r)
-  sync_stopped e r is makes = made_err a b (reads_synced path) e r is (stops a a b (reads_synced path) (syncs path) (λ _. reads path 0 enough) (stays a (reads_synced path)) e makes)
+  pub sync_stopped : (e : LoadErr) (r : Result (List ℕ) LoadErr) → IsErrAnd r (λ x. x ≡ e) → Stops a b (syncs path) e → Gives a b (reads_synced path) r
+  sync_stopped e r is stopped =
+      given_err a b (reads_synced path) e r is
+      (stops a a b (reads_synced path) (syncs path) (λ _. reads path 0 enough) (stays a (reads_synced path)) (λ _. asks_unfailed (Read path 0 enough) (λ answer. Return answer)) e stopped)
 
-  synced : Makes a b (syncs path) (Some (Some tt)) → Leads a b (reads_synced path) (reads path 0 enough)
+  synced : Did a b (syncs path) (Some tt) → Leads a b (reads_synced path) (reads path 0 enough)
   synced did = goes a a b (reads_synced path) (syncs path) (λ _. reads path 0 enough) (stays a (reads_synced path)) tt did
 
-  pub synced_then : (c : DiskTold) (o : Option (Option (List ℕ))) → Makes a b (syncs path) (Some (Some tt)) → Makes b c (reads path 0 enough) o → Makes a c (reads_synced path) o
-  synced_then c o did makes = makes_after a b c (reads_synced path) (reads path 0 enough) o (synced did) makes
+  pub read_stopped : (c : DiskTold) (e : LoadErr) (r : Result (List ℕ) LoadErr) → IsErrAnd r (λ x. x ≡ e) → Did a b (syncs path) (Some tt) → Stops b c (reads path 0 enough) e → Gives a c (reads_synced path) r
+  read_stopped c e r is did stopped = given_err a c (reads_synced path) e r is (stops_after a b c (reads_synced path) (reads path 0 enough) (synced did) e stopped)
+
+  pub synced_read : (c : DiskTold) (bytes : List ℕ) → Did a b (syncs path) (Some tt) → Did b c (reads path 0 enough) (Some bytes) → Did a c (reads_synced path) (Some bytes)
+  synced_read c bytes did read = goes_on (synced did) read
 
 all_zip_append : {A B : Type 0} (R : A → B → Type 0) (xs us : List A) (ys vs : List B) → AllZip R xs ys → AllZip R us vs → AllZip R (xs ++ us) (ys ++ vs)
 all_zip_append R [] us [] vs all more = more
@@ -73,7 +79,7 @@ module _ (a b c : DiskTold) (root : List ℕ) (files rest : List Listed) (at : �
   pub group_failed : (e : LoadErr) (r : Result (List Found) LoadErr) → IsErrAnd r (λ x. x ≡ e) → ReadsGroup b c root rest (Err e) → Loads a c (reads_files root files []) (AllZip IsChecked) r
   group_failed e r is_err reads =
       loaded_err a c (reads_files root files []) (AllZip IsChecked) e r is_err
-      (makes_after a b c (reads_files root files []) (reads_files root rest so_far.read) (err_outcome (List FileRead) e) at_group (reads so_far.read))
+      (stops_after a b c (reads_files root files []) (reads_files root rest so_far.read) at_group e (reads so_far.read))
 
   past_group : (group : List FileRead) → ReadsGroup b c root rest (Ok group) → Leads a c (reads_files root files []) (reads_files root (drop (length group) rest) (so_far.read ++ group))
   past_group group reads = goes_on at_group (reads.1 so_far.read)
@@ -81,7 +87,7 @@ module _ (a b c : DiskTold) (root : List ℕ) (files rest : List Listed) (at : �
   pub group_lost : (group : List FileRead) (r : Result (List Found) LoadErr) → IsErrAnd r (λ x. x ≡ Memory) → ReadsGroup b c root rest (Ok group) → Loads a c (reads_files root files []) (AllZip IsChecked) r
   group_lost group r is_err reads =
       loaded_err a c (reads_files root files []) (AllZip IsChecked) Memory r is_err
-      (rests a c (reads_files root files []) (reads_files root (drop (length group) rest) (so_far.read ++ group)) (past_group group reads))
+      (rests a c (reads_files root files []) (reads_files root (drop (length group) rest) (so_far.read ++ group)) (past_group group reads) (files_unfailed root (drop (length group) rest) (so_far.read ++ group)))
 
   pub group_found : (group : List FileRead) (more after : List Found) (next : ℕ) → ReadsGroup b c root rest (Ok group) → AllZip IsChecked group more → after ≡ found ++ more → next ≡ at + length group
       → IsReadTo a c root files (drop next files) after
@@ -115,31 +121,27 @@ pub all_short : (a b : DiskTold) (root : List ℕ) (files : List Listed) (found 
 all_short a b root files found loads = short_of_checked loads.0 found loads.2
 
 -- all was listed
-module _ (a b : DiskTold) (root : List ℕ) (listed : List Listed) (did : Makes a b (lists_files root) (Some (Some listed))) where
+module _ (a b : DiskTold) (root : List ℕ) (listed : List Listed) (did : Did a b (lists_files root) (Some listed)) where
   reached : Leads a b (loads root) (reads_files root (in_order listed) [])
   reached = inside (with_value (λ files. reads_files root (in_order files) [])) did
 
   pub loading_unordered : (r : Result Backlog LoadErr) → IsErrAnd r (λ x. x ≡ Memory) → Loads a b (loads root) IsBacklog r
-  loading_unordered r is = loaded_err a b (loads root) IsBacklog Memory r is (rests a b (loads root) (reads_files root (in_order listed) []) reached)
+  loading_unordered r is = loaded_err a b (loads root) IsBacklog Memory r is (rests a b (loads root) (reads_files root (in_order listed) []) reached (files_unfailed root (in_order listed) []))
 
 -- and then files were read
-module _ (a b c : DiskTold) (root : List ℕ) (listed : List Listed) (did : Makes a b (lists_files root) (Some (Some listed))) where
-  then_err : (e : LoadErr) → Makes b c (reads_files root (in_order listed) []) (err_outcome (List FileRead) e) → Makes a c (loads root) (err_outcome (List FileRead) e)
-  then_err e makes = makes_after a b c (loads root) (reads_files root (in_order listed) []) (err_outcome (List FileRead) e) (reached a b root listed did) makes
-
-  pub loading_stopped : (files : List Listed) (e : LoadErr) (r : Result Backlog LoadErr) → files ≡ in_order listed → IsErrAnd r (λ x. x ≡ e) → Loads {T = List Found} b c (reads_files root files []) (AllZip IsChecked) (Err e)
-      → Loads a c (loads root) IsBacklog r
-  loading_stopped files e r ordered is loads_files =
-      let made = subst (λ (l : List Listed). Makes b c (reads_files root l []) (err_outcome (List FileRead) e)) ordered (err_of b c (reads_files root files []) (AllZip IsChecked) e loads_files) in
-      loaded_err a c (loads root) IsBacklog e r is (then_err e made)
+module _ (a b c : DiskTold) (root : List ℕ) (listed : List Listed) (did : Did a b (lists_files root) (Some listed)) where
+  pub loading_stopped : (files : List Listed) (e : LoadErr) (r : Result Backlog LoadErr) → files ≡ in_order listed → IsErrAnd r (λ x. x ≡ e) → Stops b c (reads_files root files []) e → Loads a c (loads root) IsBacklog r
+  loading_stopped files e r ordered is stopped =
+      let here = subst (λ (l : List Listed). Stops b c (reads_files root l []) e) ordered stopped in
+      loaded_err a c (loads root) IsBacklog e r is (stops_after a b c (loads root) (reads_files root (in_order listed) []) (reached a b root listed did) e here)
 
   pub loading_done : (files : List Listed) (found : List Found) (next : ℕ) → files ≡ in_order listed → Loads b c (reads_files root files []) (AllZip IsChecked) (Ok found) → next ≡ next_number found
       → Loads a c (loads root) IsBacklog (Ok (record { found = found; next = next }))
   loading_done files found next ordered loads_files is_next =
-      let made = subst (λ (l : List Listed). Makes b c (reads_files root l []) (Some (Some loads_files.0))) ordered loads_files.1 in
-      (loads_files.0, makes_after a b c (loads root) (reads_files root (in_order listed) []) (Some (Some loads_files.0)) (reached a b root listed did) made, record { found = found_of_checked loads_files.0 found loads_files.2; next = is_next })
+      let read = subst (λ (l : List Listed). Did b c (reads_files root l []) (Some loads_files.0)) ordered loads_files.1 in
+      (loads_files.0, goes_on (reached a b root listed did) read, record { found = found_of_checked loads_files.0 found loads_files.2; next = is_next })
 
 -- the listing stopped
-pub listing_stopped : (a b : DiskTold) (root : List ℕ) (e : LoadErr) (r : Result Backlog LoadErr) → IsErrAnd r (λ x. x ≡ e) → Makes a b (lists_files root) (err_outcome (List Listed) e) → Loads a b (loads root) IsBacklog r
-listing_stopped a b root e r is makes =
-    loaded_err a b (loads root) IsBacklog e r is (stops a a b (loads root) (lists_files root) (λ files. reads_files root (in_order files) []) (stays a (loads root)) e makes)
+pub listing_stopped : (a b : DiskTold) (root : List ℕ) (e : LoadErr) (r : Result Backlog LoadErr) → IsErrAnd r (λ x. x ≡ e) → Stops a b (lists_files root) e → Loads a b (loads root) IsBacklog r
+listing_stopped a b root e r is stopped =
+    loaded_err a b (loads root) IsBacklog e r is (stops a a b (loads root) (lists_files root) (λ files. reads_files root (in_order files) []) (stays a (loads root)) (λ files. files_unfailed root (in_order files) []) e stopped)

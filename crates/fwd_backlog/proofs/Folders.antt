@@ -1,17 +1,17 @@
 -- How folders are listed.
-use Rattle.std.proofs.Common.{◌≡◌, ℕ, ◌+◌, ◌<◌, Bool, true, false, if◌then◌else◌, List, [], ◌∷◌, ◌++◌, length, get_or, take, drop, append_assoc, Some, Result, IsErrAnd, refl, sym, ◌∙◌, ap, subst}
+use Rattle.std.proofs.Common.{◌≡◌, ◌≢◌, ℕ, ◌+◌, ◌<◌, Bool, true, false, if◌then◌else◌, List, [], ◌∷◌, ◌++◌, length, get_or, take, drop, append_assoc, Some, None, Result, IsErrAnd, refl, sym, ◌∙◌, ap, subst}
 use Rattle.std.proofs.lemmas.List.{append-nil, drop_more, take_more}
-use Rattle.fwd_program.specs.Program.{and_then}
-use Rattle.fwd_program.specs.Told.{Leads, Makes}
+use Rattle.fwd_program.specs.Program.{Return, and_then, with_value}
+use Rattle.fwd_program.specs.Told.{Leads, Did}
 use Rattle.fwd_program.proofs.Leading.{stays}
-use Rattle.fwd_outside.specs.Disk.{DiskTold, lists}
+use Rattle.fwd_outside.specs.Disk.{DiskTold, ListNames, lists}
 use Rattle.fwd_backlog.specs.declared.errors.LoadErr.{LoadErr}
 use Rattle.fwd_backlog.specs.declared.errors.LoadErr.TheVariants.{Memory}
 use Rattle.fwd_backlog.specs.declared.listed.Listed.{Listed}
-use Rattle.fwd_backlog.specs.Answer.{outcome}
+use Rattle.fwd_backlog.specs.Answer.{Stops, Gives}
 use Rattle.fwd_backlog.specs.Serial.{is_chunk_name}
 use Rattle.fwd_backlog.specs.Listing.{folder_of, chunks_in, lists_folders, lists_files}
-use Rattle.fwd_backlog.proofs.Calling.{err_outcome, goes, stops, rests, made_err}
+use Rattle.fwd_backlog.proofs.Calling.{asks_unfailed, goes, stops, rests, given_err}
 
 abbrev file_in : List ℕ → List ℕ → Listed
 file_in stream name = record { name = name; stream = stream }
@@ -43,16 +43,22 @@ chunk_added stream names i name files before after lt is so_far grown =
     ∙ ap (λ (l : List Listed). files ++ l) (sym (chunks_more stream (take i names) name))
     ∙ ap (λ (l : List (List ℕ)). files ++ chunks_in stream l) (sym more)
 
+-- listing folders doesn't begin with a failure
+folders_unfailed : (root : List ℕ) (streams : List (List ℕ)) (files : List Listed) → lists_folders root streams files ≢ Return None
+folders_unfailed root [] files = λ same. cc same
+folders_unfailed root (stream ∷ streams) files = asks_unfailed (ListNames (folder_of root stream)) (with_value (λ names. lists_folders root streams (files ++ chunks_in stream names)))
+
 -- the root was listed, or not
-pub root_listed : (a b : DiskTold) (root : List ℕ) (streams items : List (List ℕ)) (files : List Listed) → items ≡ streams → files ≡ [] → Makes a b (lists root) (Some (Some streams))
+pub root_listed : (a b : DiskTold) (root : List ℕ) (streams items : List (List ℕ)) (files : List Listed) → items ≡ streams → files ≡ [] → Did a b (lists root) (Some streams)
     → Leads a b (lists_files root) (lists_folders root (drop 0 items) files)
 root_listed a b root streams items files is none did =
     let begun = goes a a b (lists_files root) (lists root) (λ streams. lists_folders root streams []) (stays a (lists_files root)) streams did in
     subst (λ (s : List (List ℕ)). Leads a b (lists_files root) (lists_folders root s files)) (sym is)
     (subst (λ (f : List Listed). Leads a b (lists_files root) (lists_folders root streams f)) (sym none) begun)
 
-pub root_stopped : (a b : DiskTold) (root : List ℕ) (e : LoadErr) (r : Result (List Listed) LoadErr) → IsErrAnd r (λ x. x ≡ e) → Makes a b (lists root) (err_outcome (List (List ℕ)) e) → Makes a b (lists_files root) (outcome r)
-root_stopped a b root e r is makes = made_err a b (lists_files root) e r is (stops a a b (lists_files root) (lists root) (λ streams. lists_folders root streams []) (stays a (lists_files root)) e makes)
+pub root_stopped : (a b : DiskTold) (root : List ℕ) (e : LoadErr) (r : Result (List Listed) LoadErr) → IsErrAnd r (λ x. x ≡ e) → Stops a b (lists root) e → Gives a b (lists_files root) r
+root_stopped a b root e r is stopped =
+    given_err a b (lists_files root) e r is (stops a a b (lists_files root) (lists root) (λ streams. lists_folders root streams []) (stays a (lists_files root)) (λ streams. folders_unfailed root streams []) e stopped)
 
 -- one more folder
 module _ (a b c : DiskTold) (root : List ℕ) (streams : List (List ℕ)) (i : ℕ) (stream : List ℕ) (files : List Listed) (lt : i < length streams) (is : stream ≡ get_or streams i stream)
@@ -63,18 +69,20 @@ module _ (a b c : DiskTold) (root : List ℕ) (streams : List (List ℕ)) (i : �
   at_folder : Leads a b (lists_files root) (and_then (lists (folder_of root stream)) (λ names. lists_folders root (drop (i + 1) streams) (files ++ chunks_in stream names)))
   at_folder = subst (λ (s : List (List ℕ)). Leads a b (lists_files root) (lists_folders root s files)) here before
 
-  past_folder : (names : List (List ℕ)) → Makes b c (lists (folder_of root stream)) (Some (Some names)) → Leads a c (lists_files root) (lists_folders root (drop (i + 1) streams) (files ++ chunks_in stream names))
+  past_folder : (names : List (List ℕ)) → Did b c (lists (folder_of root stream)) (Some names) → Leads a c (lists_files root) (lists_folders root (drop (i + 1) streams) (files ++ chunks_in stream names))
   past_folder names did = goes a b c (lists_files root) (lists (folder_of root stream)) (λ names. lists_folders root (drop (i + 1) streams) (files ++ chunks_in stream names)) at_folder names did
 
-  pub folder_listed : (names : List (List ℕ)) (after : List Listed) → Makes b c (lists (folder_of root stream)) (Some (Some names)) → after ≡ files ++ chunks_in stream names
+  pub folder_listed : (names : List (List ℕ)) (after : List Listed) → Did b c (lists (folder_of root stream)) (Some names) → after ≡ files ++ chunks_in stream names
       → Leads a c (lists_files root) (lists_folders root (drop (i + 1) streams) after)
   folder_listed names after did grown = subst (λ (l : List Listed). Leads a c (lists_files root) (lists_folders root (drop (i + 1) streams) l)) (sym grown) (past_folder names did)
 
-  pub folder_stopped : (e : LoadErr) (r : Result (List Listed) LoadErr) → IsErrAnd r (λ x. x ≡ e) → Makes b c (lists (folder_of root stream)) (err_outcome (List (List ℕ)) e) → Makes a c (lists_files root) (outcome r)
-  folder_stopped e r is_err makes =
-      made_err a c (lists_files root) e r is_err
-      (stops a b c (lists_files root) (lists (folder_of root stream)) (λ names. lists_folders root (drop (i + 1) streams) (files ++ chunks_in stream names)) at_folder e makes)
+  pub folder_stopped : (e : LoadErr) (r : Result (List Listed) LoadErr) → IsErrAnd r (λ x. x ≡ e) → Stops b c (lists (folder_of root stream)) e → Gives a c (lists_files root) r
+  folder_stopped e r is_err stopped =
+      given_err a c (lists_files root) e r is_err
+      (stops a b c (lists_files root) (lists (folder_of root stream)) (λ names. lists_folders root (drop (i + 1) streams) (files ++ chunks_in stream names)) at_folder
+      (λ names. folders_unfailed root (drop (i + 1) streams) (files ++ chunks_in stream names)) e stopped)
 
-  pub folder_unkept : (names : List (List ℕ)) (r : Result (List Listed) LoadErr) → IsErrAnd r (λ x. x ≡ Memory) → Makes b c (lists (folder_of root stream)) (Some (Some names)) → Makes a c (lists_files root) (outcome r)
+  pub folder_unkept : (names : List (List ℕ)) (r : Result (List Listed) LoadErr) → IsErrAnd r (λ x. x ≡ Memory) → Did b c (lists (folder_of root stream)) (Some names) → Gives a c (lists_files root) r
   folder_unkept names r is_err did =
-      made_err a c (lists_files root) Memory r is_err (rests a c (lists_files root) (lists_folders root (drop (i + 1) streams) (files ++ chunks_in stream names)) (past_folder names did))
+      let left = lists_folders root (drop (i + 1) streams) (files ++ chunks_in stream names) in
+      given_err a c (lists_files root) Memory r is_err (rests a c (lists_files root) left (past_folder names did) (folders_unfailed root (drop (i + 1) streams) (files ++ chunks_in stream names)))

@@ -1,18 +1,24 @@
 -- How a group of files is read.
-use Rattle.std.proofs.Common.{◌≡◌, ℕ, ◌+◌, ◌<◌, ◌≤◌, List, [], ◌∷◌, ◌++◌, append_assoc, length, get_or, drop, Some, Result, Ok, Err, IsErrAnd, sym, ◌∙◌, ap, subst, arith}
+use Rattle.std.proofs.Common.{◌≡◌, ◌≢◌, ℕ, ◌+◌, ◌<◌, ◌≤◌, List, [], ◌∷◌, ◌++◌, append_assoc, length, get_or, drop, Some, None, Result, Ok, Err, IsErrAnd, sym, ◌∙◌, ap, subst, arith}
 use Rattle.std.proofs.lemmas.List.{append-nil, drop_more, length-append}
-use Rattle.fwd_program.specs.Program.{and_then}
-use Rattle.fwd_program.specs.Told.{Leads, Makes}
+use Rattle.fwd_program.specs.Program.{Return, and_then}
+use Rattle.fwd_program.specs.Told.{Leads, Did}
 use Rattle.fwd_program.proofs.Leading.{stays}
-use Rattle.fwd_outside.specs.Disk.{DiskTold}
+use Rattle.fwd_outside.specs.Disk.{DiskTold, Sync}
 use Rattle.fwd_backlog.specs.declared.errors.LoadErr.{LoadErr}
 use Rattle.fwd_backlog.specs.declared.errors.LoadErr.TheVariants.{Memory}
 use Rattle.fwd_backlog.specs.declared.file_read.FileRead.{FileRead}
 use Rattle.fwd_backlog.specs.declared.listed.Listed.{Listed}
+use Rattle.fwd_backlog.specs.Answer.{Stops}
 use Rattle.fwd_backlog.specs.Listing.{path_of}
 use Rattle.fwd_backlog.specs.Loading.{file_read, reads_synced, reads_files}
 use Rattle.fwd_backlog.specs.Groups.{ReadsGroup}
-use Rattle.fwd_backlog.proofs.Calling.{err_outcome, goes, stops, rests}
+use Rattle.fwd_backlog.proofs.Calling.{asks_unfailed, goes, stops, rests}
+
+-- reading files doesn't begin with a failure
+pub files_unfailed : (root : List ℕ) (files : List Listed) (so_far : List FileRead) → reads_files root files so_far ≢ Return None
+files_unfailed root [] so_far = λ same. cc same
+files_unfailed root (file ∷ files) so_far = asks_unfailed (Sync (path_of root file)) _
 
 -- These files were read, and so much is left.
 pub record IsGroupTo (a b : DiskTold) (root : List ℕ) (files left : List Listed) (group : List FileRead) : Type 0 where
@@ -27,9 +33,9 @@ group_begun a root files group none = record {
 
 -- a group that stopped
 failed : (a c : DiskTold) (root : List ℕ) (files : List Listed) (e : LoadErr) (r : Result (List FileRead) LoadErr) → IsErrAnd r (λ x. x ≡ e)
-    → ((so_far : List FileRead) → Makes a c (reads_files root files so_far) (err_outcome (List FileRead) e)) → ReadsGroup a c root files r
-failed a c root files e (Ok x) is makes = absurd is
-failed a c root files e (Err x) is makes = λ so_far. subst (λ (y : LoadErr). Makes a c (reads_files root files so_far) (err_outcome (List FileRead) y)) (sym is) (makes so_far)
+    → ((so_far : List FileRead) → Stops a c (reads_files root files so_far) e) → ReadsGroup a c root files r
+failed a c root files e (Ok x) is stopped = absurd is
+failed a c root files e (Err x) is stopped = λ so_far. subst (λ (y : LoadErr). Stops a c (reads_files root files so_far) y) (sym is) (stopped so_far)
 
 -- one more file
 module _ (a b c : DiskTold) (root : List ℕ) (files : List Listed) (i : ℕ) (file : Listed) (group : List FileRead) (lt : i < length files) (is : file ≡ get_or files i file)
@@ -43,23 +49,24 @@ module _ (a b c : DiskTold) (root : List ℕ) (files : List Listed) (i : ℕ) (f
   at_file : (so_far : List FileRead) → Leads a b (reads_files root files so_far) (and_then (reads_synced (path_of root file)) (λ bytes. reads_files root (drop (i + 1) files) (Next so_far bytes)))
   at_file so_far = subst (λ (l : List Listed). Leads a b (reads_files root files so_far) (reads_files root l (so_far ++ group))) here (read.calls so_far)
 
-  past_file : (bytes : List ℕ) → Makes b c (reads_synced (path_of root file)) (Some (Some bytes)) → (so_far : List FileRead) → Leads a c (reads_files root files so_far) (reads_files root (drop (i + 1) files) (Next so_far bytes))
+  past_file : (bytes : List ℕ) → Did b c (reads_synced (path_of root file)) (Some bytes) → (so_far : List FileRead) → Leads a c (reads_files root files so_far) (reads_files root (drop (i + 1) files) (Next so_far bytes))
   past_file bytes did so_far = goes a b c (reads_files root files so_far) (reads_synced (path_of root file)) (λ bytes. reads_files root (drop (i + 1) files) (Next so_far bytes)) (at_file so_far) bytes did
 
-  pub group_more : (bytes : List ℕ) (after : List FileRead) → Makes b c (reads_synced (path_of root file)) (Some (Some bytes)) → after ≡ group ++ file_read file bytes ∷ [] → IsGroupTo a c root files (drop (i + 1) files) after
+  pub group_more : (bytes : List ℕ) (after : List FileRead) → Did b c (reads_synced (path_of root file)) (Some bytes) → after ≡ group ++ file_read file bytes ∷ [] → IsGroupTo a c root files (drop (i + 1) files) after
   group_more bytes after did grown = record {
     calls = λ so_far.
         let same : Next so_far bytes ≡ so_far ++ after = append_assoc so_far group (file_read file bytes ∷ []) ∙ ap (λ (l : List FileRead). so_far ++ l) (sym grown) in
         subst (λ (l : List FileRead). Leads a c (reads_files root files so_far) (reads_files root (drop (i + 1) files) l)) same (past_file bytes did so_far);
   }
 
-  pub group_stopped : (e : LoadErr) (r : Result (List FileRead) LoadErr) → IsErrAnd r (λ x. x ≡ e) → Makes b c (reads_synced (path_of root file)) (err_outcome (List ℕ) e) → ReadsGroup a c root files r
-  group_stopped e r is_err did = failed a c root files e r is_err (λ so_far.
-      stops a b c (reads_files root files so_far) (reads_synced (path_of root file)) (λ bytes. reads_files root (drop (i + 1) files) (Next so_far bytes)) (at_file so_far) e did)
+  pub group_stopped : (e : LoadErr) (r : Result (List FileRead) LoadErr) → IsErrAnd r (λ x. x ≡ e) → Stops b c (reads_synced (path_of root file)) e → ReadsGroup a c root files r
+  group_stopped e r is_err stopped = failed a c root files e r is_err (λ so_far.
+      stops a b c (reads_files root files so_far) (reads_synced (path_of root file)) (λ bytes. reads_files root (drop (i + 1) files) (Next so_far bytes)) (at_file so_far)
+      (λ bytes. files_unfailed root (drop (i + 1) files) (Next so_far bytes)) e stopped)
 
-  pub group_unkept : (bytes : List ℕ) (r : Result (List FileRead) LoadErr) → IsErrAnd r (λ x. x ≡ Memory) → Makes b c (reads_synced (path_of root file)) (Some (Some bytes)) → ReadsGroup a c root files r
+  pub group_unkept : (bytes : List ℕ) (r : Result (List FileRead) LoadErr) → IsErrAnd r (λ x. x ≡ Memory) → Did b c (reads_synced (path_of root file)) (Some bytes) → ReadsGroup a c root files r
   group_unkept bytes r is_err did = failed a c root files Memory r is_err (λ so_far.
-      rests a c (reads_files root files so_far) (reads_files root (drop (i + 1) files) (Next so_far bytes)) (past_file bytes did so_far))
+      rests a c (reads_files root files so_far) (reads_files root (drop (i + 1) files) (Next so_far bytes)) (past_file bytes did so_far) (files_unfailed root (drop (i + 1) files) (Next so_far bytes)))
 
 -- so many files were read
 pub group_read : (a b : DiskTold) (root : List ℕ) (files : List Listed) (i : ℕ) (group : List FileRead) → i ≤ length files → length group ≡ i → IsGroupTo a b root files (drop i files) group → ReadsGroup a b root files (Ok group)

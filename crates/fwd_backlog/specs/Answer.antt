@@ -1,6 +1,7 @@
 -- What loading came to.
-use Rattle.std.specs.Prelude.{Option, Some, None, Result, Ok, Err}
-use Rattle.fwd_program.specs.Told.{Makes}
+use Rattle.std.specs.Prelude.{◌≢◌, Option, Some, None, Result, Ok, Err}
+use Rattle.fwd_program.specs.Program.{Return}
+use Rattle.fwd_program.specs.Told.{Leads, Did}
 use Rattle.fwd_outside.specs.Disk.{DiskTold, DiskProgram}
 use Rattle.fwd_outside.specs.declared.errors.DiskErr.{DiskErr}
 use Rattle.fwd_outside.specs.declared.errors.DiskErr.TheVariants as disk_err
@@ -12,15 +13,21 @@ abbrev pub answer_of : DiskErr → LoadErr
 answer_of disk_err.Failed = DiskFailed
 answer_of disk_err.Memory = Memory
 
--- a value, a failure, or nothing for want of memory
-abbrev pub outcome : {T : Type 0} → Result T LoadErr → Option (Option T)
-outcome (Ok value) = Some (Some value)
-outcome (Err DiskFailed) = Some None
-outcome (Err Memory) = None
+-- the calls made meanwhile are the first ones of the program, and it hasn't failed
+abbrev pub Unfailed : {R : Type 0} → DiskTold → DiskTold → DiskProgram (Option R) → Type 0
+Unfailed {R = R} old new program = (left : DiskProgram (Option R)) × Leads old new program left × (left ≢ Return None)
 
--- The calls made meanwhile are those of the program, up to one that failed, or up to the want of memory; and at Ok what
--- the program gave and the value are so to each other.
+-- by the error: the calls made meanwhile are those of the program up to one that failed; or it hasn't failed
+abbrev pub Stops : {R : Type 0} → DiskTold → DiskTold → DiskProgram (Option R) → LoadErr → Type 0
+Stops old new program DiskFailed = Did old new program None
+Stops old new program Memory = Unfailed old new program
+
+-- the calls made meanwhile are those of the program, and it gave this value; or it stopped with this error
+abbrev pub Gives : {R : Type 0} → DiskTold → DiskTold → DiskProgram (Option R) → Result R LoadErr → Type 0
+Gives old new program (Ok value) = Did old new program (Some value)
+Gives old new program (Err e) = Stops old new program e
+
+-- the same where what the program gave and the value are so to each other
 abbrev pub Loads : {R T : Type 0} → DiskTold → DiskTold → DiskProgram (Option R) → (R → T → Type 0) → Result T LoadErr → Type 0
-Loads {R = R} old new program Shows (Ok value) = (given : R) × Makes old new program (Some (Some given)) × Shows given value
-Loads old new program Shows (Err DiskFailed) = Makes old new program (Some None)
-Loads old new program Shows (Err Memory) = Makes old new program None
+Loads {R = R} old new program Shows (Ok value) = (given : R) × Did old new program (Some given) × Shows given value
+Loads old new program Shows (Err e) = Stops old new program e

@@ -1,11 +1,10 @@
 //! Folders are listed.
 
 ghost use Rattle.std.specs.Prelude.{◌≡◌, [], ◌∷◌, ◌++◌, All, IfOk, IsErrOf, OnOk};
-ghost use Rattle.fwd_program.specs.Told.{Makes};
 ghost use Rattle.fwd_program.specs.Cause.{HasCause};
 ghost use Rattle.fwd_outside.specs.Disk.{IsFileName, lists};
 ghost use Rattle.fwd_backlog.specs.declared.errors.LoadErr.TheVariants.{DiskFailed};
-ghost use Rattle.fwd_backlog.specs.Answer.{outcome};
+ghost use Rattle.fwd_backlog.specs.Answer.{Gives};
 ghost use Rattle.fwd_backlog.specs.Listing.{folder_of, chunks_in, lists_files, IsNamed};
 
 use crate::LoadErr;
@@ -51,7 +50,7 @@ fn add_chunks(
 }
 
 fn list_names<D: Disk>(alloc: Global, disk: &mut D, folder: &[u8]) -> Result<Names, LoadErr>
-    ensures calls { Makes (D.told disk.old) (D.told disk.new) (lists folder.now) (outcome result) }
+    ensures calls { Gives (D.told disk.old) (D.told disk.new) (lists folder.now) result }
     ensures names { IfOk result (All IsFileName) }
     ensures cause { HasCause (D.faults disk.old) (D.faults disk.new) (IsErrOf result DiskFailed) }
 {
@@ -64,7 +63,7 @@ fn list_folder<D: Disk>(
     root: &[u8],
     stream: &[u8],
 ) -> Result<Names, LoadErr>
-    ensures calls { Makes (D.told disk.old) (D.told disk.new) (lists (folder_of root.now stream.now)) (outcome result) }
+    ensures calls { Gives (D.told disk.old) (D.told disk.new) (lists (folder_of root.now stream.now)) result }
     ensures names { IfOk result (All IsFileName) }
     ensures cause { HasCause (D.faults disk.old) (D.faults disk.new) (IsErrOf result DiskFailed) }
 {
@@ -78,7 +77,7 @@ pub fn list_files<D: Disk>(
     disk: &mut D,
     root: &[u8],
 ) -> Result<Items<Listed>, LoadErr>
-    ensures calls { Makes (D.told disk.old) (D.told disk.new) (lists_files root.now) (outcome result) }
+    ensures calls { Gives (D.told disk.old) (D.told disk.new) (lists_files root.now) result }
     ensures names { IfOk result (All IsNamed) }
     ensures cause { HasCause (D.faults disk.old) (D.faults disk.new) (IsErrOf result DiskFailed) }
 {

@@ -1,10 +1,9 @@
 //! Files are read one after another, in groups.
 
 ghost use Rattle.std.specs.Prelude.{◌≡◌, ◌+◌, ◌≤◌, [], ◌∷◌, ◌++◌, length, IsTrue, IfOk, OnOk, IsErrOf};
-ghost use Rattle.fwd_program.specs.Told.{Makes};
 ghost use Rattle.fwd_program.specs.Cause.{HasCause};
 ghost use Rattle.fwd_backlog.specs.declared.errors.LoadErr.TheVariants.{DiskFailed};
-ghost use Rattle.fwd_backlog.specs.Answer.{outcome};
+ghost use Rattle.fwd_backlog.specs.Answer.{Gives};
 ghost use Rattle.fwd_backlog.specs.Listing.{path_of};
 ghost use Rattle.fwd_backlog.specs.Loading.{file_read, reads_synced};
 ghost use Rattle.fwd_backlog.specs.Groups.{ReadsGroup};
@@ -22,7 +21,7 @@ use std::alloc::Global;
 const ENOUGH: u64 = LONGEST_FILE as u64 + 1;
 
 fn read_synced<D: Disk>(alloc: Global, disk: &mut D, path: &[u8]) -> Result<Bytes, LoadErr>
-    ensures calls { Makes (D.told disk.old) (D.told disk.new) (reads_synced path.now) (outcome result) }
+    ensures calls { Gives (D.told disk.old) (D.told disk.new) (reads_synced path.now) result }
     ensures cause { HasCause (D.faults disk.old) (D.faults disk.new) (IsErrOf result DiskFailed) }
 {
     // What is read must be what a crash leaves from here on.
@@ -36,7 +35,7 @@ fn read_bytes<D: Disk>(
     root: &[u8],
     file: &Listed,
 ) -> Result<Bytes, LoadErr>
-    ensures calls { Makes (D.told disk.old) (D.told disk.new) (reads_synced (path_of root.now file.now)) (outcome result) }
+    ensures calls { Gives (D.told disk.old) (D.told disk.new) (reads_synced (path_of root.now file.now)) result }
     ensures cause { HasCause (D.faults disk.old) (D.faults disk.new) (IsErrOf result DiskFailed) }
 {
     let path = path_of(alloc, root, file)?;

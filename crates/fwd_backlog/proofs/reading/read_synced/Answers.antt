@@ -1,30 +1,27 @@
-use Rattle.std.proofs.Common.{List, ℕ, Err, Some}
+use Rattle.std.proofs.Common.{Some}
 use Rattle.fwd_program.proofs.Leading.{asked_makes}
-use Rattle.fwd_outside.specs.Disk.{Sync, Read, syncs, reads, disk_outcome}
+use Rattle.fwd_outside.specs.Disk.{Sync, Read}
 use Rattle.fwd_found.specs.Seen.{enough}
 use Rattle.fwd_backlog.specs.Answer.{answer_of}
-use Rattle.fwd_backlog.specs.Loading.{reads_synced}
-use Rattle.fwd_backlog.proofs.Calling.{err_outcome, disk_error, made_err}
-use Rattle.fwd_backlog.proofs.Files.{sync_stopped, synced_then}
+use Rattle.fwd_backlog.proofs.Calling.{sync_error, read_error}
+use Rattle.fwd_backlog.proofs.Files.{sync_stopped, read_stopped, synced_read}
 use Rattle.fwd_backlog.proofs.reading.read_synced.Goals as goal
 
 pub returns-in_err-sync-clause-calls : goal.returns-in_err-sync-clause-calls
 returns-in_err-sync-clause-calls g c =
     let path = c.args.path.now in
     let e = c.in_err-sync.field-0.0 in
-    sync_stopped _ _ path (answer_of e) c.from_residual.result c.from_residual.ensures.1
-    (disk_error _ _ (syncs path) e (asked_makes _ _ (Sync path) (disk_outcome {T = Unit {0}} (Err e)) c.in_err-sync.ensures.told))
+    sync_stopped _ _ path (answer_of e) c.from_residual.result c.from_residual.ensures.1 (sync_error _ _ path e c.in_err-sync.ensures.told)
 
 pub returns-in_err-read-clause-calls : goal.returns-in_err-read-clause-calls
 returns-in_err-read-clause-calls g c =
     let path = c.args.path.now in
     let e = c.in_err-read.field-0.0 in
-    made_err _ _ (reads_synced path) (answer_of e) c.from_residual-in_err-read.result c.from_residual-in_err-read.ensures.1
-    (synced_then _ _ path _ (err_outcome (List ℕ) (answer_of e)) (asked_makes _ _ (Sync path) (Some (Some tt)) c.in_ok-sync.ensures.told)
-    (disk_error _ _ (reads path 0 enough) e (asked_makes _ _ (Read path 0 enough) (disk_outcome {T = List ℕ} (Err e)) c.in_err-read.ensures.told)))
+    read_stopped _ _ path _ (answer_of e) c.from_residual-in_err-read.result c.from_residual-in_err-read.ensures.1
+    (asked_makes _ _ (Sync path) (Some (Some tt)) c.in_ok-sync.ensures.told) (read_error _ _ path 0 enough e c.in_err-read.ensures.told)
 
 pub returns-clause-calls : goal.returns-clause-calls
 returns-clause-calls g c =
     let path = c.args.path.now in
-    synced_then _ _ path _ (Some (Some c.in_ok-read.field-0)) (asked_makes _ _ (Sync path) (Some (Some tt)) c.in_ok-sync.ensures.told)
+    synced_read _ _ path _ c.in_ok-read.field-0 (asked_makes _ _ (Sync path) (Some (Some tt)) c.in_ok-sync.ensures.told)
     (asked_makes _ _ (Read path 0 enough) (Some (Some c.in_ok-read.field-0)) c.in_ok-read.ensures.told)
