@@ -4,5 +4,5 @@ mod Renaming
 mod Readying
 mod Behind
 mod Metadata
-mod Calling
+pub mod Calling
 mod Following

@@ -58,7 +58,8 @@ fn load_from<D: Disk>(
 
 /// The parts of an engine at the beginning of a life. Where the settings give a storage path, the files of chunks below it
 /// are found, each with the next number, from 1 on: one that is a chunk with events is held, and is owed to the outputs that
-/// match its tag and whose outcome isn't recorded in it. `DiskFailed` comes only where a failure of the disk was counted.
+/// match its tag and whose outcome isn't recorded in it. `DiskFailed` comes only where a failure of the disk was counted, and
+/// `Memory` never where a call on the disk failed.
 pub fn load<D: Disk>(
     rt: &(impl Threads + Sync),
     alloc: Global,

@@ -2,12 +2,12 @@ use Rattle.std.proofs.Common.{[], sym}
 use Rattle.fwd_backlog.specs.declared.errors.LoadErr.TheVariants.{Memory}
 use Rattle.fwd_parts.specs.Acts.{with_disk}
 use Rattle.fwd_loading.proofs.Behind.{new_shows}
-use Rattle.fwd_loading.proofs.Calling.{loaded_without, began_without, answered}
+use Rattle.fwd_loading.proofs.Calling.{loaded_without, not_begun, answered}
 use Rattle.fwd_loading.proofs.loading.load.Goals as goal
 
 pub returns-in_err-begin-in-None-clause-acts : goal.returns-in_err-begin-in-None-clause-acts
 returns-in_err-begin-in-None-clause-acts g c others =
-    answered c.args.run.now _ _ c.from_residual.result Memory c.from_residual.ensures.1 (began_without (with_disk (g.D.Disk.told c.args.disk.now) others) c.args.run.now)
+    answered c.args.run.now _ _ c.from_residual.result Memory c.from_residual.ensures.1 (not_begun (with_disk (g.D.Disk.told c.args.disk.now) others) c.args.run.now)
 
 pub returns-in_ok-begin-in-None-clause-acts : goal.returns-in_ok-begin-in-None-clause-acts
 returns-in_ok-begin-in-None-clause-acts g c others = record {
