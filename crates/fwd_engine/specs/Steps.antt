@@ -15,6 +15,7 @@ use Rattle.fwd_written.specs.Loading.{loads_in}
 use Rattle.fwd_written.specs.Steps.{step}
 use Rattle.fwd_written.specs.Run.{is_over}
 use Rattle.fwd_parts.specs.Shown.{Shows}
+use Rattle.fwd_loading.specs.Loaded.{Unfailed}
 use Rattle.fwd_engine.specs.declared.engine.Engine.{Engine}
 use Rattle.fwd_engine.specs.declared.engine.BeginErr.{BeginErr}
 use Rattle.fwd_engine.specs.declared.engine.BeginErr.TheVariants as begin_err
@@ -40,11 +41,11 @@ pub record Begins (a b : World) (s : AllSettings) (engine : Engine) : Type 0 whe
   pub did : Did a b (loads_in s) (Some history)
   pub at : IsAt engine s history
 
--- By the answer: all was loaded; a call on the disk failed; or a beginning was made, where memory was wanting.
+-- By the answer: all was loaded; a call on the disk failed; or memory was wanting, and the loading hasn't failed.
 abbrev pub BeginsSo : World → World → AllSettings → Result Engine BeginErr → Type 0
 BeginsSo a b s (Ok engine) = Begins a b s engine
 BeginsSo a b s (Err begin_err.DiskFault) = Did a b (loads_in s) None
-BeginsSo a b s (Err begin_err.Memory) = Began a b (loads_in s)
+BeginsSo a b s (Err begin_err.Memory) = Unfailed a b (loads_in s)
 
 -- ---- steps
 

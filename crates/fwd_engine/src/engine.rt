@@ -92,7 +92,8 @@ pub struct Engine {
 
 impl Engine {
     /// An engine at the beginning of a life. The settings are those of a configuration. Where they give a storage path, the
-    /// chunks below it are loaded. `DiskFault` comes only where a failure of the disk was counted.
+    /// chunks below it are loaded. `DiskFault` comes only where a failure of the disk was counted, and `Memory` never where a
+    /// call on the disk failed.
     pub fn begin<D: Disk>(
         rt: &(impl Threads + Sync),
         alloc: Global,

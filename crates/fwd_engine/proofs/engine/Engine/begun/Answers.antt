@@ -1,14 +1,15 @@
 use Rattle.std.proofs.Common.{◌≡◌, Some, None, sym, ◌∙◌, subst}
 use Rattle.fwd_settings.specs.declared.chosen.AllSettings.{AllSettings}
-use Rattle.fwd_written.specs.World.{World, Did, Began}
+use Rattle.fwd_written.specs.World.{World, Did}
 use Rattle.fwd_written.specs.Loading.{loads_in}
-use Rattle.fwd_written.proofs.Acting.{stays}
 use Rattle.fwd_parts.specs.Acts.{with_disk}
 use Rattle.fwd_parts.specs.Shown.{Shows}
+use Rattle.fwd_loading.specs.Loaded.{Unfailed}
+use Rattle.fwd_loading.proofs.Calling.{not_begun}
 use Rattle.fwd_engine.proofs.engine.Engine.begun.Goals as goal
 
 pub returns-in_default-clause-begins : goal.returns-in_default-clause-begins
-returns-in_default-clause-begins g c others = (_, stays _ _)
+returns-in_default-clause-begins g c others = not_begun (with_disk (g.D.Disk.told c.args.disk.now) others) c.args.settings
 
 pub returns-in-Ok-load-clause-begins : goal.returns-in-Ok-load-clause-begins
 returns-in-Ok-load-clause-begins g c others =
@@ -35,5 +36,5 @@ returns-clause-begins g c others =
     let a : World = with_disk (g.D.Disk.told c.args.disk.now) others in
     let b : World = with_disk (g.D.Disk.told c.load.new.disk) others in
     let runs : c.run.result.now ≡ c.args.settings = c.run.ensures ∙ c.in-Ok.ensures in
-    let began = rw c.in-Err-Memory.field-0-is at (c.in-Err-Memory.ensures.acts others) in
-    subst (λ (x : AllSettings). Began a b (loads_in x)) runs began
+    let unfailed = rw c.in-Err-Memory.field-0-is at (c.in-Err-Memory.ensures.acts others) in
+    subst (λ (x : AllSettings). Unfailed a b (loads_in x)) runs unfailed
