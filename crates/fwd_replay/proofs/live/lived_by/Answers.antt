@@ -1,5 +1,5 @@
 use Rattle.std.proofs.Common.{rules, None}
-use Rattle.fwd_written.specs.World.{World, Did, Began}
+use Rattle.fwd_written.specs.World.{World, Did}
 use Rattle.fwd_written.specs.Loading.{loads_in}
 use Rattle.fwd_parts.specs.Acts.{with_all}
 use Rattle.fwd_replay.specs.Stage.{nowhere}
@@ -32,8 +32,8 @@ pub returns-in-Err-Memory-clause-life : goal.returns-in-Err-Memory-clause-life
 returns-in-Err-Memory-clause-life g c others =
     let a : World = with_all (g.L.Loop.told c.args.outside.now) (g.D.Disk.told c.args.disk.now) (g.F.Files.told c.args.files.now) others in
     let b : World = with_all (g.L.Loop.told c.args.outside.now) (g.D.Disk.told c.begin.new.disk) (g.F.Files.told c.args.files.now) others in
-    let began : Began a b (loads_in c.args.settings) = rw c.in-Err-Memory.field-0-is at (c.in-Err-Memory.ensures.begins a) in
-    begins_load c.args.settings c.args.ticks c.args.most a b began
+    let unfailed = rw c.in-Err-Memory.field-0-is at (c.in-Err-Memory.ensures.begins a) in
+    begins_load c.args.settings c.args.ticks c.args.most a b (unfailed.0, unfailed.1)
 
 pub returns-in-Ok-clause-heard : goal.returns-in-Ok-clause-heard
 returns-in-Ok-clause-heard g c = c.run_out.ensures.heard
