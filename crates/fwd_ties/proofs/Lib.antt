@@ -1,4 +1,5 @@
 pub mod Members
+pub mod Streams
 pub mod Answering
 pub mod Going
 pub mod Standing
