@@ -78,7 +78,7 @@ rise_begun b (Behind chunk) cs rise below = subst NumbersRise (sym (append-nil c
 rise_begun b (First chunk) cs rise below = rise_end cs (record { number = chunk; input = Some b.input; tag = b.tag }) rise (λ c has. below chunk c refl has)
 
 -- a closed chunk was noted
-shut_below : (bound : ℕ) (h : History) (n : ℕ) → ((fact : Fact) → Contains h fact → IsBelow bound (chunk_of fact)) → is_shut h n ≡ true → n < bound
+pub shut_below : (bound : ℕ) (h : History) (n : ℕ) → ((fact : Fact) → Contains h fact → IsBelow bound (chunk_of fact)) → is_shut h n ≡ true → n < bound
 shut_below bound [] n fresh is = absurd (cc is)
 shut_below bound (fact ∷ h) n fresh is = by fact (fresh fact (here fact h)) is (shut_below bound h n (λ f has. fresh f (deeper fact h f has)))
   where
