@@ -28,6 +28,11 @@ use Rattle.fwd_ties.proofs.Outer.{told_happens}
 abbrev Any : Past → Type 0
 Any past = Unit {0}
 
+-- what was found, where the disk didn't fail: nothing else was noted
+abbrev pub Loaded : Option History → Past → Type 0
+Loaded None now = noted now ≡ []
+Loaded (Some h) now = h ≡ noted now
+
 module _ (s : AllSettings) where
   abbrev pub Steps : Past → Act History → Type 0
   Steps past p = Walks (Due s) (λ (h : History) (now : Past). (h ≡ noted now) × Any now) past p
@@ -90,11 +95,6 @@ module _ (s : AllSettings) where
 
   -- ---- loading
 
-  -- what was found, where the disk didn't fail: nothing else was noted
-  abbrev Loaded : Option History → Past → Type 0
-  Loaded None now = noted now ≡ []
-  Loaded (Some h) now = h ≡ noted now
-
   loads_finds : (number : ℕ) (reads : List FileRead) (past : Past) → number ≡ length (noted past) + 1 → IsLoading (noted past) → Due s past
       → Walks (Due s) Loaded past (finds number reads (noted past))
   loads_finds number [] past at loading ready = (ready, refl)
@@ -112,7 +112,7 @@ module _ (s : AllSettings) where
       (loads_finds 1 reads past (ap (λ (h : History). length h + 1) (sym none)) (subst IsLoading (sym none) tt) ready)
   loads_read (Ask call go) past none ready = (ready, λ answer. loads_read (go answer) (entry (OnDisk call) answer ∷ past) none (tt, ready))
 
-  loads_root : (root : Option (List ℕ)) → Walks (Due s) Loaded [] (loads_from root)
+  pub loads_root : (root : Option (List ℕ)) → Walks (Due s) Loaded [] (loads_from root)
   loads_root None = (tt, refl)
   loads_root (Some root) = loads_read (loads root) [] refl tt
 
