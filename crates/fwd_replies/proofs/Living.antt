@@ -145,7 +145,7 @@ module _ (s : AllSettings) where
     λ ready.
         let e : TraceEntry = entry (OnLoop (Start ends)) ready in
         let same = since_last es e in
-        lives_started ticks turns ready (es ++ e ∷ []) h (is ∙ ap noted (sym same), subst (Due s) (sym same) (tt, due)),
+        lives_started ticks turns ready (es ++ e ∷ []) h (is.0 ∙ ap noted (sym same), subst (Due s) (sym same) (tt, due)),
   )
 
   lives_life : (ends : Ends) (ticks : Option ℕ) (turns : ℕ) → Lives [] (life s ends ticks turns)
