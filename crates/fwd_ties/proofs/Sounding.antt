@@ -91,6 +91,13 @@ shut_below bound (fact ∷ h) n fresh is = by fact (fresh fact (here fact h)) is
     by (Shut chunk) lt now more = either_way chunk (chunk == n) refl lt now more
     by f lt now more = more now
 
+pub nonzero : (n : ℕ) → not (suc n == 0) ≡ true
+nonzero n = by (eqb_tells (suc n) 0)
+  where
+    by : ((suc n == 0 ≡ true) × (suc n ≡ 0)) ⊎ ((suc n == 0 ≡ false) × (suc n ≢ 0)) → not (suc n == 0) ≡ true
+    by (inl is) = let zero_is = is.1 in absurd (omega (arith, zero_is))
+    by (inr is) = rw (is.0) refl
+
 -- what holds of numbers; and a chunk that was offered just now, to begin with a batch, is above all others
 record Numbered (h : History) : Type 0 where
   rising : NumbersRise (chunks_of h)
@@ -258,13 +265,6 @@ module _ (s : AllSettings) where
   wanted : (past : Past) (c : ChunkOf) → Due s past → Contains (chunks_of (noted past)) c → IsWanted (noted past) c
   wanted [] c due has = absurd (omega (arith, has.1))
   wanted (e ∷ past) c due has = wanted_call e.call past c due.0 (wanted past c due.1) has
-
-  nonzero : (n : ℕ) → not (suc n == 0) ≡ true
-  nonzero n = by (eqb_tells (suc n) 0)
-    where
-      by : ((suc n == 0 ≡ true) × (suc n ≡ 0)) ⊎ ((suc n == 0 ≡ false) × (suc n ≢ 0)) → not (suc n == 0) ≡ true
-      by (inl is) = let zero_is = is.1 in absurd (omega (arith, zero_is))
-      by (inr is) = rw (is.0) refl
 
   some_left : (h : History) (n : ℕ) (outputs : List ℕ) → is_empty outputs ≡ false → ((output : ℕ) → is_resolved s h (route n output) ≡ false)
       → not (length (filter (λ (output : ℕ). not (is_resolved s h (route n output))) outputs) == 0) ≡ true
