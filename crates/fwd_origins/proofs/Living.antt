@@ -17,7 +17,7 @@ module _ (s : AllSettings) where
   always_lasts = record {
     at_first = tt;
     later = λ h now always later. always_later s h now always later;
-    found = λ number read h always. always_still s (Found number read.file.stream read.file.name read.bytes) h (refl, refl) always;
+    found = λ number stream name bytes h always. always_still s (Found number stream name bytes) h (refl, refl) always;
     faulted = λ h always. always_still s Faulted h (refl, refl) always;
     brought = λ x h none always. (owing_arrived s (Brought x) h refl always).1;
     polled = λ input index poll h always.

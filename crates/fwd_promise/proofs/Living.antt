@@ -25,7 +25,7 @@ module _ (s : AllSettings) where
   each_lasts = record {
     at_first = tt;
     later = λ h now each later. each_later s h now each later;
-    found = λ number read h each. each_one s (Found number read.file.stream read.file.name read.bytes) h tt each;
+    found = λ number stream name bytes h each. each_one s (Found number stream name bytes) h tt each;
     faulted = λ h each. each_one s Faulted h tt each;
     brought = λ x h none each. (subst (BecameInOrder (conn_of (Brought x)) []) (sym none) tt, each);
     polled = λ input index poll h each.

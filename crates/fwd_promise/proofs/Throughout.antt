@@ -1,5 +1,5 @@
 -- What is so of the empty history, and stays so whatever is found, brought, polled and done, is so at the end of each life.
-use Rattle.std.proofs.Common.{◌≡◌, ℕ, zero, suc, ◌+◌, Bool, true, false, cond, List, [], ◌∷◌, length, Option, Some, None, refl, ap}
+use Rattle.std.proofs.Common.{◌≡◌, ℕ, ◌+◌, Bool, true, false, cond, List, [], ◌∷◌, length, Option, Some, None, refl, sym, ap, subst}
 use Rattle.std.specs.List.{range_with_len}
 use Rattle.fwd_base.specs.declared.ids.InputId.{InputId}
 use Rattle.fwd_base.specs.declared.ids.ConnId.{ConnId}
@@ -8,12 +8,10 @@ use Rattle.fwd_outside.specs.declared.ends.Ends.{Ends}
 use Rattle.fwd_outside.specs.declared.happening.Happening.{Happening}
 use Rattle.fwd_outside.specs.declared.happening.Happening.TheVariants as happening
 use Rattle.fwd_in_tail.specs.Followed.{Polled as Poll, polls}
-use Rattle.fwd_backlog.specs.declared.file_read.FileRead.{FileRead}
-use Rattle.fwd_backlog.specs.Loading.{loads}
 use Rattle.fwd_settings.specs.declared.chosen.AllSettings.{AllSettings}
 use Rattle.fwd_written.specs.Fact.{History, Batch, Standard, Brought, Polled, Found, Faulted}
 use Rattle.fwd_written.specs.Trace.{Act, TraceEntry}
-use Rattle.fwd_written.specs.Parts.{on_disk, on_files}
+use Rattle.fwd_written.specs.Parts.{on_files}
 use Rattle.fwd_written.specs.Setup.{paths_at, from_head_at, reads_standard_at}
 use Rattle.fwd_written.specs.Clock.{stopped, is_closing}
 use Rattle.fwd_written.specs.Tails.{file_at}
@@ -24,10 +22,13 @@ use Rattle.fwd_written.specs.Accepting.{takes}
 use Rattle.fwd_written.specs.Flying.{walk, has_room, comes_back, has_broken}
 use Rattle.fwd_written.specs.Coming.{pieces, polled, polls_file, polls_files, follows, follows_each, follows_all}
 use Rattle.fwd_written.specs.Steps.{walks, ticks, stops, finishes, happens, step}
-use Rattle.fwd_written.specs.Loading.{finds, loaded, loads_from, loads_in}
-use Rattle.fwd_written.specs.Run.{Lived, Over, lived, is_over, goes_on, steps_on, is_last_reading, unless_last, brought, run, started, begun, life}
+use Rattle.fwd_written.specs.Run.{Lived, life}
+use Rattle.fwd_ties.specs.Past.{Past, noted}
+use Rattle.fwd_ties.specs.Due.{IsLoading, Due}
+use Rattle.fwd_ties.proofs.Going.{walks_map}
+use Rattle.fwd_ties.proofs.Living.{Lasts as NotedLasts, steps_step, so_at_end}
 use Rattle.fwd_promise.specs.Promise.{completed_by}
-use Rattle.fwd_promise.proofs.Giving.{Gives, gives_so, gives_then, gives_behind, gives_if, given}
+use Rattle.fwd_promise.proofs.Giving.{Gives, gives_so, gives_then, gives_behind, gives_if, gives_walks}
 use Rattle.fwd_promise.proofs.Adding.{Later}
 use Rattle.fwd_promise.proofs.Calm.{calm_closes_all, calm_walk, calm_has_room, calm_comes_back, calm_has_broken}
 
@@ -36,7 +37,7 @@ use Rattle.fwd_promise.proofs.Calm.{calm_closes_all, calm_walk, calm_has_room, c
 pub record Lasts (s : AllSettings) (Each : History → Type 0) : Type 0 where
   pub at_first : Each []
   pub later : (h now : History) → Each h → Later h now → Each now
-  pub found : (number : ℕ) (read : FileRead) (h : History) → Each h → Each (Found number read.file.stream read.file.name read.bytes ∷ h)
+  pub found : (number : ℕ) (stream name bytes : List ℕ) (h : History) → Each h → Each (Found number stream name bytes ∷ h)
   pub faulted : (h : History) → Each h → Each (Faulted ∷ h)
   pub brought : (x : Happening) (h : History) → completed_by s h (Brought x) ≡ [] → Each h → Each (Brought x ∷ h)
   pub polled : (input index : ℕ) (poll : Poll) (h : History) → Each h → Gives Each (takes s (poll_batch s h input index poll) (Polled input index poll.long poll.bytes ∷ h))
@@ -128,59 +129,20 @@ module _ (s : AllSettings) (Each : History → Type 0) (lasts : Lasts s Each) wh
 
   -- ---- a life
 
-  abbrev Ends_each : Lived → Type 0
-  Ends_each end = Each end.history
+  each_loading : (h : History) → IsLoading h → Each h
+  each_loading [] loading = lasts.at_first
+  each_loading (Found number stream name bytes ∷ h) loading = lasts.found number stream name bytes h (each_loading h loading.1)
+  each_loading (fact ∷ h) loading = absurd loading
 
-  abbrev Goes : (History → Act Lived) → Type 0
-  Goes next = (h : History) → Each h → Gives Ends_each (next h)
-
-  each_steps : (next : History → Act Lived) (x : Happening) → Goes next → Goes (steps_on s next x)
-  each_steps next x more h each =
-      gives_then Each Ends_each (step s x h) (goes_on s next x) (each_step x h each)
-      (λ at then. gives_if Ends_each (is_over s x at) (Return (lived at Over)) (next at) (λ _. then) (λ _. more at then))
-
-  each_unless_last : (ticks : Option ℕ) (next : History → Act Lived) (x : Happening) → Goes next → Goes (unless_last s ticks next x)
-  each_unless_last ticks next x more h each =
-      gives_if Ends_each (is_last_reading s ticks x h) (steps_on s next happening.Stop h) (next h) (λ _. each_steps next happening.Stop more h each) (λ _. more h each)
-
-  each_brought : (ticks : Option ℕ) (next : History → Act Lived) (h : History) (x : Happening) → Goes next → Each h → Gives Ends_each (brought s ticks next h x)
-  each_brought ticks next h happening.Failed more each = each
-  each_brought ticks next h x more each = each_steps (unless_last s ticks next x) x (each_unless_last ticks next x more) h each
-
-  each_run : (ticks : Option ℕ) (turns : ℕ) → Goes (run s ticks turns)
-  unfolding run
-  each_run ticks zero h each = each
-  each_run ticks (suc turns) h each = λ x. each_brought ticks (run s ticks turns) h x (each_run ticks turns) each
-
-  each_started : (ticks : Option ℕ) (turns : ℕ) (h : History) (ready : Option (Unit {0})) → Each h → Gives Ends_each (started s ticks turns h ready)
-  each_started ticks turns h None each = each
-  each_started ticks turns h (Some ready) each = each_run ticks turns h each
-
-  -- what is found completes nothing
-  abbrev Loads_each : Option History → Type 0
-  Loads_each None = Unit {0}
-  Loads_each (Some h) = Each h
-
-  each_finds : (number : ℕ) (reads : List FileRead) (h : History) → Each h → Gives Loads_each (finds number reads h)
-  each_finds number [] h each = each
-  each_finds number (read ∷ reads) h each =
-      λ _. each_finds (number + 1) reads (Found number read.file.stream read.file.name read.bytes ∷ h) (lasts.found number read h each)
-
-  each_loaded : (reads : Option (List FileRead)) → Gives Loads_each (loaded reads)
-  each_loaded None = tt
-  each_loaded (Some reads) = each_finds 1 reads [] lasts.at_first
-
-  each_loads : (root : Option (List ℕ)) → Gives Loads_each (loads_from root)
-  each_loads None = lasts.at_first
-  each_loads (Some root) = gives_behind Loads_each (on_disk (loads root)) loaded each_loaded
-
-  each_begun : (ends : Ends) (ticks : Option ℕ) (turns : ℕ) (h : Option History) → Loads_each h → Gives Ends_each (begun s ends ticks turns h)
-  each_begun ends ticks turns None each = lasts.at_first
-  each_begun ends ticks turns (Some h) each = λ ready. each_started ticks turns h ready each
-
-  each_life : (ends : Ends) (ticks : Option ℕ) (turns : ℕ) → Gives Ends_each (life s ends ticks turns)
-  unfolding life loads_in
-  each_life ends ticks turns = gives_then Loads_each Ends_each (loads_in s) (begun s ends ticks turns) (each_loads s.service.path) (each_begun ends ticks turns)
+  each_noted : NotedLasts s (λ (past : Past). Each (noted past))
+  each_noted = record {
+    loaded = λ past loading. each_loading (noted past) loading;
+    called = λ call answer past each. each;
+    stepped = λ x past due ready each.
+        let W : History → Past → Type 0 = λ (h : History) (now : Past). (h ≡ noted now) × Unit {0} in
+        walks_map (Due s) (λ (h : History) (now : Past). Each h × W h now) (λ (h : History) (now : Past). (h ≡ noted now) × Each (noted now)) past (step s x (noted past))
+        (λ h now grown is. (is.1.0, subst Each is.1.0 is.0)) (gives_walks (Due s) Each W past (step s x (noted past)) (each_step x (noted past) each) (steps_step s x past due ready));
+  }
 
   pub at_end : (ends : Ends) (ticks : Option ℕ) (turns : ℕ) (es : List TraceEntry) (end : Lived) → Way (life s ends ticks turns) es (Return end) → Each end.history
-  at_end ends ticks turns es end way = given Ends_each (life s ends ticks turns) es end (each_life ends ticks turns) way
+  at_end ends ticks turns es end way = let so = so_at_end s (λ (past : Past). Each (noted past)) each_noted ends ticks turns es end way in subst Each (sym so.0) so.1
