@@ -26,7 +26,7 @@ use Rattle.fwd_written.specs.Run.{Lived, life}
 use Rattle.fwd_ties.specs.Past.{Past, noted}
 use Rattle.fwd_ties.specs.Due.{IsLoading, Due}
 use Rattle.fwd_ties.proofs.Going.{walks_map}
-use Rattle.fwd_ties.proofs.Living.{Lasts as NotedLasts, steps_step, so_at_end}
+use Rattle.fwd_ties.proofs.Living.{due_onward, Lasts as NotedLasts, so_at_end, steps_step}
 use Rattle.fwd_promise.specs.Promise.{completed_by}
 use Rattle.fwd_promise.proofs.Giving.{Gives, gives_so, gives_then, gives_behind, gives_if, gives_walks}
 use Rattle.fwd_promise.proofs.Adding.{Later}
@@ -134,8 +134,10 @@ module _ (s : AllSettings) (Each : History → Type 0) (lasts : Lasts s Each) wh
   each_loading (Found number stream name bytes ∷ h) loading = lasts.found number stream name bytes h (each_loading h loading.1)
   each_loading (fact ∷ h) loading = absurd loading
 
-  each_noted : NotedLasts s (λ (past : Past). Each (noted past))
+  each_noted : NotedLasts s (Due s) (λ (past : Past). Each (noted past))
   each_noted = record {
+    first = tt;
+    onward = due_onward s;
     loaded = λ past loading. each_loading (noted past) loading;
     called = λ call answer past each. each;
     stepped = λ x past due ready each.
@@ -145,4 +147,4 @@ module _ (s : AllSettings) (Each : History → Type 0) (lasts : Lasts s Each) wh
   }
 
   pub at_end : (ends : Ends) (ticks : Option ℕ) (turns : ℕ) (es : List TraceEntry) (end : Lived) → Way (life s ends ticks turns) es (Return end) → Each end.history
-  at_end ends ticks turns es end way = let so = so_at_end s (λ (past : Past). Each (noted past)) each_noted ends ticks turns es end way in subst Each (sym so.0) so.1
+  at_end ends ticks turns es end way = let so = so_at_end s (Due s) (λ (past : Past). Each (noted past)) each_noted ends ticks turns es end way in subst Each (sym so.0) so.1

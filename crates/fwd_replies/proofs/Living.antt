@@ -20,7 +20,7 @@ use Rattle.fwd_written.specs.Run.{Lived, Over, lived, is_over, goes_on, steps_on
 use Rattle.fwd_ties.specs.Past.{Past, noted, since, just_waited}
 use Rattle.fwd_ties.specs.Due.{BroughtDue, Due}
 use Rattle.fwd_ties.proofs.Going.{Walks}
-use Rattle.fwd_ties.proofs.Living.{Loaded, loads_root, steps_step, last_due}
+use Rattle.fwd_ties.proofs.Living.{due_onward, Loaded, loads_root, steps_step, last_due}
 use Rattle.fwd_replies.specs.Replies.{IsDueReply}
 use Rattle.fwd_replies.proofs.Still.{is_still, AreStill, still_loads}
 use Rattle.fwd_replies.proofs.Making.{Makes, since_both, makes_bind, makes_if, makes_so, still_makes, with_walk, made_along, along_at}
@@ -136,7 +136,7 @@ module _ (s : AllSettings) where
 
   walks_loads : Walks (Due s) Loaded [] (loads_in s)
   unfolding loads_in
-  walks_loads = loads_root s s.service.path
+  walks_loads = loads_root s (Due s) (due_onward s) tt s.service.path
 
   lives_begun : (ends : Ends) (ticks : Option ℕ) (turns : ℕ) (found : Option History) (es : List TraceEntry) → Due s (since [] es) → Loaded found (since [] es) → Lives es (begun s ends ticks turns found)
   lives_begun ends ticks turns None es due is = tt

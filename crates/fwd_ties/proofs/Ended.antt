@@ -8,9 +8,9 @@ use Rattle.fwd_written.specs.Trace.{TraceEntry}
 use Rattle.fwd_written.specs.Chunks.{chunks_of, open_chunks}
 use Rattle.fwd_written.specs.Run.{Lived, life}
 use Rattle.fwd_ties.specs.Past.{noted, since}
-use Rattle.fwd_ties.specs.Due.{IsLoading}
+use Rattle.fwd_ties.specs.Due.{IsLoading, Due}
 use Rattle.fwd_ties.specs.Closes.{has_closed}
-use Rattle.fwd_ties.proofs.Living.{Lasts, so_at_end}
+use Rattle.fwd_ties.proofs.Living.{due_onward, Lasts, so_at_end}
 use Rattle.fwd_ties.proofs.Shutting.{IsClosed, none_open, closed_step}
 
 module _ (s : AllSettings) where
@@ -19,8 +19,10 @@ module _ (s : AllSettings) where
   not_yet (Found number stream name bytes ∷ h) loading = not_yet h loading.1
   not_yet (fact ∷ h) loading = absurd loading
 
-  closed_lasts : Lasts s (IsClosed s)
+  closed_lasts : Lasts s (Due s) (IsClosed s)
   closed_lasts = record {
+    first = tt;
+    onward = due_onward s;
     loaded = λ past loading has. absurd (cc (sym (not_yet (noted past) loading) ∙ has));
     called = λ call answer past closed. closed;
     stepped = λ brings past due ready closed. closed_step s brings past due ready;
@@ -28,6 +30,6 @@ module _ (s : AllSettings) where
 
   pub closed_at_end : (ends : Ends) (ticks : Option ℕ) (turns : ℕ) (es : List TraceEntry) (end : Lived) → Way (life s ends ticks turns) es (Return end) → has_closed s end.history ≡ true → open_chunks end.history ≡ []
   closed_at_end ends ticks turns es end way has =
-      let q = so_at_end s (IsClosed s) closed_lasts ends ticks turns es end way in
+      let q = so_at_end s (Due s) (IsClosed s) closed_lasts ends ticks turns es end way in
       subst (λ (h : History). open_chunks h ≡ []) (sym q.0)
       (none_open (noted (since [] es)) (chunks_of (noted (since [] es))) (q.1 (subst (λ (h : History). has_closed s h ≡ true) q.0 has)))

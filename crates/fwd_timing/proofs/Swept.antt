@@ -22,7 +22,7 @@ use Rattle.fwd_ties.proofs.Going.{Walks, Grown, walks_map}
 use Rattle.fwd_ties.proofs.Standing.{chunk_still, shut_since, chunk_since}
 use Rattle.fwd_ties.proofs.Deeds.{IsKept}
 use Rattle.fwd_ties.proofs.Outer.{IsOuter, told_happens}
-use Rattle.fwd_ties.proofs.Living.{Lasts, so_at_end}
+use Rattle.fwd_ties.proofs.Living.{due_onward, Lasts, so_at_end}
 use Rattle.fwd_ties.proofs.Shutting.{IsClosed, closed_step}
 use Rattle.fwd_timing.specs.Overdue.{IsOverdue}
 
@@ -82,8 +82,10 @@ module _ (s : AllSettings) where
   none_yet (Found number stream name bytes ∷ h) loading = none_yet h loading.1
   none_yet (fact ∷ h) loading = absurd loading
 
-  swept_lasts : Lasts s IsSwept
+  swept_lasts : Lasts s (Due s) IsSwept
   swept_lasts = record {
+    first = tt;
+    onward = due_onward s;
     loaded = λ past loading c has. let there = subst (λ (l : List ChunkOf). Contains l c) (none_yet (noted past) loading) has in absurd (omega (arith, there.1));
     called = λ call answer past so. so;
     stepped = λ x past due ready so.
@@ -162,5 +164,5 @@ module _ (s : AllSettings) where
 
   pub closed_in_time : (ends : Ends) (ticks : Option ℕ) (turns : ℕ) (es : List TraceEntry) (end : Lived) (c : ChunkOf) → Way (life s ends ticks turns) es (Return end) → IsOverdue s end.history c → is_shut end.history c.number ≡ true
   closed_in_time ends ticks turns es end c way over =
-      let q = so_at_end s IsSwept swept_lasts ends ticks turns es end way in
+      let q = so_at_end s (Due s) IsSwept swept_lasts ends ticks turns es end way in
       subst (λ (h : History). is_shut h c.number ≡ true) (sym q.0) (q.1 c (subst (λ (h : History). Contains (swept h) c) q.0 (overdue_swept end.history c over)))
