@@ -1,11 +1,11 @@
 -- Calls on a loop, acts that go on with something else, and messages.
-use Rattle.std.proofs.Common.{◌≡◌, ℕ, ◌≤◌, Bool, true, false, List, [], ◌∷◌, Option, Some, Result, Ok, Err, refl, sym, ◌∙◌, subst, arith}
+use Rattle.std.proofs.Common.{◌≡◌, ℕ, Bool, true, false, List, [], ◌∷◌, Option, Some, Result, Ok, Err, refl}
 use Rattle.std.specs.List.{All}
 use Rattle.std.specs.Result.{IsErr}
 use Rattle.std.proofs.lemmas.List.Elements.{All-head, All-tail}
 use Rattle.fwd_program.specs.Program.{entry}
 use Rattle.fwd_program.specs.Told.{Grew}
-use Rattle.fwd_outside.specs.Loop.{LoopTold, LoopCounts, Reply, DropConn}
+use Rattle.fwd_outside.specs.Loop.{LoopTold, Reply, DropConn}
 use Rattle.fwd_event.specs.declared.event.Event.{Event}
 use Rattle.fwd_event.specs.Event.{EventFits}
 use Rattle.fwd_shallow.specs.Shallow.{are_shallow}
@@ -21,7 +21,6 @@ use Rattle.fwd_written.proofs.Acting.{goes_on, began_after}
 use Rattle.fwd_written.proofs.Meeting.{acted_after, acted_noting, asked_loop, unasked_loop}
 use Rattle.fwd_hearing.specs.Hears.{Hears}
 use Rattle.fwd_parts.specs.Shown.{Shows}
-use Rattle.fwd_parts.specs.Heard.{IsUnheard}
 use Rattle.fwd_parts.specs.declared.parts.Parts.{Parts}
 use Rattle.fwd_coming.specs.Answered.{with_loop, WentOn}
 use Rattle.fwd_coming.proofs.Noted.{shown_by_hearing}
@@ -39,24 +38,6 @@ pub went_end : {E : Type 0} (s : AllSettings) {a b : World} (after : Parts) (p :
 went_end s after p next (Ok true) is began = absurd (cc is)
 went_end s after p next (Ok false) is began = absurd (cc is)
 went_end s after p next (Err e) is began = began
-
--- ---- what is counted of a loop
-
-pub as_many : (n : ℕ) → n ≤ n
-as_many n = omega arith
-
-pub unheard_on : {a b c : LoopCounts} → IsUnheard a b → IsUnheard b c → IsUnheard a c
-unheard_on first second = record {
-  happenings = second.happenings ∙ first.happenings;
-  greatest = let x = first.greatest in let y = second.greatest in omega arith;
-  endless = second.endless ∙ first.endless;
-}
-
-pub unheard_first : (a : LoopCounts) → IsUnheard a a
-unheard_first a = record { happenings = refl; greatest = as_many a.greatest; endless = refl }
-
-pub unheard_same : (a b : LoopCounts) → b ≡ a → IsUnheard a b
-unheard_same a b same = subst (λ (x : LoopCounts). IsUnheard a x) (sym same) (unheard_first a)
 
 -- ---- events that may be written again are shallow
 

@@ -1,4 +1,3 @@
-pub mod Heard
 pub mod Standing
 pub mod Turning
 pub mod Reading

@@ -1,9 +1,9 @@
 -- Parts behind the files so far show what was found.
-use Rattle.std.proofs.Common.{nat_cmp, ◌≡◌, ℕ, ◌+◌, ◌≤◌, ◌<◌, false, cond, nat_eq, inl, inr, List, [], ◌∷◌, length, drop, map as list_map, Option, Some, None, refl, sym, ◌∙◌, ap, subst, arith}
+use Rattle.std.proofs.Common.{nat_cmp, ◌≡◌, ℕ, ◌+◌, ◌≤◌, cond, nat_eq, inl, inr, List, [], ◌∷◌, length, drop, map as list_map, Option, Some, None, refl, sym, ◌∙◌, ap, subst, arith}
 use Rattle.std.specs.Prelude.{◌==◌, if◌then◌else◌, unwrap_or, max, fold}
 use Rattle.std.specs.List.{AllZip}
 use Rattle.std.specs.FinMap as map
-use Rattle.std.proofs.lemmas.Bool.{cases_Bool, ne_eqb}
+use Rattle.std.proofs.lemmas.Bool.{cases_Bool}
 use Rattle.fwd_found.specs.declared.chunk.Chunk.{Chunk}
 use Rattle.fwd_found.specs.declared.chunk.Brief.{Brief}
 use Rattle.fwd_found.specs.declared.chunk.Found.{Found as FoundFile}
@@ -11,8 +11,6 @@ use Rattle.fwd_found.specs.declared.chunk.Seen.{Seen}
 use Rattle.fwd_found.specs.declared.chunk.Seen.TheVariants.{Whole, Empty, Refused}
 use Rattle.fwd_found.specs.Seen.{IsSeen}
 use Rattle.fwd_kept.specs.declared.kept.Kept.{Kept}
-use Rattle.fwd_kept.specs.declared.kept.Kept.TheVariants.{Adopted, InMemory}
-use Rattle.fwd_kept.specs.Kept.{size_of}
 use Rattle.fwd_kept.specs.Name.{found_name}
 use Rattle.fwd_store.specs.Stored.{Stored}
 use Rattle.fwd_store.specs.Store.{adopted as adopted_in}
@@ -21,11 +19,10 @@ use Rattle.fwd_backlog.specs.Loading.{IsFoundOf}
 use Rattle.fwd_backlog.specs.Serial.{serial_number, next_number}
 use Rattle.fwd_settings.specs.declared.chosen.AllSettings.{AllSettings}
 use Rattle.fwd_written.specs.Fact.{History, Found}
-use Rattle.fwd_written.specs.Found.{found_in, content_found}
+use Rattle.fwd_written.specs.Found.{found_in}
 use Rattle.fwd_written.specs.Chunks.{next}
 use Rattle.fwd_written.specs.Held.{kept_of, adopted}
 use Rattle.fwd_state.specs.Stands.{Shows as StateShows}
-use Rattle.fwd_state.proofs.Standing.{open_is, open_found}
 use Rattle.fwd_hearing.specs.Hears.{Hears}
 use Rattle.fwd_hearing.proofs.Noting as hearing
 use Rattle.fwd_following.specs.Follows.{Follows}
@@ -35,49 +32,10 @@ use Rattle.fwd_holding.proofs.Numbers.{get_inserted, same_number}
 use Rattle.fwd_parts.specs.Sound.{IsSound}
 use Rattle.fwd_parts.specs.Shown.{Shows}
 use Rattle.fwd_parts.specs.declared.parts.Parts.{Parts}
-use Rattle.fwd_parts.proofs.Sounding.{sound_at_first}
+use Rattle.fwd_parts.proofs.Sounding.{sound_found, sound_at_first}
 use Rattle.fwd_loading.specs.Taken.{found_after, NotesFile, taken, IsReady, AreNew}
 use Rattle.fwd_loading.proofs.Seeing.{IsWholeIn, whole_found, empty_found, refused_found}
 use Rattle.fwd_loading.proofs.Renaming.{IsPlain, plain_first, plain_found, stands_plain}
-
--- ---- what is so of every history
-
-above_differs : (n q past : ℕ) → n < past → past ≤ q → (n == q) ≡ false
-above_differs n q past below above = ne_eqb n q (λ e. absurd (omega (arith, below, above, e)))
-
-found_size : (name : List ℕ) (o : Option Chunk) (bytes : List ℕ) (kept : Kept) → found_in bytes ≡ o → adopted name o ≡ Some kept → size_of kept ≡ length (content_found bytes)
-found_size name None bytes kept found is = absurd (cc is)
-found_size name (Some chunk) bytes kept found is =
-    let e : Adopted (record { name = name; meta = chunk.meta; size = length chunk.content; selector = 0; mark = chunk.mark; outputs = chunk.outputs }) ≡ kept = cc is in
-    rw found (ap size_of (sym e))
-
-never_in_memory : (name : List ℕ) (o : Option Chunk) (content : List ℕ) → adopted name o ≡ Some (InMemory content) → ⊥
-never_in_memory name None content is = absurd (cc is)
-never_in_memory name (Some chunk) content is = absurd (cc is)
-
--- the next number may be greater by the names of files
-sound_found : (s : AllSettings) (h : History) (n : ℕ) (stream name bytes : List ℕ) → IsSound s h None → IsSound s (Found n stream name bytes ∷ h) None
-sound_found s h n stream name bytes sound = record {
-  untouched = λ q above. let apart = above_differs n q (n + 1) (omega arith) (omega (arith, above)) in let old = sound.untouched q (omega (arith, above)) in (rw apart old.0, rw apart old.1);
-  sized = λ q kept is. elim (cases_Bool (n == q)) [
-    | inl same ↦ rw same (found_size _ (found_in bytes) bytes kept refl (rw same at is))
-    | inr differs ↦ rw differs (sound.sized q kept (rw differs at is))
-  ];
-  memory = λ q content is. elim (cases_Bool (n == q)) [
-    | inl same ↦ absurd (never_in_memory _ (found_in bytes) content (rw same at is))
-    | inr differs ↦ rw differs (sound.memory q content (rw differs at is))
-  ];
-  grounded = λ q output still. elim (cases_Bool (n == q)) [
-    | inl same ↦ absurd (cc (rw same at still))
-    | inr differs ↦ sound.grounded q output (rw differs at still)
-  ];
-  room = λ q is other.
-      let closed = open_is (Found n stream name bytes ∷ h) q is in
-      elim (cases_Bool (n == q)) [
-        | inl same ↦ absurd (cc (rw same at closed))
-        | inr differs ↦ rw differs (sound.room q (open_found n stream name bytes h q is) other)
-      ];
-}
 
 -- ---- what is held
 
@@ -143,7 +101,7 @@ loading_next s old new n g h found more read takes ready of loading = record {
   low = let low = loading.low in omega (arith, low);
   hearing = rw takes.hearing (hearing.stays s old.hearing h (Found (n + 1) read.file.stream read.file.name read.bytes) refl loading.hearing);
   following = rw takes.following (following.stays s old.following h (Found (n + 1) read.file.stream read.file.name read.bytes) refl loading.following);
-  sound = sound_found s h (n + 1) read.file.stream read.file.name read.bytes loading.sound;
+  sound = sound_found s h None (n + 1) read.file.stream read.file.name read.bytes loading.sound;
   chunks = λ k.
       ap (λ (store : Stored). map.get store.chunks k) takes.store
       ∙ kept_found s old.store h (n + 1) found read.bytes found.seen of.seen ready.root (ready.above (n + 1) (omega arith)) loading.chunks k

@@ -1,187 +1,36 @@
 -- Over a life, batches are accepted or refused in the order in which they were completed.
-use Rattle.std.proofs.Common.{ℕ, zero, suc, ◌+◌, Bool, true, false, cond, List, [], ◌∷◌, length, Option, Some, None, refl, subst}
-use Rattle.std.specs.List.{range_with_len}
-use Rattle.fwd_base.specs.declared.ids.InputId.{InputId}
-use Rattle.fwd_program.specs.Program.{Return, bind, Way}
+use Rattle.std.proofs.Common.{ℕ, Bool, cond, List, [], ◌∷◌, Option, refl, subst}
+use Rattle.fwd_program.specs.Program.{Return, Way}
 use Rattle.fwd_outside.specs.declared.ends.Ends.{Ends}
-use Rattle.fwd_outside.specs.declared.happening.Happening.{Happening}
 use Rattle.fwd_outside.specs.declared.happening.Happening.TheVariants as happening
-use Rattle.fwd_in_tail.specs.Followed.{Polled as Poll, polls}
-use Rattle.fwd_backlog.specs.declared.file_read.FileRead.{FileRead}
-use Rattle.fwd_backlog.specs.Loading.{loads}
 use Rattle.fwd_settings.specs.declared.chosen.AllSettings.{AllSettings}
-use Rattle.fwd_written.specs.Fact.{Fact, History, Batch, Standard, Brought, Polled, Found, Faulted}
-use Rattle.fwd_written.specs.Trace.{Act, TraceEntry}
-use Rattle.fwd_written.specs.Parts.{on_disk, on_files}
-use Rattle.fwd_written.specs.Setup.{paths_at, from_head_at, reads_standard_at}
-use Rattle.fwd_written.specs.Clock.{stopped, is_closing}
-use Rattle.fwd_written.specs.Tails.{file_at}
+use Rattle.fwd_written.specs.Fact.{Fact, Batch, Standard, Brought, Polled, Found, Faulted}
+use Rattle.fwd_written.specs.Trace.{TraceEntry}
 use Rattle.fwd_written.specs.Batches.{end_batch, poll_batch}
-use Rattle.fwd_written.specs.Limits.{is_paused}
-use Rattle.fwd_written.specs.Closing.{closes_all}
-use Rattle.fwd_written.specs.Accepting.{takes}
-use Rattle.fwd_written.specs.Flying.{walk, has_room, comes_back, has_broken}
-use Rattle.fwd_written.specs.Coming.{polled, polls_file, polls_files, follows, follows_each, follows_all}
-use Rattle.fwd_written.specs.Steps.{walks, ticks, stops, finishes, happens, step}
-use Rattle.fwd_written.specs.Loading.{finds, loaded, loads_from, loads_in}
-use Rattle.fwd_written.specs.Run.{Lived, Over, lived, is_over, goes_on, steps_on, is_last_reading, unless_last, brought, run, started, begun, life}
-use Rattle.fwd_promise.proofs.Giving.{Gives, gives_so, gives_then, gives_behind, gives_if, given}
-use Rattle.fwd_promise.proofs.Adding.{Later}
-use Rattle.fwd_promise.proofs.Calm.{calm_closes_all, calm_walk, calm_has_room, calm_comes_back, calm_has_broken}
+use Rattle.fwd_written.specs.Run.{Lived, life}
+use Rattle.fwd_promise.proofs.Throughout.{Lasts, at_end}
 use Rattle.fwd_origins.proofs.Ordering.{Always, Owing, always_still, always_later, owing_arrived}
 use Rattle.fwd_origins.proofs.Accepting.{always_takes, always_pieces}
 
 module _ (s : AllSettings) where
-  abbrev Each : History → Type 0
-  Each h = Always s h
-
-  each_calm : (h : History) (p : Act History) → Each h → Gives (Later h) p → Gives Each p
-  each_calm h p each calm = gives_so (Later h) Each p (λ now later. always_later s h now each later) calm
-
-  -- ---- polls
-
-  each_polled : (input index : ℕ) (h : History) (poll : Option Poll) → Each h → Gives Each (polled s input index h poll)
-  each_polled input index h None each = λ _. always_still s Faulted h (refl, refl) each
-  each_polled input index h (Some poll) each =
-      let fact : Fact = Polled input index poll.long poll.bytes in
-      λ _. always_takes s (poll_batch s h input index poll) (fact ∷ h) (owing_arrived s fact h refl each)
-
-  each_polls_file : (input index : ℕ) (path : List ℕ) (h : History) → Each h → Gives Each (polls_file s input index path h)
-  unfolding polls_file
-  each_polls_file input index path h each = gives_behind Each (on_files (polls path (from_head_at s input) (file_at s h input index).place)) (polled s input index h) (λ poll. each_polled input index h poll each)
-
-  each_polls_files : (input index : ℕ) (paths : List (List ℕ)) (h : History) → Each h → Gives Each (polls_files s input index paths h)
-  each_polls_files input index [] h each = each
-  each_polls_files input index (path ∷ paths) h each =
-      gives_then Each Each (polls_file s input index path h) (polls_files s input (index + 1) paths) (each_polls_file input index path h each) (each_polls_files input (index + 1) paths)
-
-  each_follows : (input : ℕ) (h : History) → Each h → Gives Each (follows s input h)
-  unfolding follows
-  each_follows input h each =
-      gives_if Each (is_paused s h input) (Return h) (polls_files s input 0 (paths_at s input) h) (λ _. each) (λ _. each_polls_files input 0 (paths_at s input) h each)
-
-  each_follows_each : (inputs : List ℕ) (h : History) → Each h → Gives Each (follows_each s inputs h)
-  each_follows_each [] h each = each
-  each_follows_each (input ∷ inputs) h each = gives_then Each Each (follows s input h) (follows_each s inputs) (each_follows input h each) (each_follows_each inputs)
-
-  -- ---- steps
-
-  each_walk : (h : History) → Each h → Gives Each (walk s h)
-  each_walk h each = each_calm h (walk s h) each (calm_walk s h)
-
-  each_walks : (closing : Bool) (h : History) → Each h → Gives Each (walks s closing h)
-  unfolding walks
-  each_walks true h each = gives_then Each Each (closes_all s h) (walk s) (each_calm h (closes_all s h) each (calm_closes_all s h)) each_walk
-  each_walks false h each = each_walk h each
-
-  each_ticks : (closing : Bool) (h : History) → Each h → Gives Each (ticks s closing h)
-  unfolding ticks follows_all
-  each_ticks closing h each = gives_then Each Each (follows_all s h) (walks s closing) (each_follows_each (range_with_len 0 (length s.inputs)) h each) (each_walks closing)
-
-  each_stops : (before : Option ℕ) (h : History) → Each h → Gives Each (stops s before h)
-  unfolding stops
-  each_stops (Some at) h each = each
-  each_stops None h each = each_walks true h each
-
-  each_fact : (x : Happening) (h : History) → Each h → Each (Brought x ∷ h)
-  each_fact x h each = (owing_arrived s (Brought x) h refl each).1
-
-  -- a standard input ends
-  each_finishes : (h : History) (input : InputId) → Each h → Gives Each (finishes s h input.0 (Brought (happening.InputEnd input) ∷ h))
-  unfolding finishes
-  each_finishes h input each =
-      let fact : Fact = Brought (happening.InputEnd input) in
-      let last : Batch = end_batch s h input.0 (Standard input.0) in
-      let reads : Bool = reads_standard_at s input.0 in
-      let owing = owing_arrived s fact h refl each in
-      gives_if Each reads (bind (takes s last (fact ∷ h)) (stops s (stopped s h))) (Return (fact ∷ h))
-      (λ yes.
-      gives_then Each Each (takes s last (fact ∷ h)) (stops s (stopped s h))
-      (always_takes s last (fact ∷ h) (subst (λ (b : Bool). Owing s (cond b (last ∷ []) []) (fact ∷ h)) yes owing))
-      (each_stops (stopped s h)))
-      (λ no. owing.1)
-
-  each_happens : (h : History) (x : Happening) → Each h → Gives Each (happens s h x (Brought x ∷ h))
-  each_happens h (happening.Tick now) each = each_ticks (is_closing s h now) (Brought (happening.Tick now) ∷ h) (each_fact (happening.Tick now) h each)
-  each_happens h (happening.Joined input conn) each = each_fact (happening.Joined input conn) h each
-  each_happens h (happening.Piece input conn bytes) each =
-      let fact : Fact = Brought (happening.Piece input conn bytes) in
-      always_pieces s h input.0 conn.0 bytes (fact ∷ h) (owing_arrived s fact h refl each)
-  each_happens h (happening.Gone input conn) each = each_fact (happening.Gone input conn) h each
-  each_happens h (happening.Room link) each =
-      let at : History = Brought (happening.Room link) ∷ h in
-      each_calm at (has_room s link.0 at) (each_fact (happening.Room link) h each) (calm_has_room s link.0 at)
-  each_happens h (happening.Back link bytes) each =
-      let at : History = Brought (happening.Back link bytes) ∷ h in
-      each_calm at (comes_back s link.0 bytes at) (each_fact (happening.Back link bytes) h each) (calm_comes_back s link.0 bytes at)
-  each_happens h (happening.Broken link) each =
-      let at : History = Brought (happening.Broken link) ∷ h in
-      each_calm at (has_broken s link.0 at) (each_fact (happening.Broken link) h each) (calm_has_broken s link.0 at)
-  each_happens h (happening.InputEnd input) each = each_finishes h input each
-  each_happens h happening.Stop each = each_stops (stopped s h) (Brought happening.Stop ∷ h) (each_fact happening.Stop h each)
-  each_happens h happening.End each = each_fact happening.End h each
-  each_happens h happening.Failed each = each_fact happening.Failed h each
-
-  each_step : (x : Happening) (h : History) → Each h → Gives Each (step s x h)
-  unfolding step
-  each_step x h each = λ _. each_happens h x each
-
-  -- ---- a life
-
-  abbrev Ends_each : Lived → Type 0
-  Ends_each end = Each end.history
-
-  abbrev Goes : (History → Act Lived) → Type 0
-  Goes next = (h : History) → Each h → Gives Ends_each (next h)
-
-  each_steps : (next : History → Act Lived) (x : Happening) → Goes next → Goes (steps_on s next x)
-  each_steps next x more h each =
-      gives_then Each Ends_each (step s x h) (goes_on s next x) (each_step x h each)
-      (λ at then. gives_if Ends_each (is_over s x at) (Return (lived at Over)) (next at) (λ _. then) (λ _. more at then))
-
-  each_unless_last : (ticks : Option ℕ) (next : History → Act Lived) (x : Happening) → Goes next → Goes (unless_last s ticks next x)
-  each_unless_last ticks next x more h each =
-      gives_if Ends_each (is_last_reading s ticks x h) (steps_on s next happening.Stop h) (next h) (λ _. each_steps next happening.Stop more h each) (λ _. more h each)
-
-  each_brought : (ticks : Option ℕ) (next : History → Act Lived) (h : History) (x : Happening) → Goes next → Each h → Gives Ends_each (brought s ticks next h x)
-  each_brought ticks next h happening.Failed more each = each
-  each_brought ticks next h x more each = each_steps (unless_last s ticks next x) x (each_unless_last ticks next x more) h each
-
-  each_run : (ticks : Option ℕ) (turns : ℕ) → Goes (run s ticks turns)
-  unfolding run
-  each_run ticks zero h each = each
-  each_run ticks (suc turns) h each = λ x. each_brought ticks (run s ticks turns) h x (each_run ticks turns) each
-
-  each_started : (ticks : Option ℕ) (turns : ℕ) (h : History) (ready : Option (Unit {0})) → Each h → Gives Ends_each (started s ticks turns h ready)
-  each_started ticks turns h None each = each
-  each_started ticks turns h (Some ready) each = each_run ticks turns h each
-
-  -- what is found completes nothing
-  abbrev Loads_each : Option History → Type 0
-  Loads_each None = Unit {0}
-  Loads_each (Some h) = Each h
-
-  each_finds : (number : ℕ) (reads : List FileRead) (h : History) → Each h → Gives Loads_each (finds number reads h)
-  each_finds number [] h each = each
-  each_finds number (read ∷ reads) h each =
-      let fact : Fact = Found number read.file.stream read.file.name read.bytes in
-      λ _. each_finds (number + 1) reads (fact ∷ h) (always_still s fact h (refl, refl) each)
-
-  each_loaded : (reads : Option (List FileRead)) → Gives Loads_each (loaded reads)
-  each_loaded None = tt
-  each_loaded (Some reads) = each_finds 1 reads [] tt
-
-  each_loads : (root : Option (List ℕ)) → Gives Loads_each (loads_from root)
-  each_loads None = tt
-  each_loads (Some root) = gives_behind Loads_each (on_disk (loads root)) loaded each_loaded
-
-  each_begun : (ends : Ends) (ticks : Option ℕ) (turns : ℕ) (h : Option History) → Loads_each h → Gives Ends_each (begun s ends ticks turns h)
-  each_begun ends ticks turns None each = tt
-  each_begun ends ticks turns (Some h) each = λ ready. each_started ticks turns h ready each
-
-  each_life : (ends : Ends) (ticks : Option ℕ) (turns : ℕ) → Gives Ends_each (life s ends ticks turns)
-  unfolding life loads_in
-  each_life ends ticks turns = gives_then Loads_each Ends_each (loads_in s) (begun s ends ticks turns) (each_loads s.service.path) (each_begun ends ticks turns)
+  always_lasts : Lasts s (Always s)
+  always_lasts = record {
+    at_first = tt;
+    later = λ h now always later. always_later s h now always later;
+    found = λ number stream name bytes h always. always_still s (Found number stream name bytes) h (refl, refl) always;
+    faulted = λ h always. always_still s Faulted h (refl, refl) always;
+    brought = λ x h none always. (owing_arrived s (Brought x) h refl always).1;
+    polled = λ input index poll h always.
+        let fact : Fact = Polled input index poll.long poll.bytes in
+        always_takes s (poll_batch s h input index poll) (fact ∷ h) (owing_arrived s fact h refl always);
+    pieces = λ input conn bytes h always.
+        let fact : Fact = Brought (happening.Piece input conn bytes) in
+        always_pieces s h input.0 conn.0 bytes (fact ∷ h) (owing_arrived s fact h refl always);
+    ended = λ input h reads always.
+        let fact : Fact = Brought (happening.InputEnd input) in
+        let last : Batch = end_batch s h input.0 (Standard input.0) in
+        always_takes s last (fact ∷ h) (subst (λ (b : Bool). Owing s (cond b (last ∷ []) []) (fact ∷ h)) reads (owing_arrived s fact h refl always));
+  }
 
   pub always_at_end : (ends : Ends) (ticks : Option ℕ) (turns : ℕ) (es : List TraceEntry) (end : Lived) → Way (life s ends ticks turns) es (Return end) → Always s end.history
-  always_at_end ends ticks turns es end way = given Ends_each (life s ends ticks turns) es end (each_life ends ticks turns) way
+  always_at_end ends ticks turns es end way = at_end s (Always s) always_lasts ends ticks turns es end way

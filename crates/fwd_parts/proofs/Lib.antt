@@ -1,2 +1,3 @@
 pub mod Sounding
 pub mod Noting
+pub mod Heard

@@ -1,6 +1,6 @@
 -- What is so of every history stays so where one fact more is noted.
-use Rattle.std.proofs.Common.{◌≡◌, ◌≢◌, ℕ, ◌+◌, ◌≤◌, ◌<◌, Bool, true, false, cond, nat_eq, inl, inr, List, [], ◌∷◌, ◌++◌, length, Option, Some, None, refl, sym, ◌∙◌, ap, subst, arith}
-use Rattle.std.specs.Prelude.{◌==◌, ◌&&◌, if◌then◌else◌, max, unwrap_or}
+use Rattle.std.proofs.Common.{◌≡◌, ◌≢◌, ℕ, ◌+◌, ◌≤◌, ◌<◌, Bool, true, false, cond, inl, inr, List, [], ◌∷◌, ◌++◌, length, Option, Some, None, refl, sym, ◌∙◌, ap, subst, arith}
+use Rattle.std.specs.Prelude.{◌==◌}
 use Rattle.std.proofs.lemmas.Bool.{cases_Bool, eq-eqb, ne_eqb}
 use Rattle.std.proofs.lemmas.List.{length-append}
 use Rattle.fwd_base.specs.Limits.{full_chunk}
@@ -22,7 +22,7 @@ use Rattle.fwd_written.specs.Fact.{Fact, History, Batch, Route, Outcome, Begun, 
 use Rattle.fwd_written.specs.Setup.{home_at, names_for}
 use Rattle.fwd_written.specs.Found.{found_in, content_found}
 use Rattle.fwd_written.specs.Chunks.{next, is_shut, records, content, size, spelled}
-use Rattle.fwd_written.specs.Held.{kept_of, name_for, begun_with, grown_by, adopted}
+use Rattle.fwd_written.specs.Held.{kept_of, name_for, grown_by, adopted}
 use Rattle.fwd_written.specs.Routes.{route, same_route, progress_of, flight}
 use Rattle.fwd_parts.specs.Sound.{IsSound}
 
@@ -324,8 +324,9 @@ never_in_memory : (name : List ℕ) (o : Option Chunk) (content : List ℕ) → 
 never_in_memory name None content is = absurd (cc is)
 never_in_memory name (Some chunk) content is = absurd (cc is)
 
-pub sound_found : (s : AllSettings) (h : History) (full : Option ℕ) (n : ℕ) (stream name bytes : List ℕ) → next h ≤ n → IsSound s h full → IsSound s (Found n stream name bytes ∷ h) full
-sound_found s h full n stream name bytes new sound = record {
+-- whatever its number is
+pub sound_found : (s : AllSettings) (h : History) (full : Option ℕ) (n : ℕ) (stream name bytes : List ℕ) → IsSound s h full → IsSound s (Found n stream name bytes ∷ h) full
+sound_found s h full n stream name bytes sound = record {
   untouched = λ q above. let apart = above_differs n q (n + 1) (omega arith) (omega (arith, above)) in let old = sound.untouched q (omega (arith, above)) in (rw apart old.0, rw apart old.1);
   sized = λ q kept is. elim (cases_Bool (n == q)) [
     | inl same ↦ rw same (found_size _ (found_in bytes) bytes kept refl (rw same at is))

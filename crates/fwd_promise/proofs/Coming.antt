@@ -1,19 +1,15 @@
 -- What becomes of the batches that come.
-use Rattle.std.proofs.Common.{◌≡◌, inl, inr, ℕ, nat_lt, Bool, true, false, cond, List, [], ◌∷◌, ◌++◌, map, Option, Some, None, refl, subst}
-use Rattle.std.specs.Prelude.{◌==◌}
+use Rattle.std.proofs.Common.{inl, inr, ℕ, nat_lt, Bool, true, false, cond, List, [], ◌∷◌, ◌++◌, map, Option, Some, None, refl, subst}
 use Rattle.fwd_base.specs.Limits.{past_numbers}
 use Rattle.fwd_program.specs.Program.{Return, bind}
 use Rattle.fwd_wire.specs.Message.{Said}
 use Rattle.fwd_store.specs.Store.{begins_as, appends_to}
 use Rattle.fwd_settings.specs.declared.chosen.AllSettings.{AllSettings}
-use Rattle.fwd_settings.specs.declared.chosen.InputSet.{InputSet}
-use Rattle.fwd_settings.specs.declared.chosen.InputKind.{InputKind}
-use Rattle.fwd_settings.specs.declared.chosen.InputKind.TheVariants as input_kind
 use Rattle.fwd_written.specs.Fact.{History, Stream, Connection, Wire, Standard, Batch, Nowhere, First, Behind, Reason, TooLarge, NoNumber, NotStored, HungUp, Misread, Offers, Accepted, Refused, Faulted}
 use Rattle.fwd_written.specs.Trace.{Act}
 use Rattle.fwd_written.specs.Parts.{on_disk}
-use Rattle.fwd_written.specs.Setup.{input_at, outputs_for, home_at, names_for}
-use Rattle.fwd_written.specs.Streams.{is_joined, stream_by, stream_at, stream_of, said}
+use Rattle.fwd_written.specs.Setup.{outputs_for, home_at, names_for}
+use Rattle.fwd_written.specs.Streams.{stream_of, said}
 use Rattle.fwd_written.specs.Batches.{piece_batch}
 use Rattle.fwd_written.specs.Messages.{ending_messages, breaks_off, message_batch, reply_of}
 use Rattle.fwd_written.specs.Chunks.{ChunkOf, next, open_chunk, spelled, is_storable}
@@ -22,6 +18,7 @@ use Rattle.fwd_written.specs.Noting.{noting, is_empty}
 use Rattle.fwd_written.specs.Closing.{shuts, fills}
 use Rattle.fwd_written.specs.Accepting.{Accepting, taken, refuses, appended, placed, appends, begins_chunk, stores, accepts, takes}
 use Rattle.fwd_written.specs.Coming.{hangs_up, replied, replies, answers, reads, hears, pieces}
+use Rattle.fwd_ties.proofs.Streams.{IsOwn, own_stream}
 use Rattle.fwd_promise.specs.Promise.{completed_over, WasDropped, Became, IsNothing, IsAccepted, IsRefused, BecameInOrder}
 use Rattle.fwd_promise.proofs.Giving.{Gives, gives_so, gives_then, gives_behind, gives_if}
 use Rattle.fwd_promise.proofs.Adding.{onto, Adds, adds_both, AreInner, inner_both, Later}
@@ -151,27 +148,6 @@ module _ (s : AllSettings) where
 
   -- ---- pieces
 
-  -- messages come over their own connection
-  abbrev IsOwn : ℕ → Option Stream → Type 0
-  IsOwn conn (Some (Wire other)) = other ≡ conn
-  IsOwn conn at = Unit {0}
-
-  own_by : (input conn : ℕ) (joined : Bool) (kind : InputKind) → IsOwn conn (stream_by input conn joined kind)
-  own_by input conn true (input_kind.Tcp host port) = tt
-  own_by input conn false (input_kind.Tcp host port) = tt
-  own_by input conn true (input_kind.Forward host port) = refl
-  own_by input conn false (input_kind.Forward host port) = tt
-  own_by input conn joined (input_kind.Tail paths from_head) = tt
-  own_by input conn joined input_kind.Stdin = by (conn == 0)
-    where
-      by : (b : Bool) → IsOwn conn (cond b (Some (Standard input)) None)
-      by true = tt
-      by false = tt
-
-  own_at : (input conn : ℕ) (joined : Bool) (set : Option InputSet) → IsOwn conn (stream_at input conn joined set)
-  own_at input conn joined None = tt
-  own_at input conn joined (Some set) = own_by input conn joined set.kind
-
   came_hears : (before : History) (input conn : ℕ) (bytes : List ℕ) (at : Option Stream) (h : History) → IsOwn conn at
       → Gives (ComeInOrder (Some conn) (completed_over s before input bytes at) h) (hears s before input bytes at h)
   came_hears before input conn bytes None h own = ([], refl, (tt, tt))
@@ -187,4 +163,4 @@ module _ (s : AllSettings) where
       → Gives (ComeInOrder (Some conn) (completed_over s before input bytes (stream_of s before input conn)) h) (pieces s before input conn bytes h)
   unfolding pieces
   came_pieces before input conn bytes h =
-      came_hears before input conn bytes (stream_of s before input conn) h (own_at input conn (is_joined s before input conn) (input_at s input))
+      came_hears before input conn bytes (stream_of s before input conn) h (own_stream s before input conn)

@@ -1,7 +1,9 @@
 -- What an act gives, whatever is answered.
-use Rattle.std.proofs.Common.{◌≡◌, Bool, true, false, cond, List, [], ◌∷◌, refl, sym, subst}
-use Rattle.fwd_program.specs.Program.{Return, Ask, bind, Way}
-use Rattle.fwd_written.specs.Trace.{Act, Answer, TraceEntry}
+use Rattle.std.proofs.Common.{◌≡◌, Bool, true, false, cond, ◌∷◌, refl}
+use Rattle.fwd_program.specs.Program.{entry, Return, Ask, bind}
+use Rattle.fwd_written.specs.Trace.{Act, Answer}
+use Rattle.fwd_ties.specs.Past.{Past}
+use Rattle.fwd_ties.proofs.Going.{Walks}
 
 -- whatever is answered, Q holds of the result
 abbrev pub Gives : {R : Type 0} → (R → Type 0) → Act R → Type 0
@@ -25,8 +27,7 @@ pub gives_if : {R : Type 0} (Q : R → Type 0) (b : Bool) (p q : Act R) → (b �
 gives_if Q true p q first second = first refl
 gives_if Q false p q first second = second refl
 
--- it holds of what a way through the act comes to
-pub given : {R : Type 0} (Q : R → Type 0) (p : Act R) (es : List TraceEntry) (x : R) → Gives Q p → Way p es (Return x) → Q x
-given {R = R} Q p [] x gives way = subst (λ (q : Act R). Gives Q q) (sym way) gives
-given Q (Return y) (e ∷ es) x gives way = absurd way
-given Q (Ask call go) (e ∷ es) x gives way = given Q (go way.0) es x (gives way.0) way.2
+-- it holds of what each walk through the act comes to
+pub gives_walks : {R : Type 0} (P : Past → Type 0) (Q : R → Type 0) (W : R → Past → Type 0) (past : Past) (p : Act R) → Gives Q p → Walks P W past p → Walks P (λ (x : R) (now : Past). Q x × W x now) past p
+gives_walks P Q W past (Return x) gives walks = (walks.0, (gives, walks.1))
+gives_walks P Q W past (Ask call go) gives walks = (walks.0, λ answer. gives_walks P Q W (entry call answer ∷ past) (go answer) (gives answer) (walks.1 answer))

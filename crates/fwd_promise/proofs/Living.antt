@@ -1,182 +1,45 @@
 -- Over a life, each batch that is complete becomes something.
-use Rattle.std.proofs.Common.{ℕ, zero, suc, ◌+◌, Bool, true, false, cond, List, [], ◌∷◌, length, Option, Some, None, sym, subst}
-use Rattle.std.specs.List.{range_with_len}
-use Rattle.fwd_base.specs.declared.ids.InputId.{InputId}
-use Rattle.fwd_program.specs.Program.{Return, bind, Way}
+use Rattle.std.proofs.Common.{ℕ, Bool, cond, List, [], ◌∷◌, Option, None, sym, subst}
+use Rattle.fwd_program.specs.Program.{Return, Way}
 use Rattle.fwd_outside.specs.declared.ends.Ends.{Ends}
-use Rattle.fwd_outside.specs.declared.happening.Happening.{Happening}
 use Rattle.fwd_outside.specs.declared.happening.Happening.TheVariants as happening
-use Rattle.fwd_in_tail.specs.Followed.{Polled as Poll, polls}
-use Rattle.fwd_backlog.specs.declared.file_read.FileRead.{FileRead}
-use Rattle.fwd_backlog.specs.Loading.{loads}
 use Rattle.fwd_settings.specs.declared.chosen.AllSettings.{AllSettings}
 use Rattle.fwd_written.specs.Fact.{Fact, History, Batch, Standard, Brought, Polled, Found, Faulted}
 use Rattle.fwd_written.specs.Trace.{Act, TraceEntry}
-use Rattle.fwd_written.specs.Parts.{on_disk, on_files}
-use Rattle.fwd_written.specs.Setup.{paths_at, from_head_at, reads_standard_at}
-use Rattle.fwd_written.specs.Clock.{stopped, is_closing}
-use Rattle.fwd_written.specs.Tails.{file_at}
 use Rattle.fwd_written.specs.Batches.{end_batch, poll_batch}
-use Rattle.fwd_written.specs.Limits.{is_paused}
-use Rattle.fwd_written.specs.Closing.{closes_all}
 use Rattle.fwd_written.specs.Accepting.{takes}
-use Rattle.fwd_written.specs.Flying.{walk, has_room, comes_back, has_broken}
-use Rattle.fwd_written.specs.Coming.{pieces, polled, polls_file, polls_files, follows, follows_each, follows_all}
-use Rattle.fwd_written.specs.Steps.{walks, ticks, stops, finishes, happens, step}
-use Rattle.fwd_written.specs.Loading.{finds, loaded, loads_from, loads_in}
-use Rattle.fwd_written.specs.Run.{Lived, Over, lived, is_over, goes_on, steps_on, is_last_reading, unless_last, brought, run, started, begun, life}
+use Rattle.fwd_written.specs.Coming.{pieces}
+use Rattle.fwd_written.specs.Run.{Lived, life}
 use Rattle.fwd_promise.specs.Promise.{completed_by, conn_of, BecameInOrder, EachBecame}
-use Rattle.fwd_promise.proofs.Giving.{Gives, gives_so, gives_then, gives_behind, gives_if, given}
-use Rattle.fwd_promise.proofs.Adding.{Later}
-use Rattle.fwd_promise.proofs.Calm.{calm_closes_all, calm_walk, calm_has_room, calm_comes_back, calm_has_broken}
+use Rattle.fwd_promise.proofs.Giving.{Gives, gives_so}
 use Rattle.fwd_promise.proofs.Becoming.{ComeInOrder, each_one, each_later, each_settled}
 use Rattle.fwd_promise.proofs.Coming.{came_takes, came_pieces}
+use Rattle.fwd_promise.proofs.Throughout.{Lasts, at_end}
 
 module _ (s : AllSettings) where
-  abbrev Each : History → Type 0
-  Each h = EachBecame s [] h
+  each_comes : (fact : Fact) (h : History) (p : Act History) → EachBecame s [] h → Gives (ComeInOrder (conn_of fact) (completed_by s h fact) (fact ∷ h)) p → Gives (EachBecame s []) p
+  each_comes fact h p each came =
+      gives_so (ComeInOrder (conn_of fact) (completed_by s h fact) (fact ∷ h)) (EachBecame s []) p (λ now adds. each_settled s fact h now each adds) came
 
-  each_calm : (h : History) (p : Act History) → Each h → Gives (Later h) p → Gives Each p
-  each_calm h p each calm = gives_so (Later h) Each p (λ now later. each_later s h now each later) calm
-
-  each_comes : (fact : Fact) (h : History) (p : Act History) → Each h → Gives (ComeInOrder (conn_of fact) (completed_by s h fact) (fact ∷ h)) p → Gives Each p
-  each_comes fact h p each came = gives_so (ComeInOrder (conn_of fact) (completed_by s h fact) (fact ∷ h)) Each p (λ now adds. each_settled s fact h now each adds) came
-
-  -- ---- polls
-
-  each_polled : (input index : ℕ) (h : History) (poll : Option Poll) → Each h → Gives Each (polled s input index h poll)
-  each_polled input index h None each = λ _. each_one s Faulted h tt each
-  each_polled input index h (Some poll) each =
-      let fact : Fact = Polled input index poll.long poll.bytes in
-      λ _. each_comes fact h (takes s (poll_batch s h input index poll) (fact ∷ h)) each (came_takes s None (poll_batch s h input index poll) (fact ∷ h))
-
-  each_polls_file : (input index : ℕ) (path : List ℕ) (h : History) → Each h → Gives Each (polls_file s input index path h)
-  unfolding polls_file
-  each_polls_file input index path h each = gives_behind Each (on_files (polls path (from_head_at s input) (file_at s h input index).place)) (polled s input index h) (λ poll. each_polled input index h poll each)
-
-  each_polls_files : (input index : ℕ) (paths : List (List ℕ)) (h : History) → Each h → Gives Each (polls_files s input index paths h)
-  each_polls_files input index [] h each = each
-  each_polls_files input index (path ∷ paths) h each =
-      gives_then Each Each (polls_file s input index path h) (polls_files s input (index + 1) paths) (each_polls_file input index path h each) (each_polls_files input (index + 1) paths)
-
-  each_follows : (input : ℕ) (h : History) → Each h → Gives Each (follows s input h)
-  unfolding follows
-  each_follows input h each =
-      gives_if Each (is_paused s h input) (Return h) (polls_files s input 0 (paths_at s input) h) (λ _. each) (λ _. each_polls_files input 0 (paths_at s input) h each)
-
-  each_follows_each : (inputs : List ℕ) (h : History) → Each h → Gives Each (follows_each s inputs h)
-  each_follows_each [] h each = each
-  each_follows_each (input ∷ inputs) h each = gives_then Each Each (follows s input h) (follows_each s inputs) (each_follows input h each) (each_follows_each inputs)
-
-  -- ---- steps
-
-  each_walk : (h : History) → Each h → Gives Each (walk s h)
-  each_walk h each = each_calm h (walk s h) each (calm_walk s h)
-
-  each_walks : (closing : Bool) (h : History) → Each h → Gives Each (walks s closing h)
-  unfolding walks
-  each_walks true h each = gives_then Each Each (closes_all s h) (walk s) (each_calm h (closes_all s h) each (calm_closes_all s h)) each_walk
-  each_walks false h each = each_walk h each
-
-  each_ticks : (closing : Bool) (h : History) → Each h → Gives Each (ticks s closing h)
-  unfolding ticks follows_all
-  each_ticks closing h each = gives_then Each Each (follows_all s h) (walks s closing) (each_follows_each (range_with_len 0 (length s.inputs)) h each) (each_walks closing)
-
-  each_stops : (before : Option ℕ) (h : History) → Each h → Gives Each (stops s before h)
-  unfolding stops
-  each_stops (Some at) h each = each
-  each_stops None h each = each_walks true h each
-
-  -- a standard input ends
-  each_finishes : (h : History) (input : InputId) → Each h → Gives Each (finishes s h input.0 (Brought (happening.InputEnd input) ∷ h))
-  unfolding finishes
-  each_finishes h input each =
-      let fact : Fact = Brought (happening.InputEnd input) in
-      let last : Batch = end_batch s h input.0 (Standard input.0) in
-      let reads : Bool = reads_standard_at s input.0 in
-      gives_if Each reads (bind (takes s last (fact ∷ h)) (stops s (stopped s h))) (Return (fact ∷ h))
-      (λ yes.
-      gives_then Each Each (takes s last (fact ∷ h)) (stops s (stopped s h))
-      (each_comes fact h (takes s last (fact ∷ h)) each
-      (subst (λ (b : Bool). Gives (ComeInOrder None (cond b (last ∷ []) []) (fact ∷ h)) (takes s last (fact ∷ h))) (sym yes) (came_takes s None last (fact ∷ h))))
-      (each_stops (stopped s h)))
-      (λ no. (subst (λ (b : Bool). BecameInOrder None [] (cond b (last ∷ []) [])) (sym no) tt, each))
-
-  each_happens : (h : History) (x : Happening) → Each h → Gives Each (happens s h x (Brought x ∷ h))
-  each_happens h (happening.Tick now) each = each_ticks (is_closing s h now) (Brought (happening.Tick now) ∷ h) (tt, each)
-  each_happens h (happening.Joined input conn) each = (tt, each)
-  each_happens h (happening.Piece input conn bytes) each =
-      let fact : Fact = Brought (happening.Piece input conn bytes) in
-      each_comes fact h (pieces s h input.0 conn.0 bytes (fact ∷ h)) each (came_pieces s h input.0 conn.0 bytes (fact ∷ h))
-  each_happens h (happening.Gone input conn) each = (tt, each)
-  each_happens h (happening.Room link) each = let at : History = Brought (happening.Room link) ∷ h in each_calm at (has_room s link.0 at) (tt, each) (calm_has_room s link.0 at)
-  each_happens h (happening.Back link bytes) each = let at : History = Brought (happening.Back link bytes) ∷ h in each_calm at (comes_back s link.0 bytes at) (tt, each) (calm_comes_back s link.0 bytes at)
-  each_happens h (happening.Broken link) each = let at : History = Brought (happening.Broken link) ∷ h in each_calm at (has_broken s link.0 at) (tt, each) (calm_has_broken s link.0 at)
-  each_happens h (happening.InputEnd input) each = each_finishes h input each
-  each_happens h happening.Stop each = each_stops (stopped s h) (Brought happening.Stop ∷ h) (tt, each)
-  each_happens h happening.End each = (tt, each)
-  each_happens h happening.Failed each = (tt, each)
-
-  each_step : (x : Happening) (h : History) → Each h → Gives Each (step s x h)
-  unfolding step
-  each_step x h each = λ _. each_happens h x each
-
-  -- ---- a life
-
-  abbrev Ends_each : Lived → Type 0
-  Ends_each end = Each end.history
-
-  abbrev Goes : (History → Act Lived) → Type 0
-  Goes next = (h : History) → Each h → Gives Ends_each (next h)
-
-  each_steps : (next : History → Act Lived) (x : Happening) → Goes next → Goes (steps_on s next x)
-  each_steps next x more h each =
-      gives_then Each Ends_each (step s x h) (goes_on s next x) (each_step x h each)
-      (λ at then. gives_if Ends_each (is_over s x at) (Return (lived at Over)) (next at) (λ _. then) (λ _. more at then))
-
-  each_unless_last : (ticks : Option ℕ) (next : History → Act Lived) (x : Happening) → Goes next → Goes (unless_last s ticks next x)
-  each_unless_last ticks next x more h each =
-      gives_if Ends_each (is_last_reading s ticks x h) (steps_on s next happening.Stop h) (next h) (λ _. each_steps next happening.Stop more h each) (λ _. more h each)
-
-  each_brought : (ticks : Option ℕ) (next : History → Act Lived) (h : History) (x : Happening) → Goes next → Each h → Gives Ends_each (brought s ticks next h x)
-  each_brought ticks next h happening.Failed more each = each
-  each_brought ticks next h x more each = each_steps (unless_last s ticks next x) x (each_unless_last ticks next x more) h each
-
-  each_run : (ticks : Option ℕ) (turns : ℕ) → Goes (run s ticks turns)
-  unfolding run
-  each_run ticks zero h each = each
-  each_run ticks (suc turns) h each = λ x. each_brought ticks (run s ticks turns) h x (each_run ticks turns) each
-
-  each_started : (ticks : Option ℕ) (turns : ℕ) (h : History) (ready : Option (Unit {0})) → Each h → Gives Ends_each (started s ticks turns h ready)
-  each_started ticks turns h None each = each
-  each_started ticks turns h (Some ready) each = each_run ticks turns h each
-
-  -- what is found completes nothing
-  abbrev Loads_each : Option History → Type 0
-  Loads_each None = Unit {0}
-  Loads_each (Some h) = Each h
-
-  each_finds : (number : ℕ) (reads : List FileRead) (h : History) → Each h → Gives Loads_each (finds number reads h)
-  each_finds number [] h each = each
-  each_finds number (read ∷ reads) h each =
-      let fact : Fact = Found number read.file.stream read.file.name read.bytes in
-      λ _. each_finds (number + 1) reads (fact ∷ h) (each_one s fact h tt each)
-
-  each_loaded : (reads : Option (List FileRead)) → Gives Loads_each (loaded reads)
-  each_loaded None = tt
-  each_loaded (Some reads) = each_finds 1 reads [] tt
-
-  each_loads : (root : Option (List ℕ)) → Gives Loads_each (loads_from root)
-  each_loads None = tt
-  each_loads (Some root) = gives_behind Loads_each (on_disk (loads root)) loaded each_loaded
-
-  each_begun : (ends : Ends) (ticks : Option ℕ) (turns : ℕ) (h : Option History) → Loads_each h → Gives Ends_each (begun s ends ticks turns h)
-  each_begun ends ticks turns None each = tt
-  each_begun ends ticks turns (Some h) each = λ ready. each_started ticks turns h ready each
-
-  each_life : (ends : Ends) (ticks : Option ℕ) (turns : ℕ) → Gives Ends_each (life s ends ticks turns)
-  unfolding life loads_in
-  each_life ends ticks turns = gives_then Loads_each Ends_each (loads_in s) (begun s ends ticks turns) (each_loads s.service.path) (each_begun ends ticks turns)
+  each_lasts : Lasts s (EachBecame s [])
+  each_lasts = record {
+    at_first = tt;
+    later = λ h now each later. each_later s h now each later;
+    found = λ number stream name bytes h each. each_one s (Found number stream name bytes) h tt each;
+    faulted = λ h each. each_one s Faulted h tt each;
+    brought = λ x h none each. (subst (BecameInOrder (conn_of (Brought x)) []) (sym none) tt, each);
+    polled = λ input index poll h each.
+        let fact : Fact = Polled input index poll.long poll.bytes in
+        let b : Batch = poll_batch s h input index poll in each_comes fact h (takes s b (fact ∷ h)) each (came_takes s None b (fact ∷ h));
+    pieces = λ input conn bytes h each.
+        let fact : Fact = Brought (happening.Piece input conn bytes) in
+        each_comes fact h (pieces s h input.0 conn.0 bytes (fact ∷ h)) each (came_pieces s h input.0 conn.0 bytes (fact ∷ h));
+    ended = λ input h reads each.
+        let fact : Fact = Brought (happening.InputEnd input) in
+        let last : Batch = end_batch s h input.0 (Standard input.0) in
+        each_comes fact h (takes s last (fact ∷ h)) each
+        (subst (λ (b : Bool). Gives (ComeInOrder None (cond b (last ∷ []) []) (fact ∷ h)) (takes s last (fact ∷ h))) (sym reads) (came_takes s None last (fact ∷ h)));
+  }
 
   pub each_at_end : (ends : Ends) (ticks : Option ℕ) (turns : ℕ) (es : List TraceEntry) (end : Lived) → Way (life s ends ticks turns) es (Return end) → EachBecame s [] end.history
-  each_at_end ends ticks turns es end way = given Ends_each (life s ends ticks turns) es end (each_life ends ticks turns) way
+  each_at_end ends ticks turns es end way = at_end s (EachBecame s []) each_lasts ends ticks turns es end way

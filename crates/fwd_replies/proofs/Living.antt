@@ -1,30 +1,26 @@
 -- Over a life, each reply is due.
-use Rattle.std.proofs.Common.{◌≡◌, ℕ, zero, suc, ◌+◌, true, List, [], ◌∷◌, ◌++◌, length, Option, Some, None, inl, refl, sym, ◌∙◌, ap, subst, arith}
-use Rattle.fwd_program.specs.Program.{entry, Return, Ask, bind, Way}
+use Rattle.std.proofs.Common.{◌≡◌, ℕ, zero, suc, true, List, [], ◌∷◌, ◌++◌, Option, Some, None, inl, sym, ◌∙◌, ap, subst}
+use Rattle.fwd_program.specs.Program.{entry, Return, Way}
 use Rattle.fwd_outside.specs.Loop.{Reply, Start, Wait}
-use Rattle.fwd_outside.specs.Disk.{DiskProgram}
 use Rattle.fwd_outside.specs.declared.ends.Ends.{Ends}
 use Rattle.fwd_outside.specs.declared.happening.Happening.{Happening}
 use Rattle.fwd_outside.specs.declared.happening.Happening.TheVariants as happening
 use Rattle.fwd_base.specs.declared.ids.ConnId.{ConnId}
 use Rattle.fwd_base.specs.declared.ids.InputId.{InputId}
-use Rattle.fwd_backlog.specs.declared.file_read.FileRead.{FileRead}
-use Rattle.fwd_backlog.specs.Loading.{loads}
 use Rattle.fwd_settings.specs.declared.chosen.AllSettings.{AllSettings}
-use Rattle.fwd_written.specs.Fact.{History, Wire, Brought, Found}
-use Rattle.fwd_written.specs.Trace.{Call, Act, TraceEntry, OnLoop, OnDisk, Note}
-use Rattle.fwd_written.specs.Parts.{on_disk}
+use Rattle.fwd_written.specs.Fact.{History, Wire, Brought}
+use Rattle.fwd_written.specs.Trace.{Call, Act, TraceEntry, OnLoop}
 use Rattle.fwd_written.specs.Setup.{plus}
 use Rattle.fwd_written.specs.Clock.{clock}
 use Rattle.fwd_written.specs.Streams.{stream_of}
 use Rattle.fwd_written.specs.Limits.{paused}
 use Rattle.fwd_written.specs.Steps.{step}
-use Rattle.fwd_written.specs.Loading.{finds, loaded, loads_from, loads_in}
+use Rattle.fwd_written.specs.Loading.{loads_in}
 use Rattle.fwd_written.specs.Run.{Lived, Over, lived, is_over, goes_on, steps_on, is_last_reading, unless_last, brought, run, started, begun, life}
 use Rattle.fwd_ties.specs.Past.{Past, noted, since, just_waited}
-use Rattle.fwd_ties.specs.Due.{BroughtDue, IsLoading, Due}
+use Rattle.fwd_ties.specs.Due.{BroughtDue, Due}
 use Rattle.fwd_ties.proofs.Going.{Walks}
-use Rattle.fwd_ties.proofs.Living.{steps_step, last_due}
+use Rattle.fwd_ties.proofs.Living.{due_onward, Loaded, loads_root, steps_step, last_due}
 use Rattle.fwd_replies.specs.Replies.{IsDueReply}
 use Rattle.fwd_replies.proofs.Still.{is_still, AreStill, still_loads}
 use Rattle.fwd_replies.proofs.Making.{Makes, since_both, makes_bind, makes_if, makes_so, still_makes, with_walk, made_along, along_at}
@@ -133,32 +129,6 @@ module _ (s : AllSettings) where
 
   -- ---- loading
 
-  -- nothing else was noted than what was found, where the disk didn't fail
-  abbrev Loaded : Option History → Past → Type 0
-  Loaded None now = Unit {0}
-  Loaded (Some h) now = h ≡ noted now
-
-  loads_finds : (number : ℕ) (reads : List FileRead) (past : Past) → number ≡ length (noted past) + 1 → IsLoading (noted past) → Due s past
-      → Walks (Due s) Loaded past (finds number reads (noted past))
-  loads_finds number [] past at loading ready = (ready, refl)
-  loads_finds number (read ∷ reads) past at loading ready = (
-    ready,
-    λ answer.
-        loads_finds (number + 1) reads (entry (Note (Found number read.file.stream read.file.name read.bytes)) answer ∷ past)
-        (omega (arith, at)) (at, loading) ((at, loading), ready),
-  )
-
-  loads_read : (p : DiskProgram (Option (List FileRead))) (past : Past) → noted past ≡ [] → Due s past → Walks (Due s) Loaded past (bind (on_disk p) loaded)
-  loads_read (Return None) past none ready = (ready, tt)
-  loads_read (Return (Some reads)) past none ready =
-      subst (λ (h : History). Walks (Due s) Loaded past (finds 1 reads h)) none
-      (loads_finds 1 reads past (ap (λ (h : History). length h + 1) (sym none)) (subst IsLoading (sym none) tt) ready)
-  loads_read (Ask call go) past none ready = (ready, λ answer. loads_read (go answer) (entry (OnDisk call) answer ∷ past) none (tt, ready))
-
-  loads_root : (root : Option (List ℕ)) → Walks (Due s) Loaded [] (loads_from root)
-  loads_root None = (tt, refl)
-  loads_root (Some root) = loads_read (loads root) [] refl tt
-
   makes_loads : Makes IsDueCall Any [] (loads_in s)
   makes_loads =
       makes_so IsDueCall (λ (x : Option History) (now : List TraceEntry). (own : List TraceEntry) × (now ≡ [] ++ own) × AreStill own) Any [] (loads_in s) (λ x now is. tt)
@@ -166,7 +136,7 @@ module _ (s : AllSettings) where
 
   walks_loads : Walks (Due s) Loaded [] (loads_in s)
   unfolding loads_in
-  walks_loads = loads_root s.service.path
+  walks_loads = loads_root s (Due s) (due_onward s) tt s.service.path
 
   lives_begun : (ends : Ends) (ticks : Option ℕ) (turns : ℕ) (found : Option History) (es : List TraceEntry) → Due s (since [] es) → Loaded found (since [] es) → Lives es (begun s ends ticks turns found)
   lives_begun ends ticks turns None es due is = tt
@@ -175,7 +145,7 @@ module _ (s : AllSettings) where
     λ ready.
         let e : TraceEntry = entry (OnLoop (Start ends)) ready in
         let same = since_last es e in
-        lives_started ticks turns ready (es ++ e ∷ []) h (is ∙ ap noted (sym same), subst (Due s) (sym same) (tt, due)),
+        lives_started ticks turns ready (es ++ e ∷ []) h (is.0 ∙ ap noted (sym same), subst (Due s) (sym same) (tt, due)),
   )
 
   lives_life : (ends : Ends) (ticks : Option ℕ) (turns : ℕ) → Lives [] (life s ends ticks turns)

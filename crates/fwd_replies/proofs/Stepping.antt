@@ -1,6 +1,6 @@
 -- What a step replies.
-use Rattle.std.proofs.Common.{◌≡◌, ⊎_elim, ℕ, Bool, true, false, cond, List, [], ◌∷◌, ◌++◌, append-nil, Option, Some, None, refl, sym, ◌∙◌, ap, subst, arith}
-use Rattle.std.specs.Prelude.{Contains, ◌==◌}
+use Rattle.std.proofs.Common.{◌≡◌, ⊎_elim, ℕ, Bool, true, List, [], ◌∷◌, ◌++◌, append-nil, Option, Some, None, refl, sym, ◌∙◌, ap, subst, arith}
+use Rattle.std.specs.Prelude.{Contains}
 use Rattle.std.proofs.lemmas.List.Elements.{Contains-append_cases}
 use Rattle.fwd_base.specs.declared.ids.ConnId.{ConnId}
 use Rattle.fwd_base.specs.declared.ids.InputId.{InputId}
@@ -10,45 +10,21 @@ use Rattle.fwd_outside.specs.declared.happening.Happening.{Happening}
 use Rattle.fwd_outside.specs.declared.happening.Happening.TheVariants as happening
 use Rattle.fwd_wire.specs.Message.{Said}
 use Rattle.fwd_settings.specs.declared.chosen.AllSettings.{AllSettings}
-use Rattle.fwd_settings.specs.declared.chosen.InputKind.{InputKind}
-use Rattle.fwd_settings.specs.declared.chosen.InputKind.TheVariants as input_kind
-use Rattle.fwd_settings.specs.declared.chosen.InputSet.{InputSet}
 use Rattle.fwd_written.specs.Fact.{History, Stream, Connection, Wire, Standard, Brought}
 use Rattle.fwd_written.specs.Trace.{Call, Act, TraceEntry, OnLoop, Note}
-use Rattle.fwd_written.specs.Setup.{input_at}
-use Rattle.fwd_written.specs.Streams.{is_joined, stream_by, stream_at, stream_of, said}
+use Rattle.fwd_written.specs.Streams.{stream_of, said}
 use Rattle.fwd_written.specs.Batches.{piece_batch}
 use Rattle.fwd_written.specs.Messages.{ending_messages, breaks_off, reply_of}
 use Rattle.fwd_written.specs.Accepting.{takes}
 use Rattle.fwd_written.specs.Coming.{hears, pieces}
 use Rattle.fwd_written.specs.Steps.{happens, step}
 use Rattle.fwd_ties.proofs.Members.{deeper, either}
+use Rattle.fwd_ties.proofs.Streams.{IsOwn, own_stream}
 use Rattle.fwd_replies.specs.Replies.{replied_by, replies_in, EndsSo, GoesOn, BreaksOff, IsRefused, ReplyBroke, AnswersPiece, BringsMessages}
 use Rattle.fwd_replies.proofs.Still.{is_still, AreStill, IsStill, still_takes, still_happens}
 use Rattle.fwd_replies.proofs.Making.{Makes, Along, makes_so, still_makes, made_along, made_end}
 use Rattle.fwd_replies.proofs.Lists.{order_behind}
 use Rattle.fwd_replies.proofs.Reading.{Answered, Ended, makes_reads}
-
--- messages come over their own connection
-abbrev IsOwn : ℕ → Option Stream → Type 0
-IsOwn conn (Some (Wire other)) = other ≡ conn
-IsOwn conn at = Unit {0}
-
-own_by : (input conn : ℕ) (joined : Bool) (kind : InputKind) → IsOwn conn (stream_by input conn joined kind)
-own_by input conn true (input_kind.Tcp host port) = tt
-own_by input conn false (input_kind.Tcp host port) = tt
-own_by input conn true (input_kind.Forward host port) = refl
-own_by input conn false (input_kind.Forward host port) = tt
-own_by input conn joined (input_kind.Tail paths from_head) = tt
-own_by input conn joined input_kind.Stdin = by (conn == 0)
-  where
-    by : (b : Bool) → IsOwn conn (cond b (Some (Standard input)) None)
-    by true = tt
-    by false = tt
-
-own_at : (input conn : ℕ) (joined : Bool) (set : Option InputSet) → IsOwn conn (stream_at input conn joined set)
-own_at input conn joined None = tt
-own_at input conn joined (Some set) = own_by input conn joined set.kind
 
 abbrev pub Any : {R : Type 0} → R → List TraceEntry → Type 0
 Any x now = Unit {0}
@@ -100,7 +76,7 @@ module _ (s : AllSettings) (P : List TraceEntry → Call → Type 0) (holds : (b
       → Makes P Any start (happens s h brought at)
   unfolding pieces
   makes_happens (happening.Piece input conn bytes) start at due =
-      makes_hears input conn bytes start at (stream_of s h input.0 conn.0) refl (own_at input.0 conn.0 (is_joined s h input.0 conn.0) (input_at s input.0)) (due input conn bytes refl)
+      makes_hears input conn bytes start at (stream_of s h input.0 conn.0) refl (own_stream s h input.0 conn.0) (due input conn bytes refl)
   makes_happens brought start at due = quiet start (happens s h brought at) (still_happens s h brought at (λ input conn bytes is. absurd (cc is)))
 
 -- ---- a step with a piece of messages

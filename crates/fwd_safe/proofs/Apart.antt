@@ -26,6 +26,7 @@ use Rattle.fwd_written.specs.Limits.{losses_to, losses_for, lost_at}
 use Rattle.fwd_written.specs.Walk.{has_place, fits, may_start}
 use Rattle.fwd_ties.specs.Sound.{NumbersRise, Sound}
 use Rattle.fwd_ties.proofs.Members.{here, deeper, either, from_filter, from_find, from_map, from_flat_map}
+use Rattle.fwd_ties.proofs.Standing.{among_rows}
 use Rattle.fwd_ties.proofs.Resolving.{owed_as_unresolved}
 
 -- ---- lists
@@ -93,14 +94,6 @@ chunks_apart (c ∷ cs) rise = (rise.0, chunks_apart cs rise.1)
 rows_apart : (s : AllSettings) (h : History) → NumbersRise (chunks_of h) → Apart RowBelow (rows_of s h)
 rows_apart s h rise =
     apart_map NumberBelow RowBelow (row_of s h) (λ a b less. less) (filter (is_owed s h) (chunks_of h)) (apart_filter NumberBelow (is_owed s h) (chunks_of h) (chunks_apart (chunks_of h) rise))
-
-among_rows : (room : ℕ) (rows : List Row) (row : Row) → Contains (lost_among room rows) row → Contains rows row
-among_rows room [] row has = has
-among_rows room (x ∷ rows) row has = by (nat_le (size_of (x ∷ rows)) room) has (among_rows room rows row)
-  where
-    by : (b : Bool) → Contains (cond b [] (x ∷ lost_among room rows)) row → (Contains (lost_among room rows) row → Contains rows row) → Contains (x ∷ rows) row
-    by true none more = absurd (omega (arith, none.1))
-    by false some more = ⊎_elim (λ (same : x ≡ row). subst (λ (y : Row). Contains (x ∷ rows) y) same (here x rows)) (λ (later : Contains (lost_among room rows) row). deeper x rows row (more later)) (either x (lost_among room rows) row some)
 
 among_apart : (room : ℕ) (rows : List Row) → Apart RowBelow rows → Apart RowBelow (lost_among room rows)
 among_apart room [] apart = tt

@@ -1,59 +1,18 @@
 -- Each act can come to an end over devices whose calls fail, from whatever files.
-use Rattle.std.proofs.Common.{◌≡◌, ◌≢◌, inr, ℕ, zero, Bool, true, false, if◌then◌else◌, List, [], ◌∷◌, ◌++◌, None, refl, sym, ◌∙◌, ap, subst}
+use Rattle.std.proofs.Common.{◌≡◌, ◌≢◌, inr, ℕ, Bool, true, false, if◌then◌else◌, List, [], ◌∷◌, ◌++◌, refl, sym, ◌∙◌, ap, subst}
 use Rattle.std.specs.Str.{bytes_eq}
 use Rattle.std.proofs.lemmas.Slice.Eq.{bytes_eq-Decides}
 use Rattle.std.proofs.lemmas.Bool.{cond-true}
 use Rattle.fwd_program.specs.Program.{entry, Return, Ask, Way}
 use Rattle.fwd_program.specs.Moments.{Ends}
-use Rattle.fwd_outside.specs.Loop.{LoopCall, LoopAnswer, Start, Wait, Dial, Push, Close, Reply, DropConn, Word, Again}
-use Rattle.fwd_outside.specs.Disk.{DiskCall, DiskAnswer, Place, WriteAt, Sync, Remove, Read, ListNames, Preset, FailAt}
-use Rattle.fwd_outside.specs.Files.{FilesCall, FilesAnswer, Length, ReadAt, Changed}
-use Rattle.fwd_outside.specs.Files.{FailAt as FilesFailAt}
-use Rattle.fwd_outside.specs.declared.happening.Happening.TheVariants as happening
+use Rattle.fwd_outside.specs.Disk.{DiskCall, Place, WriteAt, Sync, Remove, Read, ListNames, Preset, FailAt}
 use Rattle.fwd_image.specs.File.{FileState, IsSound, whole, whole_or_gone}
 use Rattle.fwd_image.specs.Disk.{Files}
 use Rattle.fwd_image.proofs.Sound.{sound_maybe}
-use Rattle.fwd_written.specs.Trace.{KeeperCall, KeeperAnswer, Get, Put, Call, Answer, OnLoop, OnDisk, OnFiles, OnKeeper, Note, Act, TraceEntry}
+use Rattle.fwd_written.specs.Trace.{Call, OnLoop, OnDisk, OnFiles, OnKeeper, Note, Act, TraceEntry}
 use Rattle.fwd_ties.specs.Past.{since}
+use Rattle.fwd_ties.proofs.Answering.{disk_says, says}
 use Rattle.fwd_safe.specs.Moment.{Moment, moment, Changes, Passes}
-
-loop_says : (call : LoopCall) → LoopAnswer call
-loop_says (Start ends) = None
-loop_says (Wait until paused) = happening.End
-loop_says (Dial output tag) = None
-loop_says (Push link bytes) = Again
-loop_says (Close link) = tt
-loop_says (Reply conn bytes) = None
-loop_says (DropConn conn) = tt
-loop_says Word = zero
-
-disk_says : (call : DiskCall) → DiskAnswer call
-disk_says (Place name bytes) = None
-disk_says (WriteAt name at bytes) = None
-disk_says (Sync name) = None
-disk_says (Remove name) = None
-disk_says (Read name at len) = None
-disk_says (ListNames folder) = None
-disk_says (Preset name bytes) = tt
-disk_says (FailAt number) = tt
-
-files_say : (call : FilesCall) → FilesAnswer call
-files_say (Length path) = None
-files_say (ReadAt path at max) = None
-files_say (Changed path bytes) = tt
-files_say (FilesFailAt number) = tt
-
-keeper_says : (call : KeeperCall) → KeeperAnswer call
-keeper_says (Get db path) = None
-keeper_says (Put db path place) = None
-
--- what a call that fails is answered
-says : (call : Call) → Answer call
-says (OnLoop call) = loop_says call
-says (OnDisk call) = disk_says call
-says (OnFiles call) = files_say call
-says (OnKeeper call) = keeper_says call
-says (Note fact) = tt
 
 -- the file of this name is so
 put : List ℕ → FileState → Files → Files

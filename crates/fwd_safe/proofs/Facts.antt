@@ -1,5 +1,5 @@
 -- Facts that say nothing of the files, and offers, leave all in order.
-use Rattle.std.proofs.Common.{◌≡◌, ◌≢◌, ◌⊎◌, inl, inr, ℕ, suc, ◌<◌, ◌≤◌, ◌&&◌, not, Bool, true, false, cond, List, [], ◌∷◌, ◌++◌, append-nil, length, filter, Some, refl, sym, ◌∙◌, ap, subst, arith}
+use Rattle.std.proofs.Common.{◌≡◌, ◌≢◌, ◌⊎◌, inl, inr, ℕ, ◌<◌, ◌≤◌, ◌&&◌, not, Bool, true, false, cond, List, [], ◌∷◌, ◌++◌, append-nil, length, filter, Some, refl, sym, ◌∙◌, ap, subst, arith}
 use Rattle.std.specs.Prelude.{Contains, ◌==◌}
 use Rattle.std.proofs.lemmas.Bool.Decides.{eqb_tells}
 use Rattle.fwd_base.specs.Limits.{full_chunk}
@@ -17,6 +17,7 @@ use Rattle.fwd_written.specs.Held.{kept_of}
 use Rattle.fwd_written.specs.Routes.{route, same_route, resolves, is_resolved, is_owed}
 use Rattle.fwd_ties.specs.Sound.{Sound}
 use Rattle.fwd_ties.proofs.Members.{from_filter, in_filter, off_where_not, not_where_off}
+use Rattle.fwd_ties.proofs.Sounding.{nonzero}
 use Rattle.fwd_safe.specs.Recorded.{is_recorded, may_be_recorded}
 use Rattle.fwd_safe.specs.Whole.{HoldsWhole}
 use Rattle.fwd_safe.proofs.Ordered.{IsOpen, IsFiled, InOrder, HaveRoom}
@@ -96,13 +97,6 @@ pub offers_room : (h : History) (chunk : ℕ) (b : Batch) → HaveRoom h → Hav
 offers_room h chunk b room = room
 
 -- ---- what is owed behind more that is resolved was owed before
-
-nonzero : (n : ℕ) → not (suc n == 0) ≡ true
-nonzero n = by (eqb_tells (suc n) 0)
-  where
-    by : ((suc n == 0 ≡ true) × (suc n ≡ 0)) ⊎ ((suc n == 0 ≡ false) × (suc n ≢ 0)) → not (suc n == 0) ≡ true
-    by (inl is) = let zero_is = is.1 in absurd (omega (arith, zero_is))
-    by (inr is) = rw (is.0) refl
 
 abbrev IsSome_of : List ℕ → Type 0
 IsSome_of xs = not (length xs == 0) ≡ true

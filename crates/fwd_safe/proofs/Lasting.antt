@@ -1,7 +1,7 @@
 -- What was recorded stays so, fact by fact, as long as what comes is of routes that aren't resolved.
 use Rattle.std.proofs.Common.{◌≡◌, ◌⊎◌, inl, inr, ℕ, Bool, true, false, cond, List, [], ◌∷◌, Some, None, refl, sym, ◌∙◌, ap, subst, arith}
-use Rattle.std.specs.Prelude.{Contains, ◌==◌, ◌&&◌, ◌||◌}
-use Rattle.std.proofs.lemmas.Bool.{eq-eqb, eqb-true, and_parts, or_right}
+use Rattle.std.specs.Prelude.{Contains, ◌&&◌, ◌||◌}
+use Rattle.std.proofs.lemmas.Bool.{eq-eqb, or_right}
 use Rattle.fwd_flush.specs.Flight.{Progress}
 use Rattle.fwd_settings.specs.declared.chosen.AllSettings.{AllSettings}
 use Rattle.fwd_written.specs.Fact.{Fact, History, Route, Outcome, Begun, Flies, Retries, Delivered, Failed, Spent, Lost, Found, OnRoute, Records, Recorded}
@@ -10,6 +10,7 @@ use Rattle.fwd_written.specs.Found.{found_in, has_done}
 use Rattle.fwd_written.specs.Routes.{same_route, flight, progress_of, resolves, is_resolved}
 use Rattle.fwd_ties.specs.Resolved.{WasRecorded}
 use Rattle.fwd_ties.proofs.Members.{either}
+use Rattle.fwd_ties.proofs.Resolving.{same_routes, same_itself}
 use Rattle.fwd_safe.specs.Recorded.{found_done, is_recorded}
 
 -- the outcome was found recorded, or was recorded at some time
@@ -32,14 +33,6 @@ MayCome s (OnRoute r (Flies progress)) h = is_resolved s h r ≡ false
 MayCome s (Records r) h = was_recorded s h r ≡ false
 MayCome s (Recorded r) h = is_resolved s h r ≡ true
 MayCome s fact h = Unit {0}
-
-same_routes : (a b : Route) → same_route a b ≡ true → a ≡ b
-same_routes a b is =
-    let parts = and_parts (a.chunk == b.chunk) (a.output == b.output) is in
-    rw (eqb-true a.chunk b.chunk parts.0, eqb-true a.output b.output parts.1) refl
-
-same_itself : (r : Route) → same_route r r ≡ true
-same_itself r = rw (eq-eqb r.chunk r.chunk refl, eq-eqb r.output r.output refl) refl
 
 or_more : (a b c : Bool) → (b ≡ true → c ≡ true) → (a || b) ≡ true → (a || c) ≡ true
 or_more true b c more is = refl

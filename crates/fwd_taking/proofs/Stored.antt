@@ -40,6 +40,7 @@ use Rattle.fwd_state.specs.Stands.{Stands, is_open}
 use Rattle.fwd_state.specs.declared.state.State.{State}
 use Rattle.fwd_state.proofs.Standing.{open_is, open_given}
 use Rattle.fwd_state.proofs.Rising.{next_least}
+use Rattle.fwd_state.proofs.Staying.{others as state_stays}
 use Rattle.fwd_hearing.proofs.Noting as hearing
 use Rattle.fwd_following.proofs.Noting as following
 use Rattle.fwd_holding.specs.Holds.{Holds}
@@ -48,12 +49,12 @@ use Rattle.fwd_holding.proofs.Numbers.{same_number}
 use Rattle.fwd_holding.proofs.Dropping.{holds_shut}
 use Rattle.fwd_holding.proofs.Taking.{IsHanded, chunk_is, calls_appends, calls_begins, holds_first, kept_new, holds_behind, holds_used, holds_offered}
 use Rattle.fwd_parts.specs.Sound.{IsSound}
-use Rattle.fwd_parts.specs.Shown.{Shows, IsClosing}
+use Rattle.fwd_parts.specs.Shown.{Shown, Shows, IsClosing}
 use Rattle.fwd_parts.specs.Acts.{with_disk}
 use Rattle.fwd_parts.specs.declared.parts.Parts.{Parts}
 use Rattle.fwd_parts.proofs.Sounding.{sound_first, sound_behind, sound_on, sound_any}
 use Rattle.fwd_shelving.proofs.Shelving.{disk_did, disk_began}
-use Rattle.fwd_taking.specs.Taken.{IsSpelled, IsAhead, behind, HasTaken, goes_on, left, WasOpen, gives_up}
+use Rattle.fwd_taking.specs.Taken.{IsSpelled, IsAhead, place_of, behind, HasTaken, goes_on, left, WasOpen, gives_up}
 
 -- ---- acts
 
@@ -185,6 +186,17 @@ closing_failed s old new h b n ahead opened hears follows holds state =
     }
 
 -- ---- what the store came to
+
+-- what is shown where only the state took note of a batch that the store took
+pub shown_taken : (s : AllSettings) (parts : Parts) (state : State) (h : History) (b : Batch) (a : Answer) → IsAhead s parts h (behind b h a) → HasTaken s h b a
+    → (Stands s parts.state (Offers a.chunk.0 b ∷ h) None → Stands s state (behind b h a) None) → Shown s (record parts { state = state }) (behind b h a) None (Some a.chunk.0)
+shown_taken s parts state h b a ahead has notes = record {
+  state = notes (state_stays s parts.state h None (Offers a.chunk.0 b) refl ahead.state);
+  hearing = hearing.stays s parts.hearing (Offers a.chunk.0 b ∷ h) (Accepted b (place_of a)) refl (hearing.stays s parts.hearing h (Offers a.chunk.0 b) refl ahead.hearing);
+  following = following.stays s parts.following (Offers a.chunk.0 b ∷ h) (Accepted b (place_of a)) refl (following.stays s parts.following h (Offers a.chunk.0 b) refl ahead.following);
+  store = ahead.store;
+  sound = has.sound;
+}
 
 -- a batch that is handed to a store, which shows a history, and a number is left where one is wanted
 pub record IsGiven (s : AllSettings) (h : History) (b : Batch) (state : State) (old : Stored) (stream : List ℕ) (home : Home) (bytes : List ℕ) (outputs : List (List ℕ)) : Type 0 where

@@ -38,6 +38,12 @@ module _ (P : Past → Type 0) where
   walks_bind M Q past (Ask call go) next first second =
       (first.0, λ answer. walks_bind M Q (entry call answer ∷ past) (go answer) next (first.1 answer) (λ x now grown. second x now (longer (entry call answer) past now grown)))
 
+  -- what is so of each end, behind what grew from the past, is so of it in other words
+  pub walks_map : {R : Type 0} (Q W : R → Past → Type 0) (past : Past) (p : Act R) → ((x : R) (now : Past) → Grown past now → Q x now → W x now) → Walks P Q past p → Walks P W past p
+  walks_map Q W past (Return x) more walks = (walks.0, more x past (same_past past) walks.1)
+  walks_map Q W past (Ask call go) more walks =
+      (walks.0, λ answer. walks_map Q W (entry call answer ∷ past) (go answer) (λ x now grown. more x now (longer (entry call answer) past now grown)) (walks.1 answer))
+
   pub walks_if : {R : Type 0} (Q : R → Past → Type 0) (b : Bool) (past : Past) (p q : Act R)
       → (b ≡ true → Walks P Q past p) → (b ≡ false → Walks P Q past q) → Walks P Q past (cond b p q)
   walks_if Q true past p q first second = first refl

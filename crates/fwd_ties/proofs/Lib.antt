@@ -1,4 +1,6 @@
 pub mod Members
+pub mod Streams
+pub mod Answering
 pub mod Going
 pub mod Standing
 pub mod Deeds

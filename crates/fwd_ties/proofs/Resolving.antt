@@ -11,7 +11,7 @@ use Rattle.fwd_written.specs.Routes.{same_route, route, resolves, is_resolved, o
 use Rattle.fwd_ties.specs.Resolved.{HasEnded, IsDelivered, HasFailed, IsSpent, IsLost, IsRecorded}
 use Rattle.fwd_ties.proofs.Members.{here, deeper, either, from_filter, in_filter, off_where_not, not_where_off}
 
-same_routes : (a b : Route) → same_route a b ≡ true → a ≡ b
+pub same_routes : (a b : Route) → same_route a b ≡ true → a ≡ b
 same_routes a b is =
     let parts = and_parts (a.chunk == b.chunk) (a.output == b.output) is in
     rw (eqb-true a.chunk b.chunk parts.0, eqb-true a.output b.output parts.1) refl
@@ -72,7 +72,7 @@ ended_where_resolved : (s : AllSettings) (h : History) (r : Route) → is_resolv
 ended_where_resolved s [] r is = absurd (cc is)
 ended_where_resolved s (fact ∷ h) r is = ended_fact s fact h r (ended_where_resolved s h r) is
 
-same_itself : (r : Route) → same_route r r ≡ true
+pub same_itself : (r : Route) → same_route r r ≡ true
 same_itself r = rw (eq-eqb r.chunk r.chunk refl, eq-eqb r.output r.output refl) refl
 
 stays_resolved : (s : AllSettings) (fact : Fact) (h : History) (r : Route) → is_resolved s h r ≡ true → is_resolved s (fact ∷ h) r ≡ true

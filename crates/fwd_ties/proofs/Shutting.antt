@@ -2,7 +2,7 @@
 use Rattle.std.proofs.Common.{◌≡◌, ⊎_elim, ℕ, not, Bool, true, false, List, [], ◌∷◌, filter, Option, Some, None, refl, sym, ◌∙◌, ap, subst, arith}
 use Rattle.std.specs.Prelude.{Contains, is_none}
 use Rattle.std.proofs.lemmas.Bool.{and_parts}
-use Rattle.fwd_program.specs.Program.{entry, Return, Ask}
+use Rattle.fwd_program.specs.Program.{entry}
 use Rattle.fwd_outside.specs.declared.happening.Happening.{Happening}
 use Rattle.fwd_outside.specs.declared.happening.Happening.TheVariants as happening
 use Rattle.fwd_settings.specs.declared.chosen.AllSettings.{AllSettings}
@@ -22,15 +22,10 @@ use Rattle.fwd_ties.specs.Past.{Past, noted}
 use Rattle.fwd_ties.specs.Due.{IsChunk, BroughtDue, Due}
 use Rattle.fwd_ties.specs.Closes.{closes_at, has_closed}
 use Rattle.fwd_ties.proofs.Members.{here, deeper, either, in_filter, not_where_off}
-use Rattle.fwd_ties.proofs.Going.{Walks, Grown, walks_bind}
+use Rattle.fwd_ties.proofs.Going.{Walks, Grown, walks_bind, walks_map}
 use Rattle.fwd_ties.proofs.Standing.{shut_still, shut_since, chunk_since, open_is_chunk, lost_is_shut, shut_now}
 use Rattle.fwd_ties.proofs.Deeds.{IsInnerFact, IsInner, IsKept, tells_loses, tells_walk}
 use Rattle.fwd_ties.proofs.Outer.{IsOuter, outer, told_follows_all, told_takes, told_happens}
-
--- what is so of each end is so of it in other words
-walks_map : {R : Type 0} (P : Past → Type 0) (Q W : R → Past → Type 0) (past : Past) (p : Act R) → ((x : R) (now : Past) → Q x now → W x now) → Walks P Q past p → Walks P W past p
-walks_map P Q W past (Return x) more walks = (walks.0, more x past walks.1)
-walks_map P Q W past (Ask call go) more walks = (walks.0, λ answer. walks_map P Q W (entry call answer ∷ past) (go answer) more (walks.1 answer))
 
 shut_call : (call : Call) (answer : Answer call) (past : Past) (n : ℕ) → is_shut (noted past) n ≡ true → is_shut (noted (entry call answer ∷ past)) n ≡ true
 shut_call (Note fact) answer past n is = shut_still fact (noted past) n is
@@ -87,7 +82,7 @@ module _ (s : AllSettings) where
       (λ h now grown then is.
       subst (λ (x : History). Walks (Due s) Q now (closes s cs x)) (sym is.0)
       (walks_map (Due s) (λ (h : History) (now : Past). (h ≡ noted now) × (K2 now × AreShut cs now)) Q now (closes s cs (noted now))
-      (λ x end q. (q.0, (q.1.0.0, one_more c cs end q.1.0.1 q.1.1)))
+      (λ x end grown q. (q.0, (q.1.0.0, one_more c cs end q.1.0.1 q.1.1)))
       (closes_shut cs K2 now (stays_shut K c.number stable) (λ d has. chunk_later past now d.number grown (are d (deeper c cs d has))) then is.1)))
 
   -- behind a closing all chunks are closed, and the walk opens none
@@ -151,14 +146,14 @@ module _ (s : AllSettings) where
     closing_walks : (past : Past) → Due s past → So past → Steps_closed past (walks s true (noted past))
     closing_walks past ready so =
         walks_map (Due s) (λ (h : History) (now : Past). (h ≡ noted now) × (So now × AllShut now)) (λ (h : History) (now : Past). (h ≡ noted now) × IsClosed now) past (walks s true (noted past))
-        (λ h now q. (q.0, λ has. q.1.1)) (closed_walks So past so_inner ready so)
+        (λ h now grown q. (q.0, λ has. q.1.1)) (closed_walks So past so_inner ready so)
 
   -- where nothing closes, nothing is to be shown
   abbrev Open : Past → Type 0
   Open past = has_closed s (noted past) ≡ false
 
   stays_open : (past : Past) (p : Act History) → Walks (Due s) (λ (h : History) (now : Past). (h ≡ noted now) × Open now) past p → Steps_closed past p
-  stays_open past p walks = walks_map (Due s) (λ (h : History) (now : Past). (h ≡ noted now) × Open now) (λ (h : History) (now : Past). (h ≡ noted now) × IsClosed now) past p (λ h now q. (q.0, λ has. absurd (cc (sym q.1 ∙ has)))) walks
+  stays_open past p walks = walks_map (Due s) (λ (h : History) (now : Past). (h ≡ noted now) × Open now) (λ (h : History) (now : Past). (h ≡ noted now) × IsClosed now) past p (λ h now grown q. (q.0, λ has. absurd (cc (sym q.1 ∙ has)))) walks
 
   rests_open : (before : History) (x : Happening) (past : Past) → Due s past → Open past → Steps_closed past (happens s before x (noted past))
   rests_open before x past ready is = stays_open past (happens s before x (noted past)) (told_happens s Open (stays_so false) before x past (ready, is))

@@ -78,7 +78,7 @@ rise_begun b (Behind chunk) cs rise below = subst NumbersRise (sym (append-nil c
 rise_begun b (First chunk) cs rise below = rise_end cs (record { number = chunk; input = Some b.input; tag = b.tag }) rise (λ c has. below chunk c refl has)
 
 -- a closed chunk was noted
-shut_below : (bound : ℕ) (h : History) (n : ℕ) → ((fact : Fact) → Contains h fact → IsBelow bound (chunk_of fact)) → is_shut h n ≡ true → n < bound
+pub shut_below : (bound : ℕ) (h : History) (n : ℕ) → ((fact : Fact) → Contains h fact → IsBelow bound (chunk_of fact)) → is_shut h n ≡ true → n < bound
 shut_below bound [] n fresh is = absurd (cc is)
 shut_below bound (fact ∷ h) n fresh is = by fact (fresh fact (here fact h)) is (shut_below bound h n (λ f has. fresh f (deeper fact h f has)))
   where
@@ -90,6 +90,13 @@ shut_below bound (fact ∷ h) n fresh is = by fact (fresh fact (here fact h)) is
     by (Found number stream name bytes) lt now more = either_way number (number == n) refl lt now more
     by (Shut chunk) lt now more = either_way chunk (chunk == n) refl lt now more
     by f lt now more = more now
+
+pub nonzero : (n : ℕ) → not (suc n == 0) ≡ true
+nonzero n = by (eqb_tells (suc n) 0)
+  where
+    by : ((suc n == 0 ≡ true) × (suc n ≡ 0)) ⊎ ((suc n == 0 ≡ false) × (suc n ≢ 0)) → not (suc n == 0) ≡ true
+    by (inl is) = let zero_is = is.1 in absurd (omega (arith, zero_is))
+    by (inr is) = rw (is.0) refl
 
 -- what holds of numbers; and a chunk that was offered just now, to begin with a batch, is above all others
 record Numbered (h : History) : Type 0 where
@@ -258,13 +265,6 @@ module _ (s : AllSettings) where
   wanted : (past : Past) (c : ChunkOf) → Due s past → Contains (chunks_of (noted past)) c → IsWanted (noted past) c
   wanted [] c due has = absurd (omega (arith, has.1))
   wanted (e ∷ past) c due has = wanted_call e.call past c due.0 (wanted past c due.1) has
-
-  nonzero : (n : ℕ) → not (suc n == 0) ≡ true
-  nonzero n = by (eqb_tells (suc n) 0)
-    where
-      by : ((suc n == 0 ≡ true) × (suc n ≡ 0)) ⊎ ((suc n == 0 ≡ false) × (suc n ≢ 0)) → not (suc n == 0) ≡ true
-      by (inl is) = let zero_is = is.1 in absurd (omega (arith, zero_is))
-      by (inr is) = rw (is.0) refl
 
   some_left : (h : History) (n : ℕ) (outputs : List ℕ) → is_empty outputs ≡ false → ((output : ℕ) → is_resolved s h (route n output) ≡ false)
       → not (length (filter (λ (output : ℕ). not (is_resolved s h (route n output))) outputs) == 0) ≡ true

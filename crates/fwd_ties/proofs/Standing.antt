@@ -84,7 +84,7 @@ idle_is_shut s h r idle = by (row_at (record { 0 = r.chunk }) (rows_of s h)) ref
 
 -- ---- what is lost is closed
 
-among_rows : (room : ℕ) (rows : List Row) (row : Row) → Contains (lost_among room rows) row → Contains rows row
+pub among_rows : (room : ℕ) (rows : List Row) (row : Row) → Contains (lost_among room rows) row → Contains rows row
 among_rows room [] row has = has
 among_rows room (x ∷ rows) row has = by (nat_le (size_of (x ∷ rows)) room) has (among_rows room rows row)
   where

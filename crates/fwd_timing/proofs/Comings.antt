@@ -1,8 +1,6 @@
 -- Acceptance, pieces, polls and steps keep to the times.
-use Rattle.std.proofs.Common.{◌≡◌, ◌⊎◌, inl, inr, ℕ, ◌+◌, ◌<◌, nat_lt, not, Bool, true, false, cond, List, [], ◌∷◌, ◌++◌, length, Option, Some, None, refl, sym, subst, arith}
-use Rattle.std.specs.Prelude.{Contains, ◌==◌}
+use Rattle.std.proofs.Common.{◌≡◌, ◌⊎◌, inl, inr, ℕ, ◌+◌, nat_lt, not, Bool, true, false, cond, List, [], ◌∷◌, ◌++◌, length, Option, Some, None, refl, sym, subst, arith}
 use Rattle.std.specs.List.{range_with_len}
-use Rattle.std.proofs.lemmas.Bool.{eqb-true}
 use Rattle.fwd_base.specs.Limits.{past_numbers}
 use Rattle.fwd_program.specs.Program.{entry, Return, bind}
 use Rattle.fwd_outside.specs.Loop.{Reply, DropConn}
@@ -12,7 +10,7 @@ use Rattle.fwd_in_tail.specs.Followed.{Polled as Poll, polls as polls_of}
 use Rattle.fwd_wire.specs.Message.{Said}
 use Rattle.fwd_store.specs.Store.{begins_as, appends_to}
 use Rattle.fwd_settings.specs.declared.chosen.AllSettings.{AllSettings}
-use Rattle.fwd_written.specs.Fact.{Fact, History, Stream, Connection, Wire, Standard, Batch, Nowhere, First, Behind, Reason, TooLarge, NoNumber, NotStored, Brought, Polled, HungUp, Misread, Found, Offers, Accepted, Refused, Shut, Faulted}
+use Rattle.fwd_written.specs.Fact.{Fact, History, Stream, Connection, Wire, Standard, Batch, Nowhere, First, Behind, Reason, TooLarge, NoNumber, NotStored, Brought, Polled, HungUp, Misread, Offers, Accepted, Refused, Faulted}
 use Rattle.fwd_written.specs.Trace.{Call, Act, OnLoop, Note, behind_call}
 use Rattle.fwd_written.specs.Parts.{on_disk, on_files}
 use Rattle.fwd_written.specs.Setup.{outputs_for, home_at, names_for, paths_at, from_head_at, reads_standard_at}
@@ -32,26 +30,11 @@ use Rattle.fwd_written.specs.Coming.{hangs_up, replied, replies, answers, reads,
 use Rattle.fwd_written.specs.Steps.{walks, ticks, stops, finishes, happens, step}
 use Rattle.fwd_ties.specs.Past.{Past, noted}
 use Rattle.fwd_ties.specs.Due.{Begins, Grows, FactDue, IsDue, Due}
-use Rattle.fwd_ties.specs.Sound.{chunk_of, IsBelow}
-use Rattle.fwd_ties.proofs.Members.{here, deeper, from_filter, from_find, off_where_not}
+use Rattle.fwd_ties.proofs.Members.{from_filter, from_find, off_where_not}
 use Rattle.fwd_ties.proofs.Going.{Walks, walks_bind}
-use Rattle.fwd_ties.proofs.Sounding.{sound}
+use Rattle.fwd_ties.proofs.Sounding.{shut_below, sound}
 use Rattle.fwd_timing.proofs.Timed.{Calm, InTime, Tells, MayNote, deed, only, nothing, tells_then, tells_behind, tells_if, disk_rests, files_rests, calm_shuts, calm_fills, calm_closes_all}
 use Rattle.fwd_timing.proofs.Flights.{calm_walk, calm_has_room, calm_comes_back, calm_has_broken}
-
--- a closed chunk was noted
-shut_below : (bound : ℕ) (h : History) (n : ℕ) → ((fact : Fact) → Contains h fact → IsBelow bound (chunk_of fact)) → is_shut h n ≡ true → n < bound
-shut_below bound [] n fresh is = absurd (cc is)
-shut_below bound (fact ∷ h) n fresh is = by fact (fresh fact (here fact h)) is (shut_below bound h n (λ f has. fresh f (deeper fact h f has)))
-  where
-    either_way : (m : ℕ) (b : Bool) → m == n ≡ b → m < bound → cond b true (is_shut h n) ≡ true → (is_shut h n ≡ true → n < bound) → n < bound
-    either_way m true same lt now more = let at = eqb-true m n same in omega (arith, at, lt)
-    either_way m false same lt now more = more now
-
-    by : (f : Fact) → IsBelow bound (chunk_of f) → is_shut (f ∷ h) n ≡ true → (is_shut h n ≡ true → n < bound) → n < bound
-    by (Found number stream name bytes) lt now more = either_way number (number == n) refl lt now more
-    by (Shut chunk) lt now more = either_way chunk (chunk == n) refl lt now more
-    by f lt now more = more now
 
 module _ (s : AllSettings) where
   -- ---- a chunk that a batch was offered to is open

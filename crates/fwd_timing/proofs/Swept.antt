@@ -1,35 +1,28 @@
 -- What was there at a closing is closed at the end of its turn, and so a flush time behind a reading.
-use Rattle.std.proofs.Common.{◌≡◌, ◌⊎◌, inl, inr, ℕ, zero, suc, ◌+◌, ◌≤◌, Bool, true, false, cond, List, [], ◌∷◌, ◌++◌, length, Option, Some, None, refl, sym, ◌∙◌, ap, subst, arith}
+use Rattle.std.proofs.Common.{◌≡◌, ◌⊎◌, inl, inr, ℕ, ◌≤◌, Bool, true, false, cond, List, [], ◌∷◌, ◌++◌, Option, refl, sym, ◌∙◌, subst, arith}
 use Rattle.std.specs.Prelude.{Contains, nat_le}
 use Rattle.std.proofs.lemmas.Bool.{leb-false}
-use Rattle.fwd_program.specs.Program.{entry, Return, Ask, bind, Way}
-use Rattle.fwd_outside.specs.Loop.{Start, Wait}
-use Rattle.fwd_outside.specs.Disk.{DiskProgram}
+use Rattle.fwd_program.specs.Program.{entry, Return, Ask, Way}
 use Rattle.fwd_outside.specs.declared.ends.Ends.{Ends}
 use Rattle.fwd_outside.specs.declared.happening.Happening.{Happening}
 use Rattle.fwd_outside.specs.declared.happening.Happening.TheVariants as happening
-use Rattle.fwd_backlog.specs.declared.file_read.FileRead.{FileRead}
-use Rattle.fwd_backlog.specs.Loading.{loads}
 use Rattle.fwd_settings.specs.declared.chosen.AllSettings.{AllSettings}
 use Rattle.fwd_written.specs.Fact.{Fact, History, Brought, Found}
-use Rattle.fwd_written.specs.Trace.{Act, TraceEntry, OnLoop, OnDisk, Note}
-use Rattle.fwd_written.specs.Parts.{on_disk}
+use Rattle.fwd_written.specs.Trace.{Act, TraceEntry, Note}
 use Rattle.fwd_written.specs.Setup.{plus}
 use Rattle.fwd_written.specs.Clock.{clock, read_behind, next_closing, is_closing}
 use Rattle.fwd_written.specs.Chunks.{ChunkOf, chunks_of, is_shut}
-use Rattle.fwd_written.specs.Limits.{paused}
 use Rattle.fwd_written.specs.Steps.{step}
-use Rattle.fwd_written.specs.Loading.{finds, loaded, loads_from, loads_in}
-use Rattle.fwd_written.specs.Run.{Lived, Over, lived, is_over, goes_on, steps_on, is_last_reading, unless_last, brought, run, started, begun, life}
+use Rattle.fwd_written.specs.Run.{Lived, life}
 use Rattle.fwd_ties.specs.Past.{Past, noted}
 use Rattle.fwd_ties.specs.Due.{BroughtDue, IsLoading, Due}
 use Rattle.fwd_ties.specs.Brought.{only_brought}
 use Rattle.fwd_ties.specs.Closes.{closes_at, has_closed}
-use Rattle.fwd_ties.proofs.Going.{Walks, Grown, walks_bind, walks_if, walks_on}
+use Rattle.fwd_ties.proofs.Going.{Walks, Grown, walks_map}
 use Rattle.fwd_ties.proofs.Standing.{chunk_still, shut_since, chunk_since}
 use Rattle.fwd_ties.proofs.Deeds.{IsKept}
 use Rattle.fwd_ties.proofs.Outer.{IsOuter, told_happens}
-use Rattle.fwd_ties.proofs.Living.{last_due}
+use Rattle.fwd_ties.proofs.Living.{due_onward, Lasts, so_at_end}
 use Rattle.fwd_ties.proofs.Shutting.{IsClosed, closed_step}
 use Rattle.fwd_timing.specs.Overdue.{IsOverdue}
 
@@ -84,87 +77,24 @@ module _ (s : AllSettings) where
 
   -- ---- a life
 
-  abbrev Ends_swept : Past → Act Lived → Type 0
-  Ends_swept past p = Walks (Due s) (λ (end : Lived) (now : Past). (end.history ≡ noted now) × IsSwept now) past p
+  none_yet : (h : History) → IsLoading h → swept h ≡ []
+  none_yet [] loading = refl
+  none_yet (Found number stream name bytes ∷ h) loading = none_yet h loading.1
+  none_yet (fact ∷ h) loading = absurd loading
 
-  abbrev Goes : (History → Act Lived) → Type 0
-  Goes next = (now : Past) → Due s now → IsSwept now → Ends_swept now (next (noted now))
-
-  swept_steps : (next : History → Act Lived) (past : Past) (x : Happening) → BroughtDue s x past → Due s past → IsSwept past → Goes next → Ends_swept past (steps_on s next x (noted past))
-  swept_steps next past x due ready swept_so more =
-      let Closed : History → Past → Type 0 = λ (h : History) (now : Past). (h ≡ noted now) × IsClosed s now in
-      let Stays : History → Past → Type 0 = λ (h : History) (now : Past). (h ≡ noted now) × Kept (cond (closes_at s (noted past) x) (chunks_of (noted past)) (swept (noted past))) (closes_at s (noted past) x) now in
-      walks_bind (Due s) (λ (h : History) (now : Past). Closed h now × Stays h now) (λ (end : Lived) (now : Past). (end.history ≡ noted now) × IsSwept now) past (step s x (noted past)) (goes_on s next x)
-      (walks_both (Due s) Closed Stays past (step s x (noted past)) (closed_step s x past due ready) (kept_step x past due ready))
-      (λ h now grown then is.
-      let still : IsSwept now = swept_step x past now grown swept_so (is.0.1, is.1.1) in
-      subst (λ (y : History). Ends_swept now (goes_on s next x y)) (sym is.0.0)
-      (walks_if (Due s) (λ (end : Lived) (now : Past). (end.history ≡ noted now) × IsSwept now) (is_over s x (noted now)) now (Return (lived (noted now) Over)) (next (noted now))
-      (λ over. (then, (refl, still))) (λ on. more now then still)))
-
-  swept_unless_last : (ticks : Option ℕ) (next : History → Act Lived) (x : Happening) (past : Past) → Due s past → IsSwept past → Goes next → Ends_swept past (unless_last s ticks next x (noted past))
-  swept_unless_last None next x past ready so more = more past ready so
-  swept_unless_last (Some n) next x past ready so more =
-      walks_if (Due s) (λ (end : Lived) (now : Past). (end.history ≡ noted now) × IsSwept now) (is_last_reading s (Some n) x (noted past)) past (steps_on s next happening.Stop (noted past)) (next (noted past))
-      (λ last. swept_steps next past happening.Stop (last_due s n x past last) ready so more) (λ no. more past ready so)
-
-  abbrev wait_behind : Past → Happening → Past
-  wait_behind past x = entry (OnLoop (Wait (plus (clock (noted past)) 250) (paused s (noted past)))) x ∷ past
-
-  swept_brought : (ticks : Option ℕ) (next : History → Act Lived) (past : Past) (x : Happening) → BroughtDue s x (wait_behind past x) → Due s (wait_behind past x) → IsSwept past → Goes next
-      → Ends_swept (wait_behind past x) (brought s ticks next (noted past) x)
-  swept_brought ticks next past happening.Failed due ready so more = (ready, (refl, so))
-  swept_brought ticks next past x due ready so more =
-      swept_steps (unless_last s ticks next x) (wait_behind past x) x due ready so (λ now then still. swept_unless_last ticks next x now then still more)
-
-  swept_run : (ticks : Option ℕ) (turns : ℕ) (past : Past) → Due s past → IsSwept past → Ends_swept past (run s ticks turns (noted past))
-  unfolding run
-  swept_run ticks zero past ready so = (ready, (refl, so))
-  swept_run ticks (suc turns) past ready so =
-      (ready, λ x. swept_brought ticks (run s ticks turns) past x (inl refl) ((refl, refl), ready) so (λ now then still. swept_run ticks turns now then still))
-
-  swept_started : (ticks : Option ℕ) (turns : ℕ) (past : Past) (ready : Option (Unit {0})) → Due s past → IsSwept past → Ends_swept past (started s ticks turns (noted past) ready)
-  swept_started ticks turns past None due so = (due, (refl, so))
-  swept_started ticks turns past (Some ready) due so = swept_run ticks turns past due so
-
-  abbrev Loaded_so : Option History → Past → Type 0
-  Loaded_so None now = (noted now ≡ []) × (swept (noted now) ≡ [])
-  Loaded_so (Some h) now = (h ≡ noted now) × (swept (noted now) ≡ [])
-
-  so_finds : (number : ℕ) (reads : List FileRead) (past : Past) → number ≡ length (noted past) + 1 → IsLoading (noted past) → Due s past → swept (noted past) ≡ []
-      → Walks (Due s) Loaded_so past (finds number reads (noted past))
-  so_finds number [] past at loading ready so = (ready, (refl, so))
-  so_finds number (read ∷ reads) past at loading ready so = (
-    ready,
-    λ answer.
-        so_finds (number + 1) reads (entry (Note (Found number read.file.stream read.file.name read.bytes)) answer ∷ past)
-        (omega (arith, at)) (at, loading) ((at, loading), ready) so,
-  )
-
-  so_read : (p : DiskProgram (Option (List FileRead))) (past : Past) → noted past ≡ [] → Due s past → Walks (Due s) Loaded_so past (bind (on_disk p) loaded)
-  so_read (Return None) past none ready = (ready, (none, ap swept none))
-  so_read (Return (Some reads)) past none ready =
-      subst (λ (h : History). Walks (Due s) Loaded_so past (finds 1 reads h)) none
-      (so_finds 1 reads past (ap (λ (h : History). length h + 1) (sym none)) (subst IsLoading (sym none) tt) ready (ap swept none))
-  so_read (Ask call go) past none ready = (ready, λ answer. so_read (go answer) (entry (OnDisk call) answer ∷ past) none (tt, ready))
-
-  so_root : (root : Option (List ℕ)) → Walks (Due s) Loaded_so [] (loads_from root)
-  so_root None = (tt, (refl, refl))
-  so_root (Some root) = so_read (loads root) [] refl tt
-
-  not_yet : (past : Past) → swept (noted past) ≡ [] → IsSwept past
-  not_yet past none c has = let there = subst (λ (l : List ChunkOf). Contains l c) none has in absurd (omega (arith, there.1))
-
-  swept_life : (ends : Ends) (ticks : Option ℕ) (turns : ℕ) → Ends_swept [] (life s ends ticks turns)
-  unfolding life loads_in
-  swept_life ends ticks turns =
-      walks_bind (Due s) Loaded_so (λ (end : Lived) (now : Past). (end.history ≡ noted now) × IsSwept now) [] (loads_in s) (begun s ends ticks turns) (so_root s.service.path) by
-    where
-      by : (h : Option History) (now : Past) → Grown [] now → Due s now → Loaded_so h now → Ends_swept now (begun s ends ticks turns h)
-      by None now grown due is = (due, (sym is.0, not_yet now is.1))
-      by (Some h) now grown due is =
-          subst (λ (x : History). Ends_swept now (begun s ends ticks turns (Some x))) (sym is.0)
-          (due, λ ready. swept_started ticks turns (entry (OnLoop (Start ends)) ready ∷ now) ready (tt, due) (not_yet now is.1))
+  swept_lasts : Lasts s (Due s) IsSwept
+  swept_lasts = record {
+    first = tt;
+    onward = due_onward s;
+    loaded = λ past loading c has. let there = subst (λ (l : List ChunkOf). Contains l c) (none_yet (noted past) loading) has in absurd (omega (arith, there.1));
+    called = λ call answer past so. so;
+    stepped = λ x past due ready so.
+        let Closed : History → Past → Type 0 = λ (h : History) (now : Past). (h ≡ noted now) × IsClosed s now in
+        let Stays : History → Past → Type 0 = λ (h : History) (now : Past). (h ≡ noted now) × Kept (cond (closes_at s (noted past) x) (chunks_of (noted past)) (swept (noted past))) (closes_at s (noted past) x) now in
+        walks_map (Due s) (λ (h : History) (now : Past). Closed h now × Stays h now) (λ (h : History) (now : Past). (h ≡ noted now) × IsSwept now) past (step s x (noted past))
+        (λ h now grown is. (is.0.0, swept_step x past now grown so (is.0.1, is.1.1)))
+        (walks_both (Due s) Closed Stays past (step s x (noted past)) (closed_step s x past due ready) (kept_step x past due ready));
+  }
 
   -- ---- what is overdue was there at a closing
 
@@ -234,5 +164,5 @@ module _ (s : AllSettings) where
 
   pub closed_in_time : (ends : Ends) (ticks : Option ℕ) (turns : ℕ) (es : List TraceEntry) (end : Lived) (c : ChunkOf) → Way (life s ends ticks turns) es (Return end) → IsOverdue s end.history c → is_shut end.history c.number ≡ true
   closed_in_time ends ticks turns es end c way over =
-      let q = (walks_on (Due s) (λ (end : Lived) (now : Past). (end.history ≡ noted now) × IsSwept now) [] (life s ends ticks turns) (swept_life ends ticks turns) es (Return end) way).1 in
+      let q = so_at_end s (Due s) IsSwept swept_lasts ends ticks turns es end way in
       subst (λ (h : History). is_shut h c.number ≡ true) (sym q.0) (q.1 c (subst (λ (h : History). Contains (swept h) c) q.0 (overdue_swept end.history c over)))

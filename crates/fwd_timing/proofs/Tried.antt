@@ -3,7 +3,7 @@ use Rattle.std.proofs.Common.{◌≡◌, ℕ, ◌+◌, ◌-◌, ◌*◌, ◌<◌
 use Prim.Native.Nat.{◌^◌}
 use Rattle.std.specs.Prelude.{◌==◌, nat_le, is_some}
 use Rattle.std.specs.Option.{option_map_or}
-use Rattle.std.proofs.lemmas.Bool.{eqb-true, eq-eqb, and_parts, leb-true}
+use Rattle.std.proofs.lemmas.Bool.{eqb-true, and_parts, leb-true}
 use Rattle.fwd_base.specs.declared.choices.Retries.{Retries as Limit}
 use Rattle.fwd_base.specs.declared.choices.Retries.TheVariants.{Times}
 use Rattle.fwd_event.specs.declared.event.Event.{Event}
@@ -31,19 +31,12 @@ use Rattle.fwd_ties.proofs.Members.{from_filter, from_find, from_map, off_where_
 use Rattle.fwd_ties.proofs.Going.{noted_since}
 use Rattle.fwd_ties.proofs.Living.{due_since}
 use Rattle.fwd_ties.proofs.Standing.{shut_still}
+use Rattle.fwd_ties.proofs.Resolving.{same_routes, same_itself}
 use Rattle.fwd_timing.specs.Trying.{outcomes, is_begun, begins_of, IsToRetry}
 use Rattle.fwd_timing.proofs.Held.{since_both, due_in_life}
 use Rattle.fwd_timing.proofs.Timed.{just_begun, RouteTimed, FactTimed, Timed}
 use Rattle.fwd_timing.proofs.Comings.{noted_at}
 use Rattle.fwd_timing.proofs.Lived.{timed_life}
-
-same_routes : (a b : Route) → same_route a b ≡ true → a ≡ b
-same_routes a b is =
-    let parts = and_parts (a.chunk == b.chunk) (a.output == b.output) is in
-    rw (eqb-true a.chunk b.chunk parts.0, eqb-true a.output b.output parts.1) refl
-
-same_itself : (r : Route) → same_route r r ≡ true
-same_itself r = rw (eq-eqb r.chunk r.chunk refl, eq-eqb r.output r.output refl) refl
 
 route_is : (chunk output : ℕ) (r : Route) → chunk ≡ r.chunk → output ≡ r.output → route chunk output ≡ r
 route_is chunk output r chunks outputs = rw (chunks, outputs) refl

@@ -2,8 +2,8 @@ use Rattle.std.proofs.Common.{◌≡◌, ◌+◌, ◌-◌, ◌<◌, length, arit
 use Rattle.std.specs.List.{range_with_len}
 use Rattle.fwd_written.specs.Coming.{follows_each}
 use Rattle.fwd_written.proofs.Acting.{stays, goes_on, inside, began_inside, began_after}
+use Rattle.fwd_parts.proofs.Heard.{as_many}
 use Rattle.fwd_coming.proofs.Noted.{acts_end}
-use Rattle.fwd_coming.proofs.Answering.{as_many}
 use Rattle.fwd_coming.proofs.Polling.{all_follow, range_step, range_none}
 use Rattle.fwd_coming.proofs.following.follow_all.Goals as goal
 

@@ -5,8 +5,8 @@ use Rattle.std.proofs.lemmas.List.{drop_more, drop_all}
 use Rattle.fwd_written.specs.Setup.{paths_at}
 use Rattle.fwd_written.specs.Coming.{polls_files}
 use Rattle.fwd_written.proofs.Acting.{stays, goes_on, inside, began_inside, began_after}
+use Rattle.fwd_parts.proofs.Heard.{as_many}
 use Rattle.fwd_coming.proofs.Noted.{acts_end}
-use Rattle.fwd_coming.proofs.Answering.{as_many}
 use Rattle.fwd_coming.proofs.following.poll_files.Goals as goal
 
 pub loop-index-init : goal.loop-index-init

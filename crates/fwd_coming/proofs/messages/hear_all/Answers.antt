@@ -17,9 +17,9 @@ use Rattle.fwd_written.specs.Coming.{hangs_up, answers, reads}
 use Rattle.fwd_written.proofs.Acting.{stays, goes_on, began_after}
 use Rattle.fwd_written.proofs.Meeting.{acted_after, meets_after}
 use Rattle.fwd_parts.specs.Shown.{Shows}
+use Rattle.fwd_parts.proofs.Heard.{as_many, unheard_first, unheard_on}
 use Rattle.fwd_coming.specs.Answered.{AreShort}
 use Rattle.fwd_coming.proofs.Noted.{acts_end}
-use Rattle.fwd_coming.proofs.Answering.{as_many, unheard_first, unheard_on}
 use Rattle.fwd_coming.proofs.Reading.{went_ended, went_next, next_message, no_more}
 use Rattle.fwd_coming.proofs.messages.hear_all.Goals as goal
 

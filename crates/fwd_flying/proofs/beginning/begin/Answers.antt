@@ -4,9 +4,9 @@ use Rattle.fwd_written.specs.Held.{kept_of}
 use Rattle.fwd_written.proofs.Meeting.{acted_after, acted_idle, acted_noting, meets_after}
 use Rattle.fwd_state.specs.Sight.{route_of}
 use Rattle.fwd_parts.proofs.Noting.{shown_by_state}
+use Rattle.fwd_parts.proofs.Heard.{unheard_first}
 use Rattle.fwd_shelving.proofs.Shelving.{not_some}
 use Rattle.fwd_flying.specs.World.{with_loop}
-use Rattle.fwd_flying.proofs.Heard.{unheard_first}
 use Rattle.fwd_flying.proofs.Reading.{held, begins_is, content_leads, content_failed, content_damaged, content_began}
 use Rattle.fwd_flying.proofs.beginning.begin.Goals as goal
 

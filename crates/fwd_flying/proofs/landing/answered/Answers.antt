@@ -4,8 +4,8 @@ use Rattle.fwd_written.specs.Settling.{settles}
 use Rattle.fwd_written.proofs.Meeting.{meets_noted}
 use Rattle.fwd_state.specs.Sight.{route_of}
 use Rattle.fwd_parts.proofs.Noting.{shown_by_state}
+use Rattle.fwd_parts.proofs.Heard.{unheard_first}
 use Rattle.fwd_flying.specs.World.{with_loop}
-use Rattle.fwd_flying.proofs.Heard.{unheard_first}
 use Rattle.fwd_flying.proofs.landing.answered.Goals as goal
 
 pub returns-in-Good-clause-acts : goal.returns-in-Good-clause-acts

@@ -9,8 +9,8 @@ use Rattle.fwd_written.proofs.Meeting.{meets_noted}
 use Rattle.fwd_state.specs.Sight.{route_of}
 use Rattle.fwd_parts.specs.Acts.{with_disk}
 use Rattle.fwd_parts.proofs.Noting.{shown_by_state}
+use Rattle.fwd_parts.proofs.Heard.{unheard_first}
 use Rattle.fwd_flying.specs.World.{with_loop}
-use Rattle.fwd_flying.proofs.Heard.{unheard_first}
 use Rattle.fwd_flying.proofs.landing.retry.Goals as goal
 
 pub returns-then-may_retry-clause-acts : goal.returns-then-may_retry-clause-acts

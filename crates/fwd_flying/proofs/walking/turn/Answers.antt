@@ -7,7 +7,7 @@ use Rattle.fwd_written.specs.Walk.{may_start}
 use Rattle.fwd_written.specs.Flying.{turn}
 use Rattle.fwd_written.proofs.Meeting.{acted_idle}
 use Rattle.fwd_state.specs.Sight.{route_of}
-use Rattle.fwd_flying.proofs.Heard.{unheard_first}
+use Rattle.fwd_parts.proofs.Heard.{unheard_first}
 use Rattle.fwd_flying.proofs.walking.turn.Goals as goal
 
 idle_first : (s : AllSettings) (h : History) (r : Route) → may_start s h r ≡ true → is_idle s h r ≡ true

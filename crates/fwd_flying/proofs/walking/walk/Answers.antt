@@ -6,7 +6,7 @@ use Rattle.fwd_written.proofs.Meeting.{meets_ends}
 use Rattle.fwd_state.specs.Sight.{route_of}
 use Rattle.fwd_state.specs.declared.flights.RouteId.{RouteId}
 use Rattle.fwd_parts.specs.Acts.{with_both}
-use Rattle.fwd_flying.proofs.Heard.{as_many, unheard_first, unheard_on}
+use Rattle.fwd_parts.proofs.Heard.{as_many, unheard_first, unheard_on}
 use Rattle.fwd_flying.proofs.Turning.{walk_is}
 use Rattle.fwd_flying.proofs.walking.walk.Goals as goal
 
