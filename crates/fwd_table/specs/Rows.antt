@@ -1,5 +1,5 @@
 -- The rows of a table: chunks with their routes, by rising chunk number.
-use Rattle.std.specs.Prelude.{◌≡◌, ◌≢◌, ℕ, ◌<◌, ◌≤◌, ◌==◌, ◌&&◌, nat_le, min, Bool, true, false, not, List, [], length, map, filter, find, Option, is_some, IsSomeAnd, IsTrue, MatchOption, All, AllPairs, if◌then◌else◌}
+use Rattle.std.specs.Prelude.{◌≡◌, ◌≢◌, ℕ, ◌<◌, ◌≤◌, ◌==◌, ◌&&◌, nat_le, min, Bool, true, false, not, List, [], length, map, filter, find, Option, is_some, option_to_list, IsSomeAnd, IsTrue, MatchOption, All, AllPairs, if◌then◌else◌}
 use Rattle.std.specs.List.{HoldsAt, flat_map}
 use Rattle.std.specs.Option.{option_map_or}
 use Rattle.fwd_base.specs.Limits.{most_outputs}
@@ -13,10 +13,16 @@ use Rattle.fwd_table.specs.declared.row.Row.{Row}
 use Rattle.fwd_table.specs.declared.row.RowSeen.{RowSeen}
 use Rattle.fwd_table.specs.Routes.{routes_to, due_at, is_to, on_output, without_output, started, stayed, retried, tries_to, mask_of, flying_of, idle_timers}
 
--- what is seen of a table: its rows, and for how many more there is room
+-- what is seen of a table: its rows, the places at which they stand, with none at one from which a row was taken away, and
+-- for how many more rows there is room
 pub record TableSeen : Type 0 where
   pub rows : List Row
+  pub places : List (Option Row)
   pub spare : ℕ
+
+-- the rows at places
+abbrev pub rows_at : List (Option Row) → List Row
+rows_at places = flat_map option_to_list places
 
 -- for how many rows there is room, where routes and rows have this much
 abbrev pub spare_of : ℕ → ℕ → ℕ

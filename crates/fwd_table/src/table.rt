@@ -1,6 +1,6 @@
 //! The table of chunks and their routes.
 
-ghost use Rattle.std.specs.Prelude.{◌≡◌, ◌↔◌, ◌+◌, ◌*◌, ◌<◌, ◌≤◌, [], ◌∷◌, ◌++◌, length, slice_get, All, filter, option_map, IfOk, IfSome, IsTrue, MatchOption, OnOk, nat_le, option_to_list};
+ghost use Rattle.std.specs.Prelude.{◌≡◌, ◌↔◌, ◌+◌, ◌*◌, ◌<◌, ◌≤◌, [], ◌∷◌, ◌++◌, length, get_or, None, All, filter, option_map, IfOk, IfSome, IsTrue, MatchOption, OnOk, nat_le, option_to_list};
 ghost use Rattle.std.specs.Option.{option_map_or};
 ghost use Rattle.fwd_retry.specs.declared.timer.Timer.{Timer};
 ghost use Rattle.fwd_retry.specs.Timer.{first, in_time, is_next, IsFirst};
@@ -10,7 +10,7 @@ ghost use Rattle.fwd_table.specs.Routes.{flying_of, mask_of, IsMaskOf};
 ghost use Rattle.fwd_table.specs.Changes.{row_changed};
 ghost use Rattle.fwd_table.specs.Kept.{size_of, flying_to, waiting_for, memory_of, files_up, found_up};
 ghost use Rattle.fwd_base.specs.Limits.{most_inputs};
-ghost use Rattle.fwd_table.specs.Rows.{IsIdle, IsOwedToNobody, has_row, is_row_of, is_idle_in, flights_to, owed_rows, row_at, routes_at, tries_of, owes_nothing, idle_timers_of, seen_of, opened, on_chunk, without_chunk, grown, shut_at, started_to, stayed_to, answered_by, resolved_to};
+ghost use Rattle.fwd_table.specs.Rows.{IsIdle, IsOwedToNobody, rows_at, has_row, is_row_of, is_idle_in, flights_to, owed_rows, row_at, routes_at, tries_of, owes_nothing, idle_timers_of, seen_of, opened, on_chunk, without_chunk, grown, shut_at, started_to, stayed_to, answered_by, resolved_to};
 
 use crate::answer::{due_after, may_retry, resolved, spent};
 use crate::route::{Change, Route, Routes};
@@ -44,14 +44,14 @@ pub struct Table {
 }
 
 impl Model for Table {
-    ghost use Rattle.std.specs.Prelude.{◌-◌, vec_capacity};
+    ghost use Rattle.std.specs.Prelude.{◌-◌, Some, map, vec_capacity};
     ghost use Rattle.std.specs.VecDeque.{deque_len, deque_capacity};
     ghost use Rattle.fwd_table.specs.Rows.{TableSeen, spare_of};
     ghost use Rattle.fwd_table.specs.Sums.{IsKept};
 
     ghost Value = { TableSeen };
 
-    ghost view = { λ t. record { rows = t.rows.items; spare = spare_of (vec_capacity t.storage) (deque_capacity t.rows - deque_len t.rows) } };
+    ghost view = { λ t. record { rows = t.rows.items; places = map Some t.rows.items; spare = spare_of (vec_capacity t.storage) (deque_capacity t.rows - deque_len t.rows) } };
 
     ghost invariant = { λ t. IsKept t.soonest t.sums t.rows.items };
 }
@@ -352,23 +352,33 @@ impl Table {
         self.rows.len() as u64
     }
 
-    /// The row at a place, from 0, by rising chunk number: no other row is of that chunk. It asks for a place below `len`.
-    pub fn row(&self, index: u64) -> RowSeen
-        requires { index < length self.now.rows }
-        ensures value { Some result ≡ option_map seen_of (slice_get self.now.rows index) }
-        ensures only { slice_get self.now.rows index ≡ row_at result.chunk self.now.rows }
-        ensures owed { IfSome (slice_get self.now.rows index) (λ row. IsMaskOf row.routes result.owed) }
-        ensures flying { IfSome (slice_get self.now.rows index) (λ row. IsMaskOf (flying_of row.routes) result.flying) }
+    /// The number of places at which rows stand, by rising chunk number. At some of them none stands any more.
+    pub fn places(&self) -> u64
+        ensures count { result ≡ length self.now.places }
+        ensures rows { self.now.rows ≡ rows_at self.now.places }
     {
-        self.rows[index as usize].seen()
+        self.rows.len() as u64
     }
 
-    /// The tag of the row at a place, from 0, by rising chunk number. It asks for a place below `len`.
-    pub fn tag(&self, index: u64) -> &[u8]
-        requires { index < length self.now.rows }
-        ensures { Some result.now ≡ option_map (λ row. row.tag) (slice_get self.now.rows index) }
+    /// The row at a place, from 0, if one stands there: no other row is of that chunk.
+    pub fn row(&self, place: u64) -> Option<RowSeen>
+        ensures value { result ≡ option_map seen_of (get_or self.now.places place None) }
+        ensures only { IfSome result (λ seen. get_or self.now.places place None ≡ row_at seen.chunk self.now.rows) }
+        ensures owed { IfSome (get_or self.now.places place None) (λ row. IfSome result (λ seen. IsMaskOf row.routes seen.owed)) }
+        ensures flying { IfSome (get_or self.now.places place None) (λ row. IfSome result (λ seen. IsMaskOf (flying_of row.routes) seen.flying)) }
     {
-        self.rows[index as usize].tag.as_slice()
+        let row = self.rows.get(place as usize)?;
+        Some(row.seen())
+    }
+
+    /// The tag of the row at a place, from 0; empty where none stands there.
+    pub fn tag(&self, place: u64) -> &[u8]
+        ensures { result.now ≡ option_map_or (λ row. row.tag) (get_or self.now.places place None) [] }
+    {
+        match self.rows.get(place as usize) {
+            Some(row) => row.tag.as_slice(),
+            None => &[],
+        }
     }
 
     /// Takes away the rows that are owed to nobody, if there are such.
