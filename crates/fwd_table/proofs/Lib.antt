@@ -7,3 +7,5 @@ pub mod Places
 pub mod Waits
 pub mod Summing
 pub mod Kept
+pub mod Standing
+pub mod Filled
