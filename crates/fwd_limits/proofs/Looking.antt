@@ -52,6 +52,6 @@ seen_as row seen output same owes flies =
     λ i. record { chunk = (same i).chunk; size = (same i).size; is_file = is_file (same i).home; is_waiting = (same i).shut && (owed_is i && not (flying_is i)) }
 
 pub look_is : (at : Option Row) (seen : RowSeen) (output : OutputId) → Some seen ≡ option_map seen_of at → IfSome at (λ row. IsMaskOf row.routes seen.owed) → IfSome at (λ row. IsMaskOf (flying_of row.routes) seen.flying)
-    → option_map (look_of output) at ≡ Some (look_by output seen)
+    → Some (look_by output seen) ≡ option_map (look_of output) at
 look_is None seen output is owes flies = absurd (cc)
-look_is (Some row) seen output is owes flies = let same : seen ≡ seen_of row = cc in ap Some (sym (seen_as row seen output same owes flies))
+look_is (Some row) seen output is owes flies = let same : seen ≡ seen_of row = cc in ap Some (seen_as row seen output same owes flies)

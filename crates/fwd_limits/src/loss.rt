@@ -70,10 +70,11 @@ fn others_bytes(table: &Table, output: OutputId, chunk: ChunkId) -> u128
 fn first_waiting(table: &Table, output: OutputId, chunk: ChunkId) -> Option<ChunkId>
     ensures { result ≡ first_chunk (others_for output chunk table.now.rows) }
 {
-    for index in 0..table.len() {
-        let row = look_at(table, index, output);
-        if is_other(row, chunk) {
-            return Some(row.chunk);
+    for place in 0..table.places() {
+        if let Some(look) = look_at(table, place, output) {
+            if is_other(look, chunk) {
+                return Some(look.chunk);
+            }
         }
     }
     None

@@ -1,6 +1,6 @@
 //! How the rows of a table stand.
 
-ghost use Rattle.std.specs.Prelude.{◌≡◌, ◌<◌, ◌==◌, ◌&&◌, not, Some, length, option_map, slice_get};
+ghost use Rattle.std.specs.Prelude.{◌≡◌, ◌==◌, ◌&&◌, not, None, get_or, option_map};
 ghost use Rattle.std.specs.Int.{bit_at};
 ghost use Rattle.fwd_table.specs.Kept.{is_file};
 ghost use Rattle.fwd_limits.specs.Kept.{look_of, look_by};
@@ -61,10 +61,10 @@ pub fn look_by(row: &RowSeen, output: OutputId) -> Look
     }
 }
 
-/// How the chunk of the row at a place stands to an output.
-pub fn look_at(table: &Table, index: u64, output: OutputId) -> Look
-    requires { index < length table.now.rows }
-    ensures { option_map (look_of output) (slice_get table.now.rows index) ≡ Some result }
+/// How the chunk of the row at a place stands to an output, if a row stands there.
+pub fn look_at(table: &Table, place: u64, output: OutputId) -> Option<Look>
+    ensures { result ≡ option_map (look_of output) (get_or table.now.places place None) }
 {
-    look_by(&table.row(index), output)
+    let row = table.row(place)?;
+    Some(look_by(&row, output))
 }

@@ -1,21 +1,23 @@
 -- The lines of rows.
-use Rattle.std.proofs.Common.{◌≡◌, ℕ, zero, suc, ◌+◌, ◌-◌, ◌/◌, ◌<◌, min, List, [], ◌∷◌, ◌++◌, length, get_or, take, drop, Option, Some, None, codes, decimal, refl, sym, ◌∙◌, ap, subst, append_assoc, arith}
-use Rattle.std.specs.Prelude.{sum_by, slice_get, IfSome, option_map}
+use Rattle.std.proofs.Common.{◌≡◌, ℕ, ◌+◌, ◌-◌, ◌/◌, ◌<◌, min, List, [], ◌∷◌, ◌++◌, length, get_or, take, drop, Option, Some, None, codes, decimal, refl, sym, ◌∙◌, ap, subst, append_assoc, arith}
+use Rattle.std.specs.Prelude.{sum_by, IfSome, option_map, option_to_list}
 use Rattle.std.specs.List.{flat_map}
+use Rattle.std.specs.Option.{option_map_or}
 use Rattle.std.specs.Int.RustNames.{bit_and, count_ones}
 use Rattle.std.proofs.lemmas.Nat.{shr-shr}
-use Rattle.std.proofs.lemmas.List.{append-nil, drop_more}
-use Rattle.std.proofs.lemmas.List.Sums.{sum_by_more}
-use Rattle.std.proofs.lemmas.Bool.{eq-eqb}
+use Rattle.std.proofs.lemmas.List.{append-nil, drop_more, nil_from_length}
+use Rattle.std.proofs.lemmas.List.Concat.{flat_map-append}
+use Rattle.std.proofs.lemmas.List.Sums.{sum_by_push}
+use Rattle.std.proofs.lemmas.Bool.{eq-eqb, ne_eqb}
 use Prim.Native.Nat.{◌^◌}
 use Rattle.fwd_json.specs.Text.{json}
 use Rattle.fwd_value.specs.Val.{text}
 use Rattle.fwd_table.specs.declared.row.Row.{Row}
 use Rattle.fwd_table.specs.declared.row.RowSeen.{RowSeen}
 use Rattle.fwd_table.specs.Routes.{mask_of, IsMaskOf}
-use Rattle.fwd_table.specs.Rows.{seen_of}
+use Rattle.fwd_table.specs.Rows.{rows_at, seen_of}
+use Rattle.fwd_table.proofs.Standing.{place_more, none_seen, one_seen}
 use Rattle.fwd_report.specs.Report.{owed_routes, names_from, chunk_line, row_lines}
-use Rattle.fwd_report.proofs.Lists.{lines_more}
 use Rattle.fwd_report.proofs.Masks.{owed_set, owed_clear, owed_none, ones-routes}
 
 -- ---- the names of outputs
@@ -43,68 +45,69 @@ name_left row owed rest i name outputs whole before mask at clear less item is =
 
 -- ---- rows
 
-same_seen : (seen other : RowSeen) → Some seen ≡ Some other → seen ≡ other
-same_seen seen other is = cc
-
-same_tag : (tag other : List ℕ) → Some tag ≡ Some other → tag ≡ other
-same_tag tag other is = cc
-
-chunk_of : (row : Row) (seen : RowSeen) (tag : List ℕ) (outputs : List (List ℕ)) (old sized named new : List ℕ) → seen ≡ seen_of row → tag ≡ row.tag
+pub chunk_text : (row : Row) (seen : RowSeen) (tag : List ℕ) (outputs : List (List ℕ)) (old sized named new : List ℕ) → seen ≡ seen_of row → tag ≡ row.tag
     → sized ≡ (((old ++ codes "chunk " ++ decimal seen.chunk.0) ++ codes " ") ++ json (text tag)) ++ codes " " ++ decimal seen.size
     → named ≡ sized ++ names_from 0 outputs row → new ≡ named ++ codes "\n" → new ≡ old ++ chunk_line outputs row
 unfolding chunk_line
-chunk_of row seen tag outputs old sized named new is same first then last =
+chunk_text row seen tag outputs old sized named new is same first then last =
     let number : seen.chunk.0 ≡ row.chunk.0 = ap (λ (s : RowSeen). s.chunk.0) is in
     let size : seen.size ≡ row.size = ap (λ (s : RowSeen). s.size) is in
     rw (last, then, first, number, size, same) (simp append_assoc refl)
 
-pub chunk_text : (found : Option Row) (seen : RowSeen) (tag : List ℕ) (outputs : List (List ℕ)) (old sized named new : List ℕ) → Some seen ≡ option_map seen_of found → Some tag ≡ option_map (λ row. row.tag) found
-    → IfSome found (λ row. IsMaskOf row.routes seen.owed)
-    → sized ≡ (((old ++ codes "chunk " ++ decimal seen.chunk.0) ++ codes " ") ++ json (text tag)) ++ codes " " ++ decimal seen.size
-    → ((row : Row) → IsMaskOf row.routes seen.owed → named ≡ sized ++ names_from 0 outputs row) → new ≡ named ++ codes "\n" → IfSome found (λ row. new ≡ old ++ chunk_line outputs row)
-chunk_text None seen tag outputs old sized named new is same bits first then last = tt
-chunk_text (Some row) seen tag outputs old sized named new is same bits first then last =
-    chunk_of row seen tag outputs old sized named new (same_seen seen (seen_of row) is) (same_tag tag row.tag same) first (then row bits) last
+-- the line of a row that is owed to an output
+pub line_put : (at : Option Row) (seen : RowSeen) (tag : List ℕ) (outputs : List (List ℕ)) (old new : List ℕ) → Some seen ≡ option_map seen_of at → tag ≡ option_map_or (λ (row : Row). row.tag) at []
+    → IfSome at (λ row. IsMaskOf row.routes seen.owed) → (seen.owed ≡ 0 → ⊥)
+    → ((row : Row) → seen ≡ seen_of row → tag ≡ row.tag → IsMaskOf row.routes seen.owed → new ≡ old ++ chunk_line outputs row) → new ≡ old ++ option_map_or (row_lines outputs) at []
+line_put None seen tag outputs old new is tagged mask owed then = absurd (cc)
+line_put (Some row) seen tag outputs old new is tagged mask owed then =
+    let same : seen ≡ seen_of row = cc in
+    let some : length row.routes ≡ 0 → ⊥ = λ none. owed (ap (λ (s : RowSeen). s.owed) same ∙ ap mask_of (nil_from_length row.routes none)) in
+    rw (ne_eqb (length row.routes) 0 some) (then row same tagged mask)
 
-pub row_none : (found : Option Row) (seen : RowSeen) (outputs : List (List ℕ)) (old : List ℕ) → Some seen ≡ option_map seen_of found → seen.owed ≡ 0 → IfSome found (λ row. old ≡ old ++ row_lines outputs row)
-row_none None seen outputs old is owed = tt
-row_none (Some row) seen outputs old is owed =
-    let mask : seen.owed ≡ mask_of row.routes = ap (λ (s : RowSeen). s.owed) (same_seen seen (seen_of row) is) in
-    rw (eq-eqb (length row.routes) 0 (owed_none row.routes (sym mask ∙ owed))) (sym (append-nil old))
+-- no line
+pub line_left : (at : Option Row) (seen : RowSeen) (outputs : List (List ℕ)) (old : List ℕ) → Some seen ≡ option_map seen_of at → seen.owed ≡ 0 → old ≡ old ++ option_map_or (row_lines outputs) at []
+line_left None seen outputs old is owed = sym (append-nil old)
+line_left (Some row) seen outputs old is owed =
+    let same : seen ≡ seen_of row = cc in
+    let mask : mask_of row.routes ≡ 0 = sym (ap (λ (s : RowSeen). s.owed) same) ∙ owed in
+    rw (eq-eqb (length row.routes) 0 (owed_none row.routes mask)) (sym (append-nil old))
 
--- the row at a place
-at_place : (rows : List Row) (i : ℕ) → i < length rows → (row : Row) × (slice_get rows i ≡ Some row) × (get_or rows i row ≡ row)
-at_place [] i less = absurd (omega (arith, less))
-at_place (row ∷ rows) zero less = (row, refl, refl)
-at_place (row ∷ rows) (suc i) less = at_place rows i (omega (arith, less))
+pub none_left : (at : Option Row) (outputs : List (List ℕ)) (old : List ℕ) → None ≡ option_map seen_of at → old ≡ old ++ option_map_or (row_lines outputs) at []
+none_left None outputs old is = sym (append-nil old)
+none_left (Some row) outputs old is = absurd (cc)
 
-pub rows_more : (rows : List Row) (outputs : List (List ℕ)) (i : ℕ) (old before next : List ℕ) → i < length rows → before ≡ old ++ flat_map (row_lines outputs) (take i rows)
-    → IfSome (slice_get rows i) (λ row. next ≡ before ++ row_lines outputs row) → next ≡ old ++ flat_map (row_lines outputs) (take (i + 1) rows)
-rows_more rows outputs i old before next less is then =
-    let place = at_place rows i less in
-    let line : next ≡ before ++ row_lines outputs place.0 = subst (λ (found : Option Row). IfSome found (λ row. next ≡ before ++ row_lines outputs row)) place.1 then in
-    let more : flat_map (row_lines outputs) (take (i + 1) rows) ≡ flat_map (row_lines outputs) (take i rows) ++ row_lines outputs place.0 =
-    lines_more (row_lines outputs) rows i place.0 less ∙ ap (λ (row : Row). flat_map (row_lines outputs) (take i rows) ++ row_lines outputs row) place.2
+lines_of : (lines : Row → List ℕ) (at : Option Row) → flat_map lines (option_to_list at) ≡ option_map_or lines at []
+lines_of lines None = refl
+lines_of lines (Some row) = append-nil (lines row)
+
+-- the lines of a place more
+pub rows_more : (places : List (Option Row)) (outputs : List (List ℕ)) (n : ℕ) (old before next : List ℕ) → before ≡ old ++ flat_map (row_lines outputs) (rows_at (take n places))
+    → next ≡ before ++ option_map_or (row_lines outputs) (get_or places n None) [] → next ≡ old ++ flat_map (row_lines outputs) (rows_at (take (n + 1) places))
+rows_more places outputs n old before next is then =
+    let lines = row_lines outputs in
+    let so_far : List ℕ = flat_map lines (rows_at (take n places)) in
+    let here : List ℕ = option_map_or lines (get_or places n None) [] in
+    let more : flat_map lines (rows_at (take (n + 1) places)) ≡ so_far ++ here =
+    ap (flat_map lines) (place_more places n) ∙ flat_map-append lines (rows_at (take n places)) (option_to_list (get_or places n None)) ∙ ap (λ (l : List ℕ). so_far ++ l) (lines_of lines (get_or places n None))
     in
-    line ∙ ap (λ (l : List ℕ). l ++ row_lines outputs place.0) is ∙ append_assoc old (flat_map (row_lines outputs) (take i rows)) (row_lines outputs place.0)
-    ∙ ap (λ (l : List ℕ). old ++ l) (sym more)
+    then ∙ ap (λ (l : List ℕ). l ++ here) is ∙ append_assoc old so_far here ∙ ap (λ (l : List ℕ). old ++ l) (sym more)
 
 -- ---- the number of owed routes
-
-count_of : (row : Row) (seen : RowSeen) → seen ≡ seen_of row → IsMaskOf row.routes seen.owed → count_ones seen.owed ≡ length row.routes
-count_of row seen is bits = ones-routes row.routes seen.owed (ap (λ (s : RowSeen). s.owed) is) bits
 
 added : (owed bits sum next more : ℕ) → owed ≡ min sum (2 ^ 64 - 1) → next ≡ min (owed + bits) (2 ^ 64 - 1) → more ≡ sum + bits → next ≡ min more (2 ^ 64 - 1)
 added owed bits sum next more is then plus = rw (then, is, plus) (omega arith)
 
-pub count_more : (rows : List Row) (i : ℕ) (seen : RowSeen) (owed bits next : ℕ) → i < length rows → Some seen ≡ option_map seen_of (slice_get rows i) → IfSome (slice_get rows i) (λ row. IsMaskOf row.routes seen.owed)
-    → bits ≡ count_ones seen.owed → owed ≡ owed_routes (take i rows) → next ≡ min (owed + bits) (2 ^ 64 - 1) → next ≡ owed_routes (take (i + 1) rows)
-count_more rows i seen owed bits next less is mask ones before then =
-    let place = at_place rows i less in
-    let same : seen ≡ seen_of place.0 = same_seen seen (seen_of place.0) (is ∙ ap (option_map seen_of) place.1) in
-    let set : IsMaskOf place.0.routes seen.owed = subst (λ (found : Option Row). IfSome found (λ row. IsMaskOf row.routes seen.owed)) place.1 mask in
-    let count : bits ≡ length place.0.routes = ones ∙ count_of place.0 seen same set in
-    let sum : sum_by (λ (row : Row). length row.routes) (take (i + 1) rows) ≡ sum_by (λ (row : Row). length row.routes) (take i rows) + bits =
-    sum_by_more (λ (row : Row). length row.routes) rows i place.0 less ∙ ap (λ (row : Row). sum_by (λ (row : Row). length row.routes) (take i rows) + length row.routes) place.2 ∙ ap (λ (n : ℕ). sum_by (λ (row : Row). length row.routes) (take i rows) + n) (sym count)
+pub count_more : (places : List (Option Row)) (n : ℕ) (seen : RowSeen) (owed bits next : ℕ) → Some seen ≡ option_map seen_of (get_or places n None) → IfSome (get_or places n None) (λ row. IsMaskOf row.routes seen.owed)
+    → bits ≡ count_ones seen.owed → owed ≡ owed_routes (rows_at (take n places)) → next ≡ min (owed + bits) (2 ^ 64 - 1) → next ≡ owed_routes (rows_at (take (n + 1) places))
+count_more places n seen owed bits next is mask ones before then =
+    let at = one_seen seen_of places n seen is in
+    let owes : Row → ℕ = λ row. length row.routes in
+    let set : IsMaskOf at.row.routes seen.owed = subst (λ (found : Option Row). IfSome found (λ row. IsMaskOf row.routes seen.owed)) at.there mask in
+    let count : bits ≡ owes at.row = ones ∙ ones-routes at.row.routes seen.owed (ap (λ (s : RowSeen). s.owed) at.is) set in
+    let sum : sum_by owes (rows_at (take (n + 1) places)) ≡ sum_by owes (rows_at (take n places)) + bits =
+    ap (sum_by owes) at.more ∙ sum_by_push owes (rows_at (take n places)) at.row ∙ ap (λ (k : ℕ). sum_by owes (rows_at (take n places)) + k) (sym count)
     in
-    added owed bits (sum_by (λ (row : Row). length row.routes) (take i rows)) next (sum_by (λ (row : Row). length row.routes) (take (i + 1) rows)) before then sum
+    added owed bits (sum_by owes (rows_at (take n places))) next (sum_by owes (rows_at (take (n + 1) places))) before then sum
+
+pub count_same : (places : List (Option Row)) (n owed next : ℕ) → None ≡ option_map seen_of (get_or places n None) → owed ≡ owed_routes (rows_at (take n places)) → next ≡ owed → next ≡ owed_routes (rows_at (take (n + 1) places))
+count_same places n owed next is before then = then ∙ before ∙ sym (ap owed_routes (none_seen seen_of places n is))

@@ -1,17 +1,19 @@
 //! The lines of what is owed.
 
-ghost use Rattle.std.specs.Prelude.{◌≡◌, ◌++◌, ◌<◌, length, slice_get, IfSome, OnOk};
+ghost use Rattle.std.specs.Prelude.{◌≡◌, [], ◌++◌, get_or, None, OnOk};
 ghost use Rattle.std.specs.List.{flat_map};
+ghost use Rattle.std.specs.Option.{option_map_or};
 ghost use Rattle.fwd_json.specs.Text.{json};
 ghost use Rattle.fwd_value.specs.Val.{text as text_value};
 ghost use Rattle.fwd_table.specs.declared.row.Row.{Row};
 ghost use Rattle.fwd_table.specs.Routes.{IsMaskOf};
+ghost use Rattle.fwd_table.specs.Rows.{seen_of};
 ghost use Rattle.fwd_report.specs.Report.{owed_routes, names_from, chunk_line, row_lines, owed_part};
 
 use crate::lines::push_count;
 use fwd_base::{Bytes, Memory};
 use fwd_json::{Value, json_text};
-use fwd_table::Table;
+use fwd_table::{RowSeen, Table};
 use std::alloc::Global;
 
 /// The number of owed routes.
@@ -19,8 +21,10 @@ fn owed_routes(table: &Table) -> u64
     ensures { result ≡ owed_routes table.now.rows }
 {
     let mut owed: u64 = 0;
-    for index in 0..table.len() {
-        owed = owed.saturating_add(u64::from(table.row(index).owed.count_ones()));
+    for place in 0..table.places() {
+        if let Some(row) = table.row(place) {
+            owed = owed.saturating_add(u64::from(row.owed.count_ones()));
+        }
     }
     owed
 }
@@ -49,40 +53,39 @@ fn push_names(text: &mut Bytes, outputs: &[Bytes], owed: u64) -> Result<(), Memo
     Ok(())
 }
 
-/// The line of the row at a place.
+/// The line of a row, of which this is seen.
 fn push_chunk(
     alloc: Global,
     text: &mut Bytes,
     outputs: &[Bytes],
-    table: &Table,
-    index: u64,
+    seen: &RowSeen,
+    tag: &[u8],
 ) -> Result<(), Memory>
-    requires { index < length table.now.rows }
-    ensures { OnOk result (IfSome (slice_get table.now.rows index) (λ row. text.new ≡ text.old ++ chunk_line outputs.now row)) }
+    ensures { OnOk result ((row : Row) → seen.now ≡ seen_of row → tag.now ≡ row.tag → IsMaskOf row.routes seen.now.owed → text.new ≡ text.old ++ chunk_line outputs.now row) }
 {
-    let row = table.row(index);
-    push_count(text, b"chunk ", row.chunk.0)?;
+    push_count(text, b"chunk ", seen.chunk.0)?;
     text.extend_from_slice(b" ")?;
-    push_tag(alloc, text, table.tag(index))?;
-    push_count(text, b" ", row.size)?;
-    push_names(text, outputs, row.owed)?;
+    push_tag(alloc, text, tag)?;
+    push_count(text, b" ", seen.size)?;
+    push_names(text, outputs, seen.owed)?;
     text.extend_from_slice(b"\n")?;
     Ok(())
 }
 
-/// The line of the row at a place, where it is owed to an output.
+/// The line of the row at a place, where one stands that is owed to an output.
 fn push_row(
     alloc: Global,
     text: &mut Bytes,
     outputs: &[Bytes],
     table: &Table,
-    index: u64,
+    place: u64,
 ) -> Result<(), Memory>
-    requires { index < length table.now.rows }
-    ensures { OnOk result (IfSome (slice_get table.now.rows index) (λ row. text.new ≡ text.old ++ row_lines outputs.now row)) }
+    ensures { OnOk result (text.new ≡ text.old ++ option_map_or (row_lines outputs.now) (get_or table.now.places place None) []) }
 {
-    if table.row(index).owed != 0 {
-        push_chunk(alloc, text, outputs, table, index)?;
+    if let Some(row) = table.row(place) {
+        if row.owed != 0 {
+            push_chunk(alloc, text, outputs, &row, table.tag(place))?;
+        }
     }
     Ok(())
 }
@@ -96,8 +99,8 @@ fn push_rows(
 ) -> Result<(), Memory>
     ensures { OnOk result (text.new ≡ text.old ++ flat_map (row_lines outputs.now) table.now.rows) }
 {
-    for index in 0..table.len() {
-        push_row(alloc, text, outputs, table, index)?;
+    for place in 0..table.places() {
+        push_row(alloc, text, outputs, table, place)?;
     }
     Ok(())
 }

@@ -20,11 +20,14 @@ rise-map f same rows rise i j d less within =
     let old = rise i j d less below in
     rw (first, second, same (get_or rows i d), same (get_or rows j d)) old
 
+pub keeps_chunk : (change : RowChange) (row : Row) → (row_changed change row).chunk.0 ≡ row.chunk.0
+keeps_chunk (Grows size) row = refl
+keeps_chunk (Shuts now) row = refl
+keeps_chunk (Changes output change) row = refl
+keeps_chunk (Resolves output) row = refl
+
 kept_by : (test : Bool) (change : RowChange) (row : Row) → (if test then row_changed change row else row).chunk.0 ≡ row.chunk.0
-kept_by true (Grows size) row = refl
-kept_by true (Shuts now) row = refl
-kept_by true (Changes output change) row = refl
-kept_by true (Resolves output) row = refl
+kept_by true change row = keeps_chunk change row
 kept_by false change row = refl
 
 pub rise-on_chunk : (chunk : ChunkId) (change : RowChange) (rows : List Row) → ChunksRise rows → ChunksRise (on_chunk chunk (row_changed change) rows)

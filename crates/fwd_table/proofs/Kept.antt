@@ -16,7 +16,7 @@ use Rattle.fwd_table.specs.declared.sums.Sums.{Sums}
 use Rattle.fwd_table.specs.Routes.{RiseFrom, flying_of, is_to}
 use Rattle.fwd_table.specs.Rows.{ChunksRise, IsOwedToNobody, flies_to, flights_to, is_owed_row, owed_rows, without_chunk}
 use Rattle.fwd_table.specs.Kept.{in_file, is_from, was_found, flies, is_flying, is_waiting, size_of, flying_to, waiting_for, files_up, found_up, memory_of}
-use Rattle.fwd_table.specs.Sums.{Over, Memory, FilesUp, FoundUp, Unowed, route_part, part_at, part, AreSums, IsTotal, IsSound}
+use Rattle.fwd_table.specs.Sums.{Over, Memory, FilesUp, FoundUp, Unowed, Rows, route_part, part_at, part, AreSums, IsTotal, IsSound}
 use Rattle.fwd_table.proofs.Places.{behind_rise, none_goes, others_behind}
 use Rattle.fwd_table.proofs.Summing.{none_behind}
 
@@ -184,6 +184,16 @@ files_are sums rows are sound = are FilesUp 0 (omega arith) ∙ counts (part Fil
 
 pub found_are : (sums : Sums) (rows : List Row) → AreSums sums rows → All IsSound rows → sums.found_up ≡ found_up rows
 found_are sums rows are sound = are FoundUp 0 (omega arith) ∙ sizes (part FoundUp 0) (λ (row : Row). was_found row && flies row) rows (λ row one. refl) sound
+
+pub rows_are : (sums : Sums) (rows : List Row) → AreSums sums rows → sums.rows ≡ length rows
+rows_are sums rows are = are Rows 0 (omega arith) ∙ ones rows
+  where
+    ones : (rows : List Row) → sum_by (part Rows 0) rows ≡ length rows
+    ones [] = refl
+    ones (row ∷ rows) =
+        let both = sum_by-cons (part Rows 0) row rows in
+        let rest = ones rows in
+        omega (arith, both, rest)
 
 -- ---- rows that are owed to nobody
 

@@ -7,3 +7,6 @@ pub mod Places
 pub mod Waits
 pub mod Summing
 pub mod Kept
+pub mod Placed
+pub mod Standing
+pub mod Counting

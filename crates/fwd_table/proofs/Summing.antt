@@ -20,7 +20,7 @@ use Rattle.fwd_table.specs.Routes.{RiseFrom, due_at, flying_of, is_to, routes_to
 use Rattle.fwd_table.specs.Rows.{is_owed_row, is_row_of, on_chunk}
 use Rattle.fwd_table.specs.Changes.{row_changed}
 use Rattle.fwd_table.specs.Kept.{in_file, is_from, was_found, flies}
-use Rattle.fwd_table.specs.Sums.{Counted, Over, Memory, FilesUp, FoundUp, Unowed, file_size, held_size, route_part, part_at, part, total, AreSums, CanShift, Shifts, IsSound}
+use Rattle.fwd_table.specs.Sums.{Counted, Over, Memory, FilesUp, FoundUp, Unowed, Rows, file_size, held_size, route_part, part_at, part, total, AreSums, CanShift, Shifts, IsSound}
 use Rattle.fwd_base.specs.declared.ids.InputId.{InputId}
 use Rattle.fwd_outside.specs.declared.home.Home.{Home}
 use Rattle.fwd_table.proofs.Below.{rise-routes_below}
@@ -100,6 +100,7 @@ part_few Memory key row sound = kept_at_most (is_from key row.input) (held_size 
 part_few FilesUp key row sound = one_at_most (in_file row && flies row)
 part_few FoundUp key row sound = kept_at_most (was_found row && flies row) row.size (2 ^ 64 - 1) (let few = sound.size in omega (arith, few))
 part_few Unowed key row sound = unowed_at_most (is_owed_row row)
+part_few Rows key row sound = omega arith
 
 -- so all of them together are one of 128 bits
 pub parts_few : (counted : Counted) (key : ℕ) (rows : List Row) → All IsSound rows → sum_by (part counted key) rows ≤ length rows * (2 ^ 64 - 1)
@@ -171,7 +172,7 @@ sums_gone counted key rows i d before behind within is out =
     omega (arith, sums, is, out)
 
 -- no rows have no sums
-pub none_summed : AreSums (record { flights = replicate 64 0; flying = replicate 64 0; waiting = replicate 64 0; memory = replicate 64 0; files_up = 0; found_up = 0; unowed = 0 }) []
+pub none_summed : AreSums (record { flights = replicate 64 0; flying = replicate 64 0; waiting = replicate 64 0; memory = replicate 64 0; files_up = 0; found_up = 0; unowed = 0; rows = 0 }) []
 none_summed (Over Flights) key below = get_or-replicate 64 key 0 0 below
 none_summed (Over FlyingBytes) key below = get_or-replicate 64 key 0 0 below
 none_summed (Over WaitingBytes) key below = get_or-replicate 64 key 0 0 below
@@ -179,6 +180,7 @@ none_summed Memory key below = get_or-replicate 64 key 0 0 below
 none_summed FilesUp key below = refl
 none_summed FoundUp key below = refl
 none_summed Unowed key below = refl
+none_summed Rows key below = refl
 
 -- ---- routes, one after another
 

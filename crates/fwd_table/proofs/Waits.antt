@@ -1,6 +1,6 @@
 -- Readings before which no idle route is due.
-use Rattle.std.proofs.Common.{◌≡◌, ℕ, ◌+◌, ◌-◌, ◌^◌, ◌<◌, ◌≤◌, min, Bool, true, false, not, List, [], ◌∷◌, length, get_or, take, refl, subst, arith}
-use Rattle.std.specs.Prelude.{All, filter, nat_le, if◌then◌else◌}
+use Rattle.std.proofs.Common.{◌≡◌, ℕ, ◌+◌, ◌-◌, ◌^◌, ◌<◌, ◌≤◌, min, Bool, true, false, not, List, [], ◌∷◌, length, get_or, take, Some, None, refl, subst, arith}
+use Rattle.std.specs.Prelude.{All, Option, IfSome, filter, nat_le, if◌then◌else◌}
 use Rattle.std.specs.List.{flat_map}
 use Rattle.std.proofs.lemmas.Bool.{lt-leb}
 use Rattle.std.proofs.lemmas.List.Elements.{All-head, All-tail, All-more, All-weaker, All-map, All-filter, filter-append}
@@ -9,12 +9,14 @@ use Rattle.fwd_retry.specs.declared.timer.Timer.{Timer}
 use Rattle.fwd_table.specs.declared.route.Route.{Route}
 use Rattle.fwd_table.specs.declared.route.Change.{Change}
 use Rattle.fwd_table.specs.declared.route.Change.TheVariants.{Starts, Stays, Retries}
+use Rattle.fwd_table.specs.declared.place.Place.{Place}
 use Rattle.fwd_table.specs.declared.row.Row.{Row}
 use Rattle.fwd_table.specs.declared.row.RowChange.{RowChange}
 use Rattle.fwd_table.specs.declared.row.RowChange.TheVariants.{Grows, Shuts, Changes, Resolves}
 use Rattle.fwd_table.specs.Routes.{due_at, is_to, idle_timers}
 use Rattle.fwd_table.specs.Rows.{WaitsTill, waiting, is_row_of, on_chunk}
 use Rattle.fwd_table.specs.Changes.{changed, row_changed, due_by, row_due_by}
+use Rattle.fwd_table.proofs.Placed.{AtPlace}
 
 abbrev pub Till : ℕ → Route → Type 0
 Till n r = r.flying ≡ false → n ≤ r.due
@@ -84,7 +86,13 @@ module _ (now n : ℕ) (before : now < n) where
 pub till_more : (m n : ℕ) (rs : List Route) (i : ℕ) (d : Route) → i < length rs → m ≤ n → All (Till n) (take i rs) → Till m (get_or rs i d) → All (Till m) (take (i + 1) rs)
 till_more m n rs i d within less before till = All-more (Till m) rs i d within (All-weaker (Till n) (Till m) (till_lower m n less) (take i rs) before) till
 
-pub rows_more : (n m : ℕ) (rows : List Row) (i : ℕ) (row : Row) → i < length rows → row ≡ get_or rows i row → All (WaitsTill n) (take i rows) → WaitsTill m row → All (WaitsTill (min n m)) (take (i + 1) rows)
-rows_more n m rows i row within is before wait =
-    All-more (WaitsTill (min n m)) rows i row within (All-weaker (WaitsTill n) (WaitsTill (min n m)) (waits_lower (min n m) n (omega arith)) (take i rows) before)
-    (subst (WaitsTill (min n m)) is (waits_lower (min n m) m (omega arith) row wait))
+pub places_more : (n m : ℕ) (places : List Place) (i : ℕ) (place : Place) → i < length places → place ≡ get_or places i place → All (AtPlace (WaitsTill n)) (take i places) → IfSome place.row (WaitsTill m)
+    → All (AtPlace (WaitsTill (min n m))) (take (i + 1) places)
+places_more n m places i place within is before wait =
+    All-more (AtPlace (WaitsTill (min n m))) places i place within
+    (All-weaker (AtPlace (WaitsTill n)) (AtPlace (WaitsTill (min n m))) (λ p. lower n (omega arith) p.row) (take i places) before)
+    (subst (AtPlace (WaitsTill (min n m))) is (lower m (omega arith) place.row wait))
+  where
+    lower : (k : ℕ) → min n m ≤ k → (row : Option Row) → IfSome row (WaitsTill k) → IfSome row (WaitsTill (min n m))
+    lower k less None wait = tt
+    lower k less (Some r) wait = waits_lower (min n m) k less r wait

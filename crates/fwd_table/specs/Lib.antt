@@ -4,3 +4,4 @@ pub mod Rows
 pub mod Changes
 pub mod Kept
 pub mod Sums
+pub mod Places

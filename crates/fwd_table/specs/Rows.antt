@@ -1,6 +1,6 @@
 -- The rows of a table: chunks with their routes, by rising chunk number.
-use Rattle.std.specs.Prelude.{◌≡◌, ◌≢◌, ℕ, ◌<◌, ◌≤◌, ◌==◌, ◌&&◌, nat_le, min, Bool, true, false, not, List, [], length, map, filter, find, Option, is_some, IsSomeAnd, IsTrue, MatchOption, All, AllPairs, if◌then◌else◌}
-use Rattle.std.specs.List.{HoldsAt, flat_map}
+use Rattle.std.specs.Prelude.{◌≡◌, ℕ, ◌<◌, ◌≤◌, ◌==◌, ◌&&◌, nat_le, min, Bool, true, false, not, List, [], length, map, filter, find, Option, is_some, option_to_list, IsSomeAnd, IsTrue, All, AllPairs, if◌then◌else◌}
+use Rattle.std.specs.List.{flat_map}
 use Rattle.std.specs.Option.{option_map_or}
 use Rattle.fwd_base.specs.Limits.{most_outputs}
 use Rattle.fwd_base.specs.declared.ids.ChunkId.{ChunkId}
@@ -13,10 +13,16 @@ use Rattle.fwd_table.specs.declared.row.Row.{Row}
 use Rattle.fwd_table.specs.declared.row.RowSeen.{RowSeen}
 use Rattle.fwd_table.specs.Routes.{routes_to, due_at, is_to, on_output, without_output, started, stayed, retried, tries_to, mask_of, flying_of, idle_timers}
 
--- what is seen of a table: its rows, and for how many more there is room
+-- what is seen of a table: its rows, the places at which they stand, with none at one from which a row was taken away, and
+-- for how many more rows there is room
 pub record TableSeen : Type 0 where
   pub rows : List Row
+  pub places : List (Option Row)
   pub spare : ℕ
+
+-- the rows at places
+abbrev pub rows_at : List (Option Row) → List Row
+rows_at places = flat_map option_to_list places
 
 -- for how many rows there is room, where routes and rows have this much
 abbrev pub spare_of : ℕ → ℕ → ℕ
@@ -35,10 +41,6 @@ is_row_of chunk row = row.chunk.0 == chunk.0
 -- the row of a chunk
 abbrev pub row_at : ChunkId → List Row → Option Row
 row_at chunk rows = find (is_row_of chunk) rows
-
--- where the row of a chunk stands, if there is one
-abbrev pub IsPlaceOf : ChunkId → List Row → Option ℕ → Type 0
-IsPlaceOf chunk rows place = MatchOption place (All (λ row. row.chunk.0 ≢ chunk.0) rows) (λ i. (i < length rows) × HoldsAt (λ row. row.chunk.0 ≡ chunk.0) rows i)
 
 -- its routes, none where there is no row
 abbrev pub routes_at : ChunkId → List Row → List Route

@@ -1,5 +1,6 @@
 -- What a table keeps sums of, so that no call goes over all rows for one.
-use Rattle.std.specs.Prelude.{◌≡◌, ℕ, ◌+◌, ◌<◌, ◌≤◌, ◌^◌, ◌==◌, ◌&&◌, ◌||◌, not, List, length, slice_index, sum_by, if◌then◌else◌, All}
+use Rattle.std.specs.Option.{option_map_or}
+use Rattle.std.specs.Prelude.{◌≡◌, ℕ, Option, ◌+◌, ◌<◌, ◌≤◌, ◌^◌, ◌==◌, ◌&&◌, ◌||◌, not, List, length, slice_index, sum_by, if◌then◌else◌, All}
 use Rattle.fwd_table.specs.declared.route.Route.{Route}
 use Rattle.fwd_table.specs.declared.row.Row.{Row}
 use Rattle.fwd_table.specs.declared.sums.ByOutput.{ByOutput}
@@ -18,6 +19,7 @@ pub data Counted : Type 0 where
   FilesUp : Counted
   FoundUp : Counted
   Unowed : Counted
+  Rows : Counted
 
 -- how many bytes a chunk has in its file
 abbrev pub file_size : Row → ℕ
@@ -44,6 +46,11 @@ part Memory key row = if is_from key row.input then held_size row else 0
 part FilesUp key row = if in_file row && flies row then 1 else 0
 part FoundUp key row = if was_found row && flies row then row.size else 0
 part Unowed key row = if is_owed_row row then 0 else 1
+part Rows key row = 1
+
+-- what a row adds, if there is one
+abbrev pub part_of : Counted → ℕ → Option Row → ℕ
+part_of counted key row = option_map_or (part counted key) row 0
 
 -- the sum of a number; those over all rows are one for all numbers
 abbrev pub total : Counted → ℕ → Sums → ℕ
@@ -54,6 +61,7 @@ total Memory key sums = slice_index sums.memory key
 total FilesUp key sums = sums.files_up
 total FoundUp key sums = sums.found_up
 total Unowed key sums = sums.unowed
+total Rows key sums = sums.rows
 
 -- a sum of a number, which is 0 past the end
 abbrev pub IsTotal : Counted → ℕ → Sums → ℕ → Type 0

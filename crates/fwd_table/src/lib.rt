@@ -3,6 +3,7 @@
 #![tactic(auto)]
 
 mod answer;
+mod place;
 mod route;
 mod row;
 mod sums;

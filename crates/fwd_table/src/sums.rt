@@ -59,6 +59,8 @@ pub struct Sums {
     found_up: u128,
     /// The rows that are owed to nobody.
     unowed: u128,
+    /// All rows.
+    rows: u128,
 }
 
 fn is_file(home: Home) -> bool
@@ -168,6 +170,7 @@ impl Sums {
             files_up: 0,
             found_up: 0,
             unowed: 0,
+            rows: 0,
         }
     }
 
@@ -183,6 +186,7 @@ impl Sums {
         self.files_up = way.shifted(self.files_up, files_part(row));
         self.found_up = way.shifted(self.found_up, found_part(row));
         self.unowed = way.shifted(self.unowed, unowed_part(row));
+        self.rows = way.shifted(self.rows, 1);
     }
 
     /// How many chunks are under way to an output.
@@ -233,6 +237,13 @@ impl Sums {
         ensures { result ≡ not (total Counted.Unowed 0 self.now == 0) }
     {
         self.unowed != 0
+    }
+
+    /// How many rows there are.
+    pub fn rows(&self) -> u128
+        ensures { result ≡ total Counted.Rows 0 self.now }
+    {
+        self.rows
     }
 }
 

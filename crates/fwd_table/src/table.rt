@@ -1,6 +1,6 @@
 //! The table of chunks and their routes.
 
-ghost use Rattle.std.specs.Prelude.{◌≡◌, ◌↔◌, ◌+◌, ◌*◌, ◌<◌, ◌≤◌, [], ◌∷◌, ◌++◌, length, slice_get, All, filter, option_map, IfOk, IfSome, IsTrue, MatchOption, OnOk, nat_le, option_to_list};
+ghost use Rattle.std.specs.Prelude.{◌≡◌, ◌↔◌, ◌+◌, ◌*◌, ◌<◌, ◌≤◌, [], ◌∷◌, ◌++◌, length, get_or, None, All, filter, option_map, IfOk, IfSome, IsTrue, MatchOption, OnOk, nat_le, option_to_list};
 ghost use Rattle.std.specs.Option.{option_map_or};
 ghost use Rattle.fwd_retry.specs.declared.timer.Timer.{Timer};
 ghost use Rattle.fwd_retry.specs.Timer.{first, in_time, is_next, IsFirst};
@@ -10,14 +10,15 @@ ghost use Rattle.fwd_table.specs.Routes.{flying_of, mask_of, IsMaskOf};
 ghost use Rattle.fwd_table.specs.Changes.{row_changed};
 ghost use Rattle.fwd_table.specs.Kept.{size_of, flying_to, waiting_for, memory_of, files_up, found_up};
 ghost use Rattle.fwd_base.specs.Limits.{most_inputs};
-ghost use Rattle.fwd_table.specs.Rows.{IsIdle, IsOwedToNobody, has_row, is_row_of, is_idle_in, flights_to, owed_rows, row_at, routes_at, tries_of, owes_nothing, idle_timers_of, seen_of, opened, on_chunk, without_chunk, grown, shut_at, started_to, stayed_to, answered_by, resolved_to};
+ghost use Rattle.fwd_table.specs.Rows.{IsIdle, IsOwedToNobody, rows_at, has_row, is_row_of, is_idle_in, flights_to, owed_rows, row_at, routes_at, tries_of, owes_nothing, idle_timers_of, seen_of, opened, on_chunk, without_chunk, grown, shut_at, started_to, stayed_to, answered_by, resolved_to};
 
 use crate::answer::{due_after, may_retry, resolved, spent};
-use crate::route::{Change, Route, Routes};
-use crate::row::{
-    Row, RowChange, change_row, due_in, find_row, make_storage, next_in, place_of, soonest_in,
-    sums_of,
+use crate::place::{
+    Place, change_row, clear_row, close_gaps, due_in, find_row, keep_owed_places, make_storage,
+    next_in, open_end, soonest_in, sums_of,
 };
+use crate::route::{Change, Route, Routes};
+use crate::row::{Row, RowChange};
 use crate::sums::{Sums, Way};
 use crate::{Answer, Outcome, RowSeen};
 use fwd_base::limits::MOST_OUTPUTS;
@@ -30,11 +31,12 @@ use std::marker::Model;
 use std::mem;
 
 /// The chunks that are open or owed to an output, by rising number, each with the outputs that it is owed to still.
-/// Contracts see the rows, and beside them for how many more there is room. All calls but `reserve` and `due` take no
-/// memory. The row of a chunk is found by halving.
+/// Contracts see the rows, the places at which they stand, and for how many more there is room. All calls but `reserve`
+/// and `due` take no memory. A chunk's row is found by its number, or by halving. One that goes leaves its place empty, and
+/// empty places go together once they are the more, so rows that go in any order take a time linear in their number.
 #[derive(Debug, Drop)]
 pub struct Table {
-    rows: VecDeque<Row>,
+    places: VecDeque<Place>,
     /// Where the routes of the next row go.
     storage: Vec<Route>,
     /// A clock reading in milliseconds before which no idle route is due.
@@ -46,14 +48,14 @@ pub struct Table {
 impl Model for Table {
     ghost use Rattle.std.specs.Prelude.{◌-◌, vec_capacity};
     ghost use Rattle.std.specs.VecDeque.{deque_len, deque_capacity};
+    ghost use Rattle.fwd_table.specs.Places.{IsPlaced, seen_at, standing};
     ghost use Rattle.fwd_table.specs.Rows.{TableSeen, spare_of};
-    ghost use Rattle.fwd_table.specs.Sums.{IsKept};
 
     ghost Value = { TableSeen };
 
-    ghost view = { λ t. record { rows = t.rows.items; spare = spare_of (vec_capacity t.storage) (deque_capacity t.rows - deque_len t.rows) } };
+    ghost view = { λ t. record { rows = standing t.places.items; places = seen_at t.places.items; spare = spare_of (vec_capacity t.storage) (deque_capacity t.places - deque_len t.places) } };
 
-    ghost invariant = { λ t. IsKept t.soonest t.sums t.rows.items };
+    ghost invariant = { λ t. IsPlaced t.soonest t.sums t.places.items };
 }
 
 impl Table {
@@ -62,7 +64,7 @@ impl Table {
         ensures { result.rows ≡ [] }
     {
         Table {
-            rows: VecDeque::new(alloc),
+            places: VecDeque::new(alloc),
             storage: Vec::new(alloc),
             soonest: u64::MAX,
             sums: Sums::new(),
@@ -76,8 +78,8 @@ impl Table {
         ensures room { OnOk result (1 ≤ self.new.spare) }
         ensures spare { self.old.spare ≤ self.new.spare }
     {
-        self.rows.reserve(1)?;
-        make_storage(self.alloc, &mut self.rows, &mut self.storage)
+        self.places.reserve(1)?;
+        make_storage(self.alloc, &mut self.places, &mut self.storage)
     }
 
     /// Puts an open row at the end, owed to the outputs whose bits are set in `owed`. It asks for room that was
@@ -97,6 +99,7 @@ impl Table {
         ensures owed { IsMaskOf (opened chunk input home tag size owed).routes owed }
         ensures spare { self.old.spare ≤ self.new.spare + 1 }
     {
+        open_end(&mut self.places, chunk);
         let storage = mem::replace(&mut self.storage, Vec::new(self.alloc));
         let row = Row {
             chunk,
@@ -108,14 +111,17 @@ impl Table {
             routes: Routes::to(storage, owed),
         };
         self.sums.shift(&row, Way::In);
-        self.rows.push_back_reserved(row);
+        self.places.push_back_reserved(Place {
+            chunk,
+            row: Some(row),
+        });
     }
 
     /// Whether a chunk has a row.
     pub fn has(&self, chunk: ChunkId) -> bool
         ensures { result ≡ has_row chunk self.now.rows }
     {
-        find_row(&self.rows, chunk).is_some()
+        find_row(&self.places, chunk).is_some()
     }
 
     /// Whether a route is owed, of a shut row, and not under way.
@@ -123,7 +129,7 @@ impl Table {
         ensures value { result ≡ is_idle_in chunk output self.now.rows }
         ensures means { IsTrue result ↔ IsIdle chunk output self.now.rows }
     {
-        match find_row(&self.rows, chunk) {
+        match find_row(&self.places, chunk) {
             Some(row) => row.waits_for(output),
             None => false,
         }
@@ -133,7 +139,7 @@ impl Table {
     pub fn is_owed_to_nobody(&self, chunk: ChunkId) -> bool
         ensures { IsTrue result ↔ IsOwedToNobody chunk self.now.rows }
     {
-        match find_row(&self.rows, chunk) {
+        match find_row(&self.places, chunk) {
             Some(row) => row.routes.is_empty(),
             None => false,
         }
@@ -161,7 +167,7 @@ impl Table {
         ensures value { result ≡ first (filter (is_next now after) (idle_timers_of self.now.rows)) }
         ensures first { let due = filter (is_next now after) (idle_timers_of self.now.rows) in MatchOption result (due ≡ []) (IsFirst due) }
     {
-        next_in(&self.rows, now, after)
+        next_in(&self.places, now, after)
     }
 
     /// The timers of the idle routes that are due at `now`, by due time, then chunk, then output. The rows stay. Where none
@@ -171,13 +177,11 @@ impl Table {
         ensures spare { self.old.spare ≤ self.new.spare }
         ensures due { IfOk result (λ timers. timers.items ≡ in_time (filter (λ (t : Timer). nat_le t.due now) (idle_timers_of self.old.rows))) }
     {
-        if self.soonest <= now {
-            self.soonest = soonest_in(&self.rows);
-        }
+        self.look_again(now);
         if now < self.soonest {
             return Ok(Vec::new(self.alloc));
         }
-        due_in(self.alloc, &self.rows, now)
+        due_in(self.alloc, &self.places, now)
     }
 
     /// A route is being handed over from now on, if it is owed.
@@ -249,7 +253,7 @@ impl Table {
         ensures value { result ≡ mask_of (routes_at chunk self.now.rows) }
         ensures bits { IsMaskOf (routes_at chunk self.now.rows) result }
     {
-        match find_row(&self.rows, chunk) {
+        match find_row(&self.places, chunk) {
             Some(row) => row.routes.owed(),
             None => 0,
         }
@@ -262,11 +266,8 @@ impl Table {
         ensures owed { owed_rows self.new.rows ≡ owed_rows self.old.rows }
         ensures spare { self.old.spare ≤ self.new.spare }
     {
-        if let Some(place) = place_of(&self.rows, chunk) {
-            if let Some(row) = self.rows.remove(place) {
-                self.sums.shift(&row, Way::Out);
-            }
-        }
+        clear_row(&mut self.places, &mut self.sums, chunk);
+        self.close_many_gaps();
     }
 
     /// Takes away the rows that are owed to nobody. That of this chunk is tried first, and most calls look at no other.
@@ -284,7 +285,7 @@ impl Table {
     pub fn tag_of(&self, chunk: ChunkId) -> &[u8]
         ensures { result.now ≡ option_map_or (λ (row : Row). row.tag) (row_at chunk self.now.rows) [] }
     {
-        match find_row(&self.rows, chunk) {
+        match find_row(&self.places, chunk) {
             Some(row) => row.tag.as_slice(),
             None => &[],
         }
@@ -341,7 +342,7 @@ impl Table {
         ensures owed { IfSome (row_at chunk self.now.rows) (λ row. IfSome result (λ seen. IsMaskOf row.routes seen.owed)) }
         ensures flying { IfSome (row_at chunk self.now.rows) (λ row. IfSome result (λ seen. IsMaskOf (flying_of row.routes) seen.flying)) }
     {
-        let row = find_row(&self.rows, chunk)?;
+        let row = find_row(&self.places, chunk)?;
         Some(row.seen())
     }
 
@@ -349,26 +350,37 @@ impl Table {
     pub fn len(&self) -> u64
         ensures { result ≡ length self.now.rows }
     {
-        self.rows.len() as u64
+        self.sums.rows() as u64
     }
 
-    /// The row at a place, from 0, by rising chunk number: no other row is of that chunk. It asks for a place below `len`.
-    pub fn row(&self, index: u64) -> RowSeen
-        requires { index < length self.now.rows }
-        ensures value { Some result ≡ option_map seen_of (slice_get self.now.rows index) }
-        ensures only { slice_get self.now.rows index ≡ row_at result.chunk self.now.rows }
-        ensures owed { IfSome (slice_get self.now.rows index) (λ row. IsMaskOf row.routes result.owed) }
-        ensures flying { IfSome (slice_get self.now.rows index) (λ row. IsMaskOf (flying_of row.routes) result.flying) }
+    /// The number of places at which rows stand, by rising chunk number. At some of them none stands any more.
+    pub fn places(&self) -> u64
+        ensures count { result ≡ length self.now.places }
+        ensures rows { self.now.rows ≡ rows_at self.now.places }
     {
-        self.rows[index as usize].seen()
+        self.places.len() as u64
     }
 
-    /// The tag of the row at a place, from 0, by rising chunk number. It asks for a place below `len`.
-    pub fn tag(&self, index: u64) -> &[u8]
-        requires { index < length self.now.rows }
-        ensures { Some result.now ≡ option_map (λ row. row.tag) (slice_get self.now.rows index) }
+    /// The row at a place, from 0, if one stands there: no other row is of that chunk.
+    pub fn row(&self, place: u64) -> Option<RowSeen>
+        ensures value { result ≡ option_map seen_of (get_or self.now.places place None) }
+        ensures only { IfSome result (λ seen. get_or self.now.places place None ≡ row_at seen.chunk self.now.rows) }
+        ensures owed { IfSome (get_or self.now.places place None) (λ row. IfSome result (λ seen. IsMaskOf row.routes seen.owed)) }
+        ensures flying { IfSome (get_or self.now.places place None) (λ row. IfSome result (λ seen. IsMaskOf (flying_of row.routes) seen.flying)) }
     {
-        self.rows[index as usize].tag.as_slice()
+        let place = self.places.get(place as usize)?;
+        let row = place.row.as_ref()?;
+        Some(row.seen())
+    }
+
+    /// The tag of the row at a place, from 0; empty where none stands there.
+    pub fn tag(&self, place: u64) -> &[u8]
+        ensures { result.now ≡ option_map_or (λ row. row.tag) (get_or self.now.places place None) [] }
+    {
+        match self.places.get(place as usize) {
+            Some(place) => place.tag(),
+            None => &[],
+        }
     }
 
     /// Takes away the rows that are owed to nobody, if there are such.
@@ -377,8 +389,27 @@ impl Table {
         ensures spare { self.old.spare ≤ self.new.spare }
     {
         if self.sums.has_unowed() {
-            self.rows.retain(|row| !row.routes.is_empty());
-            self.sums = sums_of(&self.rows);
+            keep_owed_places(&mut self.places);
+            self.sums = sums_of(&self.places);
+        }
+    }
+
+    /// Takes away the places without a row, where they are more than those with one.
+    fn close_many_gaps(&mut self)
+        ensures rows { self.new.rows ≡ self.old.rows }
+        ensures spare { self.old.spare ≤ self.new.spare }
+    {
+        if self.sums.rows() < (self.places.len() / 2) as u128 {
+            close_gaps(&mut self.places);
+        }
+    }
+
+    /// Finds anew from when on an idle route may be due, where one may be.
+    fn look_again(&mut self, now: u64)
+        ensures { self.new ≡ self.old }
+    {
+        if self.soonest <= now {
+            self.soonest = soonest_in(&self.places);
         }
     }
 
@@ -388,13 +419,13 @@ impl Table {
         ensures spare { self.old.spare ≤ self.new.spare }
     {
         self.soonest = self.soonest.min(change.due());
-        change_row(&mut self.rows, &mut self.sums, chunk, change);
+        change_row(&mut self.places, &mut self.sums, chunk, change);
     }
 
     fn tries_so_far(&self, chunk: ChunkId, output: OutputId) -> u64
         ensures { result ≡ tries_of chunk output self.now.rows }
     {
-        match find_row(&self.rows, chunk) {
+        match find_row(&self.places, chunk) {
             Some(row) => row.routes.tries(output),
             None => 0,
         }
@@ -430,7 +461,7 @@ impl Table {
     fn owes_nothing(&self, chunk: ChunkId) -> bool
         ensures { result ≡ owes_nothing chunk self.now.rows }
     {
-        match find_row(&self.rows, chunk) {
+        match find_row(&self.places, chunk) {
             Some(row) => row.routes.is_empty(),
             None => true,
         }

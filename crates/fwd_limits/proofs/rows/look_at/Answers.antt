@@ -1,8 +1,8 @@
-use Rattle.std.proofs.Common.{Some, ap, ◌∙◌, sym}
-use Rattle.std.specs.Prelude.{slice_get}
+use Rattle.std.proofs.Common.{Some, None, get_or, ap, ◌∙◌}
 use Rattle.fwd_limits.proofs.Looking.{look_is}
 use Rattle.fwd_limits.proofs.rows.look_at.Goals as goal
 
 pub returns : goal.returns
 returns c =
-    look_is (slice_get c.args.table.now.rows c.args.index) c.row.result c.args.output c.row.ensures.value c.row.ensures.owed c.row.ensures.flying ∙ ap Some (sym c.look_by.ensures)
+    ap Some c.look_by.ensures
+    ∙ look_is (get_or c.args.table.now.places c.args.place None) c.in_ok-row.row c.args.output c.in_ok-row.ensures.value c.in_ok-row.ensures.owed c.in_ok-row.ensures.flying

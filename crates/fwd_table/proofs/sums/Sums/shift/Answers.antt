@@ -1,5 +1,5 @@
 use Rattle.fwd_table.specs.declared.sums.ByOutput.TheVariants.{Flights, FlyingBytes, WaitingBytes}
-use Rattle.fwd_table.specs.Sums.{Over, Memory, FilesUp, FoundUp, Unowed}
+use Rattle.fwd_table.specs.Sums.{Over, Memory, FilesUp, FoundUp, Unowed, Rows}
 use Rattle.std.proofs.Common.{arith}
 use Rattle.fwd_table.proofs.sums.Sums.shift.Goals as goal
 
@@ -23,3 +23,6 @@ shifted-self-requires-2 c = rw c.found_part.ensures (c.requires FoundUp 0 (omega
 
 pub shifted-self-requires-3 : goal.shifted-self-requires-3
 shifted-self-requires-3 c = rw c.unowed_part.ensures (c.requires Unowed 0 (omega arith))
+
+pub shifted-self-requires-4 : goal.shifted-self-requires-4
+shifted-self-requires-4 c = c.requires Rows 0 (omega arith)
