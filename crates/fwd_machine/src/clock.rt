@@ -47,6 +47,8 @@ impl Clock {
     pub fn passed(&mut self, rt: &HostRuntime) -> u64
         ensures rises { self.old.passed ≤ result }
         ensures kept { self.new.passed ≡ result }
+        ensures last { self.new.last ≡ self.old.last }
+        ensures sure { self.new.sure ≡ self.old.sure }
     {
         if let Ok(instant) = Instant::now(rt) {
             let passed = millis_of(instant.duration_since(self.begun));
@@ -59,6 +61,7 @@ impl Clock {
     pub fn read(&mut self, rt: &HostRuntime) -> io::Result<u64>
         ensures rises { IfOk result (λ now. self.old.last ≤ now) }
         ensures kept { IfOk result (λ now. self.new.last ≡ now) }
+        ensures passed { self.new.passed ≡ self.old.passed }
     {
         let reading = read_machine(rt)?;
         let instant = Instant::now(rt)?;

@@ -1,6 +1,6 @@
 //! Sets of inputs as masks.
 
-ghost use Rattle.std.specs.Prelude.{◌≡◌, true};
+ghost use Rattle.std.specs.Prelude.{◌≡◌, not, true};
 ghost use Rattle.fwd_outside.specs.Loop.{IsHeard};
 ghost use Rattle.fwd_machine.specs.Masks.{is_set};
 
@@ -18,7 +18,8 @@ fn is_set(mask: u64, bit: u32) -> bool
 
 /// Whether something of an input may come.
 pub fn is_heard(paused: u64, input: InputId) -> bool
-    ensures { result ≡ true → IsHeard paused input }
+    ensures value { result ≡ not (is_set paused input.0) }
+    ensures heard { result ≡ true → IsHeard paused input }
 {
     !is_set(paused, input.0)
 }
