@@ -1,20 +1,17 @@
 -- What is gathered of rows and numbers that are looked at one after another.
-use Rattle.std.proofs.Common.{◌≡◌, ℕ, ◌+◌, Bool, true, false, not, cond, List, [], ◌∷◌, ◌++◌, take, Option, Some, None, map, refl, sym, ◌∙◌, ap, arith}
-use Rattle.std.specs.Prelude.{filter, option_map, slice_get}
+use Rattle.std.proofs.Common.{◌≡◌, ℕ, ◌+◌, Bool, true, false, not, cond, List, [], ◌∷◌, ◌++◌, get_or, take, Option, Some, None, map, refl, sym, ◌∙◌, ap, arith}
+use Rattle.std.specs.Prelude.{filter, option_map}
 use Rattle.std.specs.List.{range_with_len}
 use Rattle.std.proofs.lemmas.List.{map-append, append-nil}
-use Rattle.std.proofs.lemmas.List.Elements.{filter_more}
+use Rattle.std.proofs.lemmas.List.Elements.{filter-append}
 use Rattle.std.proofs.lemmas.List.FromFn.{filter_of_map_range_with_len_more}
-use Rattle.std.proofs.lemmas.Option.{slice_get_within, get_or_from_slice_get}
 use Rattle.fwd_base.specs.declared.ids.ChunkId.{ChunkId}
 use Rattle.fwd_table.specs.declared.row.Row.{Row}
 use Rattle.fwd_table.specs.declared.row.RowSeen.{RowSeen}
-use Rattle.fwd_table.specs.Rows.{seen_of}
+use Rattle.fwd_table.specs.Rows.{rows_at, seen_of}
+use Rattle.fwd_table.proofs.Standing.{none_seen, one_seen}
 
-kept_row : (p : Row → Bool) (rows : List Row) (i : ℕ) (row : Row) → slice_get rows i ≡ Some row → filter p (take (i + 1) rows) ≡ filter p (take i rows) ++ cond (p row) (row ∷ []) []
-kept_row p rows i row there =
-    filter_more p rows i row (slice_get_within rows i row there)
-    ∙ ap (λ (r : Row). filter p (take i rows) ++ cond (p r) (r ∷ []) []) (get_or_from_slice_get rows i row row there)
+-- ---- chunks that are open
 
 abbrev open_of : List Row → List ChunkId
 open_of rows = map (λ (row : Row). row.chunk) (filter (λ (row : Row). not row.shut) rows)
@@ -23,26 +20,29 @@ one_open : (b : Bool) (row : Row) → map (λ (row : Row). row.chunk) (cond b (r
 one_open true row = refl
 one_open false row = refl
 
-open_goes : (rows : List Row) (i : ℕ) (seen : RowSeen) → Some seen ≡ option_map seen_of (slice_get rows i) → open_of (take (i + 1) rows) ≡ open_of (take i rows) ++ cond (not seen.shut) (seen.chunk ∷ []) []
-open_goes rows i seen there = by (slice_get rows i) refl there
-  where
-    by : (at : Option Row) → slice_get rows i ≡ at → Some seen ≡ option_map seen_of at → open_of (take (i + 1) rows) ≡ open_of (take i rows) ++ cond (not seen.shut) (seen.chunk ∷ []) []
-    by None at same = absurd (cc same)
-    by (Some row) at same =
-        let seen_is : seen ≡ seen_of row = cc same in
-        let open_rows : List Row = filter (λ (row : Row). not row.shut) (take i rows) in
-        ap (map (λ (row : Row). row.chunk)) (kept_row (λ (row : Row). not row.shut) rows i row at)
-        ∙ map-append (λ (row : Row). row.chunk) open_rows (cond (not row.shut) (row ∷ []) [])
-        ∙ ap (λ (l : List ChunkId). open_of (take i rows) ++ l) (one_open (not row.shut) row)
-        ∙ ap (λ (x : RowSeen). open_of (take i rows) ++ cond (not x.shut) (x.chunk ∷ []) []) (sym seen_is)
+module _ (places : List (Option Row)) (n : ℕ) where
+  abbrev so_far : List ChunkId
+  so_far = open_of (rows_at (take n places))
 
-pub open_more : (rows : List Row) (i : ℕ) (seen : RowSeen) → Some seen ≡ option_map seen_of (slice_get rows i) → not seen.shut ≡ true
-    → map (λ (row : Row). row.chunk) (filter (λ (row : Row). not row.shut) (take (i + 1) rows)) ≡ map (λ (row : Row). row.chunk) (filter (λ (row : Row). not row.shut) (take i rows)) ++ seen.chunk ∷ []
-open_more rows i seen there is = open_goes rows i seen there ∙ ap (λ (b : Bool). open_of (take i rows) ++ cond b (seen.chunk ∷ []) []) is
+  open_goes : (seen : RowSeen) → Some seen ≡ option_map seen_of (get_or places n None) → open_of (rows_at (take (n + 1) places)) ≡ so_far ++ cond (not seen.shut) (seen.chunk ∷ []) []
+  open_goes seen there =
+      let at = one_seen seen_of places n seen there in
+      let front : List Row = filter (λ (row : Row). not row.shut) (rows_at (take n places)) in
+      ap open_of at.more
+      ∙ ap (map (λ (row : Row). row.chunk)) (filter-append (λ (row : Row). not row.shut) (rows_at (take n places)) (at.row ∷ []))
+      ∙ map-append (λ (row : Row). row.chunk) front (cond (not at.row.shut) (at.row ∷ []) [])
+      ∙ ap (λ (l : List ChunkId). so_far ++ l) (one_open (not at.row.shut) at.row)
+      ∙ ap (λ (x : RowSeen). so_far ++ cond (not x.shut) (x.chunk ∷ []) []) (sym at.is)
 
-pub open_same : (rows : List Row) (i : ℕ) (seen : RowSeen) → Some seen ≡ option_map seen_of (slice_get rows i) → not seen.shut ≡ false
-    → map (λ (row : Row). row.chunk) (filter (λ (row : Row). not row.shut) (take (i + 1) rows)) ≡ map (λ (row : Row). row.chunk) (filter (λ (row : Row). not row.shut) (take i rows))
-open_same rows i seen there is = open_goes rows i seen there ∙ ap (λ (b : Bool). open_of (take i rows) ++ cond b (seen.chunk ∷ []) []) is ∙ append-nil (open_of (take i rows))
+  pub open_more : (seen : RowSeen) → Some seen ≡ option_map seen_of (get_or places n None) → not seen.shut ≡ true → open_of (rows_at (take (n + 1) places)) ≡ so_far ++ seen.chunk ∷ []
+  open_more seen there is = open_goes seen there ∙ ap (λ (b : Bool). so_far ++ cond b (seen.chunk ∷ []) []) is
+
+  pub open_same : (seen : RowSeen) → Some seen ≡ option_map seen_of (get_or places n None) → not seen.shut ≡ false → open_of (rows_at (take (n + 1) places)) ≡ so_far
+  open_same seen there is = open_goes seen there ∙ ap (λ (b : Bool). so_far ++ cond b (seen.chunk ∷ []) []) is ∙ append-nil so_far
+
+  -- where no row stands
+  pub open_none : None ≡ option_map seen_of (get_or places n None) → open_of (rows_at (take (n + 1) places)) ≡ so_far
+  open_none is = ap open_of (none_seen seen_of places n is)
 
 -- ---- numbers
 

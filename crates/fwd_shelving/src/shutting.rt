@@ -38,10 +38,11 @@ fn open_in(alloc: Global, table: &Table) -> Result<Vec<ChunkId>, Memory>
     ensures { IfOk result (λ chunks. chunks.items ≡ map (λ row. row.chunk) (filter (λ row. not row.shut) table.now.rows)) }
 {
     let mut chunks = Vec::new(alloc);
-    for index in 0..table.len() {
-        let row = table.row(index);
-        if !row.shut {
-            chunks.push(row.chunk)?;
+    for place in 0..table.places() {
+        if let Some(row) = table.row(place) {
+            if !row.shut {
+                chunks.push(row.chunk)?;
+            }
         }
     }
     Ok(chunks)
