@@ -50,7 +50,7 @@ const SHUT: RowSeen = RowSeen {
 
 /// Whether the table has this row alone.
 fn shows(table: &Table, row: RowSeen) -> bool {
-    table.len() == 1 && table.row(0) == row
+    table.len() == 1 && table.row(0) == Some(row)
 }
 
 fn grows_and_shuts(table: &mut Table) -> bool {
@@ -104,7 +104,14 @@ fn comes_in_order(table: &mut Table) -> bool {
     let idle = table.is_idle(CHUNK, STDOUT);
     table.started(CHUNK, STDOUT);
     let started = are_due(table, &[(1000, None, timer(1000, TCP))]);
-    let flying = table.len() == 1 && table.row(0).flying == 1;
+    let flying = shows(
+        table,
+        RowSeen {
+            flying: 1,
+            shut: true,
+            ..OPEN
+        },
+    );
     table.stayed(CHUNK, STDOUT);
     let stayed = are_due(table, &[(1000, None, timer(1000, STDOUT))]);
     in_order && idle && started && flying && stayed
