@@ -4,6 +4,8 @@
 #[cfg(test)]
 mod flush;
 #[cfg(test)]
+mod gaps;
+#[cfg(test)]
 mod links;
 #[cfg(test)]
 mod many;

@@ -15,6 +15,9 @@ const TCP: OutputId = OutputId(3);
 /// When they come back behind a failure at the reading `MANY`.
 const BACK: u64 = MANY + 5000;
 
+/// Steps of so many come to each chunk, as it has no factor in common with `MANY`.
+const STRIDE: u64 = 61_331;
+
 const ONCE: Retries = Retries::Times(1);
 
 /// The chunks close, the last one first.
@@ -74,10 +77,10 @@ fn due_behind_failures(table: &mut Table) -> Result<bool, Memory> {
     Ok(none && all)
 }
 
-/// Each row goes, the last one first, where it is owed to nobody.
+/// Each row goes where it is owed to nobody, in an order that isn't that of the rows.
 fn forget_all(table: &mut Table) -> bool {
     for number in 0..MANY {
-        let chunk = ChunkId(MANY - 1 - number);
+        let chunk = ChunkId(number * STRIDE % MANY);
         if !table.is_owed_to_nobody(chunk) {
             return false;
         }
