@@ -7,6 +7,7 @@ ghost use Rattle.std.specs.Cmp.Lexicographic.{slice_cmp, nat_list_eq_equiv, nat_
 ghost use Rattle.std.specs.Ordering.{nat_cmp};
 ghost use Rattle.std.specs.Str.{bytes_eq};
 ghost use Rattle.std.proofs.Common.{refl};
+ghost use Rattle.fwd_live.specs.Placed.{placed};
 ghost use Rattle.fwd_outside.specs.Disk.{IsFileName, IsListing};
 
 use fwd_outside::{Bytes, Memory, Names};
@@ -71,15 +72,14 @@ impl Ord for FileName {
 
 /// The name of a file that is placed. None where it has a `/`, or isn't placed yet.
 pub fn placed_name(alloc: Global, name: &str) -> Result<Option<FileName>, Memory>
-    ensures { IfOk result (λ found. IfSome found IsFileName) }
+    ensures name { IfOk result (λ found. IfSome found IsFileName) }
+    ensures placed { IfOk result (λ found. found ≡ placed name.now) }
 {
-    if name.ends_with(UNPLACED) {
+    let bytes = name.as_bytes();
+    if bytes.ends_with(UNPLACED.as_bytes()) || bytes.contains(&b'/') {
         return Ok(None);
     }
-    if name.as_bytes().contains(&b'/') {
-        return Ok(None);
-    }
-    let name = Bytes::from_slice(alloc, name.as_bytes())?;
+    let name = Bytes::from_slice(alloc, bytes)?;
     Ok(Some(FileName { name }))
 }
 
