@@ -1,5 +1,5 @@
 -- The rows that stand at places, where the place of one chunk changes.
-use Rattle.std.proofs.Common.{◌≡◌, ◌≢◌, ◌⊎◌, inl, inr, ℕ, zero, suc, ◌+◌, ◌-◌, ◌<◌, ◌≤◌, Bool, true, false, List, [], ◌∷◌, ◌++◌, length, get_or, set, Some, None, Result, Ok, Err, refl, sym, ◌∙◌, ap, subst, arith}
+use Rattle.std.proofs.Common.{◌≡◌, ◌≢◌, ◌⊎◌, inl, inr, ℕ, zero, suc, ◌+◌, ◌-◌, ◌<◌, ◌≤◌, Bool, true, false, List, [], ◌∷◌, ◌++◌, length, get_or, set, drop, Some, None, Result, Ok, Err, refl, sym, ◌∙◌, ap, subst, arith}
 use Rattle.std.specs.Prelude.{All, Option, IfSome, filter, sum_by, option_map, option_to_list, is_some, IsTrue, if◌then◌else◌}
 use Rattle.std.specs.List.{flat_map}
 use Rattle.std.specs.Option.{option_map_or}
@@ -279,3 +279,24 @@ below_rows n (p ∷ ps) own full below =
     by : (row : Option Row) → IfSome row (λ r. r.chunk.0 ≡ p.chunk.0) → IsTrue (is_some row) → IfSome row (λ r. r.chunk.0 < n) → p.chunk.0 < n
     by None same is less = absurd (cc is)
     by (Some r) same is less = omega (arith, same, less)
+
+-- ---- the first place goes
+
+-- the same rows stand, and the places are in order where they were
+pub record Keeps (old new : List Place) : Type 0 where
+  pub rows : standing new ≡ standing old
+  pub numbers : NumbersRise old → NumbersRise new
+  pub own : All IsOwn old → All IsOwn new
+
+pub keeps_all : (places : List Place) → Keeps places places
+keeps_all places = record { rows = refl; numbers = λ rise. rise; own = λ own. own }
+
+pub first_goes : (old places rest : List Place) → rest ≡ drop 1 places → 0 < length places → ((place : Place) → (get_or places 0 place).row ≡ None) → Keeps old places → Keeps old rest
+first_goes old [] rest is some empty keeps = absurd (omega (arith, some))
+first_goes old (p ∷ ps) rest is some empty keeps =
+    rw is
+    (record {
+      rows = ap (λ (row : Option Row). option_to_list row ++ standing ps) (sym (empty p)) ∙ keeps.rows;
+      numbers = λ rise. behind_rise p.chunk p ps (keeps.numbers rise);
+      own = λ own. All-tail IsOwn p ps (keeps.own own);
+    })

@@ -1,7 +1,7 @@
 //! The places at which the rows of a table stand. A row that is taken away leaves its place empty, so that no other has to
 //! move.
 
-ghost use Rattle.std.specs.Prelude.{◌≡◌, ℕ, [], ◌+◌, ◌<◌, ◌≤◌, ◌^◌, None, Some, length, map, filter, fold, is_some, nat_le, option_copied, option_map, vec_capacity, All, IfOk, IfSome, IsTrue, OnOk};
+ghost use Rattle.std.specs.Prelude.{◌≡◌, ℕ, [], ◌+◌, ◌<◌, ◌≤◌, ◌^◌, None, Some, get_or, length, map, filter, fold, is_some, nat_le, option_copied, option_map, vec_capacity, All, IfOk, IfSome, IsTrue, OnOk};
 ghost use Rattle.std.specs.BTreeSet.{insert_key};
 ghost use Rattle.std.specs.List.{flat_map};
 ghost use Rattle.std.specs.Option.{option_map_or};
@@ -10,6 +10,7 @@ ghost use Rattle.fwd_base.specs.Limits.{most_outputs};
 ghost use Rattle.fwd_retry.specs.Timer.{by_time, earlier as earlier_of, first, in_time, is_next};
 ghost use Rattle.fwd_retry.specs.declared.timer.Timer.{Timer};
 ghost use Rattle.fwd_table.specs.Changes.{row_changed};
+ghost use Rattle.fwd_table.specs.declared.place.Place.{Place};
 ghost use Rattle.fwd_table.specs.Places.{IsOwn, IsPlaceOf, NumbersRise, is_owed_at, standing, waiting_at};
 ghost use Rattle.fwd_table.specs.Rows.{WaitsTill, on_chunk, owed_rows, row_at, without_chunk};
 ghost use Rattle.fwd_table.specs.Sums.{AreSums, Counted, IsSound, part_of, total};
@@ -212,6 +213,28 @@ pub fn clear_row(places: &mut VecDeque<Place>, sums: &mut Sums, chunk: ChunkId)
 {
     if let Some(place) = place_of(places, chunk) {
         places[place].clear(sums);
+    }
+}
+
+/// Whether no row stands at the first place.
+fn is_first_empty(places: &VecDeque<Place>) -> bool
+    ensures { IsTrue result → (0 < length places.now.items) × ((place : Place) → (get_or places.now.items 0 place).row ≡ None) }
+{
+    match places.front() {
+        Some(first) => first.row.is_none(),
+        None => false,
+    }
+}
+
+/// Takes away the first places, up to one at which a row stands.
+pub fn drop_first_gaps(places: &mut VecDeque<Place>)
+    ensures rows { standing places.new.items ≡ standing places.old.items }
+    ensures numbers { NumbersRise places.old.items → NumbersRise places.new.items }
+    ensures own { All IsOwn places.old.items → All IsOwn places.new.items }
+    ensures room { (deque_capacity places.new ≡ deque_capacity places.old) × (deque_len places.new ≤ deque_len places.old) }
+{
+    while is_first_empty(places) {
+        places.pop_front();
     }
 }
 

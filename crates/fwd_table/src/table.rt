@@ -14,8 +14,8 @@ ghost use Rattle.fwd_table.specs.Rows.{IsIdle, IsOwedToNobody, rows_at, has_row,
 
 use crate::answer::{due_after, may_retry, resolved, spent};
 use crate::place::{
-    Place, change_row, clear_row, close_gaps, due_in, find_row, keep_owed_places, make_storage,
-    next_in, open_end, soonest_in, sums_of,
+    Place, change_row, clear_row, close_gaps, drop_first_gaps, due_in, find_row, keep_owed_places,
+    make_storage, next_in, open_end, soonest_in, sums_of,
 };
 use crate::route::{Change, Route, Routes};
 use crate::row::{Row, RowChange};
@@ -267,6 +267,7 @@ impl Table {
         ensures spare { self.old.spare ≤ self.new.spare }
     {
         clear_row(&mut self.places, &mut self.sums, chunk);
+        drop_first_gaps(&mut self.places);
         self.close_many_gaps();
     }
 

@@ -8,22 +8,25 @@ use Rattle.fwd_table.specs.Sums.{IsSound}
 use Rattle.fwd_table.proofs.Kept.{owed_without}
 use Rattle.fwd_table.proofs.table.Table.forget.Goals as goal
 
+gone : (c : goal.After-drop_first_gaps) → standing c.drop_first_gaps.new.places.items ≡ without_chunk c.args.chunk (standing c.self.inside.places.items)
+gone c = c.drop_first_gaps.ensures.rows ∙ c.clear_row.ensures.rows
+
 pub invariant_of-self : goal.invariant_of-self
 invariant_of-self c =
     let other = λ (row : Row). not (is_row_of c.args.chunk row) in
     record {
-      numbers = c.clear_row.ensures.numbers;
-      own = c.clear_row.ensures.own;
+      numbers = c.drop_first_gaps.ensures.numbers c.clear_row.ensures.numbers;
+      own = c.drop_first_gaps.ensures.own c.clear_row.ensures.own;
       kept = record {
-        rise = rw c.clear_row.ensures.rows (AllPairs-filter (λ (row behind : Row). row.chunk.0 < behind.chunk.0) other _ c.self.invariant.kept.rise);
-        sound = rw c.clear_row.ensures.rows (All-filter other IsSound _ c.self.invariant.kept.sound);
-        wait = rw c.clear_row.ensures.rows (All-filter other (WaitsTill c.self.inside.soonest) _ c.self.invariant.kept.wait);
-        summed = c.clear_row.ensures.sums;
+        rise = rw (gone c) (AllPairs-filter (λ (row behind : Row). row.chunk.0 < behind.chunk.0) other _ c.self.invariant.kept.rise);
+        sound = rw (gone c) (All-filter other IsSound _ c.self.invariant.kept.sound);
+        wait = rw (gone c) (All-filter other (WaitsTill c.self.inside.soonest) _ c.self.invariant.kept.wait);
+        summed = rw c.drop_first_gaps.ensures.rows c.clear_row.ensures.sums;
       };
     }
 
 pub returns-clause-owed : goal.returns-clause-owed
 returns-clause-owed c =
-    let gone : c.close_many_gaps.new.self.rows ≡ without_chunk c.args.chunk (standing c.self.inside.places.items) = c.close_many_gaps.ensures.rows ∙ c.clear_row.ensures.rows in
+    let rows : c.close_many_gaps.new.self.rows ≡ without_chunk c.args.chunk (standing c.self.inside.places.items) = c.close_many_gaps.ensures.rows ∙ c.drop_first_gaps.ensures.rows ∙ c.clear_row.ensures.rows in
     let asked : IsOwedToNobody c.args.chunk (standing c.self.inside.places.items) = rw (← c.self.view_is) at c.requires in
-    rw (gone, ← c.self.view_is) (owed_without c.args.chunk (standing c.self.inside.places.items) c.self.invariant.kept.rise asked)
+    rw (rows, ← c.self.view_is) (owed_without c.args.chunk (standing c.self.inside.places.items) c.self.invariant.kept.rise asked)
