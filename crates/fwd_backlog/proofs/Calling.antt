@@ -1,14 +1,14 @@
 -- How the calls of loading lead through their programs.
 use Rattle.std.proofs.Common.{◌≡◌, ◌≢◌, ℕ, List, [], Option, Some, None, Result, Ok, Err, IsErrAnd, refl, sym, subst}
 use Rattle.fwd_program.specs.Program.{Program, Return, Ask, with_value, and_then}
-use Rattle.fwd_program.specs.Told.{Grew, Leads, Did, Makes, asking}
+use Rattle.fwd_program.specs.Told.{Grew, Leads, Did, Unfailed, Makes, asking}
 use Rattle.fwd_program.proofs.Leading.{goes_on, inside, asked, unasked}
 use Rattle.fwd_outside.specs.Disk.{DiskTold, DiskProgram, DiskCall, DiskAnswer, ListNames, Sync, Read, lists, syncs, reads, disk_outcome}
 use Rattle.fwd_outside.specs.declared.errors.DiskErr.{DiskErr}
 use Rattle.fwd_outside.specs.declared.errors.DiskErr.TheVariants as disk_err
 use Rattle.fwd_backlog.specs.declared.errors.LoadErr.{LoadErr}
 use Rattle.fwd_backlog.specs.declared.errors.LoadErr.TheVariants.{DiskFailed, Memory}
-use Rattle.fwd_backlog.specs.Answer.{answer_of, Unfailed, Stops, Gives, Loads}
+use Rattle.fwd_backlog.specs.Answer.{answer_of, Stops, Gives, Loads}
 
 -- ---- programs that haven't failed
 

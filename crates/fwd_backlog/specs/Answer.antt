@@ -1,7 +1,6 @@
 -- What loading came to.
-use Rattle.std.specs.Prelude.{◌≢◌, Option, Some, None, Result, Ok, Err}
-use Rattle.fwd_program.specs.Program.{Return}
-use Rattle.fwd_program.specs.Told.{Leads, Did}
+use Rattle.std.specs.Prelude.{Option, Some, None, Result, Ok, Err}
+use Rattle.fwd_program.specs.Told.{Did, Unfailed}
 use Rattle.fwd_outside.specs.Disk.{DiskTold, DiskProgram}
 use Rattle.fwd_outside.specs.declared.errors.DiskErr.{DiskErr}
 use Rattle.fwd_outside.specs.declared.errors.DiskErr.TheVariants as disk_err
@@ -12,10 +11,6 @@ use Rattle.fwd_backlog.specs.declared.errors.LoadErr.TheVariants.{DiskFailed, Me
 abbrev pub answer_of : DiskErr → LoadErr
 answer_of disk_err.Failed = DiskFailed
 answer_of disk_err.Memory = Memory
-
--- the calls made meanwhile are the first ones of the program, and it hasn't failed
-abbrev pub Unfailed : {R : Type 0} → DiskTold → DiskTold → DiskProgram (Option R) → Type 0
-Unfailed {R = R} old new program = (left : DiskProgram (Option R)) × Leads old new program left × (left ≢ Return None)
 
 -- by the error: the calls made meanwhile are those of the program up to one that failed; or it hasn't failed
 abbrev pub Stops : {R : Type 0} → DiskTold → DiskTold → DiskProgram (Option R) → LoadErr → Type 0

@@ -6,11 +6,11 @@ use Rattle.std.proofs.lemmas.List.Elements.{All-head, All-tail}
 use Rattle.std.specs.Prelude.{flat_map}
 use Rattle.fwd_base.specs.Limits.{longest_file, longest_name, longest_tag, most_outputs}
 use Rattle.fwd_program.specs.Program.{Return}
-use Rattle.fwd_program.specs.Told.{Makes}
+use Rattle.fwd_program.specs.Told.{Attempts}
 use Rattle.fwd_program.specs.Moments.{Holds}
 use Rattle.fwd_program.proofs.Holding.{holds_weaker}
 use Rattle.fwd_program.proofs.Going.{holds_and_then}
-use Rattle.fwd_program.proofs.Promised.{since_makes, after_did}
+use Rattle.fwd_program.proofs.Promised.{since_attempts, after_did}
 use Rattle.fwd_outside.specs.declared.errors.DiskErr.{DiskErr}
 use Rattle.fwd_outside.specs.Disk.{DiskTold, disk_outcome, places}
 use Rattle.fwd_image.specs.File.{FileState, whole, gone}
@@ -122,14 +122,14 @@ module _ (name tag batch : List ℕ) (outputs : List (List ℕ)) (files : Files)
       (place_keeps name (new_file tag batch outputs) files is)
       (λ x last l. (l.local, record { whole_at_end = λ _. l.done refl })) (λ last l. (l.local, record { whole_at_end = λ none. absurd (cc none) })))
 
-pub create_since : (a b : DiskTold) (r : Result ChunkHead DiskErr) (name tag batch : List ℕ) (outputs : List (List ℕ)) → Makes a b (creates name tag batch outputs) (disk_outcome r)
+pub create_since : (a b : DiskTold) (r : Result ChunkHead DiskErr) (name tag batch : List ℕ) (outputs : List (List ℕ)) → Attempts a b (creates name tag batch outputs) (disk_outcome r)
     → DiskSince a b (λ files. files name ≡ gone) (ComesWhole name (new_file tag batch outputs))
 create_since a b r name tag batch outputs calls =
-    since_makes Steps stood a b (creates name tag batch outputs) (disk_outcome r) (λ files. files name ≡ gone) (ComesWhole name (new_file tag batch outputs)) (λ _ _ _. Unit {0}) calls
+    since_attempts Steps stood a b (creates name tag batch outputs) (disk_outcome r) (λ files. files name ≡ gone) (ComesWhole name (new_file tag batch outputs)) (λ _ _ _. Unit {0}) calls
     (λ files is. holds_weaker Steps (ComesWhole name (new_file tag batch outputs) files) (ComesWhole name (new_file tag batch outputs) files) (Created name tag batch outputs files is) (λ _ _. Unit {0}) files (creates name tag batch outputs) (λ _ p. p) (λ _ _ _. tt)
     (create_keeps name tag batch outputs files is))
 
-pub create_after : (a b : DiskTold) (r : Result ChunkHead DiskErr) (name tag batch : List ℕ) (outputs : List (List ℕ)) → length tag ≤ longest_tag → AreOutputs outputs → 24 + length (new_meta tag outputs) + length batch ≤ longest_file → IfOk r (λ head. head ≡ new_head name tag batch outputs) → Makes a b (creates name tag batch outputs) (disk_outcome r)
+pub create_after : (a b : DiskTold) (r : Result ChunkHead DiskErr) (name tag batch : List ℕ) (outputs : List (List ℕ)) → length tag ≤ longest_tag → AreOutputs outputs → 24 + length (new_meta tag outputs) + length batch ≤ longest_file → IfOk r (λ head. head ≡ new_head name tag batch outputs) → Attempts a b (creates name tag batch outputs) (disk_outcome r)
     → IfOk r (λ head. DiskAfter a b (λ files. files name ≡ gone) (λ _ last. SettledIn head (new_meta tag outputs) batch last))
 create_after a b (Err e) name tag batch outputs short are fits is_head calls = tt
 create_after a b (Ok head) name tag batch outputs short are fits is_head calls =

@@ -1,11 +1,11 @@
 -- The promises of `settle`, from its calls alone.
 use Rattle.std.proofs.Common.{◌≡◌, ℕ, ◌<◌, Bool, true, false, IsTrue, Option, Some, None, Result, Ok, Err, IfOk, List, [], ◌∷◌, length, get_or, refl, sym, ◌∙◌, ap, subst, arith, add-zero}
 use Rattle.fwd_program.specs.Program.{Return, and_then}
-use Rattle.fwd_program.specs.Told.{Makes}
+use Rattle.fwd_program.specs.Told.{Attempts}
 use Rattle.fwd_program.specs.Moments.{Holds}
 use Rattle.fwd_program.proofs.Holding.{holds_weaker}
 use Rattle.fwd_program.proofs.Going.{holds_and_then}
-use Rattle.fwd_program.proofs.Promised.{since_makes, after_did}
+use Rattle.fwd_program.proofs.Promised.{since_attempts, after_did}
 use Rattle.fwd_outside.specs.declared.errors.DiskErr.{DiskErr}
 use Rattle.fwd_outside.specs.Disk.{DiskTold, disk_outcome, writes, syncs}
 use Rattle.fwd_image.specs.File.{FileState, IsImage, whole, overwritten, written}
@@ -122,13 +122,13 @@ module _ (head : ChunkHead) (output : List ℕ) (files : Files) (sound : AllSoun
   pub settle_keeps : (full : Bool) → Holds Steps (KeepsOtherOutcomes head output files) (λ answer last. answer ≡ Some true → IsTrue full → RecordedIn head output files last) files (settles head output full)
   settle_keeps full = at_keeps full (outcome_place head output) refl
 
-pub settle_since : (a b : DiskTold) (r : Result Bool DiskErr) (head : ChunkHead) (output : List ℕ) (full : Bool) → Makes a b (settles head output full) (disk_outcome r) → DiskSince a b (NamesIn head) (KeepsOtherOutcomes head output)
+pub settle_since : (a b : DiskTold) (r : Result Bool DiskErr) (head : ChunkHead) (output : List ℕ) (full : Bool) → Attempts a b (settles head output full) (disk_outcome r) → DiskSince a b (NamesIn head) (KeepsOtherOutcomes head output)
 settle_since a b r head output full calls =
     since_sound a b (NamesIn head) (KeepsOtherOutcomes head output)
-    (since_makes Steps stood a b (settles head output full) (disk_outcome r) (λ files. AllSound files × NamesIn head files) (KeepsOtherOutcomes head output) (λ first answer last. answer ≡ Some true → IsTrue full → RecordedIn head output first last) calls
+    (since_attempts Steps stood a b (settles head output full) (disk_outcome r) (λ files. AllSound files × NamesIn head files) (KeepsOtherOutcomes head output) (λ first answer last. answer ≡ Some true → IsTrue full → RecordedIn head output first last) calls
     (λ files good. settle_keeps head output files good.0 good.1 full))
 
-pub settle_after : (a b : DiskTold) (r : Result Bool DiskErr) (head : ChunkHead) (output : List ℕ) (full : Bool) → Makes a b (settles head output full) (disk_outcome r)
+pub settle_after : (a b : DiskTold) (r : Result Bool DiskErr) (head : ChunkHead) (output : List ℕ) (full : Bool) → Attempts a b (settles head output full) (disk_outcome r)
     → IfOk r (λ done. IsTrue done → IsTrue full → DiskAfter a b (NamesIn head) (RecordedIn head output))
 settle_after a b (Err e) head output full calls = tt
 settle_after a b (Ok done) head output full calls = λ is_done is_full.

@@ -2,7 +2,7 @@
 
 ghost use Rattle.std.specs.Prelude.{◌≡◌, ◌+◌, ◌≤◌, ◌++◌, List, ℕ, length, IsTrue, OnOk, OnErr, IsErrOf};
 ghost use Rattle.fwd_base.specs.Limits.{longest_file};
-ghost use Rattle.fwd_program.specs.Told.{Makes};
+ghost use Rattle.fwd_program.specs.Told.{Attempts};
 ghost use Rattle.fwd_program.specs.Cause.{HasCause};
 ghost use Rattle.fwd_outside.specs.Disk.{disk_outcome};
 ghost use Rattle.fwd_outside.specs.declared.errors.DiskErr.TheVariants.{Failed};
@@ -38,7 +38,7 @@ fn selector_after(selector: u8) -> u8
 }
 
 pub(crate) fn sync_if<D: Disk>(disk: &mut D, name: &[u8], full: bool) -> Result<(), DiskErr>
-    ensures calls { Makes (D.told disk.old) (D.told disk.new) (syncs_if full name.now) (disk_outcome result) }
+    ensures calls { Attempts (D.told disk.old) (D.told disk.new) (syncs_if full name.now) (disk_outcome result) }
     ensures cause { HasCause (D.faults disk.old) (D.faults disk.new) (IsErrOf result Failed) }
 {
     if full { disk.sync(name) } else { Ok(()) }
@@ -53,7 +53,7 @@ pub fn stage<D: Disk>(
     full: bool,
 ) -> Result<(), DiskErr>
     requires { 24 + head.now.meta + head.now.size + length batch.now ≤ longest_file }
-    ensures calls { Makes (D.told disk.old) (D.told disk.new) (stages head.now batch.now full) (disk_outcome result) }
+    ensures calls { Attempts (D.told disk.old) (D.told disk.new) (stages head.now batch.now full) (disk_outcome result) }
 
     // A crash at any moment of the call leaves a file that stands for what it stood for.
     ensures any_moment { (meta content : List ℕ) → DiskSince (D.told disk.old) (D.told disk.new) (SettledIn head.now meta content) (KeepsOld head.now meta content) }
@@ -70,7 +70,7 @@ fn stage_calls<D: Disk>(
     full: bool,
 ) -> Result<(), DiskErr>
     requires { 24 + head.now.meta + head.now.size + length batch.now ≤ longest_file }
-    ensures calls { Makes (D.told disk.old) (D.told disk.new) (stages head.now batch.now full) (disk_outcome result) }
+    ensures calls { Attempts (D.told disk.old) (D.told disk.new) (stages head.now batch.now full) (disk_outcome result) }
     ensures cause { HasCause (D.faults disk.old) (D.faults disk.new) (IsErrOf result Failed) }
 {
     let end = 24 + head.meta + head.size;
@@ -90,7 +90,7 @@ pub fn commit<D: Disk>(
     size: u64,
     full: bool,
 ) -> Result<(), DiskErr>
-    ensures calls { Makes (D.told disk.old) (D.told disk.new) (commits head.old full) (disk_outcome result) }
+    ensures calls { Attempts (D.told disk.old) (D.told disk.new) (commits head.old full) (disk_outcome result) }
 
     // A crash at any moment of the call leaves a file that stands for the old content or for the new.
     ensures any_moment { (meta content batch : List ℕ) → DiskSince (D.told disk.old) (D.told disk.new) (StagedIn head.old meta content batch) (KeepsEither head.old meta content (content ++ batch)) }
@@ -109,7 +109,7 @@ fn commit_calls<D: Disk>(
     size: u64,
     full: bool,
 ) -> Result<(), DiskErr>
-    ensures calls { Makes (D.told disk.old) (D.told disk.new) (commits head.old full) (disk_outcome result) }
+    ensures calls { Attempts (D.told disk.old) (D.told disk.new) (commits head.old full) (disk_outcome result) }
     ensures head_ok { OnOk result (head.new ≡ committed_head head.old size) }
     ensures head_err { OnErr result (head.new ≡ head.old) }
     ensures cause { HasCause (D.faults disk.old) (D.faults disk.new) (IsErrOf result Failed) }

@@ -2,7 +2,7 @@
 
 ghost use Rattle.std.specs.Prelude.{◌≡◌, ◌+◌, ◌≤◌, ◌<◌, ◌^◌, ◌++◌, List, ℕ, length, IfOk, OnOk, IsErrOf, All};
 ghost use Rattle.fwd_base.specs.Limits.{longest_file, longest_name, longest_tag, most_outputs};
-ghost use Rattle.fwd_program.specs.Told.{Makes};
+ghost use Rattle.fwd_program.specs.Told.{Attempts};
 ghost use Rattle.fwd_program.specs.Cause.{HasCause};
 ghost use Rattle.fwd_outside.specs.Disk.{disk_outcome};
 ghost use Rattle.fwd_outside.specs.declared.errors.DiskErr.TheVariants.{Failed};
@@ -29,7 +29,7 @@ pub fn create<D: Disk>(
     requires tag { length tag.now ≤ longest_tag }
     requires outputs { AreOutputs outputs.now }
     requires fits { 24 + length (new_meta tag.now outputs.now) + length batch.now ≤ longest_file }
-    ensures calls { Makes (D.told disk.old) (D.told disk.new) (creates name.now tag.now batch.now outputs.now) (disk_outcome result) }
+    ensures calls { Attempts (D.told disk.old) (D.told disk.new) (creates name.now tag.now batch.now outputs.now) (disk_outcome result) }
     ensures head { IfOk result (λ head. head ≡ new_head name.now tag.now batch.now outputs.now) }
 
     // A crash at any moment of the call leaves the file whole, or none.
@@ -51,7 +51,7 @@ fn create_calls<D: Disk>(
     requires tag { length tag.now ≤ longest_tag }
     requires outputs { AreOutputs outputs.now }
     requires fits { 24 + length (new_meta tag.now outputs.now) + length batch.now ≤ longest_file }
-    ensures calls { Makes (D.told disk.old) (D.told disk.new) (creates name.now tag.now batch.now outputs.now) (disk_outcome result) }
+    ensures calls { Attempts (D.told disk.old) (D.told disk.new) (creates name.now tag.now batch.now outputs.now) (disk_outcome result) }
     ensures head { IfOk result (λ head. head ≡ new_head name.now tag.now batch.now outputs.now) }
     ensures cause { HasCause (D.faults disk.old) (D.faults disk.new) (IsErrOf result Failed) }
 {

@@ -1,7 +1,7 @@
 //! The outcome of an output is recorded in the file of a chunk.
 
 ghost use Rattle.std.specs.Prelude.{◌≡◌, ◌<◌, IfOk, IsErrOf, IsTrue, is_some, Some};
-ghost use Rattle.fwd_program.specs.Told.{Makes};
+ghost use Rattle.fwd_program.specs.Told.{Attempts};
 ghost use Rattle.fwd_program.specs.Cause.{HasCause};
 ghost use Rattle.fwd_outside.specs.Disk.{disk_outcome};
 ghost use Rattle.fwd_outside.specs.declared.errors.DiskErr.TheVariants.{Failed};
@@ -24,7 +24,7 @@ pub fn settle<D: Disk>(
     full: bool,
 ) -> Result<bool, DiskErr>
     requires { HoldsNames head.now }
-    ensures calls { Makes (D.told disk.old) (D.told disk.new) (settles head.now output.now full) (disk_outcome result) }
+    ensures calls { Attempts (D.told disk.old) (D.told disk.new) (settles head.now output.now full) (disk_outcome result) }
     ensures answer { IfOk result (λ done. done ≡ is_some (outcome_place head.now output.now)) }
 
     // A crash at any moment of the call leaves a file with the tag, the content and the outcomes of some image of before, but
@@ -43,7 +43,7 @@ fn settle_calls<D: Disk>(
     full: bool,
 ) -> Result<bool, DiskErr>
     requires { HoldsNames head.now }
-    ensures calls { Makes (D.told disk.old) (D.told disk.new) (settles head.now output.now full) (disk_outcome result) }
+    ensures calls { Attempts (D.told disk.old) (D.told disk.new) (settles head.now output.now full) (disk_outcome result) }
     ensures answer { IfOk result (λ done. done ≡ is_some (outcome_place head.now output.now)) }
     ensures cause { HasCause (D.faults disk.old) (D.faults disk.new) (IsErrOf result Failed) }
 {
@@ -54,7 +54,7 @@ fn settle_calls<D: Disk>(
 }
 
 fn record<D: Disk>(disk: &mut D, head: &ChunkHead, place: u64, full: bool) -> Result<bool, DiskErr>
-    ensures calls { Makes (D.told disk.old) (D.told disk.new) (settles_at head.now full (Some place)) (disk_outcome result) }
+    ensures calls { Attempts (D.told disk.old) (D.told disk.new) (settles_at head.now full (Some place)) (disk_outcome result) }
     ensures answer { IfOk result (λ done. IsTrue done) }
     ensures cause { HasCause (D.faults disk.old) (D.faults disk.new) (IsErrOf result Failed) }
 {

@@ -4,7 +4,7 @@ use mathlib.Core.Path.{fun_ext}
 use Rattle.std.proofs.Math.Seq.{drop-cons}
 use Rattle.std.specs.Str.{is_utf8}
 use Rattle.fwd_program.specs.Program.{Program, Return, Ask, bind}
-use Rattle.fwd_program.specs.Told.{Leads, Did, Began, Makes}
+use Rattle.fwd_program.specs.Told.{Leads, Did, Unfailed, Makes}
 use Rattle.fwd_program.proofs.Leading.{inside, goes_on, began_inside, makes_after}
 use Rattle.fwd_outside.specs.Files.{FilesTold, FilesProgram, reads_whole}
 use Rattle.fwd_config.specs.Line.{form_of, lines_of}
@@ -74,7 +74,7 @@ module _ (a b : FilesTold) (file : List ℕ) where
   pub reads_none : Did a b (reads_whole file) None → Did a b (text_reads file) (Err (fault FileFault (place file 0)))
   reads_none did = inside (answers_text file) did
 
-  pub reads_nothing : (answered : ConfigFault) → answered.kind ≡ Memory → Began a b (reads_whole file) → Makes a b (text_reads file) (outcome {T = List ℕ} (Err answered))
+  pub reads_nothing : (answered : ConfigFault) → answered.kind ≡ Memory → Unfailed a b (reads_whole file) → Makes a b (text_reads file) (outcome {T = List ℕ} (Err answered))
   reads_nothing answered is began = wanting a b (text_reads file) (bind began.0 (answers_text file)) answered is (inside (answers_text file) began.1)
 
 -- ---- a reading, and then what is read behind its text

@@ -172,8 +172,8 @@ content_damaged others old new s r h (InMemory kept) all got is gives =
 -- memory was wanting
 pub content_began : (others : World) (old new : DiskTold) (s : AllSettings) (r : Route) (h : History) (kept : Kept) → kept_of s h r.chunk ≡ Some kept
     → Gives {T = List ℕ} old new (reads_content kept) (AreAsMany (size_of kept)) (Err Memory) → Began (with_disk old others) (with_disk new others) (begins s r h)
-content_began others old new s r h (InFile head) is gives = rw (begins_is s r h (Some (InFile head)) is) (disk_began others old new (reads_content (InFile head)) (read_behind s r (size_of (InFile head)) h) gives)
-content_began others old new s r h (Adopted head) is gives = rw (begins_is s r h (Some (Adopted head)) is) (disk_began others old new (reads_content (Adopted head)) (read_behind s r (size_of (Adopted head)) h) gives)
+content_began others old new s r h (InFile head) is gives = rw (begins_is s r h (Some (InFile head)) is) (disk_began others old new (reads_content (InFile head)) (read_behind s r (size_of (InFile head)) h) (gives.0, gives.1))
+content_began others old new s r h (Adopted head) is gives = rw (begins_is s r h (Some (Adopted head)) is) (disk_began others old new (reads_content (Adopted head)) (read_behind s r (size_of (Adopted head)) h) (gives.0, gives.1))
 content_began others old new s r h (InMemory kept) is gives = (begins s r h, unasked others old new (Some kept) gives.0 (begins s r h) gives.1)
 
 -- what is so of what was made of events is so of what follows from it

@@ -1,14 +1,14 @@
 -- What is read of a content where it stands.
-use Rattle.std.proofs.Common.{◌≡◌, ℕ, zero, suc, ◌+◌, ◌-◌, ◌<◌, ◌≤◌, min, nat_lt, Bool, true, false, if◌then◌else◌, List, [], ◌++◌, length, length-append, take, drop, Option, Some, None, Result, Ok, Err, IsErrAnd, refl, sym, ◌∙◌, ap, subst, arith}
+use Rattle.std.proofs.Common.{◌≡◌, ◌≢◌, ℕ, zero, suc, ◌+◌, ◌-◌, ◌<◌, ◌≤◌, min, nat_lt, Bool, true, false, if◌then◌else◌, List, [], ◌++◌, length, length-append, take, drop, Option, Some, None, Result, Ok, Err, IsErrAnd, refl, sym, ◌∙◌, ap, subst, arith}
 use Rattle.std.proofs.lemmas.Bool.{ltb-true, ltb-false}
 use Rattle.std.proofs.lemmas.List.{take_all, drop-drop, length-take}
 use Rattle.std.proofs.Math.Seq.{take-add, take-length}
 use Rattle.fwd_program.specs.Program.{Return, Ask}
-use Rattle.fwd_program.specs.Told.{Makes}
+use Rattle.fwd_program.specs.Told.{Attempts}
 use Rattle.fwd_program.specs.Moments.{Holds}
 use Rattle.fwd_program.proofs.Leading.{stays}
 use Rattle.fwd_program.proofs.Holding.{holds_weaker}
-use Rattle.fwd_program.proofs.Promised.{since_makes, after_did}
+use Rattle.fwd_program.proofs.Promised.{since_attempts, after_did}
 use Rattle.fwd_outside.specs.Disk.{DiskTold, DiskProgram, Read}
 use Rattle.fwd_image.specs.Disk.{Files, HasRead, Steps, stood}
 use Rattle.fwd_image.specs.Crash.{DiskSince, DiskAfter}
@@ -21,6 +21,7 @@ use Rattle.fwd_kept.specs.declared.content.PartErr.TheVariants.{DiskFailed, Dama
 use Rattle.fwd_kept.specs.Content.{piece, piece_read, reads_on, ContentRead, AreAsMany, Gives, reads_content, IsContentOf, StandsIn, AreKept, IsGiven}
 use Rattle.fwd_kept.specs.Kept.{size_of}
 use Rattle.fwd_kept.specs.declared.content.PartErr.{PartErr}
+use Rattle.fwd_kept.proofs.Reading.{rest_begins}
 
 -- so many of the first bytes, and then some of those behind them
 next_part : (all so_far more : List ℕ) (from wanted : ℕ) → so_far ≡ take (length so_far) (drop from all) → more ≡ take wanted (drop (from + length so_far) all) → so_far ++ more ≡ take (length so_far + wanted) (drop from all)
@@ -123,14 +124,20 @@ standing (InFile head) files = (part (files head.name).bytes (24 + head.meta) he
 standing (Adopted head) files = (part (files head.name).bytes (24 + head.meta) head.size, refl)
 standing (InMemory content) files = (content, refl)
 
--- there was no memory, and no call was made
-pub nothing_read : {T : Type 0} (a : DiskTold) (p : DiskProgram (Option (List ℕ))) (Judges : List ℕ → Result T PartErr → Type 0) (r : Result T PartErr) → IsErrAnd r (λ e. e ≡ Memory) → Gives a a p Judges r
-nothing_read a p Judges (Ok content) is = absurd is
-nothing_read a p Judges (Err DiskFailed) is = absurd (cc is)
-nothing_read a p Judges (Err (Damaged kept got)) is = absurd (cc is)
-nothing_read a p Judges (Err Memory) is = (p, stays a p)
+-- reading a content doesn't fail before a call
+pub content_begins : (kept : Kept) → reads_content kept ≢ Return None
+content_begins (InFile head) is = rest_begins head.size head.name (24 + head.meta) head.size [] is
+content_begins (Adopted head) is = rest_begins head.size head.name (24 + head.meta) head.size [] is
+content_begins (InMemory content) is = absurd (cc is)
 
-made_of : {T : Type 0} (a b : DiskTold) (p : DiskProgram (Option (List ℕ))) (Judges : List ℕ → Result T PartErr → Type 0) (r : Result T PartErr) → Gives a b p Judges r → (o : Option (Option (List ℕ))) × Makes a b p o
+-- there was no memory, and no call was made
+pub nothing_read : {T : Type 0} (a : DiskTold) (p : DiskProgram (Option (List ℕ))) (Judges : List ℕ → Result T PartErr → Type 0) (r : Result T PartErr) → p ≢ Return None → IsErrAnd r (λ e. e ≡ Memory) → Gives a a p Judges r
+nothing_read a p Judges (Ok content) begins is = absurd is
+nothing_read a p Judges (Err DiskFailed) begins is = absurd (cc is)
+nothing_read a p Judges (Err (Damaged kept got)) begins is = absurd (cc is)
+nothing_read a p Judges (Err Memory) begins is = (p, stays a p, begins)
+
+made_of : {T : Type 0} (a b : DiskTold) (p : DiskProgram (Option (List ℕ))) (Judges : List ℕ → Result T PartErr → Type 0) (r : Result T PartErr) → Gives a b p Judges r → (o : Option (Option (List ℕ))) × Attempts a b p o
 made_of a b p Judges (Ok content) gives = (Some (Some gives.0), gives.1)
 made_of a b p Judges (Err DiskFailed) gives = (Some None, gives)
 made_of a b p Judges (Err (Damaged kept got)) gives = (Some (Some gives.0), gives.1)
@@ -139,7 +146,7 @@ made_of a b p Judges (Err Memory) gives = (None, gives)
 pub nothing_moves : {T : Type 0} (a b : DiskTold) (kept : Kept) (Judges : List ℕ → Result T PartErr → Type 0) (r : Result T PartErr) → Gives a b (reads_content kept) Judges r → DiskSince a b (λ _. Unit {0}) (λ first now. now ≡ first)
 nothing_moves a b kept Judges r gives =
     let made = made_of a b (reads_content kept) Judges r gives in
-    since_makes Steps stood a b (reads_content kept) made.0 (λ _. Unit {0}) (λ first now. now ≡ first) (λ first answer last. Only (standing kept first).0 answer last) made.1
+    since_attempts Steps stood a b (reads_content kept) made.0 (λ _. Unit {0}) (λ first now. now ≡ first) (λ first answer last. Only (standing kept first).0 answer last) made.1
     (λ first _. holds_content kept (standing kept first).0 first (standing kept first).1)
 
 -- all of them are whole events, as many as are kept

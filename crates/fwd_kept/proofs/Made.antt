@@ -1,12 +1,12 @@
 -- What a function made of the calls of a program, and what follows of a result's value.
 use Rattle.std.proofs.Common.{Option, Result, Ok, Err, OnOk}
-use Rattle.fwd_program.specs.Told.{Makes}
+use Rattle.fwd_program.specs.Told.{Attempts}
 use Rattle.fwd_outside.specs.declared.errors.DiskErr.{DiskErr}
 use Rattle.fwd_outside.specs.Disk.{DiskTold, DiskProgram, disk_outcome}
 use Rattle.fwd_image.proofs.Making.{Made}
 
 -- a function made the calls of a program
-pub made : {T : Type 0} {a b : DiskTold} {p : DiskProgram (Option T)} {r : Result T DiskErr} → Makes a b p (disk_outcome r) → Made a b p r
+pub made : {T : Type 0} {a b : DiskTold} {p : DiskProgram (Option T)} {r : Result T DiskErr} → Attempts a b p (disk_outcome r) → Made a b p r
 made calls = record { makes = calls }
 
 pub on_ok : {T E : Type 0} {P Q : Type 0} (r : Result T E) → (P → Q) → OnOk r P → OnOk r Q

@@ -2,7 +2,7 @@
 use Rattle.std.specs.Prelude.{◌≡◌, ◌≢◌, ℕ, zero, suc, ◌+◌, ◌-◌, min, nat_lt, if◌then◌else◌, List, [], ◌++◌, length, Option, Some, None, Result, Ok, Err}
 use Rattle.fwd_base.specs.Limits.{longest_piece}
 use Rattle.fwd_program.specs.Program.{Return, Ask}
-use Rattle.fwd_program.specs.Told.{Did, Began}
+use Rattle.fwd_program.specs.Told.{Did, Unfailed}
 use Rattle.fwd_outside.specs.Disk.{DiskTold, DiskProgram, Read}
 use Rattle.fwd_image.specs.Disk.{Files}
 use Rattle.fwd_event.specs.declared.event.Event.{Event}
@@ -53,10 +53,10 @@ AreAsMany kept bytes (Err DiskFailed) = ⊥
 AreAsMany kept bytes (Err Memory) = Unit {0}
 
 -- The calls are those of the program, to its end; a failure is told, and the bytes that it gave are judged. For want of
--- memory the calls may have ended before.
+-- memory the calls may have ended before, and none of them failed.
 abbrev pub Gives : {T : Type 0} → DiskTold → DiskTold → DiskProgram (Option (List ℕ)) → (List ℕ → Result T PartErr → Type 0) → Result T PartErr → Type 0
 Gives old new program Judges (Err DiskFailed) = Did old new program None
-Gives old new program Judges (Err Memory) = Began old new program
+Gives old new program Judges (Err Memory) = Unfailed old new program
 Gives old new program Judges result = (bytes : List ℕ) × Did old new program (Some bytes) × Judges bytes result
 
 -- The content of a chunk in a file is read from behind its metadata. In memory it is there.

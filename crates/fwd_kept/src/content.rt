@@ -1,7 +1,7 @@
 //! The content of a chunk is read back.
 
 ghost use Rattle.std.specs.Prelude.{◌≡◌, ◌≢◌, ◌⊎◌, ℕ, ◌+◌, ◌<◌, ◌≤◌, ◌^◌, List, length, IfOk, IsErrOf, Ok, Err};
-ghost use Rattle.fwd_program.specs.Told.{Makes};
+ghost use Rattle.fwd_program.specs.Told.{Attempts};
 ghost use Rattle.fwd_program.specs.Cause.{HasCause};
 ghost use Rattle.fwd_outside.specs.Disk.{disk_outcome};
 ghost use Rattle.fwd_outside.specs.declared.errors.DiskErr.TheVariants.{Failed};
@@ -44,7 +44,7 @@ fn read_part<D: Disk>(
     size: u64,
 ) -> Result<Bytes, DiskErr>
     requires { from + size < 2 ^ 64 }
-    ensures calls { Makes (D.told disk.old) (D.told disk.new) (reads_part name.now from size) (disk_outcome result) }
+    ensures calls { Attempts (D.told disk.old) (D.told disk.new) (reads_part name.now from size) (disk_outcome result) }
     ensures within { IfOk result (λ bytes. length bytes ≤ size) }
     ensures cause { HasCause (D.faults disk.old) (D.faults disk.new) (IsErrOf result Failed) }
 {

@@ -2,7 +2,7 @@
 
 ghost use Rattle.std.specs.Prelude.{◌≡◌, ◌+◌, ◌<◌, ◌≤◌, ◌^◌, length, OnOk, OnErr, IsErrOf, is_some};
 ghost use Rattle.fwd_base.specs.Limits.{longest_file};
-ghost use Rattle.fwd_program.specs.Told.{Makes};
+ghost use Rattle.fwd_program.specs.Told.{Attempts};
 ghost use Rattle.fwd_program.specs.Cause.{HasCause};
 ghost use Rattle.fwd_outside.specs.Disk.{disk_outcome};
 ghost use Rattle.fwd_outside.specs.declared.errors.DiskErr.TheVariants.{Failed};
@@ -51,7 +51,7 @@ impl Kept {
     /// Appends a batch. It changes at Ok alone.
     pub fn append<D: Disk>(&mut self, disk: &mut D, batch: &[u8], full: bool) -> Result<(), DiskErr>
         requires { HasRoom self.old batch.now }
-        ensures calls { Makes (D.told disk.old) (D.told disk.new) (appends self.old batch.now full) (disk_outcome result) }
+        ensures calls { Attempts (D.told disk.old) (D.told disk.new) (appends self.old batch.now full) (disk_outcome result) }
         ensures ok { OnOk result (self.new ≡ grown self.old batch.now) }
         ensures err { OnErr result (self.new ≡ self.old) }
         ensures cause { HasCause (D.faults disk.old) (D.faults disk.new) (IsErrOf result Failed) }
@@ -101,7 +101,7 @@ impl Kept {
     /// name the output.
     pub fn settle<D: Disk>(&self, disk: &mut D, output: &[u8], full: bool) -> Result<bool, DiskErr>
         requires { HoldsItsNames self.now }
-        ensures calls { Makes (D.told disk.old) (D.told disk.new) (settles_kept self.now output.now full) (disk_outcome result) }
+        ensures calls { Attempts (D.told disk.old) (D.told disk.new) (settles_kept self.now output.now full) (disk_outcome result) }
         ensures cause { HasCause (D.faults disk.old) (D.faults disk.new) (IsErrOf result Failed) }
     {
         match self {
@@ -113,7 +113,7 @@ impl Kept {
 
     /// Removes its file, where it is in one.
     pub fn remove<D: Disk>(&self, disk: &mut D) -> Result<(), DiskErr>
-        ensures calls { Makes (D.told disk.old) (D.told disk.new) (removals self.now) (disk_outcome result) }
+        ensures calls { Attempts (D.told disk.old) (D.told disk.new) (removals self.now) (disk_outcome result) }
         ensures cause { HasCause (D.faults disk.old) (D.faults disk.new) (IsErrOf result Failed) }
     {
         match self {
@@ -132,7 +132,7 @@ fn append_to_file<D: Disk>(
     full: bool,
 ) -> Result<(), DiskErr>
     requires { 24 + head.old.meta + head.old.size + length batch.now ≤ longest_file }
-    ensures calls { Makes (D.told disk.old) (D.told disk.new) (and_then (stages head.old batch.now full) (λ _. commits head.old full)) (disk_outcome result) }
+    ensures calls { Attempts (D.told disk.old) (D.told disk.new) (and_then (stages head.old batch.now full) (λ _. commits head.old full)) (disk_outcome result) }
     ensures ok { OnOk result (head.new ≡ committed_head head.old (head.old.size + length batch.now)) }
     ensures err { OnErr result (head.new ≡ head.old) }
     ensures cause { HasCause (D.faults disk.old) (D.faults disk.new) (IsErrOf result Failed) }

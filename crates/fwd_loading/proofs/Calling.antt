@@ -2,10 +2,10 @@
 use Rattle.std.proofs.Common.{◌≡◌, ◌≢◌, ℕ, ◌+◌, List, [], ◌∷◌, Option, Some, None, Result, Ok, Err, refl, sym, subst}
 use Rattle.std.specs.Result.{IsErrAnd}
 use Rattle.fwd_program.specs.Program.{Return, Ask, bind}
-use Rattle.fwd_program.specs.Told.{Did as DidOne}
+use Rattle.fwd_program.specs.Told.{Did as DidOne, Unfailed as UnfailedOne}
 use Rattle.fwd_outside.specs.Disk.{DiskTold, DiskProgram, ListNames}
 use Rattle.fwd_backlog.specs.declared.file_read.FileRead.{FileRead}
-use Rattle.fwd_backlog.specs.Answer.{Stops, Unfailed as UnfailedOne}
+use Rattle.fwd_backlog.specs.Answer.{Stops}
 use Rattle.fwd_backlog.specs.declared.errors.LoadErr.{LoadErr}
 use Rattle.fwd_backlog.specs.declared.errors.LoadErr.TheVariants.{DiskFailed, Memory}
 use Rattle.fwd_backlog.specs.Loading.{loads}

@@ -1,7 +1,7 @@
 //! Files that are read.
 
 ghost use Rattle.std.specs.Prelude.{◌≡◌, ℕ, ◌≤◌, length, IfOk, IsErrOf};
-ghost use Rattle.fwd_program.specs.Told.{Grew, Makes, asking};
+ghost use Rattle.fwd_program.specs.Told.{Grew, Attempts, asking};
 ghost use Rattle.fwd_program.specs.Cause.{HasCause};
 ghost use Rattle.fwd_outside.specs.Files.{FilesTold, Length, ReadAt, outcome, reads_whole};
 ghost use Rattle.fwd_outside.specs.Honest.{WholeIsFound};
@@ -33,7 +33,7 @@ pub trait Files {
 
 /// Reads a file to the length that it has when it is asked, once. Reading ends earlier where the file does.
 pub fn read_whole<F: Files>(alloc: Global, files: &mut F, path: &[u8]) -> Result<Bytes, FileErr>
-    ensures calls { Makes (F.told files.old) (F.told files.new) (reads_whole path.now) (outcome result) }
+    ensures calls { Attempts (F.told files.old) (F.told files.new) (reads_whole path.now) (outcome result) }
     ensures cause { HasCause (F.faults files.old) (F.faults files.new) (IsErrOf result Failed) }
 {
     let length = files.length(path)?;

@@ -1,7 +1,7 @@
 -- How calls lead through programs.
 use Rattle.std.proofs.Common.{List, [], ◌∷◌, ◌++◌, Option, Some, None, refl, ap, subst}
 use Rattle.fwd_program.specs.Program.{Entry, entry, Program, Return, Ask, bind, Way}
-use Rattle.fwd_program.specs.Told.{Told, Grew, Leads, Did, Began, Makes, asking}
+use Rattle.fwd_program.specs.Told.{Told, Grew, Leads, Did, Began, Unfailed, Makes, Attempts, asking}
 use Rattle.fwd_program.proofs.Grown.{grew_none, grew_trans}
 
 pub way_trans : {C : Type 0} {A : C → Type 0} {R : Type 0} (p q r : Program C A R) (xs ys : List (Entry C A)) → Way p xs q → Way q ys r → Way p (xs ++ ys) r
@@ -62,3 +62,15 @@ makes_bind a b c p x next result f g = makes_after a b c (bind p next) (next x) 
 pub asked_makes : {G C : Type 0} {A : C → Type 0} (a b : Told G C A) (call : C) (result : Option (A call)) → Grew a b (asking call result) → Makes a b (Ask call (λ answer. Return answer)) result
 asked_makes a b call (Some answer) g = asked call answer (λ answer. Return answer) g
 asked_makes a b call None g = (Ask call (λ answer. Return answer), unasked (Ask call (λ answer. Return answer)) g)
+
+-- what hasn't failed was begun
+pub attempted : {G C : Type 0} {A : C → Type 0} {R : Type 0} (a b : Told G C A) (p : Program C A (Option R)) (result : Option (Option R)) → Attempts a b p result → Makes a b p result
+attempted a b p (Some x) f = f
+attempted a b p None f = (f.0, f.1)
+
+pub unfailed_after : {G C : Type 0} {A : C → Type 0} {R : Type 0} {a b c : Told G C A} {p q : Program C A (Option R)} → Leads a b p q → Unfailed b c q → Unfailed a c p
+unfailed_after f g = (g.0, goes_on f g.1, g.2)
+
+pub attempts_after : {G C : Type 0} {A : C → Type 0} {R : Type 0} (a b c : Told G C A) (p q : Program C A (Option R)) (result : Option (Option R)) → Leads a b p q → Attempts b c q result → Attempts a c p result
+attempts_after a b c p q (Some x) f g = goes_on f g
+attempts_after a b c p q None f g = unfailed_after f g

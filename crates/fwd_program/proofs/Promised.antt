@@ -2,10 +2,11 @@
 use Rattle.std.proofs.Common.{◌≡◌, List, ◌++◌, Option, Some, None, sym, subst}
 use Rattle.std.proofs.lemmas.List.{append_cancel_left}
 use Rattle.fwd_program.specs.Program.{Entry, Program, Return}
-use Rattle.fwd_program.specs.Told.{Told, Grew, Leads, Did, Makes}
+use Rattle.fwd_program.specs.Told.{Told, Grew, Leads, Did, Makes, Attempts}
 use Rattle.fwd_program.specs.Moments.{StepsOf, Ends, Moments, Holds}
 use Rattle.fwd_program.specs.Since.{Since, After}
 use Rattle.fwd_program.proofs.Holding.{holds_moments, holds_end}
+use Rattle.fwd_program.proofs.Leading.{attempted}
 
 told_part : {G X : Type 0} (old new : Option (G × List X)) (grown : List X) → Grew old new grown → (given : G) (before since : List X) → old ≡ Some (given, before) → new ≡ Some (given, before ++ since) → grown ≡ since
 told_part {G = G} {X = X} old new grown grew given before since is_old is_new =
@@ -25,6 +26,10 @@ module _ {G C : Type 0} {A : C → Type 0} {S : Type 0} (Steps : StepsOf C A S) 
       let went = leads_of a b p result makes in
       let at = holds_moments Steps (P first) (Q first) first p (law first good) went.1.entries went.0 went.1.way in
       subst (λ (es : List (Entry C A)). Moments Steps (P first) first es) (told_part a b went.1.entries went.1.grew given before since is_old is_new) at
+
+  pub since_attempts : {R : Type 0} (a b : Told G C A) (p : Program C A (Option R)) (result : Option (Option R)) (Before : S → Type 0) (P : S → S → Type 0) (Q : S → Option R → S → Type 0)
+      → Attempts a b p result → ((first : S) → Before first → Holds Steps (P first) (Q first) first p) → Since Steps stood a b Before P
+  since_attempts a b p result Before P Q attempts law = since_makes a b p result Before P Q (attempted a b p result attempts) law
 
   pub after_did : {R : Type 0} (a b : Told G C A) (p : Program C A R) (x : R) (Before : S → Type 0) (P : S → S → Type 0) (Q : S → R → S → Type 0) (T : S → S → Type 0)
       → Did a b p x → ((first : S) → Before first → Holds Steps (P first) (Q first) first p) → ((first last : S) → Q first x last → T first last) → After Steps stood a b Before T

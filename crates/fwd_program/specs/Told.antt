@@ -1,5 +1,5 @@
 -- What a device tells of its calls, and what it is to make the calls of a program.
-use Rattle.std.specs.Prelude.{◌≡◌, List, [], ◌∷◌, ◌++◌, Option, Some, None}
+use Rattle.std.specs.Prelude.{◌≡◌, ◌≢◌, List, [], ◌∷◌, ◌++◌, Option, Some, None}
 use Rattle.fwd_program.specs.Program.{Entry, entry, Program, Return, Way}
 
 -- what it was given at first, and its calls so far with their answers, the oldest first; none where it doesn't tell
@@ -37,3 +37,13 @@ Began {C = C} {A = A} {R = R} old new program = (left : Program C A R) × Leads 
 abbrev pub Makes : {G C : Type 0} {A : C → Type 0} {R : Type 0} → Told G C A → Told G C A → Program C A R → Option R → Type 0
 Makes old new program (Some result) = Did old new program result
 Makes old new program None = Began old new program
+
+-- the calls made meanwhile are the first ones of a program that may fail, and it hasn't failed
+abbrev pub Unfailed : {G C : Type 0} {A : C → Type 0} {R : Type 0} → Told G C A → Told G C A → Program C A (Option R) → Type 0
+Unfailed {C = C} {A = A} {R = R} old new program = (left : Program C A (Option R)) × Leads old new program left × (left ≢ Return None)
+
+-- A program that may fail. With a result, it was gone through and this is its result. Without one, for want of memory, it
+-- was begun, and it hasn't failed.
+abbrev pub Attempts : {G C : Type 0} {A : C → Type 0} {R : Type 0} → Told G C A → Told G C A → Program C A (Option R) → Option (Option R) → Type 0
+Attempts old new program (Some result) = Did old new program result
+Attempts old new program None = Unfailed old new program

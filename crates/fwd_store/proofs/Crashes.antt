@@ -4,10 +4,10 @@ use Rattle.std.proofs.lemmas.Bool.{ltb-false}
 use Rattle.std.specs.FinMap as map
 use Rattle.fwd_base.specs.Limits.{largest_batch, longest_tag}
 use Rattle.fwd_program.specs.Program.{Return, Way}
-use Rattle.fwd_program.specs.Told.{Makes}
+use Rattle.fwd_program.specs.Told.{Attempts}
 use Rattle.fwd_program.specs.Moments.{Holds}
 use Rattle.fwd_program.proofs.Holding.{holds_weaker}
-use Rattle.fwd_program.proofs.Promised.{since_makes, after_did}
+use Rattle.fwd_program.proofs.Promised.{since_attempts, after_did}
 use Rattle.fwd_outside.specs.Disk.{DiskTold, DiskEntry, disk_outcome}
 use Rattle.fwd_outside.specs.declared.errors.DiskErr.{DiskErr}
 use Rattle.fwd_outside.specs.declared.home.Home.{Home}
@@ -84,9 +84,9 @@ module _ (s : Stored) (input : ℕ) (stream tag : List ℕ) (home : Home) (batch
       by true goes = (same_first (file_for s (chunk_for s input tag) stream home) files, tt)
       by false goes = goes
 
-  pub others_stay : (a b : DiskTold) (r : Result Accepted StoreRefusal) → Makes a b (accepts s input stream tag home batch outputs) (accept_outcome r) → DiskSince a b (λ _. Unit {0}) (KeepsOthers (file_for s (chunk_for s input tag) stream home))
+  pub others_stay : (a b : DiskTold) (r : Result Accepted StoreRefusal) → Attempts a b (accepts s input stream tag home batch outputs) (accept_outcome r) → DiskSince a b (λ _. Unit {0}) (KeepsOthers (file_for s (chunk_for s input tag) stream home))
   others_stay a b r makes =
-      since_makes Steps stood a b (accepts s input stream tag home batch outputs) (accept_outcome r) (λ _. Unit {0}) (KeepsOthers (file_for s (chunk_for s input tag) stream home)) (λ _ _ _. Unit {0}) makes (λ first _. accepts_others first)
+      since_attempts Steps stood a b (accepts s input stream tag home batch outputs) (accept_outcome r) (λ _. Unit {0}) (KeepsOthers (file_for s (chunk_for s input tag) stream home)) (λ _ _ _. Unit {0}) makes (λ first _. accepts_others first)
 
   module _ (meta content : List ℕ) (short : length tag ≤ longest_tag) (are : AreOutputs outputs) where
     -- the chunk that took the batch stands for it too
@@ -133,10 +133,10 @@ module _ (s : Stored) (input : ℕ) (stream tag : List ℕ) (home : Home) (batch
         by false is =
             goes_keeping (chunk_for s input tag) home files full (ltb-false largest_batch (length batch) (small (nat_lt largest_batch (length batch)) (has_no_number s input tag) is)) (λ n open_is. open_grows s input tag n sound open_is) room ready
 
-    pub accepting : (a b : DiskTold) (r : Result Accepted StoreRefusal) → IsSound s → s.full ≡ true → IsTrue (has_room s (chunk_for s input tag)) → Makes a b (accepts s input stream tag home batch outputs) (accept_outcome r)
+    pub accepting : (a b : DiskTold) (r : Result Accepted StoreRefusal) → IsSound s → s.full ≡ true → IsTrue (has_room s (chunk_for s input tag)) → Attempts a b (accepts s input stream tag home batch outputs) (accept_outcome r)
         → DiskSince a b (IsReady s (chunk_for s input tag) stream home meta content) (TakesBatch s (chunk_for s input tag) stream tag home batch outputs meta content)
     accepting a b r sound full room makes =
-        since_makes Steps stood a b (accepts s input stream tag home batch outputs) (accept_outcome r) (IsReady s (chunk_for s input tag) stream home meta content) (TakesBatch s (chunk_for s input tag) stream tag home batch outputs meta content)
+        since_attempts Steps stood a b (accepts s input stream tag home batch outputs) (accept_outcome r) (IsReady s (chunk_for s input tag) stream home meta content) (TakesBatch s (chunk_for s input tag) stream tag home batch outputs meta content)
         (λ _. StandsAfter (chunk_for s input tag) home) makes (λ first ready. accepts_keeping first sound full room ready)
 
     -- the chunk in the store after it
@@ -155,7 +155,7 @@ module _ (s : Stored) (input : ℕ) (stream tag : List ℕ) (home : Home) (batch
         new_stands Disk stands = stands refl
         new_stands Ram stands = tt
 
-    pub accepted_stands : (a b : DiskTold) (r : Result Accepted StoreRefusal) (new : Stored) → IsSound s → IsTrue (has_room s (chunk_for s input tag)) → Makes a b (accepts s input stream tag home batch outputs) (accept_outcome r)
+    pub accepted_stands : (a b : DiskTold) (r : Result Accepted StoreRefusal) (new : Stored) → IsSound s → IsTrue (has_room s (chunk_for s input tag)) → Attempts a b (accepts s input stream tag home batch outputs) (accept_outcome r)
         → IfOk r (Took s new (chunk_for s input tag) input stream tag home batch outputs)
         → IfOk r (λ accepted. IsTrue s.full → DiskAfter a b (IsReady s (chunk_for s input tag) stream home meta content) (λ _ last. HasTaken (chunk_for s input tag) (map.get new.chunks accepted.chunk.0) tag batch outputs meta content last))
     accepted_stands a b (Err e) new sound room makes took = tt
@@ -175,16 +175,16 @@ holds_goes (Some (Adopted head)) files =
     (drops (Some (Adopted head))) (λ now l. (l.here, l.same)) (λ answer last l. l.done) (remove_keeps head.name files)
 holds_goes (Some (InMemory bytes)) files = (refl, λ _. tt)
 
-pub dropping : (a b : DiskTold) (o : Option Kept) (r : Result (Unit {0}) DiskErr) → Makes a b (drops o) (disk_outcome r) → DiskSince a b (λ _. Unit {0}) (Goes (file_held o))
-dropping a b o r makes = since_makes Steps stood a b (drops o) (disk_outcome r) (λ _. Unit {0}) (Goes (file_held o)) (λ _ answer last. IsSome answer → IsGone (file_held o) last) makes (λ first _. holds_goes o first)
+pub dropping : (a b : DiskTold) (o : Option Kept) (r : Result (Unit {0}) DiskErr) → Attempts a b (drops o) (disk_outcome r) → DiskSince a b (λ _. Unit {0}) (Goes (file_held o))
+dropping a b o r makes = since_attempts Steps stood a b (drops o) (disk_outcome r) (λ _. Unit {0}) (Goes (file_held o)) (λ _ answer last. IsSome answer → IsGone (file_held o) last) makes (λ first _. holds_goes o first)
 
-pub dropped_is_gone : (a b : DiskTold) (o : Option Kept) (r : Result (Unit {0}) DiskErr) → Makes a b (drops o) (disk_outcome r) → OnOk r (DiskAfter a b (λ _. Unit {0}) (λ _ last. IsGone (file_held o) last))
+pub dropped_is_gone : (a b : DiskTold) (o : Option Kept) (r : Result (Unit {0}) DiskErr) → Attempts a b (drops o) (disk_outcome r) → OnOk r (DiskAfter a b (λ _. Unit {0}) (λ _ last. IsGone (file_held o) last))
 dropped_is_gone a b o (Err e) makes = tt
 dropped_is_gone a b o (Ok x) makes =
     after_did Steps stood a b (drops o) (Some x) (λ _. Unit {0}) (Goes (file_held o)) (λ _ answer last. IsSome answer → IsGone (file_held o) last) (λ _ last. IsGone (file_held o) last) makes (λ first _. holds_goes o first) (λ first last is. is refl)
 
 -- an outcome that is recorded
-no_settle : (a b : DiskTold) (r : Result Bool DiskErr) → Makes a b (Return (Some false)) (disk_outcome r) → IfOk r (λ done. IsTrue done → ⊥)
+no_settle : (a b : DiskTold) (r : Result Bool DiskErr) → Attempts a b (Return (Some false)) (disk_outcome r) → IfOk r (λ done. IsTrue done → ⊥)
 no_settle a b (Err e) calls = tt
 no_settle a b (Ok done) calls = λ is_done. let e = same_end calls.entries calls.way in let never : true ≡ false = sym is_done ∙ e in absurd (cc never)
   where
@@ -192,11 +192,11 @@ no_settle a b (Ok done) calls = λ is_done. let e = same_end calls.entries calls
     same_end [] way = cc way
     same_end (e ∷ es) way = absurd way
 
-pub settling : (a b : DiskTold) (o : Option Kept) (r : Result Bool DiskErr) (output : List ℕ) (full : Bool) → Makes a b (settles_for o output full) (disk_outcome r) → DiskSince a b (NamesOutputs o) (KeepsOutcomes o output)
+pub settling : (a b : DiskTold) (o : Option Kept) (r : Result Bool DiskErr) (output : List ℕ) (full : Bool) → Attempts a b (settles_for o output full) (disk_outcome r) → DiskSince a b (NamesOutputs o) (KeepsOutcomes o output)
 settling a b (Some kept) r output full calls = settles_since a b kept r output full calls
-settling a b None r output full calls = since_makes Steps stood a b (Return (Some false)) (disk_outcome r) (λ _. Unit {0}) (λ first now. now ≡ first) (λ _ _ _. Unit {0}) calls (λ first _. (refl, tt))
+settling a b None r output full calls = since_attempts Steps stood a b (Return (Some false)) (disk_outcome r) (λ _. Unit {0}) (λ first now. now ≡ first) (λ _ _ _. Unit {0}) calls (λ first _. (refl, tt))
 
-pub settled_is_recorded : (a b : DiskTold) (o : Option Kept) (r : Result Bool DiskErr) (output : List ℕ) (full : Bool) → Makes a b (settles_for o output full) (disk_outcome r)
+pub settled_is_recorded : (a b : DiskTold) (o : Option Kept) (r : Result Bool DiskErr) (output : List ℕ) (full : Bool) → Attempts a b (settles_for o output full) (disk_outcome r)
     → IfOk r (λ done. IsTrue done → IsTrue full → DiskAfter a b (NamesOutputs o) (Recorded o output))
 settled_is_recorded a b (Some kept) r output full calls = settles_after a b kept r output full calls
 settled_is_recorded a b None r output full calls = never r (no_settle a b r calls)

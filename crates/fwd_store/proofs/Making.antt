@@ -1,50 +1,70 @@
 -- Functions that make the calls of a program, by what they answer.
-use Rattle.std.proofs.Common.{◌≡◌, ℕ, List, Option, Some, None, Result, Ok, Err, IsErrAnd, sym, subst}
+use Rattle.std.proofs.Common.{◌≡◌, ◌≢◌, ℕ, Bool, List, Option, Some, None, Result, Ok, Err, IsErrAnd, sym, subst}
+use Rattle.std.specs.FinMap as map
 use Rattle.fwd_program.specs.Program.{Return, and_then}
-use Rattle.fwd_program.specs.Told.{Makes}
+use Rattle.fwd_program.specs.Told.{Attempts}
 use Rattle.fwd_program.proofs.Leading.{stays}
 use Rattle.fwd_outside.specs.declared.errors.DiskErr.{DiskErr}
 use Rattle.fwd_outside.specs.declared.errors.DiskErr.TheVariants.{Failed, Memory as NoRoom}
+use Rattle.fwd_outside.specs.declared.home.Home.{Home}
+use Rattle.fwd_outside.specs.declared.home.Home.TheVariants.{Disk, Ram}
 use Rattle.fwd_outside.specs.Disk.{DiskTold, DiskProgram, disk_outcome}
 use Rattle.fwd_image.proofs.Making.{Made, went, stopped, no_call}
 use Rattle.fwd_chunk.specs.declared.append.ChunkHead.{ChunkHead}
 use Rattle.fwd_chunk.specs.Append.{creates}
 use Rattle.fwd_kept.specs.declared.kept.Kept.{Kept}
+use Rattle.fwd_kept.specs.declared.kept.Kept.TheVariants.{InFile, Adopted, InMemory}
 use Rattle.fwd_store.specs.declared.answers.Accepted.{Accepted}
 use Rattle.fwd_store.specs.declared.answers.StoreRefusal.{StoreRefusal}
 use Rattle.fwd_store.specs.declared.answers.StoreRefusal.TheVariants.{DiskFailed, BatchTooLarge, Memory, NoNumber}
-use Rattle.fwd_store.specs.Store.{kept_outcome, accept_outcome, IsRefusalOf}
+use Rattle.fwd_store.specs.Stored.{Stored}
+use Rattle.fwd_store.specs.Store.{kept_outcome, accept_outcome, IsRefusalOf, begins_as, appends_to, goes_to, new_name}
 
 -- a function made the calls of a program
-pub made : {T : Type 0} {a b : DiskTold} {p : DiskProgram (Option T)} {r : Result T DiskErr} → Makes a b p (disk_outcome r) → Made a b p r
+pub made : {T : Type 0} {a b : DiskTold} {p : DiskProgram (Option T)} {r : Result T DiskErr} → Attempts a b p (disk_outcome r) → Made a b p r
 made calls = record { makes = calls }
 
+-- none of these programs fails before a call
+pub begins_new : (name tag : List ℕ) (home : Home) (batch : List ℕ) (outputs : List (List ℕ)) → begins_as name tag home batch outputs ≢ Return None
+begins_new name tag Disk batch outputs is = absurd (cc is)
+begins_new name tag Ram batch outputs is = absurd (cc is)
+
+begins_append : (kept : Option Kept) (batch : List ℕ) (full : Bool) → appends_to kept batch full ≢ Return None
+begins_append (Some (InFile head)) batch full is = absurd (cc is)
+begins_append (Some (Adopted head)) batch full is = absurd (cc is)
+begins_append (Some (InMemory content)) batch full is = absurd (cc is)
+begins_append None batch full is = absurd (cc is)
+
+pub begins_going : (s : Stored) (chunk : Option ℕ) (stream tag : List ℕ) (home : Home) (batch : List ℕ) (outputs : List (List ℕ)) → goes_to s chunk stream tag home batch outputs ≢ Return None
+begins_going s (Some n) stream tag home batch outputs is = begins_append (map.get s.chunks n) batch s.full is
+begins_going s None stream tag home batch outputs is = begins_new (new_name s stream) tag home batch outputs is
+
 -- there was no memory, and no call was made
-pub nothing_made : (a : DiskTold) (p : DiskProgram (Option (Unit {0}))) (r : Result Kept StoreRefusal) → IsErrAnd r (λ e. e ≡ Memory) → Makes a a p (kept_outcome r)
-nothing_made a p (Ok kept) is = absurd is
-nothing_made a p (Err Memory) is = (p, stays a p)
-nothing_made a p (Err BatchTooLarge) is = absurd (cc is)
-nothing_made a p (Err NoNumber) is = absurd (cc is)
-nothing_made a p (Err (DiskFailed chunk)) is = absurd (cc is)
+pub nothing_made : (a : DiskTold) (p : DiskProgram (Option (Unit {0}))) (r : Result Kept StoreRefusal) → p ≢ Return None → IsErrAnd r (λ e. e ≡ Memory) → Attempts a a p (kept_outcome r)
+nothing_made a p (Ok kept) begins is = absurd is
+nothing_made a p (Err Memory) begins is = (p, stays a p, begins)
+nothing_made a p (Err BatchTooLarge) begins is = absurd (cc is)
+nothing_made a p (Err NoNumber) begins is = absurd (cc is)
+nothing_made a p (Err (DiskFailed chunk)) begins is = absurd (cc is)
 
 module _ (a b : DiskTold) (n m tag batch : List ℕ) (outputs : List (List ℕ)) (named : n ≡ m) where
-  placed : (r : Result ChunkHead DiskErr) → Makes a b (creates n tag batch outputs) (disk_outcome r) → Made a b (creates m tag batch outputs) r
-  placed r calls = record { makes = subst (λ (k : List ℕ). Makes a b (creates k tag batch outputs) (disk_outcome r)) named calls }
+  placed : (r : Result ChunkHead DiskErr) → Attempts a b (creates n tag batch outputs) (disk_outcome r) → Made a b (creates m tag batch outputs) r
+  placed r calls = record { makes = subst (λ (k : List ℕ). Attempts a b (creates k tag batch outputs) (disk_outcome r)) named calls }
 
-  pub placed_ok : (kept : Kept) (head : ChunkHead) → Makes a b (creates n tag batch outputs) (disk_outcome (Ok head)) → Makes a b (and_then (creates m tag batch outputs) (λ _. Return (Some tt))) (kept_outcome (Ok kept))
+  pub placed_ok : (kept : Kept) (head : ChunkHead) → Attempts a b (creates n tag batch outputs) (disk_outcome (Ok head)) → Attempts a b (and_then (creates m tag batch outputs) (λ _. Return (Some tt))) (kept_outcome (Ok kept))
   placed_ok kept head calls = (went (λ _. Return (Some tt)) {r = Ok (tt {0})} (placed (Ok head) calls) (no_call b (tt {0}))).makes
 
-  failed_so : (e : DiskErr) → Makes a b (creates n tag batch outputs) (disk_outcome {T = ChunkHead} (Err e)) → Makes a b (and_then (creates m tag batch outputs) (λ _. Return (Some tt))) (disk_outcome {T = Unit {0}} (Err e))
-  failed_so e calls = (stopped {S = Unit {0}} (λ _. Return (Some tt)) (placed (Err e) calls)).makes
+  failed_so : (e : DiskErr) → Attempts a b (creates n tag batch outputs) (disk_outcome {T = ChunkHead} (Err e)) → Attempts a b (and_then (creates m tag batch outputs) (λ _. Return (Some tt))) (disk_outcome {T = Unit {0}} (Err e))
+  failed_so e calls = (stopped {S = Unit {0}} (λ _. Return (Some tt)) (λ _ is. absurd (cc is)) (placed (Err e) calls)).makes
 
-  pub placed_err : (e : DiskErr) (r : StoreRefusal) → IsRefusalOf e None r → Makes a b (creates n tag batch outputs) (disk_outcome {T = ChunkHead} (Err e)) → Makes a b (and_then (creates m tag batch outputs) (λ _. Return (Some tt))) (kept_outcome (Err r))
-  placed_err Failed r is calls = subst (λ (x : StoreRefusal). Makes a b (and_then (creates m tag batch outputs) (λ _. Return (Some tt))) (kept_outcome (Err x))) (sym is) (failed_so Failed calls)
-  placed_err NoRoom r is calls = subst (λ (x : StoreRefusal). Makes a b (and_then (creates m tag batch outputs) (λ _. Return (Some tt))) (kept_outcome (Err x))) (sym is) (failed_so NoRoom calls)
+  pub placed_err : (e : DiskErr) (r : StoreRefusal) → IsRefusalOf e None r → Attempts a b (creates n tag batch outputs) (disk_outcome {T = ChunkHead} (Err e)) → Attempts a b (and_then (creates m tag batch outputs) (λ _. Return (Some tt))) (kept_outcome (Err r))
+  placed_err Failed r is calls = subst (λ (x : StoreRefusal). Attempts a b (and_then (creates m tag batch outputs) (λ _. Return (Some tt))) (kept_outcome (Err x))) (sym is) (failed_so Failed calls)
+  placed_err NoRoom r is calls = subst (λ (x : StoreRefusal). Attempts a b (and_then (creates m tag batch outputs) (λ _. Return (Some tt))) (kept_outcome (Err x))) (sym is) (failed_so NoRoom calls)
 
 -- the same of an acceptance
-pub nothing_accepted : (a : DiskTold) (p : DiskProgram (Option (Unit {0}))) (r : Result Accepted StoreRefusal) → IsErrAnd r (λ e. e ≡ Memory) → Makes a a p (accept_outcome r)
-nothing_accepted a p (Ok kept) is = absurd is
-nothing_accepted a p (Err Memory) is = (p, stays a p)
-nothing_accepted a p (Err BatchTooLarge) is = absurd (cc is)
-nothing_accepted a p (Err NoNumber) is = absurd (cc is)
-nothing_accepted a p (Err (DiskFailed chunk)) is = absurd (cc is)
+pub nothing_accepted : (a : DiskTold) (p : DiskProgram (Option (Unit {0}))) (r : Result Accepted StoreRefusal) → p ≢ Return None → IsErrAnd r (λ e. e ≡ Memory) → Attempts a a p (accept_outcome r)
+nothing_accepted a p (Ok kept) begins is = absurd is
+nothing_accepted a p (Err Memory) begins is = (p, stays a p, begins)
+nothing_accepted a p (Err BatchTooLarge) begins is = absurd (cc is)
+nothing_accepted a p (Err NoNumber) begins is = absurd (cc is)
+nothing_accepted a p (Err (DiskFailed chunk)) begins is = absurd (cc is)

@@ -3,7 +3,7 @@
 ghost use Rattle.std.specs.Prelude.{◌≡◌, ◌<◌, Some, OnOk, OnErr, IsErrOf, IsSome};
 ghost use Rattle.std.specs.Option.{option_copied};
 ghost use Rattle.std.specs.FinMap as map;
-ghost use Rattle.fwd_program.specs.Told.{Makes};
+ghost use Rattle.fwd_program.specs.Told.{Attempts};
 ghost use Rattle.fwd_program.specs.Cause.{HasCause};
 ghost use Rattle.fwd_outside.specs.Disk.{disk_outcome};
 ghost use Rattle.fwd_outside.specs.declared.errors.DiskErr.TheVariants.{Failed};
@@ -86,7 +86,7 @@ impl Chunks {
     ) -> Result<(), DiskErr>
         requires held { IsSome (map.get self.old.list number) }
         requires room { (kept : Kept) → map.get self.old.list number ≡ Some kept → HasRoom kept batch.now }
-        ensures calls { (kept : Kept) → map.get self.old.list number ≡ Some kept → Makes (D.told disk.old) (D.told disk.new) (appends kept batch.now full) (disk_outcome result) }
+        ensures calls { (kept : Kept) → map.get self.old.list number ≡ Some kept → Attempts (D.told disk.old) (D.told disk.new) (appends kept batch.now full) (disk_outcome result) }
         ensures ok { (kept : Kept) → map.get self.old.list number ≡ Some kept → OnOk result (self.new.list ≡ map.insert self.old.list number (grown kept batch.now)) }
         ensures err { OnErr result (self.new.list ≡ self.old.list) }
         ensures cause { HasCause (D.faults disk.old) (D.faults disk.new) (IsErrOf result Failed) }

@@ -4,7 +4,7 @@ ghost use Rattle.std.specs.Prelude.{◌≡◌, ◌≢◌, ◌⊎◌, ◌↔◌, 
 ghost use Rattle.std.specs.FinMap as map;
 ghost use Rattle.fwd_base.specs.Limits.{largest_batch, longest_tag, past_numbers};
 ghost use Rattle.fwd_program.specs.Program.{Return, and_then};
-ghost use Rattle.fwd_program.specs.Told.{Makes, Grew};
+ghost use Rattle.fwd_program.specs.Told.{Attempts, Grew};
 ghost use Rattle.fwd_program.specs.Cause.{HasCause};
 ghost use Rattle.fwd_outside.specs.Disk.{disk_outcome};
 ghost use Rattle.fwd_outside.specs.declared.errors.DiskErr.TheVariants.{Failed};
@@ -87,7 +87,7 @@ fn place<D: Disk>(
     requires outputs { AreOutputs outputs.now }
     requires batch { length batch.now ≤ largest_batch }
     requires number { next.old < past_numbers }
-    ensures calls { Makes (D.told disk.old) (D.told disk.new) (and_then (creates (file_name root.now stream.now next.old) tag.now batch.now outputs.now) (λ _. Return (Some tt))) (kept_outcome result) }
+    ensures calls { Attempts (D.told disk.old) (D.told disk.new) (and_then (creates (file_name root.now stream.now next.old) tag.now batch.now outputs.now) (λ _. Return (Some tt))) (kept_outcome result) }
     ensures ok { IfOk result (λ kept. (kept ≡ InFile (new_head (file_name root.now stream.now next.old) tag.now batch.now outputs.now)) × (next.new ≡ next.old + 1)) }
     ensures err { IfErr result (λ e. ((e ≡ refusal.Memory) × Grew (D.told disk.old) (D.told disk.new) [] × (next.new ≡ next.old)) ⊎ (((e ≡ refusal.Memory) ⊎ (e ≡ refusal.DiskFailed None)) × (next.new ≡ next.old + 1))) }
     ensures cause { HasCause (D.faults disk.old) (D.faults disk.new) (result ≡ Err (refusal.DiskFailed None)) }
@@ -117,7 +117,7 @@ fn begin<D: Disk>(
     requires outputs { AreOutputs outputs.now }
     requires batch { length batch.now ≤ largest_batch }
     requires number { next.old < past_numbers }
-    ensures calls { Makes (D.told disk.old) (D.told disk.new) (begins_as (file_name root.now stream.now next.old) tag.now home batch.now outputs.now) (kept_outcome result) }
+    ensures calls { Attempts (D.told disk.old) (D.told disk.new) (begins_as (file_name root.now stream.now next.old) tag.now home batch.now outputs.now) (kept_outcome result) }
     ensures ok { IfOk result (λ kept. (kept ≡ kept_as (file_name root.now stream.now next.old) tag.now home batch.now outputs.now) × (next.new ≡ next.old + 1)) }
     ensures err { IfErr result (λ e. ((e ≡ refusal.Memory) × Grew (D.told disk.old) (D.told disk.new) [] × (next.new ≡ next.old)) ⊎ (((e ≡ refusal.Memory) ⊎ (e ≡ refusal.DiskFailed None)) × (next.new ≡ next.old + 1))) }
     ensures cause { HasCause (D.faults disk.old) (D.faults disk.new) (result ≡ Err (refusal.DiskFailed None)) }
@@ -242,7 +242,7 @@ impl Store {
         requires outputs { AreOutputs outputs.now }
         requires root { home ≡ home_of.Disk → IsSome self.old.root }
         requires room { IsTrue (has_room self.old (chunk_for self.old input.0 tag.now)) }
-        ensures calls { Makes (D.told disk.old) (D.told disk.new) (accepts self.old input.0 stream.now tag.now home batch.now outputs.now) (accept_outcome result) }
+        ensures calls { Attempts (D.told disk.old) (D.told disk.new) (accepts self.old input.0 stream.now tag.now home batch.now outputs.now) (accept_outcome result) }
 
         // The store after each answer.
         ensures ok { IfOk result (Took self.old self.new (chunk_for self.old input.0 tag.now) input.0 stream.now tag.now home batch.now outputs.now) }
@@ -314,7 +314,7 @@ impl Store {
         output: &[u8],
     ) -> Result<bool, DiskErr>
         requires { IsSome (map.get self.now.chunks chunk.0) }
-        ensures calls { Makes (D.told disk.old) (D.told disk.new) (settles_for (map.get self.now.chunks chunk.0) output.now self.now.full) (disk_outcome result) }
+        ensures calls { Attempts (D.told disk.old) (D.told disk.new) (settles_for (map.get self.now.chunks chunk.0) output.now self.now.full) (disk_outcome result) }
 
         // A crash at any moment of the call leaves the file with the tag, the content and the outcomes of some image of
         // before, but for the outcome of this output, and no other file changes. After true under full sync it is recorded.
@@ -329,7 +329,7 @@ impl Store {
     /// answers.
     pub fn drop_chunk<D: Disk>(&mut self, disk: &mut D, chunk: ChunkId) -> Result<(), DiskErr>
         requires { IsSome (map.get self.old.chunks chunk.0) }
-        ensures calls { Makes (D.told disk.old) (D.told disk.new) (drops (map.get self.old.chunks chunk.0)) (disk_outcome result) }
+        ensures calls { Attempts (D.told disk.old) (D.told disk.new) (drops (map.get self.old.chunks chunk.0)) (disk_outcome result) }
         ensures dropped { self.new ≡ dropped self.old chunk.0 }
 
         // A crash at any moment of the call leaves the file as it could have left it before, or no file; after Ok, none.
@@ -390,7 +390,7 @@ impl Store {
 
     // Removes the file of a chunk, where it has one.
     fn remove_file<D: Disk>(&self, disk: &mut D, number: u64) -> Result<(), DiskErr>
-        ensures calls { Makes (D.told disk.old) (D.told disk.new) (drops (map.get self.now.chunks number)) (disk_outcome result) }
+        ensures calls { Attempts (D.told disk.old) (D.told disk.new) (drops (map.get self.now.chunks number)) (disk_outcome result) }
         ensures cause { HasCause (D.faults disk.old) (D.faults disk.new) (IsErrOf result Failed) }
     {
         match self.chunks.get(number) {
@@ -438,7 +438,7 @@ impl Store {
         number: u64,
         output: &[u8],
     ) -> Result<bool, DiskErr>
-        ensures calls { Makes (D.told disk.old) (D.told disk.new) (settles_for (map.get self.now.chunks number) output.now self.now.full) (disk_outcome result) }
+        ensures calls { Attempts (D.told disk.old) (D.told disk.new) (settles_for (map.get self.now.chunks number) output.now self.now.full) (disk_outcome result) }
         ensures cause { HasCause (D.faults disk.old) (D.faults disk.new) (IsErrOf result Failed) }
     {
         match self.chunks.get(number) {
@@ -470,7 +470,7 @@ impl Store {
         requires outputs { AreOutputs outputs.now }
         requires root { home ≡ home_of.Disk → IsSome self.old.root }
         requires room { IsTrue (has_room self.old (chunk_for self.old input.0 tag.now)) }
-        ensures calls { Makes (D.told disk.old) (D.told disk.new) (accepts self.old input.0 stream.now tag.now home batch.now outputs.now) (accept_outcome result) }
+        ensures calls { Attempts (D.told disk.old) (D.told disk.new) (accepts self.old input.0 stream.now tag.now home batch.now outputs.now) (accept_outcome result) }
 
         // The store after each answer.
         ensures ok { IfOk result (Took self.old self.new (chunk_for self.old input.0 tag.now) input.0 stream.now tag.now home batch.now outputs.now) }
@@ -507,7 +507,7 @@ impl Store {
         requires batch { length batch.now ≤ largest_batch }
         requires number { has_no_number self.old input.0 tag.now ≡ false }
         requires room { IsTrue (has_room self.old (chunk_for self.old input.0 tag.now)) }
-        ensures calls { Makes (D.told disk.old) (D.told disk.new) (goes_to self.old (chunk_for self.old input.0 tag.now) stream.now tag.now home batch.now outputs.now) (accept_outcome result) }
+        ensures calls { Attempts (D.told disk.old) (D.told disk.new) (goes_to self.old (chunk_for self.old input.0 tag.now) stream.now tag.now home batch.now outputs.now) (accept_outcome result) }
         ensures ok { IfOk result (Took self.old self.new (chunk_for self.old input.0 tag.now) input.0 stream.now tag.now home batch.now outputs.now) }
         ensures err { IfErr result (GivesUp (D.told disk.old) (D.told disk.new) self.old self.new (chunk_for self.old input.0 tag.now)) }
         ensures cause { HasCause (D.faults disk.old) (D.faults disk.new) (HasFailed result) }
@@ -569,7 +569,7 @@ impl Store {
         requires source { source.tag.items ≡ tag.now }
         requires none { chunk_for self.old source.input.0 tag.now ≡ None }
         requires number { self.old.next < past_numbers }
-        ensures calls { Makes (D.told disk.old) (D.told disk.new) (begins_as (new_name self.old stream.now) tag.now home batch.now outputs.now) (accept_outcome result) }
+        ensures calls { Attempts (D.told disk.old) (D.told disk.new) (begins_as (new_name self.old stream.now) tag.now home batch.now outputs.now) (accept_outcome result) }
         ensures ok { IfOk result (BeganChunk self.old self.new source.input.0 stream.now tag.now home batch.now outputs.now) }
         ensures err { IfErr result (GivesUp (D.told disk.old) (D.told disk.new) self.old self.new None) }
         ensures cause { HasCause (D.faults disk.old) (D.faults disk.new) (HasFailed result) }
@@ -612,7 +612,7 @@ impl Store {
         requires grows { CanGrow (map.get self.old.chunks number) }
         requires batch { length batch.now ≤ largest_batch }
         requires room { IsTrue (has_room self.old (Some number)) }
-        ensures calls { Makes (D.told disk.old) (D.told disk.new) (appends_to (map.get self.old.chunks number) batch.now self.old.full) (accept_outcome result) }
+        ensures calls { Attempts (D.told disk.old) (D.told disk.new) (appends_to (map.get self.old.chunks number) batch.now self.old.full) (accept_outcome result) }
         ensures ok { IfOk result (GrewChunk self.old self.new number batch.now) }
         ensures err { IfErr result (GivesUp (D.told disk.old) (D.told disk.new) self.old self.new (Some number)) }
         ensures cause { HasCause (D.faults disk.old) (D.faults disk.new) (HasFailed result) }

@@ -2,7 +2,7 @@
 use Rattle.std.proofs.Common.{◌≡◌, ℕ, List, [], Option, Some, None, Result, Ok, Err, String, map, string_bytes, inl, inr, refl, subst}
 use Rattle.std.specs.Prelude.{option_map, IfOk, IfErr}
 use Rattle.fwd_program.specs.Program.{Program, Return, Ask, bind}
-use Rattle.fwd_program.specs.Told.{Did, Makes}
+use Rattle.fwd_program.specs.Told.{Did, Makes, Attempts}
 use Rattle.fwd_program.proofs.Leading.{stays, inside, began_inside, makes_bind}
 use Rattle.fwd_outside.specs.Files.{FilesTold, FilesProgram, reads_whole}
 use Rattle.fwd_config.specs.Variables.{Values}
@@ -41,11 +41,11 @@ pub file_read : (a b : FilesTold) (s : AllSettings) (path bytes : List ℕ) (res
 file_read a b s path bytes result did is = judged a b (bind (reads_whole path) (λ content. Return (of_file s content))) (of_file s (Some bytes)) result (inside (λ content. Return (of_file s content)) did) is
 
 -- it can't be read, or memory was wanting
-pub file_failed : (a b : FilesTold) (s : AllSettings) (path : List ℕ) → Makes a b (reads_whole path) (Some None) → Makes a b (bind (reads_whole path) (λ content. Return (of_file s content))) (Some (Refuses status.FileFault))
+pub file_failed : (a b : FilesTold) (s : AllSettings) (path : List ℕ) → Attempts a b (reads_whole path) (Some None) → Makes a b (bind (reads_whole path) (λ content. Return (of_file s content))) (Some (Refuses status.FileFault))
 file_failed a b s path did = inside (λ content. Return (of_file s content)) did
 
-pub file_wanting : (a b : FilesTold) (s : AllSettings) (path : List ℕ) → Makes a b (reads_whole path) None → Makes a b (bind (reads_whole path) (λ content. Return (of_file s content))) None
-file_wanting a b s path began = began_inside (λ content. Return (of_file s content)) began
+pub file_wanting : (a b : FilesTold) (s : AllSettings) (path : List ℕ) → Attempts a b (reads_whole path) None → Makes a b (bind (reads_whole path) (λ content. Return (of_file s content))) None
+file_wanting a b s path began = began_inside (λ content. Return (of_file s content)) (began.0, began.1)
 
 -- ---- behind settings
 

@@ -1,7 +1,7 @@
 -- What the program answers.
 use Rattle.std.specs.Prelude.{◌≡◌, ◌≢◌, ◌⊎◌, ℕ, ◌≤◌, List, [], ◌∷◌, ◌++◌, length, map, String, string_bytes, Bool, true, false, if◌then◌else◌, Option, Some, None, option_map}
 use Rattle.fwd_program.specs.Program.{entry}
-use Rattle.fwd_program.specs.Told.{Grew, Did, Began, Makes}
+use Rattle.fwd_program.specs.Told.{Grew, Did, Unfailed, Makes}
 use Rattle.fwd_outside.specs.Disk.{DiskTold}
 use Rattle.fwd_outside.specs.Files.{FilesTold, FilesGiven, FilesEntry, IsHonest, found, files_behind}
 use Rattle.fwd_outside.specs.Loop.{LoopTold}
@@ -66,11 +66,11 @@ pub record IsStill (old new : Outside) : Type 0 where
   pub loop : Grew old.loop new.loop []
 
 -- What came of a listing, by its end: the calls of loading, and the lines of what was found; without a text, those up to one
--- that failed, or the first ones where memory was wanting.
+-- that failed, or the first ones, of which none failed, where memory was wanting.
 abbrev pub IsListed : List ℕ → DiskTold → DiskTold → List ℕ → Ending → Type 0
 IsListed root old new text ending.Over = (files : List FileRead) × (backlog : Backlog) × Did old new (loads root) (Some files) × IsBacklog files backlog × IsListing backlog.found text
 IsListed root old new text ending.DiskFailed = Did old new (loads root) None × (text ≡ [])
-IsListed root old new text ending.Memory = Began old new (loads root) × (text ≡ [])
+IsListed root old new text ending.Memory = Unfailed old new (loads root) × (text ≡ [])
 IsListed root old new text ending.TurnsSpent = ⊥
 IsListed root old new text ending.LoopFailed = ⊥
 

@@ -1,13 +1,13 @@
 use Rattle.std.proofs.Common.{Ok, [], ◌∷◌, refl}
 use Rattle.fwd_image.proofs.Making.{wrote, went, stopped, exits}
 use Rattle.fwd_chunk.specs.Append.{syncs_if}
-use Rattle.fwd_chunk.proofs.Synced.{synced_if}
+use Rattle.fwd_chunk.proofs.Synced.{synced_if, sync_begins}
 use Rattle.fwd_chunk.proofs.append.commit_calls.Goals as goal
 
 pub returns-in_err-write_at-clause-calls : goal.returns-in_err-write_at-clause-calls
 returns-in_err-write_at-clause-calls g c =
     (exits c.from_residual.result c.from_residual.ensures.1
-    (stopped (λ _. syncs_if c.args.full c.args.head.now.name) (wrote c.as_slice.ensures refl (λ i. c.selector_after-selector.ensures i ∷ []) c.in_err-write_at.ensures.told))).makes
+    (stopped (λ _. syncs_if c.args.full c.args.head.now.name) (λ _. sync_begins c.args.full c.args.head.now.name) (wrote c.as_slice.ensures refl (λ i. c.selector_after-selector.ensures i ∷ []) c.in_err-write_at.ensures.told))).makes
 
 pub returns-in_err-sync_if-clause-calls : goal.returns-in_err-sync_if-clause-calls
 returns-in_err-sync_if-clause-calls g c =

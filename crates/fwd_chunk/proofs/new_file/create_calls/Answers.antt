@@ -11,10 +11,10 @@ pub metadata-requires-clause-few : goal.metadata-requires-clause-few
 metadata-requires-clause-few g c = subst (λ (l : List (List ℕ)). length l ≤ most_outputs) (sym c.as_slice.ensures) c.requires.outputs.few
 
 pub returns-in_err-meta-clause-calls : goal.returns-in_err-meta-clause-calls
-returns-in_err-meta-clause-calls g c = (exits c.from_residual.result c.from_residual.ensures.1 (no_memory _ (creates c.args.name.now c.args.tag.now c.args.batch.now c.args.outputs.now))).makes
+returns-in_err-meta-clause-calls g c = (exits c.from_residual.result c.from_residual.ensures.1 (no_memory _ (creates c.args.name.now c.args.tag.now c.args.batch.now c.args.outputs.now) (λ is. absurd (cc is)))).makes
 
 pub returns-in_err-head-clause-calls : goal.returns-in_err-head-clause-calls
-returns-in_err-head-clause-calls g c = (exits c.from_residual-in_err-head.result c.from_residual-in_err-head.ensures.1 (no_memory _ (creates c.args.name.now c.args.tag.now c.args.batch.now c.args.outputs.now))).makes
+returns-in_err-head-clause-calls g c = (exits c.from_residual-in_err-head.result c.from_residual-in_err-head.ensures.1 (no_memory _ (creates c.args.name.now c.args.tag.now c.args.batch.now c.args.outputs.now) (λ is. absurd (cc is)))).makes
 
 pub file_bytes-requires-clause-meta : goal.file_bytes-requires-clause-meta
 file_bytes-requires-clause-meta g c =
@@ -23,14 +23,14 @@ file_bytes-requires-clause-meta g c =
     subst (λ (l : List ℕ). length l < 2 ^ 16) (sym is) (omega (arith, short))
 
 pub returns-in_err-bytes-clause-calls : goal.returns-in_err-bytes-clause-calls
-returns-in_err-bytes-clause-calls g c = (exits c.from_residual-in_err-bytes.result c.from_residual-in_err-bytes.ensures.1 (no_memory _ (creates c.args.name.now c.args.tag.now c.args.batch.now c.args.outputs.now))).makes
+returns-in_err-bytes-clause-calls g c = (exits c.from_residual-in_err-bytes.result c.from_residual-in_err-bytes.ensures.1 (no_memory _ (creates c.args.name.now c.args.tag.now c.args.batch.now c.args.outputs.now) (λ is. absurd (cc is)))).makes
 
 pub returns-in_err-place-clause-calls : goal.returns-in_err-place-clause-calls
 returns-in_err-place-clause-calls g c =
     let is : c.as_slice-2.result.now ≡ new_meta c.args.tag.now c.args.outputs.now = c.as_slice-2.ensures ∙ c.in_ok-meta.ensures ∙ ap (new_meta c.args.tag.now) c.as_slice.ensures in
     (exits c.from_residual-in_err-place.result c.from_residual-in_err-place.ensures.1
     (stopped (λ _. Return (Some (new_head c.args.name.now c.args.tag.now c.args.batch.now c.args.outputs.now)))
-    (placed refl (bytes_of c.args.tag.now c.args.batch.now c.args.outputs.now c.as_slice-2.result.now c.as_slice-3.result.now is (c.as_slice-3.ensures ∙ c.in_ok-bytes.ensures)) c.in_err-place.ensures.told))).makes
+    (λ _ is. absurd (cc is)) (placed refl (bytes_of c.args.tag.now c.args.batch.now c.args.outputs.now c.as_slice-2.result.now c.as_slice-3.result.now is (c.as_slice-3.ensures ∙ c.in_ok-bytes.ensures)) c.in_err-place.ensures.told))).makes
 
 pub returns-clause-calls : goal.returns-clause-calls
 returns-clause-calls g c =

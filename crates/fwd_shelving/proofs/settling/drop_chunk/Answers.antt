@@ -64,4 +64,4 @@ unfolding drops
 returns-in-Err-Memory-clause-acts g c s others h shows done =
     let n = c.args.chunk.0 in
     let began = rw (c.in-Err-Memory.field-0-is, shows.store.chunks n) at c.in-Err-Memory.ensures.calls in
-    disk_began others _ _ (removes (kept_of s h n)) (dropped n h) began
+    disk_began others _ _ (removes (kept_of s h n)) (dropped n h) (began.0, began.1)

@@ -44,4 +44,4 @@ returns-in-Err-Memory-clause-acts g c others h shows =
     let s = c.args.run.now in
     let r = route_of c.args.route in
     let began = rw (c.in-Err-Memory.field-0-is, shows.store.chunks r.chunk, c.output_name.ensures, shows.store.full) at c.in-Err-Memory.ensures.calls in
-    record_began others _ _ s r h began
+    record_began others _ _ s r h (began.0, began.1)

@@ -14,7 +14,7 @@ create-requires-clause-fits g c =
 pub returns-in_err-name-clause-calls : goal.returns-in_err-name-clause-calls
 returns-in_err-name-clause-calls g c =
     nothing_made (g.D.Disk.told c.args.disk.now) (and_then (creates (file_name c.args.root.now c.args.stream.now c.args.next.now) c.args.tag.now c.args.batch.now c.args.outputs.now) (λ _. Return (Some tt)))
-    c.from_residual.result c.from_residual.ensures.1
+    c.from_residual.result (λ is. absurd (cc is)) c.from_residual.ensures.1
 
 pub returns-in-Ok-clause-calls : goal.returns-in-Ok-clause-calls
 returns-in-Ok-clause-calls g c =

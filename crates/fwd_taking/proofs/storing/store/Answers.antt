@@ -97,4 +97,4 @@ returns-clause-acts g c others h shows =
       number = some_left _ _ _ c.accept.ensures.no_number c.requires.spelled.short (refused_isnt c.accept.result c.in-Err-Memory.field-0 refusal.Memory c.in-Err-Memory.is is (λ e. absurd (cc e)));
     } in
     let calls = rw is at c.in-Err-Memory.ensures.calls in
-    only_began s h b c.reserve.new.self c.args.parts.now.store c.stream.result.now c.home-home.result c.args.bytes.now c.in_ok-names.names others _ _ given calls
+    only_began s h b c.reserve.new.self c.args.parts.now.store c.stream.result.now c.home-home.result c.args.bytes.now c.in_ok-names.names others _ _ given (calls.0, calls.1)

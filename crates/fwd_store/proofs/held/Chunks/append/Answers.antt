@@ -1,7 +1,7 @@
 use Rattle.std.proofs.Common.{◌≡◌, ℕ, ap, sym, ◌∙◌, refl, Some, None, IsSome, subst, nat_eq, nat_cmp, HashMap, BuildHasherDefault, FoldHasher}
 use Rattle.std.specs.Map.{lookup}
 use Rattle.std.specs.FinMap as map
-use Rattle.fwd_program.specs.Told.{Makes}
+use Rattle.fwd_program.specs.Told.{Attempts}
 use Rattle.fwd_outside.specs.Disk.{disk_outcome}
 use Rattle.fwd_kept.specs.declared.kept.Kept.{Kept}
 use Rattle.fwd_kept.specs.Kept.{appends, grown}
@@ -21,7 +21,7 @@ returns-clause-calls g c kept is =
     elim c.match-get_mut.branch [
       | in-Some w ↦
           let same : w.in-Some.kept.now ≡ kept = same_some (w.in-Some.ensures.value ∙ here) in
-          subst (λ (k : Kept). Makes (g.D.Disk.told c.args.disk.now) (g.D.Disk.told c.match-get_mut.disk) (appends k c.args.batch.now c.args.full) (disk_outcome c.match-get_mut.result)) same
+          subst (λ (k : Kept). Attempts (g.D.Disk.told c.args.disk.now) (g.D.Disk.told c.match-get_mut.disk) (appends k c.args.batch.now c.args.full) (disk_outcome c.match-get_mut.result)) same
           (rw (w.disk-is, w.result-is) w.append.ensures.calls)
       | in-None w ↦ let none : None ≡ Some kept = w.in-None.ensures.value ∙ here in absurd (cc none)
     ]

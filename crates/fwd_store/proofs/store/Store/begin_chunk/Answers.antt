@@ -6,17 +6,19 @@ use Rattle.fwd_store.specs.Opened.{Opened}
 use Rattle.fwd_store.specs.Stored.{Held, Stored}
 use Rattle.fwd_store.specs.Store.{begins_as, new_name, CanGrow, IsHeldAs, kept_as}
 use Rattle.fwd_kept.specs.Name.{file_name}
-use Rattle.fwd_store.proofs.Making.{nothing_accepted}
+use Rattle.fwd_store.proofs.Making.{nothing_accepted, begins_new}
 use Rattle.fwd_store.proofs.Sound.{sound_as_new, IsNamedNew, open_below, can_begin, begins_held, begins_named}
 use Rattle.fwd_store.proofs.store.Store.begin_chunk.Goals as goal
 
 pub returns-in_err-reserve-clause-calls : goal.returns-in_err-reserve-clause-calls
 returns-in_err-reserve-clause-calls g c =
-    nothing_accepted (g.D.Disk.told c.args.disk.now) (begins_as (new_name c.args.self.now c.args.stream.now) c.args.tag.now c.args.home c.args.batch.now c.args.outputs.now) c.from_residual.result c.from_residual.ensures.1
+    nothing_accepted (g.D.Disk.told c.args.disk.now) (begins_as (new_name c.args.self.now c.args.stream.now) c.args.tag.now c.args.home c.args.batch.now c.args.outputs.now) c.from_residual.result
+    (begins_new (new_name c.args.self.now c.args.stream.now) c.args.tag.now c.args.home c.args.batch.now c.args.outputs.now) c.from_residual.ensures.1
 
 pub returns-in_err-reserve-2-clause-calls : goal.returns-in_err-reserve-2-clause-calls
 returns-in_err-reserve-2-clause-calls g c =
-    nothing_accepted (g.D.Disk.told c.args.disk.now) (begins_as (new_name c.args.self.now c.args.stream.now) c.args.tag.now c.args.home c.args.batch.now c.args.outputs.now) c.from_residual-in_err-reserve-2.result c.from_residual-in_err-reserve-2.ensures.1
+    nothing_accepted (g.D.Disk.told c.args.disk.now) (begins_as (new_name c.args.self.now c.args.stream.now) c.args.tag.now c.args.home c.args.batch.now c.args.outputs.now) c.from_residual-in_err-reserve-2.result
+    (begins_new (new_name c.args.self.now c.args.stream.now) c.args.tag.now c.args.home c.args.batch.now c.args.outputs.now) c.from_residual-in_err-reserve-2.ensures.1
 
 pub push-requires-clause-rises : goal.push-requires-clause-rises
 push-requires-clause-rises g c =
