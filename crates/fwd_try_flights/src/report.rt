@@ -1,7 +1,7 @@
 //! Reports of small runs, and of one that owes much.
 
 use crate::rows::{Row, put_many, put_rows};
-use fwd_base::{Bytes, Memory, Names};
+use fwd_base::{Bytes, ChunkId, Memory, Names};
 use fwd_report::report;
 use fwd_table::{InputTallies, InputTally, OutputTallies, OutputTally, Table, Tally};
 use std::alloc::Global;
@@ -271,6 +271,45 @@ fn wrong_run(alloc: Global) -> Result<Option<usize>, Memory> {
 #[test]
 fn runs_are_reported(rt: HostRuntime) {
     assert_eq!(rt; wrong_run(rt.alloc()), Ok(None));
+}
+
+/// A run in which the chunks 5 and 13 are held no more.
+const SOME_WENT: &Run = &Run {
+    inputs: QUIET,
+    outputs: TWO_IDLE,
+    found: NOTHING,
+    rows: &[
+        (2, b"a", 1, 1),
+        (3, b"app", 24, 3),
+        (5, b"b", 1, 0),
+        (12, b"gen", 1, 1),
+        (13, b"c", 1, 0),
+    ],
+    counts: TWO_COUNTS,
+    owed: "owed 4\nchunk 2 \"a\" 1 stdout.0\nchunk 3 \"app\" 24 stdout.0 tcp.0\nchunk 12 \"gen\" 1 stdout.0\n",
+};
+
+/// Takes rows away that are owed to nobody, and leaves empty places. False where one of them can't go.
+fn leaves_gaps(table: &mut Table, numbers: &[u64]) -> bool {
+    for number in numbers {
+        let chunk = ChunkId(*number);
+        if !table.is_owed_to_nobody(chunk) {
+            return false;
+        }
+        table.forget(chunk);
+    }
+    table.places() > table.len()
+}
+
+fn gaps_are_left_out(alloc: Global) -> Result<bool, Memory> {
+    let mut table = Table::new(alloc);
+    put_rows(alloc, &mut table, SOME_WENT.rows)?;
+    Ok(leaves_gaps(&mut table, &[5, 13]) && reports_counts(alloc, SOME_WENT, &table)?)
+}
+
+#[test]
+fn empty_places_are_not_reported(rt: HostRuntime) {
+    assert!(rt; matches!(gaps_are_left_out(rt.alloc()), Ok(true)));
 }
 
 /// Whether the report of a thousand rows, each owed to three outputs, ends so.

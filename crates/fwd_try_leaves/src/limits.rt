@@ -94,6 +94,31 @@ fn the_lowest_chunks_are_lost(rt: HostRuntime) {
     assert_eq!(rt; wrong_loss(rt.alloc()), Ok(None));
 }
 
+/// Closed chunks in files that are owed to the first output, and one among them that nobody is owed.
+const ONE_GOES: &[Row] = &[
+    (1, INPUT, Home::Disk, 40, 1, Stand::Shut),
+    (2, INPUT, Home::Disk, 40, 0, Stand::Shut),
+    (3, INPUT, Home::Disk, 40, 1, Stand::Shut),
+    (4, INPUT, Home::Disk, 40, 1, Stand::Shut),
+];
+
+/// Whether the same chunks are lost where one between them went, and left its place empty.
+fn gaps_are_not_lost(alloc: Global) -> Result<bool, Memory> {
+    let mut table = table_of(alloc, ONE_GOES)?;
+    let gone = ChunkId(2);
+    if !table.is_owed_to_nobody(gone) {
+        return Ok(false);
+    }
+    table.forget(gone);
+    let gap = table.places() > table.len();
+    Ok(gap && loses(&mut table, 79, ChunkId(4), &[1, 3], Loss::Fits))
+}
+
+#[test]
+fn empty_places_are_passed_over(rt: HostRuntime) {
+    assert!(rt; matches!(gaps_are_not_lost(rt.alloc()), Ok(true)));
+}
+
 /// Whether of a thousand chunks of 7 bytes the first is lost where one has no room.
 fn first_of_many_is_lost(alloc: Global) -> Result<bool, Memory> {
     let table = many_rows(alloc, 1000)?;
