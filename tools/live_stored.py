@@ -63,11 +63,11 @@ class Sender:
     """A forward peer that sends numbered messages, one behind the other, each until it is acknowledged. With a padding each
     third try has it."""
 
-    def __init__(self, port, padding=0):
+    def __init__(self, port, padding=0, first=0):
         self.port = port
         self.padding = padding
         self.tries = 0
-        self.acknowledged = 0
+        self.acknowledged = first
         self.stopping = False
         self.thread = threading.Thread(target=self.work, daemon=True)
         self.thread.start()

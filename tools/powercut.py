@@ -1,5 +1,6 @@
 """Runs the program with chunks in files, writes down its calls on files and sockets, and asks of many moments what a loss of
-power may leave there: a second run over that has to hand over each message that was acknowledged and not handed over before.
+power may leave there: a run over that has to hand over each message that was acknowledged and not handed over before. From
+what one of these losses leaves the program goes on as before, and is asked again.
 
 A loss of power keeps what was synced. Of other writes, new names, renamings and removals it keeps nothing, all, or by chance
 some, and some writes in part. `--without files` or `--without folders` looks away from these syncs: then messages have to be
@@ -9,6 +10,7 @@ It ends by itself, stops by its number each program that it started, and prints 
 """
 import argparse
 import concurrent.futures
+import dataclasses
 import os
 import random
 import re
@@ -59,27 +61,37 @@ STDIN = """[INPUT]
 def options_of(words):
     parser = argparse.ArgumentParser(prog="tools/powercut", description=__doc__, formatter_class=argparse.RawDescriptionHelpFormatter)
     parser.add_argument("--program", required=True, help="the built program")
-    parser.add_argument("--messages", type=int, default=300, help="how many are acknowledged in the run (%(default)s)")
-    parser.add_argument("--moments", type=int, default=400, help="how many moments are looked at (%(default)s)")
+    parser.add_argument("--lives", type=int, default=3, help="how often the power is lost, one behind the other (%(default)s)")
+    parser.add_argument("--messages", type=int, default=100, help="how many are acknowledged in each life (%(default)s)")
+    parser.add_argument("--moments", type=int, default=200, help="how many moments of each life are looked at (%(default)s)")
     parser.add_argument("--seed", type=int, default=7, help="by which these are picked (%(default)s)")
     parser.add_argument("--without", choices=["files", "folders"], default="", help="look away from the syncs of these")
     return parser.parse_args(words)
 
 
-def calls_of(room, options):
-    """A run: messages come, a collector is there for a part of the time, and then the program is killed. Its calls are given."""
-    subprocess.run(["cc", "-O1", "-shared", "-fPIC", "-o", f"{room.path}/powercut.so", f"{TOP}/tools/powercut.c", "-ldl"], check=True)
+def put(folder, files):
+    for name, data in files.items():
+        path = os.path.join(folder, "chunks", name)
+        os.makedirs(os.path.dirname(path), exist_ok=True)
+        with open(path, "wb") as file:
+            file.write(data)
+
+
+def calls_of(room, name, files, first, messages):
+    """A life over these files: messages come, a collector is there for a part of the time, and then the program is killed. Its
+    calls are given."""
     collector, port = Collector(free_port()), free_port()
-    folder = os.path.join(room.path, "first")
+    folder = os.path.join(room.path, name)
+    put(folder, files)
     before = f"export LD_PRELOAD={room.path}/powercut.so POWERCUT_LOG={folder}/calls POWERCUT_ROOT={folder}"
     configuration = CONFIGURATION.format(input=FORWARD.format(port=port), collector=collector.port)
-    with Program(room, "first", configuration, before=before) as program:
+    with Program(room, name, configuration, before=before) as program:
         program.connect(port).close()
-        sender = Sender(port, padding=300)
+        sender = Sender(port, padding=300, first=first)
         for part, listens in enumerate((False, True, False)):
             if listens:
                 collector.open()
-            until(lambda: sender.acknowledged * 3 >= options.messages * (part + 1), "messages are acknowledged")
+            until(lambda: (sender.acknowledged - first) * 3 >= messages * (part + 1), "messages are acknowledged")
             if listens:
                 until(lambda: collector.taken() > 0, "some come to the collector")
                 collector.close()
@@ -92,8 +104,8 @@ def calls_of(room, options):
 class Told:
     """The messages that were acknowledged, by what was sent over sockets, and those that were handed over, by what these took."""
 
-    def __init__(self):
-        self.acknowledged, self.handed, self.begun = set(), set(), {}
+    def __init__(self, before):
+        self.acknowledged, self.handed, self.begun = set(before.acknowledged), set(before.handed), {}
 
     def sent(self, data):
         self.acknowledged |= {int(number) for number in re.findall(rb"\xa3ack[\xa0-\xbf]id([0-9]+)", data)}
@@ -104,12 +116,24 @@ class Told:
         self.handed |= {int(found[1]) for line in lines if (found := LINE.fullmatch(line))}
 
 
-def moments_of(folder, calls, options):
-    """For each moment that is picked: its number, the files that are left, and the messages that are owed."""
-    chance = random.Random(options.seed)
+@dataclasses.dataclass
+class Loss:
+    """What a loss of power leaves: files, and the messages that were acknowledged and handed over before it."""
+
+    moment: int = 0
+    files: dict = dataclasses.field(default_factory=dict)
+    acknowledged: set = dataclasses.field(default_factory=set)
+    handed: set = dataclasses.field(default_factory=set)
+
+    def owed(self):
+        return self.acknowledged - self.handed
+
+
+def losses_of(folder, calls, before, chance, options):
+    """A loss of power at each moment that is picked."""
     picked = sorted(chance.randrange(len(calls) + 1) for _ in range(options.moments))
-    disk, told, made = Disk(f"{folder}/chunks", options.without), Told(), 0
-    for number, moment in enumerate(picked):
+    disk, told, made = Disk(f"{folder}/chunks", before.files, options.without), Told(before), 0
+    for moment in picked:
         for call, path, *more in calls[made:moment]:
             if call == "send":
                 told.sent(bytes.fromhex(more[1]))
@@ -120,7 +144,7 @@ def moments_of(folder, calls, options):
             else:
                 disk.call(call, path, more[0])
         made = moment
-        yield number, moment, disk.after(Pick(chance.random())), told.acknowledged - told.handed
+        yield Loss(moment, disk.after(Pick(chance.random())), set(told.acknowledged), set(told.handed))
 
 
 def numbers_of(collector):
@@ -145,40 +169,48 @@ def listening():
     return until(opened, "a collector listens", 10)
 
 
-def lost_at(room, number, files, owed):
-    """The messages that a second run over these files doesn't hand over."""
-    name = f"moment{number}"
-    for path, data in files.items():
-        path = os.path.join(room.path, name, "chunks", path)
-        os.makedirs(os.path.dirname(path), exist_ok=True)
-        with open(path, "wb") as file:
-            file.write(data)
+def missing_behind(room, name, loss):
+    """The messages that are owed behind a loss of power, and that a run over what is left doesn't hand over."""
+    put(os.path.join(room.path, name), loss.files)
     collector = listening()
     configuration = CONFIGURATION.format(input=STDIN, collector=collector.port)
     with Program(room, name, configuration) as program:
         status = program.stop()
         complaint = program.stderr().decode(errors="replace")
     collector.close()
-    holds(status == 0, f"the second run ended with status {status}: {complaint}")
-    return owed - numbers_of(collector)
+    holds(status == 0, f"the run over what is left ended with status {status}: {complaint}")
+    return loss.owed() - numbers_of(collector)
+
+
+def looked_at(room, life, before, chance, threads, options):
+    """A life, and the losses of power in it. It gives one of these, from which the next life goes on, and how many messages
+    were missing behind all of them."""
+    folder, calls = calls_of(room, f"life{life}", before.files, life * 1_000_000, options.messages)
+    losses = list(losses_of(folder, calls, before, chance, options))
+    results = [threads.submit(missing_behind, room, f"life{life}.{number}", loss) for number, loss in enumerate(losses)]
+    lost = 0
+    for loss, result in zip(losses, results):
+        missing = result.result()
+        lost += len(missing)
+        if missing:
+            print(f"life {life}, moment {loss.moment}: of {len(loss.owed())} messages {len(missing)} are lost, as {min(missing)}", flush=True)
+    syncs = sum(call[0] == "sync" for call in calls)
+    most = max(len(loss.owed()) for loss in losses)
+    print(f"life {life}: {len(losses)} moments in {len(calls)} calls, of which {syncs} are syncs; up to {most} messages were owed, and {lost} lost", flush=True)
+    return chance.choice(losses[len(losses) // 2 :]), lost
 
 
 def main(words):
     options = options_of(words)
+    chance = random.Random(options.seed)
+    loss, lost = Loss(), 0
     with tempfile.TemporaryDirectory(prefix="fwd-powercut-") as path, concurrent.futures.ThreadPoolExecutor(os.cpu_count()) as threads:
         room = Room(path, options.program)
-        folder, calls = calls_of(room, options)
-        syncs = sum(call[0] == "sync" for call in calls)
-        print(f"{len(calls)} calls, of which {syncs} are syncs", flush=True)
-        results = [(moment, len(owed), threads.submit(lost_at, room, number, files, owed)) for number, moment, files, owed in moments_of(folder, calls, options)]
-        lost = 0
-        for moment, owed, result in results:
-            missing = result.result()
-            lost += len(missing)
-            if missing:
-                print(f"moment {moment}: of {owed} messages {len(missing)} are lost, as {min(missing)}", flush=True)
-        most = max(owed for _, owed, _ in results)
-    print(f"{len(results)} moments, at which up to {most} messages were owed, {lost} lost messages")
+        subprocess.run(["cc", "-O1", "-shared", "-fPIC", "-o", f"{path}/powercut.so", f"{TOP}/tools/powercut.c", "-ldl"], check=True)
+        for life in range(options.lives):
+            loss, more = looked_at(room, life, loss, chance, threads, options)
+            lost += more
+    print(f"{options.lives * options.moments} moments, {lost} lost messages")
     return 1 if bool(lost) != bool(options.without) else 0
 
 

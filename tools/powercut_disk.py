@@ -9,8 +9,8 @@ class Folder:
 class File:
     """A file: the bytes that a loss of power leaves, the changes since, and the bytes as they are read."""
 
-    def __init__(self):
-        self.kept, self.doubted, self.now = b"", [], b""
+    def __init__(self, data=b""):
+        self.kept, self.doubted, self.now = data, [], data
 
     def change(self, at, data):
         self.doubted.append((at, data))
@@ -47,11 +47,24 @@ class Pick:
 
 
 class Disk:
-    """The files below a folder that is empty at first. `without` leaves out the syncs of files, or those of folders."""
+    """The files below a folder, which are there for sure at first. `without` leaves out the syncs of files, or of folders."""
 
-    def __init__(self, root, without=""):
+    def __init__(self, root, files, without=""):
         self.root, self.without = root, without
-        self.now, self.kept, self.doubted = {}, {}, {}
+        self.kept, self.doubted = {}, {}
+        for name, data in files.items():
+            path = f"{root}/{name}"
+            self.kept[path] = File(data)
+            for folder in self.above(path):
+                self.kept[folder] = Folder()
+        self.now = dict(self.kept)
+
+    def above(self, path):
+        """The folders above a file, to the root."""
+        folder = path.rpartition("/")[0]
+        while len(folder) >= len(self.root):
+            yield folder
+            folder = folder.rpartition("/")[0]
 
     def call(self, call, path, second="", data=None):
         """Takes one call that was made, in its order."""
@@ -92,16 +105,7 @@ class Disk:
             for change in changes:
                 if pick.keeps():
                     apply(names, change)
-        return {path[len(self.root) + 1 :]: pick.bytes_of(it) for path, it in names.items() if isinstance(it, File) and self.stands(names, path)}
-
-    def stands(self, names, path):
-        """Whether each folder above a file is left."""
-        folder = path.rpartition("/")[0]
-        while len(folder) >= len(self.root):
-            if folder not in names:
-                return False
-            folder = folder.rpartition("/")[0]
-        return True
+        return {path[len(self.root) + 1 :]: pick.bytes_of(it) for path, it in names.items() if isinstance(it, File) and all(folder in names for folder in self.above(path))}
 
 
 def apply(names, change):
