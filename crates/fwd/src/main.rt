@@ -8,12 +8,17 @@ ghost use Rattle.fwd_outside.specs.Disk.{DiskGiven};
 ghost use Rattle.fwd_outside.specs.Files.{FilesGiven};
 ghost use Rattle.fwd_outside.specs.Loop.{LoopGiven};
 
+use fwd_base::{Bytes, Memory};
 use fwd_live::{FolderDisk, FolderFiles, LiveLoop, StdSink};
 use fwd_top::{Status, log_forwarder, status_line};
 use started::{environment, words};
+use std::alloc::Global;
 use std::io::{self, ErrorKind, Write};
 use std::process::ExitCode;
 use std::thread::Threads;
+
+/// What is said where there is no memory for the status line.
+const OUT_OF_MEMORY: &[u8] = b"out of memory\n";
 
 /// How the program ends where there is no loop over the machine.
 fn status_without_loop(error: &io::Error) -> Status {
@@ -54,15 +59,21 @@ fn run(rt: &HostRuntime, threads: &(impl Threads + Sync)) -> Status
     )
 }
 
-/// The status line goes to standard error, with a line feed behind it. Of `Done` there is none.
-fn tell(rt: &HostRuntime, status: &Status) -> io::Result<()> {
-    if let Ok(mut line) = status_line(rt.alloc(), status)
-        && !line.is_empty()
-        && line.push(b'\n').is_ok()
-    {
-        rt.stderr().write_all(line.as_slice())?;
+/// The status line with a line feed behind it. Of `Done` there is none.
+fn line_of(alloc: Global, status: &Status) -> Result<Bytes, Memory> {
+    let mut line = status_line(alloc, status)?;
+    if !line.is_empty() {
+        line.push(b'\n')?;
     }
-    Ok(())
+    Ok(line)
+}
+
+/// The status line goes to standard error. Where there is no memory for it, this is said in its place.
+fn tell(rt: &HostRuntime, status: &Status) -> io::Result<()> {
+    match line_of(rt.alloc(), status) {
+        Ok(line) => rt.stderr().write_all(line.as_slice()),
+        Err(Memory) => rt.stderr().write_all(OUT_OF_MEMORY),
+    }
 }
 
 fn main(rt: HostRuntime) -> ExitCode {
