@@ -1,0 +1,221 @@
+"""Hostile peers of an input that takes forward messages. The good peer beside them is one that waits for acknowledgements."""
+import random
+import socket
+
+from hostile_case import MESSAGES_TO_FILE, case
+from hostile_lines import half_and_silence, of_silent
+from hostile_room import MEGABYTE, GoodSender, good_message, spelled
+from live_room import content, until
+
+LONGEST_MESSAGE = 16_777_216
+
+# the beginnings of values that say to be as long as can be said
+HUGE = {"bin": b"\xc6", "text": b"\xdb", "ext": b"\xc9", "list": b"\xdd", "map": b"\xdf"}
+HUGE = {name: head + b"\xff\xff\xff\xff" for name, head in HUGE.items()}
+
+TAG = spelled(b"bad")
+
+
+def text32(text):
+    return b"\xdb" + len(text).to_bytes(4, "big") + text
+
+
+def message(record, option=b"", tag=TAG):
+    """A message of one event, with the option that is given."""
+    return bytes([0x93 + bool(option)]) + tag + b"\x00" + record + option
+
+
+def is_dropped(link, patience=5):
+    """Whether the program ends a connection, over which it may write before."""
+    link.settimeout(patience)
+    try:
+        while link.recv(65_536):
+            pass
+    except TimeoutError:
+        return False
+    except OSError:
+        pass
+    return True
+
+
+def forward(limit, memory, **more):
+    return case(MESSAGES_TO_FILE, limit, memory, good=GoodSender, **more)
+
+
+@forward("some kilobytes for each connection; descriptors bound these", of_silent(4_096, 16 * MEGABYTE), quiet=True)
+def half_a_message_and_silence(trial):
+    """Many peers send half a message each, and nothing more."""
+    half_and_silence(trial, b"\x93" + TAG + b"\x00\xdf\x00\x00\x00\x02\xa1a")
+
+
+@forward("of replies that a socket doesn't take 65,536 bytes are kept, and past that the connection is dropped; a message of 16 MB", 96)
+def acks_are_never_read(trial):
+    """Peers ask for acknowledgements, never read one, and go on sending; one of them asks for such of a megabyte."""
+
+    def attack(number):
+        size = MEGABYTE if number == 0 else 1_000
+        asks = message(b"\x81\xa3bad\x01", b"\x81\xa5chunk" + text32(b"c" * size))
+        while trial.goes_on():
+            with trial.connect(small=True) as link:
+                try:
+                    while trial.goes_on():
+                        trial.send(link, asks)
+                except OSError:  # it was dropped
+                    pass
+
+    trial.together(attack, 4)
+    trial.tell(f"{trial.peers} connections, each but the last of a peer dropped")
+    trial.hopes(trial.peers > 4, "no connection was dropped")
+
+
+NO_MESSAGES = {
+    "a request over HTTP": b"GET / HTTP/1.1\r\nHost: here\r\n\r\n",
+    "the byte that is never used": b"\xc1",
+    "that byte within a message": b"\x93" + TAG + b"\xc1",
+    "lists nested too deep": b"\x91" * 65,
+    "maps nested too deep": b"\x81\xc0" * 65,
+    "a number": b"\x07",
+    "a list of numbers": b"\x93\x01\x02\x03",
+    "no tag": b"\x93\xa0\x00\x80",
+    "a tag too long": b"\x93" + text32(b"t" * 1_025) + b"\x00\x80",
+    "a record that is none": b"\x93" + TAG + b"\x00\x01",
+    "entries that are none": b"\x92" + TAG + b"\xc4\x03abc",
+    "compressed entries": b"\x93" + TAG + b"\xc4\x01x\x81\xaacompressed\xa4gzip",
+    "an option that is none": b"\x94" + TAG + b"\x00\x80\x01",
+}
+
+
+@forward("nothing is kept of what is no message", 16)
+def bytes_that_are_no_message(trial):
+    """Each is dropped at once, and whatever comes at random does no harm; a message before them is taken and answered."""
+    chance, longest = random.Random(5), 0
+    while trial.goes_on():
+        for name, data in NO_MESSAGES.items():
+            with trial.connect() as link:
+                trial.send(link, data)
+                trial.hopes(is_dropped(link), f"a connection goes on behind {name}")
+        with trial.connect() as link:
+            data = chance.randbytes(chance.randrange(1, 65_536))
+            trial.send(link, data)
+            longest = max(longest, len(data))
+        with trial.connect() as link:
+            trial.send(link, good_message([9_999_999], b"before") + b"\xc1")
+            link.settimeout(5)
+            wanted = b"\x81" + spelled(b"ack") + spelled(b"before")
+            got = link.recv(len(wanted), socket.MSG_WAITALL)
+            trial.hopes(got == wanted and is_dropped(link), f"a message before such bytes is answered with {got!r}")
+    trial.tell(f"random bytes too, of up to {longest:,}")
+
+
+@forward("no room is made for a length that the bytes don't carry", 16, quiet=True)
+def huge_lengths_and_silence(trial):
+    """Values that say to have 2^32 - 1 bytes or members, of which nothing comes, bare and inside a message."""
+    for number in range(40):
+        for head in HUGE.values():
+            trial.send(trial.keep(trial.connect()), head if number % 2 else b"\x93" + TAG + b"\x00" + head)
+    trial.rest()
+
+
+def too_long(trial, head, block):
+    """Sends a message past the longest, and looks whether it is dropped."""
+    with trial.connect() as link:
+        try:
+            trial.send(link, head)
+            for _ in range(20 * MEGABYTE // len(block)):
+                trial.send(link, block)
+                if not trial.is_in_time():
+                    trial.complain("20 MB weren't read in time")
+                    return
+        except OSError:  # it was dropped meanwhile
+            return
+        trial.hopes(is_dropped(link, 30), "a message of 20 MB isn't dropped")
+
+
+@forward("the first 16,777,216 bytes of a message, in a buffer that doubles", 64)
+def a_text_without_end(trial):
+    """A bin that declares 2^32 - 1 bytes arrives, byte by byte; it is dropped after 16 MB."""
+    while trial.goes_on():
+        too_long(trial, b"\x93" + TAG + HUGE["bin"], bytes(100_000))
+
+
+@forward("the first 16,777,216 bytes of a message, in a buffer that doubles", 64)
+def a_list_without_end(trial):
+    """A list that declares 2^32 - 1 members arrives, member by member; it is dropped after 16 MB."""
+    while trial.goes_on():
+        too_long(trial, b"\x93" + TAG + HUGE["list"], b"\xc0" * 100_000)
+
+
+def send_new_tags(trial, link, first, count):
+    """Small messages, each of a tag of its own."""
+    messages = (message(b"\x81\xa3bad\x01", tag=spelled(b"tag.%07d" % number)) for number in range(first, first + count))
+    trial.send(link, b"".join(messages))
+
+
+def list_of(count, member):
+    return b"\xdd" + count.to_bytes(4, "big") + member * count
+
+
+@forward(
+    "a message of 16,777,216 bytes, as it came, as values and as a payload",
+    256,
+    known="a whole message is read as values, some 30 to 60 bytes of memory for each byte; each flight reads it so again",
+    shows="of memory|good line",
+)
+def small_values_in_a_large_message(trial):
+    """Whole messages of 16 MB, of values of one byte and of such inside sixty lists."""
+    deep = b"\x91" * 58 + b"\xc0"
+    for record in (list_of(16 * MEGABYTE, b"\xc0"), list_of(16 * MEGABYTE // len(deep), deep)):
+        with trial.connect() as link:
+            trial.send(link, message(b"\x81\xa3bad" + record, b"\x81\xa5chunk\xa4last"))
+            link.settimeout(60)
+            answer = link.recv(64)
+            trial.tell(f"a message of {len(record):,} bytes: {'acknowledged' if answer else 'refused'}, {trial.meter.peak() // MEGABYTE:,} MB at most so far")
+    until(lambda: content(trial.program.path("out")).count(b'"bad"') == 2, "both events come out", 60)
+
+
+UNFINISHED = 40
+
+
+@forward(
+    "each connection keeps up to 16,777,216 bytes of a message; descriptors bound these",
+    64,
+    known="nothing bounds the bytes that connections keep of unfinished messages together: Mem_Buf_Limit counts chunks alone",
+    shows="of memory",
+)
+def unfinished_messages(trial):
+    """Forty peers send all but the end of a message of 16 MB."""
+    for _ in range(UNFINISHED):
+        link = trial.keep(trial.connect())
+        trial.send(link, b"\x93" + TAG + b"\x00\x81\xa3bad\xc6" + (16 * MEGABYTE).to_bytes(4, "big") + bytes(16 * MEGABYTE - 1))
+    trial.rest()
+
+
+NEW_TAGS = 50_000
+
+
+@forward(
+    "a row, an open chunk and its tag for each tag until it is flushed and delivered; Mem_Buf_Limit counts the bytes of their events alone",
+    64,
+)
+def a_new_tag_with_each_message(trial):
+    """A peer sends small messages, each of a tag of its own."""
+    sent = 0
+    with trial.connect() as link:
+        while sent < NEW_TAGS and trial.goes_on():
+            send_new_tags(trial, link, sent, 500)
+            sent += 500
+        trial.rest()
+    trial.tell(f"{sent:,} tags in {trial.options.seconds:.0f} s")
+
+
+CASES = (
+    half_a_message_and_silence,
+    acks_are_never_read,
+    bytes_that_are_no_message,
+    huge_lengths_and_silence,
+    a_text_without_end,
+    a_list_without_end,
+    small_values_in_a_large_message,
+    unfinished_messages,
+    a_new_tag_with_each_message,
+)
