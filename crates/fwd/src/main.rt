@@ -1,26 +1,26 @@
-//! The program `fwd`: it makes the devices of the machine, and hands them to `log_forwarder`. What it answers ends the
-//! program, with its line on standard error.
+//! The program `fwd`: it makes the devices of a live run, passes them to `log_forwarder`, and ends with the
+//! status that this returns and its line on standard error.
 #![tactic(auto)]
 
-mod started;
+mod arguments;
 
 ghost use Rattle.fwd_outside.specs.Disk.{DiskGiven};
 ghost use Rattle.fwd_outside.specs.Files.{FilesGiven};
 ghost use Rattle.fwd_outside.specs.Loop.{LoopGiven};
 
+use arguments::{environment, words};
 use fwd_base::{Bytes, Memory};
 use fwd_live::{FolderDisk, FolderFiles, LiveLoop, StdSink};
 use fwd_top::{Status, log_forwarder, status_line};
-use started::{environment, words};
 use std::alloc::Global;
 use std::io::{self, ErrorKind, Write};
 use std::process::ExitCode;
 use std::thread::Threads;
 
-/// What is said where there is no memory for the status line.
+/// The line that is printed if there is no memory for the status line.
 const OUT_OF_MEMORY: &[u8] = b"out of memory\n";
 
-/// How the program ends where there is no loop over the machine.
+/// Returns the status of a run without an event loop.
 fn status_without_loop(error: &io::Error) -> Status {
     match error.kind() {
         ErrorKind::OutOfMemory => Status::Memory,
@@ -28,7 +28,8 @@ fn status_without_loop(error: &io::Error) -> Status {
     }
 }
 
-/// Who calls this picks the files that stand there, on the disk and beside it, and what the loop is to bring.
+/// Makes the devices and runs the program. The caller picks the initial files, on the disk and beside it,
+/// and what the loop will bring.
 fn run(rt: &HostRuntime, threads: &(impl Threads + Sync)) -> Status
     ghost given: { DiskGiven × (FilesGiven × LoopGiven) }
 {
@@ -59,7 +60,7 @@ fn run(rt: &HostRuntime, threads: &(impl Threads + Sync)) -> Status
     )
 }
 
-/// The status line with a line feed behind it. Of `Done` there is none.
+/// Returns the status line with a line feed; empty for `Done`.
 fn line_of(alloc: Global, status: &Status) -> Result<Bytes, Memory> {
     let mut line = status_line(alloc, status)?;
     if !line.is_empty() {
@@ -68,8 +69,8 @@ fn line_of(alloc: Global, status: &Status) -> Result<Bytes, Memory> {
     Ok(line)
 }
 
-/// The status line goes to standard error. Where there is no memory for it, this is said in its place.
-fn tell(rt: &HostRuntime, status: &Status) -> io::Result<()> {
+/// Prints the status line to standard error, or `OUT_OF_MEMORY` if there is no memory for it.
+fn print_status(rt: &HostRuntime, status: &Status) -> io::Result<()> {
     match line_of(rt.alloc(), status) {
         Ok(line) => rt.stderr().write_all(line.as_slice()),
         Err(Memory) => rt.stderr().write_all(OUT_OF_MEMORY),
@@ -78,6 +79,6 @@ fn tell(rt: &HostRuntime, status: &Status) -> io::Result<()> {
 
 fn main(rt: HostRuntime) -> ExitCode {
     let status = run(&rt, &rt);
-    let _ = tell(&rt, &status);
+    let _ = print_status(&rt, &status);
     ExitCode::from(status.number())
 }

@@ -1,17 +1,17 @@
-pub mod Calling
+pub mod Calls
 pub mod Names
 pub mod Folders
 pub mod Parallel
-pub mod Grouping
+pub mod GroupRead
 pub mod Files
 pub mod Serials
-pub mod Keeping
-pub mod Standing
-pub mod Named
-pub mod Numbered
-mod Fresh
-pub mod Places
-mod Once
-mod Fitting
-mod Free
-pub mod Promised
+pub mod LoadInvariant
+pub mod LoadedFiles
+pub mod ListableNames
+pub mod NumberNames
+mod DurableFiles
+pub mod PathParts
+mod OneBacklog
+mod FileLength
+mod FreeNumbers
+pub mod LoadClauses

@@ -1,4 +1,4 @@
--- The names of files: their order, and their numbers.
+-- File names: their order and their numbers.
 use Rattle.std.proofs.Common.{◌≡◌, ◌⊎◌, ◌↔◌, inl, inr, List, [], ◌∷◌, fold, refl, sym, ◌∙◌, ap, subst, arith}
 use Rattle.std.specs.declared.cmp.Ordering.{Ordering}
 use Rattle.std.specs.declared.cmp.Ordering.TheVariants.{Less, Equal, Greater}
@@ -12,7 +12,7 @@ use Rattle.std.proofs.lemmas.Cmp.{then_total}
 use Rattle.std.proofs.lemmas.Map.Lookups.{exact_bytes}
 use Rattle.std.proofs.lemmas.Map.Keys.{sorted_head, sorted_tail}
 use Rattle.std.proofs.lemmas.List.Elements.{Contains-append_right, Contains-append_cases, Contains-push_cases}
-use Rattle.fwd_backlog.specs.declared.listed.Listed.{Listed}
+use Rattle.fwd_backlog.specs.declared.listed_file.Listed.{Listed}
 use Rattle.fwd_backlog.specs.Listing.{by_name, in_order}
 
 -- x is one of the elements

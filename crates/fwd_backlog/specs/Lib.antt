@@ -1,6 +1,6 @@
-pub mod Answer
+pub mod LoadResult
 pub mod Serial
 pub mod Listing
-pub mod Loading
+pub mod LoadProgram
 pub mod Groups
-pub mod Found
+pub mod Recovered

@@ -1,4 +1,4 @@
-//! Names, by the order of their bytes.
+//! File names, ordered by their bytes.
 
 ghost use Rattle.std.specs.Prelude.{◌≡◌, Some, IfOk};
 ghost use Rattle.std.specs.Cmp.{partial_equiv_from_equiv};
@@ -12,7 +12,7 @@ use std::alloc::Global;
 use std::cmp::Ordering;
 use std::marker::Model;
 
-/// The name of a file or of a folder. Contracts see its bytes.
+/// The name of a file or a folder. Contracts see its bytes.
 #[derive(Debug, Drop)]
 pub struct FileName {
     bytes: Bytes,

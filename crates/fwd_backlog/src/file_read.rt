@@ -1,9 +1,7 @@
-//! A file that was read.
-
-use crate::listed::Listed;
+use crate::listed_file::Listed;
 use fwd_base::Bytes;
 
-/// A file with the bytes that were read of it.
+/// A listed file with the bytes that were read from it.
 #[derive(Debug, Drop)]
 pub struct FileRead {
     pub file: Listed,

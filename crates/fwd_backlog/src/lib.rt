@@ -1,34 +1,35 @@
-//! The chunks that stand on the disk when a life begins.
+//! Recovery of the chunks that are on the disk when a run begins.
 //!
-//! What an earlier life was owed must be found again, whatever ended that life. So all files of chunks under the storage
-//! path are listed, and each is synced, read and checked, in an order that doesn't depend on the disk. What is kept of a
-//! file is a description. New chunks get numbers above all that were found.
+//! Whatever ended the previous run, its pending chunks must be recovered. So all chunk files under the
+//! storage path are listed, and each is synced, read and checked, in an order that doesn't depend on the
+//! disk. Loading keeps a description of each file. New chunks get numbers above all that were found.
 //!
-//! `load_all` lists, syncs and reads exactly these files; what it found is what stands there, in order, and a crash at
-//! any moment of it leaves nothing that could not have been left before. Several threads check the files in groups, and
-//! the backlog doesn't depend on them (`one_backlog`). Whatever the disk, files stand under names that a disk may list
-//! (`named`): different files have different paths, none has the name of the next number or of a later one
-//! (`later_names_are_new`), and under no stream does a file of such a name stand (`later_numbers_are_free`).
+//! `load_all` lists, syncs and reads exactly these files. It returns what is on the disk, in order, and a
+//! crash at any point leaves nothing that couldn't have been left before. Several threads check the files in
+//! groups, and the backlog doesn't depend on them (`one_backlog`). On any disk, found files have names that
+//! a disk may list (`named`): different files have different paths, no file has the name of the next number
+//! or of a later one (`later_names_are_new`), and no stream has a file of such a name
+//! (`later_numbers_are_free`).
 #![tactic(auto)]
 
-mod checking;
-mod errors;
+mod error;
+mod file_check;
+mod file_group;
 mod file_name;
 mod file_read;
-mod in_order;
-mod laws;
-mod listed;
+mod listed_file;
 mod listing;
-mod loading;
+mod load;
+mod order;
 mod paths;
-mod reading;
 mod serial;
+mod theorems;
 
-pub use errors::LoadErr;
-pub use fwd_found::{Brief, ChunkKind, Found, Seen};
-pub use laws::{
-    files_stand_in_order, found_paths_differ, later_names_are_new, later_numbers_are_free,
-    loading_changes_no_fresh_file, loading_leaves_no_more, one_backlog, paths_tell_files,
-    what_is_loaded_stands,
+pub use error::LoadErr;
+pub use fwd_chunk::{Brief, ChunkKind, Found, Seen};
+pub use load::{Backlog, FoundList, load_all, load_gated};
+pub use theorems::{
+    files_are_in_order, later_names_are_new, later_numbers_are_free, loaded_files_are_on_disk,
+    loading_changes_no_durable_file, loading_is_crash_safe, one_backlog, paths_determine_files,
+    recovered_paths_differ,
 };
-pub use loading::{Backlog, FoundList, load_all, load_gated};

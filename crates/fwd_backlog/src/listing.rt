@@ -1,22 +1,22 @@
-//! Folders are listed.
+//! Listing of the storage folder and its streams.
 
 ghost use Rattle.std.specs.Prelude.{◌≡◌, [], ◌∷◌, ◌++◌, All, IfOk, IsErrOf, OnOk};
-ghost use Rattle.fwd_program.specs.Cause.{HasCause};
+ghost use Rattle.fwd_outside.specs.Cause.{HasCause};
 ghost use Rattle.fwd_outside.specs.Disk.{IsFileName, lists};
-ghost use Rattle.fwd_backlog.specs.declared.errors.LoadErr.TheVariants.{DiskFailed};
-ghost use Rattle.fwd_backlog.specs.Answer.{Gives};
-ghost use Rattle.fwd_backlog.specs.Listing.{folder_of, chunks_in, lists_files, IsNamed};
+ghost use Rattle.fwd_backlog.specs.declared.error.LoadErr.TheVariants.{DiskFailed};
+ghost use Rattle.fwd_backlog.specs.LoadResult.{LoadReturns};
+ghost use Rattle.fwd_backlog.specs.Listing.{folder_of, chunks_in, list_files_program, IsNamed};
 
 use crate::LoadErr;
 use crate::file_name::FileName;
-use crate::listed::Listed;
+use crate::listed_file::Listed;
 use crate::paths::folder_of;
 use crate::serial::is_chunk_name;
 use fwd_base::{Bytes, Items, Memory, Names};
 use fwd_outside::Disk;
 use std::alloc::Global;
 
-/// Puts a file of a chunk behind those so far, where the name in a stream's folder is one.
+/// Appends a file to `files`, if its name is that of a chunk file.
 fn add_chunk(
     alloc: Global,
     stream: &[u8],
@@ -34,7 +34,7 @@ fn add_chunk(
     })
 }
 
-/// Puts the files of chunks, by the names in a stream's folder, behind those so far.
+/// Appends the chunk files among the names in a stream's folder to `files`.
 fn add_chunks(
     alloc: Global,
     stream: &[u8],
@@ -50,7 +50,7 @@ fn add_chunks(
 }
 
 fn list_names<D: Disk>(alloc: Global, disk: &mut D, folder: &[u8]) -> Result<Names, LoadErr>
-    ensures calls { Gives (D.told disk.old) (D.told disk.new) (lists folder.now) result }
+    ensures calls { LoadReturns (D.call_log disk.old) (D.call_log disk.new) (lists folder.now) result }
     ensures names { IfOk result (All IsFileName) }
     ensures cause { HasCause (D.faults disk.old) (D.faults disk.new) (IsErrOf result DiskFailed) }
 {
@@ -63,7 +63,7 @@ fn list_folder<D: Disk>(
     root: &[u8],
     stream: &[u8],
 ) -> Result<Names, LoadErr>
-    ensures calls { Gives (D.told disk.old) (D.told disk.new) (lists (folder_of root.now stream.now)) result }
+    ensures calls { LoadReturns (D.call_log disk.old) (D.call_log disk.new) (lists (folder_of root.now stream.now)) result }
     ensures names { IfOk result (All IsFileName) }
     ensures cause { HasCause (D.faults disk.old) (D.faults disk.new) (IsErrOf result DiskFailed) }
 {
@@ -71,13 +71,13 @@ fn list_folder<D: Disk>(
     list_names(alloc, disk, folder.as_slice())
 }
 
-/// Lists the root, and each name in it as the folder of a stream, and gives the files of chunks there.
+/// Lists the root, and each name in it as the folder of a stream. Returns the chunk files there.
 pub fn list_files<D: Disk>(
     alloc: Global,
     disk: &mut D,
     root: &[u8],
 ) -> Result<Items<Listed>, LoadErr>
-    ensures calls { Gives (D.told disk.old) (D.told disk.new) (lists_files root.now) result }
+    ensures calls { LoadReturns (D.call_log disk.old) (D.call_log disk.new) (list_files_program root.now) result }
     ensures names { IfOk result (All IsNamed) }
     ensures cause { HasCause (D.faults disk.old) (D.faults disk.new) (IsErrOf result DiskFailed) }
 {

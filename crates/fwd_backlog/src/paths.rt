@@ -1,13 +1,13 @@
-//! Where streams and files stand.
+//! The paths of streams and files.
 
 ghost use Rattle.std.specs.Prelude.{◌≡◌, IfOk};
 ghost use Rattle.fwd_backlog.specs.Listing.{folder_of, path_of};
 
-use crate::listed::Listed;
+use crate::listed_file::Listed;
 use fwd_base::{Bytes, Memory};
 use std::alloc::Global;
 
-/// The folder of a stream.
+/// Returns the path of a stream's folder.
 pub fn folder_of(alloc: Global, root: &[u8], stream: &[u8]) -> Result<Bytes, Memory>
     ensures { IfOk result (λ folder. folder ≡ folder_of root.now stream.now) }
 {
@@ -17,7 +17,7 @@ pub fn folder_of(alloc: Global, root: &[u8], stream: &[u8]) -> Result<Bytes, Mem
     Ok(folder)
 }
 
-/// The path of a file.
+/// Returns the path of a file.
 pub fn path_of(alloc: Global, root: &[u8], file: &Listed) -> Result<Bytes, Memory>
     ensures { IfOk result (λ path. path ≡ path_of root.now file.now) }
 {

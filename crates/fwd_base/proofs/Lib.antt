@@ -1,6 +1,7 @@
 pub mod Decimal
-pub mod Rewriting
-pub mod Names
-pub mod Crossing
-mod Places
+pub mod Translation
+pub mod MappedLists
+pub mod SendSync
+mod Indices
 mod Utf8
+mod Bits

@@ -1,4 +1,4 @@
--- What the call that looks for text tells.
+-- The result of `str::from_utf8` and the test of UTF-8.
 use Rattle.std.proofs.Common.{◌≡◌, ◌⊎◌, inl, inr, ℕ, true, false, List, Result, Ok, Err, MatchResult, is_ok, sym}
 use Rattle.std.specs.Borrow.{Bor}
 use Rattle.std.specs.declared.str.Utf8Error.{Utf8Error}

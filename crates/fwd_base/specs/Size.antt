@@ -1,10 +1,10 @@
--- Sizes in text: digits, and a suffix that stands for thousands, millions or billions.
+-- Sizes in text: digits, and a suffix for thousands, millions or billions.
 use Rattle.std.specs.Prelude.{ℕ, ◌*◌, ◌==◌, List, [], ◌∷◌, length, drop, take_while, Option, Some, None, option_and_then, if◌then◌else◌}
 use Rattle.std.specs.Char.{is_ascii_digit, eq_ignore_ascii_case}
 use Rattle.std.specs.Str.{byte}
 use Rattle.fwd_base.specs.Number.{decimal, within_64_bits}
 
--- what a letter multiplies by, in either case
+-- the factor of a letter, in either case
 abbrev pub unit_of : ℕ → Option ℕ
 unit_of letter =
     if eq_ignore_ascii_case letter (byte "K") then Some 1_000
@@ -12,14 +12,14 @@ unit_of letter =
     else (if eq_ignore_ascii_case letter (byte "G") then Some 1_000_000_000
     else None))
 
--- what a suffix multiplies by: nothing, a letter, or a letter and B
+-- the factor of a suffix: nothing, a letter, or a letter and B
 abbrev pub factor_of : List ℕ → Option ℕ
 factor_of [] = Some 1
 factor_of (letter ∷ []) = unit_of letter
 factor_of (letter ∷ last ∷ []) = if eq_ignore_ascii_case last (byte "B") then unit_of letter else None
 factor_of (letter ∷ last ∷ next ∷ more) = None
 
--- the size that a text writes, if it is one
+-- the size in a text, if it is one
 abbrev pub size_of : List ℕ → Option ℕ
 size_of text =
     let digits = take_while is_ascii_digit text in

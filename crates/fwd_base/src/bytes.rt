@@ -1,4 +1,4 @@
-//! Bytes and names.
+//! Byte strings, and what threads may share of them.
 
 ghost use Rattle.std.specs.Prelude.{◌≡◌, ◌↔◌, ℕ, ◌<◌, [], ◌∷◌, ◌++◌, length, slice_get, IfOk, OnOk, OnErr, IsTrue, take, Some};
 ghost use Rattle.std.specs.Cmp.{partial_equiv_from_equiv};
@@ -15,8 +15,8 @@ use std::cmp::Ordering;
 use std::marker::Model;
 use std::slice;
 
-/// Bytes that grow at their end. Contracts see them as a list of numbers. They are made from a `Vec` and give it back
-/// without taking memory.
+/// A growable byte string, ordered as slices of bytes are. Contracts see it as a list of numbers. Conversion
+/// from and to a `Vec` allocates nothing.
 #[derive(Debug, Drop)]
 pub struct Bytes {
     bytes: Vec<u8>,
@@ -39,7 +39,7 @@ impl Bytes {
         }
     }
 
-    /// A copy of these bytes.
+    /// Copies a slice. Fails only if memory is out.
     pub fn from_slice(alloc: Global, bytes: &[u8]) -> Result<Self, Memory>
         ensures { IfOk result (λ copy. copy ≡ bytes.now) }
     {
@@ -73,7 +73,7 @@ impl Bytes {
         self.bytes.is_empty()
     }
 
-    /// The byte at a place, from 0.
+    /// Returns the byte at an index, if there is one.
     pub fn get(&self, index: usize) -> Option<u8>
         ensures { result ≡ slice_get self.now index }
     {
@@ -92,7 +92,7 @@ impl Bytes {
         self.bytes.iter()
     }
 
-    /// Puts a byte at the end. After `Err` the bytes are as before.
+    /// Appends a byte. After `Err` the bytes are unchanged.
     pub fn push(&mut self, byte: u8) -> Result<(), Memory>
         ensures ok { OnOk result (self.new ≡ self.old ++ byte ∷ []) }
         ensures err { OnErr result (self.new ≡ self.old) }
@@ -101,7 +101,7 @@ impl Bytes {
         Ok(())
     }
 
-    /// Puts bytes at the end, in one copy. After `Err` the bytes are as before.
+    /// Appends bytes in one copy. After `Err` the bytes are unchanged.
     pub fn extend_from_slice(&mut self, bytes: &[u8]) -> Result<(), Memory>
         ensures ok { OnOk result (self.new ≡ self.old ++ bytes.now) }
         ensures err { OnErr result (self.new ≡ self.old) }
@@ -110,7 +110,7 @@ impl Bytes {
         Ok(())
     }
 
-    /// Makes room for so many bytes more. The bytes stay as they are.
+    /// Reserves capacity for `more` further bytes. The bytes are unchanged.
     pub fn reserve(&mut self, more: usize) -> Result<(), Memory>
         ensures { self.new ≡ self.old }
     {
@@ -118,21 +118,21 @@ impl Bytes {
         Ok(())
     }
 
-    /// Keeps the first bytes, as many as `len`.
+    /// Shortens the bytes to the first `len`. Has no effect if there are fewer.
     pub fn truncate(&mut self, len: usize)
         ensures { self.new ≡ take len self.old }
     {
         self.bytes.truncate(len);
     }
 
-    /// Leaves no byte, and keeps the room.
+    /// Removes all bytes, and keeps the capacity.
     pub fn clear(&mut self)
         ensures { self.new ≡ [] }
     {
         self.bytes.clear();
     }
 
-    /// A copy of these bytes, by another allocator.
+    /// Returns a copy, allocated by `alloc`.
     pub fn try_clone(&self, alloc: Global) -> Result<Self, Memory>
         ensures { IfOk result (λ copy. copy ≡ self.now) }
     {
@@ -154,18 +154,42 @@ impl Eq for Bytes {
     ghost laws = { nat_list_eq_equiv };
 }
 
+impl PartialOrd for Bytes {
+    ghost partial_cmp = { λ x y. Some (slice_cmp nat_cmp x y) };
+
+    ghost laws = { texts_po };
+
+    fn partial_cmp(&self, other: &Self) -> Option<Ordering> {
+        Some(self.cmp(other))
+    }
+}
+
+impl Ord for Bytes {
+    ghost cmp = { slice_cmp nat_cmp };
+
+    ghost total = { nat_list_cmp_total };
+
+    ghost matches_partial_cmp = { λ x y. refl };
+
+    ghost matches_eq = { λ x y. texts_ties x y };
+
+    fn cmp(&self, other: &Self) -> Ordering {
+        self.bytes.as_slice().cmp(other.bytes.as_slice())
+    }
+}
+
 /// Names, in order.
 pub type Names = Items<Bytes>;
 
-/// Checks only where threads may share values of this type and hand them over.
+/// Compiles only for types that are `Send` and `Sync`.
 pub fn crosses<T: Send + Sync>(_: &T) {}
 
-/// Threads may share bytes and hand them over.
-pub fn bytes_cross(bytes: &Bytes) {
+/// Shows that `Bytes` is `Send` and `Sync`.
+pub fn bytes_are_send_sync(bytes: &Bytes) {
     crosses(bytes)
 }
 
-/// Threads may share names and hand them over.
-pub fn names_cross(names: &Names) {
+/// Shows that `Names` is `Send` and `Sync`.
+pub fn names_are_send_sync(names: &Names) {
     crosses(names)
 }

@@ -1,19 +1,19 @@
-/// An input, by its place among the inputs of the configuration, from 0.
+/// An input: its index among the inputs of the configuration.
 #[derive(Clone, Copy, Debug, PartialEq, Eq, PartialOrd, Ord, Hash)]
 pub struct InputId(pub u32);
 
-/// An output, by its place among the outputs of the configuration, from 0.
+/// An output: its index among the outputs of the configuration.
 #[derive(Clone, Copy, Debug, PartialEq, Eq, PartialOrd, Ord, Hash)]
 pub struct OutputId(pub u32);
 
-/// A connection of a peer to an input. Numbers are unique over all inputs while a connection lasts.
+/// A connection of a peer to an input. While a connection lasts, its number is unique over all inputs.
 #[derive(Clone, Copy, Debug, PartialEq, Eq, PartialOrd, Ord, Hash)]
 pub struct ConnId(pub u64);
 
-/// A link to the end of an output. Numbers rise and are not used again.
+/// A link to the endpoint of an output. Numbers rise and are never reused.
 #[derive(Clone, Copy, Debug, PartialEq, Eq, PartialOrd, Ord, Hash)]
 pub struct LinkId(pub u64);
 
-/// A chunk, by its number from 1. Numbers rise and are not used again.
+/// A chunk: its number, from 1. Numbers rise and are never reused.
 #[derive(Clone, Copy, Debug, PartialEq, Eq, PartialOrd, Ord, Hash)]
 pub struct ChunkId(pub u64);

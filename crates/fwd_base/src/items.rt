@@ -1,4 +1,4 @@
-//! The list from which the small list types of every crate are made.
+//! The generic list behind the list types of the other crates.
 
 ghost use Rattle.std.specs.Prelude.{◌≡◌, ◌↔◌, ℕ, ◌<◌, ◌^◌, [], ◌∷◌, ◌++◌, length, IfOk, OnOk, OnErr, IsTrue};
 ghost use Rattle.std.specs.Cmp.{on_equiv, on_per};
@@ -12,8 +12,8 @@ use std::alloc::Global;
 use std::marker::Model;
 use std::slice;
 
-/// A list that grows at its end. Contracts see it as the list of its items. It is made from a `Vec` and gives the `Vec`
-/// back without taking memory.
+/// A growable list. Contracts see it as the list of its items. Conversion from and to a `Vec` allocates
+/// nothing.
 #[derive(Debug, Drop)]
 pub struct Items<T> {
     items: Vec<T>,
@@ -61,7 +61,7 @@ impl<T> Items<T> {
         self.items.is_empty()
     }
 
-    /// The item at a place, from 0.
+    /// Returns the item at an index, if there is one.
     pub fn get(&self, index: usize) -> Option<&T>
         ensures { IsItemAt self.now index result }
     {
@@ -80,7 +80,7 @@ impl<T> Items<T> {
         self.items.iter()
     }
 
-    /// Puts an item at the end. After `Err` the list is as before.
+    /// Appends an item. After `Err` the list is unchanged.
     pub fn push(&mut self, item: T) -> Result<(), Memory>
     where
         T: Drop,
@@ -91,7 +91,7 @@ impl<T> Items<T> {
         Ok(())
     }
 
-    /// Makes room for so many items more. The list stays as it is.
+    /// Reserves capacity for `more` further items. The list is unchanged.
     pub fn reserve(&mut self, more: usize) -> Result<(), Memory>
         ensures { self.new ≡ self.old }
     {

@@ -1,34 +1,36 @@
-//! What every crate of Fuztreb names: bytes, lists, the numbers by which inputs, outputs, connections, links and chunks
-//! are known, and want of memory; besides, what a configuration writes as a size or a pattern, and choices of it that
-//! crates far from it name.
+//! Types that every crate of Fuztreb uses: byte strings, lists, the ids of inputs, outputs, connections,
+//! links and chunks, the out-of-memory error, the limits of the program, and the sizes and patterns of a
+//! configuration.
 //!
-//! Bytes and lists are the lists that contracts see. Each limit of the program is the number of one definition, which
-//! every crate cites (`limits_are_defined`). `parse_size` and `number` read exactly the sizes and decimal numbers of
-//! their definitions. A `Pattern` is what the grammar of `regex` reads from the rewritten text; a `Search`, made once
-//! for many texts, answers by `hits` and `captures` what that finds. Threads may share bytes, names and patterns and
-//! hand them over (`bytes_cross`, `names_cross`, `patterns_cross`).
+//! Contracts see bytes and lists as mathematical lists. Each limit is one constant and one definition with
+//! the same number (`limits_are_defined`). `parse_size` and `number` read exactly the sizes and decimal
+//! numbers of their definitions. A `Pattern` is what the grammar of `regex` reads from the rewritten text. A
+//! `Search`, built once for many texts, finds its matches by `hits` and `captures`. Bytes, names and
+//! patterns are `Send` and `Sync` (`bytes_are_send_sync`, `names_are_send_sync`, `patterns_are_send_sync`).
 #![tactic(auto)]
 
-mod blanks;
 mod bytes;
-mod choices;
 mod ids;
 mod items;
 pub mod limits;
+mod masks;
 mod memory;
 mod numbers;
+mod output_options;
 mod pattern;
 mod rewrite;
 mod search;
 mod size;
+mod text;
 
-pub use blanks::{is_blank, is_utf8, place_of, place_of_blank, skip_blanks};
-pub use bytes::{Bytes, Names, bytes_cross, crosses, names_cross};
-pub use choices::{Form, Retries};
+pub use bytes::{Bytes, Names, bytes_are_send_sync, crosses, names_are_send_sync};
 pub use ids::{ChunkId, ConnId, InputId, LinkId, OutputId};
 pub use items::Items;
+pub use masks::is_set;
 pub use memory::Memory;
 pub use numbers::{is_digits, number};
-pub use pattern::{Pattern, PatternErr, patterns_cross};
+pub use output_options::{Form, Retries};
+pub use pattern::{Pattern, PatternErr, patterns_are_send_sync};
 pub use search::{Capture, Search};
 pub use size::{NotASize, parse_size};
+pub use text::{index_of, index_of_blank, is_blank, is_utf8, skip_blanks};

@@ -1,4 +1,4 @@
-//! Patterns over bytes.
+//! Regular expressions over bytes, in the syntax of the configuration.
 
 use crate::bytes::crosses;
 use crate::{Memory, Search, rewrite};
@@ -6,14 +6,14 @@ use regex::bytes::Regex;
 use std::alloc::Global;
 use thiserror::Error;
 
-/// Why a pattern was not built.
+/// Why a pattern wasn't built.
 #[derive(Clone, Copy, Debug, PartialEq, Eq, Error)]
 pub enum PatternErr {
-    /// The text is no pattern.
+    /// The text isn't a pattern.
     #[error("not a pattern")]
     Refused,
 
-    /// Memory ran out, or the pattern as it is built would pass the bound on its memory.
+    /// Memory is out, or the compiled pattern would exceed its size limit.
     #[error("out of memory")]
     Memory,
 }
@@ -29,7 +29,7 @@ impl From<Memory> for PatternErr {
     }
 }
 
-/// A pattern, built once, with which any number of texts are searched.
+/// A compiled pattern. It is built once, and searches any number of texts.
 #[derive(Debug, Drop)]
 pub struct Pattern {
     pub(crate) regex: Regex,
@@ -37,16 +37,16 @@ pub struct Pattern {
 
 impl Pattern {
     ghost use Rattle.std.specs.Prelude.{IfOk, IsErrOf};
-    ghost use Rattle.fwd_base.specs.Pattern.{rewritten, IsReadFrom, IsNoPattern, SearchesFor};
+    ghost use Rattle.fwd_base.specs.Pattern.{translated, IsReadFrom, IsNoPattern, SearchesFor};
     ghost use Rattle.fwd_base.specs.declared.pattern.PatternErr.TheVariants.{Refused};
 
-    /// Builds a pattern. In its text a named group may begin with `(?<`, as with `(?P<`.
+    /// Compiles a pattern. A named group may begin with `(?<` or `(?P<`.
     pub fn new(alloc: Global, text: &[u8]) -> Result<Self, PatternErr>
-        ensures read { IfOk result (IsReadFrom (rewritten text.now)) }
+        ensures read { IfOk result (IsReadFrom (translated text.now)) }
         ensures refused { IsErrOf result Refused → IsNoPattern text.now }
     {
-        let rewritten = rewrite::rewritten(alloc, text)?;
-        let Ok(source) = str::from_utf8(rewritten.as_slice()) else {
+        let translated = rewrite::translated(alloc, text)?;
+        let Ok(source) = str::from_utf8(translated.as_slice()) else {
             return Err(PatternErr::Refused);
         };
         match Regex::new(alloc, source) {
@@ -56,7 +56,7 @@ impl Pattern {
         }
     }
 
-    /// Makes ready to search texts, one after another. It is made once for many of them.
+    /// Returns a searcher, which is built once and searches one text after another.
     pub fn search(&self, alloc: Global) -> Result<Search<'_>, Memory>
         ensures { IfOk result (SearchesFor self.now) }
     {
@@ -64,7 +64,7 @@ impl Pattern {
     }
 }
 
-/// Threads may share patterns and hand them over.
-pub fn patterns_cross(pattern: &Pattern) {
+/// Shows that `Pattern` is `Send` and `Sync`.
+pub fn patterns_are_send_sync(pattern: &Pattern) {
     crosses(pattern)
 }

@@ -1,15 +1,15 @@
-//! The text of a pattern, as the grammar of the regular expressions reads it.
+//! Translation of a pattern of the configuration into the syntax of the `regex` crate.
 
 ghost use Rattle.std.specs.Prelude.{◌≡◌, ◌≤◌, ◌++◌, length, drop, IfOk, OnOk};
-ghost use Rattle.fwd_base.specs.Pattern.{behind, behind_escape, begins_name, opens_named, escaped, unslashed, rewritten_from, rewritten};
+ghost use Rattle.fwd_base.specs.Pattern.{after_byte, after_escape, begins_name, opens_named, escaped, without_slashes, translated_from, translated};
 
 use crate::{Bytes, Memory};
 use std::alloc::Global;
 
-/// Where a pattern is read.
+/// The position of the reader relative to a character class.
 #[derive(Clone, Copy)]
-pub enum Place {
-    /// Outside a class.
+pub enum Position {
+    /// Outside any class.
     Outside,
 
     /// At the first character of a class.
@@ -19,31 +19,31 @@ pub enum Place {
     Inside,
 }
 
-impl Place {
-    /// The place behind a byte.
-    fn behind(self, byte: u8) -> Place
-        ensures { result ≡ behind self byte }
+impl Position {
+    /// Returns the position after a byte.
+    fn after_byte(self, byte: u8) -> Position
+        ensures { result ≡ after_byte self byte }
     {
         match self {
-            Place::Outside if byte == b'[' => Place::First,
-            Place::Outside => Place::Outside,
-            Place::Inside if byte == b']' => Place::Outside,
-            Place::First | Place::Inside => Place::Inside,
+            Position::Outside if byte == b'[' => Position::First,
+            Position::Outside => Position::Outside,
+            Position::Inside if byte == b']' => Position::Outside,
+            Position::First | Position::Inside => Position::Inside,
         }
     }
 
-    /// The place behind a backslash and what it escapes.
-    fn behind_escape(self) -> Place
-        ensures { result ≡ behind_escape self }
+    /// Returns the position after a backslash and the byte that it escapes.
+    fn after_escape(self) -> Position
+        ensures { result ≡ after_escape self }
     {
         match self {
-            Place::Outside => Place::Outside,
-            Place::First | Place::Inside => Place::Inside,
+            Position::Outside => Position::Outside,
+            Position::First | Position::Inside => Position::Inside,
         }
     }
 }
 
-/// Whether `<` and a letter or `_` stand first.
+/// Returns whether the bytes begin with `<` and a letter or `_`.
 fn begins_name(bytes: &[u8]) -> bool
     ensures { result ≡ begins_name bytes.now }
 {
@@ -53,19 +53,19 @@ fn begins_name(bytes: &[u8]) -> bool
     }
 }
 
-/// Whether a named group begins with these bytes.
-fn opens_named(place: Place, first: u8, second: u8, more: &[u8]) -> bool
+/// Returns whether these bytes open a named group.
+fn opens_named(place: Position, first: u8, second: u8, more: &[u8]) -> bool
     ensures { result ≡ opens_named place first second more.now }
 {
     match place {
-        Place::Outside => first == b'(' && second == b'?' && begins_name(more),
-        Place::First | Place::Inside => false,
+        Position::Outside => first == b'(' && second == b'?' && begins_name(more),
+        Position::First | Position::Inside => false,
     }
 }
 
-/// A pattern that stands between two slashes is what stands between them.
-fn unslashed(text: &[u8]) -> &[u8]
-    ensures { result.now ≡ unslashed text.now }
+/// Returns the text between two slashes if the pattern is enclosed in them, else the whole text.
+fn without_slashes(text: &[u8]) -> &[u8]
+    ensures { result.now ≡ without_slashes text.now }
 {
     match text {
         [b'/', between @ .., b'/'] => between,
@@ -73,17 +73,17 @@ fn unslashed(text: &[u8]) -> &[u8]
     }
 }
 
-/// The text as the grammar reads it: without slashes round it, and outside classes with `(?P<` where a named group begins
-/// with `(?<`, and with `<` and `>` where they are escaped.
-pub fn rewritten(alloc: Global, text: &[u8]) -> Result<Bytes, Memory>
-    ensures { IfOk result (λ bytes. bytes ≡ rewritten text.now) }
+/// Translates a pattern: removes enclosing slashes and, outside classes, replaces `(?<` of a named group by
+/// `(?P<`, and an escaped `<` or `>` by the character itself.
+pub fn translated(alloc: Global, text: &[u8]) -> Result<Bytes, Memory>
+    ensures { IfOk result (λ bytes. bytes ≡ translated text.now) }
 {
-    let text = unslashed(text);
+    let text = without_slashes(text);
     let mut bytes = Bytes::new(alloc);
-    let mut place = Place::Outside;
+    let mut place = Position::Outside;
     let mut at = 0;
     while at + 2 <= text.len() {
-        let (taken, next) = push_next(&mut bytes, place, &text[at..])?;
+        let (taken, next) = push_translated(&mut bytes, place, &text[at..])?;
         place = next;
         at += taken;
     }
@@ -91,31 +91,36 @@ pub fn rewritten(alloc: Global, text: &[u8]) -> Result<Bytes, Memory>
     Ok(bytes)
 }
 
-/// Writes what the first bytes of a text stand for. It gives how many they are, and where the text is read behind them.
-fn push_next(bytes: &mut Bytes, place: Place, text: &[u8]) -> Result<(usize, Place), Memory>
+/// Appends the translation of the first one or two bytes of a text. Returns how many bytes it took and the
+/// position after them.
+fn push_translated(
+    bytes: &mut Bytes,
+    place: Position,
+    text: &[u8],
+) -> Result<(usize, Position), Memory>
     requires { 2 ≤ length text.now }
     ensures within { IfOk result (λ step. (1 ≤ step.0) × (step.0 ≤ 2)) }
-    ensures written { IfOk result (λ step. bytes.new ++ rewritten_from step.1 (drop step.0 text.now)
-        ≡ bytes.old ++ rewritten_from place text.now) }
+    ensures written { IfOk result (λ step. bytes.new ++ translated_from step.1 (drop step.0 text.now)
+        ≡ bytes.old ++ translated_from place text.now) }
 {
     let (first, second) = (text[0], text[1]);
     if first == b'\\' {
         push_escaped(bytes, place, second)?;
-        return Ok((2, place.behind_escape()));
+        return Ok((2, place.after_escape()));
     }
     if opens_named(place, first, second, &text[2..]) {
         bytes.extend_from_slice(&[first, second, b'P'])?;
         return Ok((2, place));
     }
     bytes.push(first)?;
-    Ok((1, place.behind(first)))
+    Ok((1, place.after_byte(first)))
 }
 
-/// Writes what a backslash and the byte that it escapes stand for.
-fn push_escaped(bytes: &mut Bytes, place: Place, second: u8) -> Result<(), Memory>
+/// Appends the translation of a backslash and the byte that it escapes.
+fn push_escaped(bytes: &mut Bytes, place: Position, second: u8) -> Result<(), Memory>
     ensures { OnOk result (bytes.new ≡ bytes.old ++ escaped place second) }
 {
-    let is_edge = matches!(place, Place::Outside) && (second == b'<' || second == b'>');
+    let is_edge = matches!(place, Position::Outside) && (second == b'<' || second == b'>');
     if is_edge {
         return bytes.push(second);
     }

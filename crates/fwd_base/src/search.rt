@@ -1,4 +1,4 @@
-//! Searches of a pattern in many texts.
+//! Searching many texts for one pattern.
 
 ghost use Rattle.std.specs.Prelude.{◌≡◌, ◌++◌, ℕ, List, map, option_map, string_bytes, is_some, IfOk, OnOk, IfSome};
 ghost use Rattle.regex.specs.Patterns.{Match as Found, find};
@@ -10,7 +10,7 @@ use crate::{Memory, Pattern};
 use regex::bytes::{Captures, Match, Matcher};
 use std::alloc::Global;
 
-/// A named group of a match.
+/// A named group that took part in a match.
 #[derive(Clone, Copy, Debug, PartialEq, Eq)]
 pub struct Capture<'p, 't> {
     pub name: &'p [u8],
@@ -19,7 +19,7 @@ pub struct Capture<'p, 't> {
     pub bytes: &'t [u8],
 }
 
-/// What searches for a pattern in one text after another.
+/// A searcher for one pattern, with the buffers that searches reuse.
 #[derive(Drop)]
 pub struct Search<'p> {
     names: &'p [Option<String>],
@@ -37,7 +37,7 @@ impl<'p> Search<'p> {
         Ok(Search { names, matcher })
     }
 
-    /// Whether the pattern is found in the bytes.
+    /// Returns whether the text contains a match.
     pub fn hits(&mut self, text: &[u8]) -> bool
         ensures found { result ≡ is_some (find (search_expression self.old) text.now 0) }
         ensures same { SearchesAs self.old self.new }
@@ -45,7 +45,8 @@ impl<'p> Search<'p> {
         self.matcher.is_match(text)
     }
 
-    /// The named groups that took part in the first match, in the order of the groups. `None` where nothing matches.
+    /// Returns the named groups that took part in the first match, in the order of the groups, or `None` if
+    /// nothing matches.
     pub fn captures<'t>(
         &mut self,
         alloc: Global,
@@ -63,7 +64,7 @@ impl<'p> Search<'p> {
     }
 }
 
-/// The named groups that took part in the match with these captures.
+/// Returns the named groups that took part in the match with these captures.
 fn named<'p, 't>(
     alloc: Global,
     names: &'p [Option<String>],
@@ -79,7 +80,7 @@ fn named<'p, 't>(
     Ok(named)
 }
 
-/// Puts a group at the end, where it has a name and took part.
+/// Appends a group if it has a name and took part.
 fn push_named<'p, 't>(
     named: &mut Vec<Capture<'p, 't>>,
     name: &'p Option<String>,

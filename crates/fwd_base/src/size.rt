@@ -1,4 +1,4 @@
-//! Sizes in text.
+//! Sizes of the configuration, as `64KB`.
 
 ghost use Rattle.std.specs.Prelude.{◌≡◌, length, take_while};
 ghost use Rattle.std.specs.Char.{is_ascii_digit};
@@ -8,13 +8,13 @@ ghost use Rattle.fwd_base.specs.Size.{unit_of, factor_of, size_of};
 use crate::numbers::value;
 use thiserror::Error;
 
-/// A text that is no size.
+/// The text isn't a size.
 #[derive(Clone, Copy, Debug, PartialEq, Eq, Error)]
 #[error("not a size")]
 pub struct NotASize;
 
-/// Reads a size: digits, and behind them nothing, or K, M or G for thousands, millions and billions, or KB, MB or GB for
-/// the same. Case is ignored. `NotASize` comes where the text has another form, or the number passes 64 bits.
+/// Parses a size: digits, and then nothing, or K, M or G for thousands, millions and billions, or KB, MB or
+/// GB for the same, in either case. Fails if the text has another form or the size passes 64 bits.
 pub fn parse_size(text: &[u8]) -> Result<u64, NotASize>
     ensures { result_ok result ≡ size_of text.now }
 {
@@ -31,14 +31,14 @@ pub fn parse_size(text: &[u8]) -> Result<u64, NotASize>
     }
 }
 
-/// How many digits a text begins with.
+/// Returns the number of leading digits of a text.
 fn digits_len(text: &[u8]) -> usize
     ensures { result ≡ length (take_while is_ascii_digit text.now) }
 {
     text.iter().take_while(|byte| byte.is_ascii_digit()).count()
 }
 
-/// What a suffix multiplies by.
+/// Returns the factor of a suffix.
 fn factor(suffix: &[u8]) -> Option<u64>
     ensures { result ≡ factor_of suffix.now }
 {
@@ -50,7 +50,7 @@ fn factor(suffix: &[u8]) -> Option<u64>
     }
 }
 
-/// What a letter multiplies by.
+/// Returns the factor of a letter.
 fn unit(letter: u8) -> Option<u64>
     ensures { result ≡ unit_of letter }
 {

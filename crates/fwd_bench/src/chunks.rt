@@ -1,21 +1,20 @@
-//! Files of chunks, appended to on a disk in memory and read.
+//! Chunk files: appends on a disk in memory, and reads.
 
-use fwd_chunk::{ChunkHead, commit, create, stage};
+use fwd_chunk::{ChunkHead, commit, create, read_chunk, stage};
 use fwd_disk_mem::MemDisk;
-use fwd_found::read_chunk;
 use fwd_outside::{Bytes, DiskErr, Memory, Names};
 use std::alloc::Global;
 use std::io;
 use std::time::Instant;
 
-/// How often each is measured; the least time counts.
+/// Rounds of each measurement; the least time counts.
 const ROUNDS: u32 = 7;
 
 /// The event of a line of 100 letters at second 0.
 const EVENT: &[u8] = b"\x92\x92\xd7\0\0\0\0\0\0\0\0\0\x80\x81\xa3log\xd9\x64\
     aaaaaaaaaaaaaaaaaaaaaaaaaaaaaaaaaaaaaaaaaaaaaaaaaaaaaaaaaaaaaaaaaaaaaaaaaaaaaaaaaaaaaaaaaaaaaaaaaaaa";
 
-/// A chunk with so many bytes of content takes no more appends.
+/// A chunk with this many bytes of content takes no more appends.
 const FULL_CHUNK: u64 = 2_048_000;
 
 /// The header of a plain file with a tag.
@@ -42,8 +41,8 @@ fn append(disk: &mut MemDisk, head: &mut ChunkHead, full: bool) -> Result<(), Di
     commit(disk, head, size, full)
 }
 
-/// A disk with an event appended so often. A chunk that is full is followed by a new one.
-fn appended(alloc: Global, count: u32, full: bool) -> Result<MemDisk, DiskErr> {
+/// Returns a disk with an event appended `count` times. A chunk that is full is followed by a new one.
+fn disk_with_appends(alloc: Global, count: u32, full: bool) -> Result<MemDisk, DiskErr> {
     let mut disk = MemDisk::new(alloc);
     let mut head = new_chunk(alloc, &mut disk, 0)?;
     for number in 1..count {
@@ -56,13 +55,14 @@ fn appended(alloc: Global, count: u32, full: bool) -> Result<MemDisk, DiskErr> {
     Ok(disk)
 }
 
-/// The time that appending takes on so many disks one after another, in microseconds. A disk keeps all of its calls, and
-/// all disks are kept, so that as many appends take as much memory on one disk as on ten.
+/// Returns the time of appending on `disks` disks one after another, in microseconds. A disk keeps all of
+/// its calls, and all disks are kept, so that equally many appends take as much memory on one disk as on
+/// ten.
 fn append_time(rt: &HostRuntime, count: u32, disks: u32, full: bool) -> io::Result<u128> {
     let mut kept = Vec::new(rt.alloc());
     let start = Instant::now(rt)?;
     for _ in 0..disks {
-        match appended(rt.alloc(), count, full) {
+        match disk_with_appends(rt.alloc(), count, full) {
             Ok(disk) => kept.push(disk)?,
             Err(_) => return Ok(u128::MAX),
         }
@@ -70,7 +70,7 @@ fn append_time(rt: &HostRuntime, count: u32, disks: u32, full: bool) -> io::Resu
     Ok(start.elapsed(rt)?.as_micros())
 }
 
-/// A plain file with as many events as so many bytes have room for.
+/// Returns a plain file with as many events as fit in `longest` bytes.
 pub fn plain_file(alloc: Global, longest: usize) -> Result<Bytes, Memory> {
     let mut file = Bytes::from_slice(alloc, PLAIN_HEADER)?;
     for _ in 0..longest.saturating_sub(PLAIN_HEADER.len()) / EVENT.len() {
@@ -79,7 +79,7 @@ pub fn plain_file(alloc: Global, longest: usize) -> Result<Bytes, Memory> {
     Ok(file)
 }
 
-/// The number of events that are read and the time that reading takes, in microseconds.
+/// Returns the number of events that are read and the time of reading, in microseconds.
 fn read_time(rt: &HostRuntime, file: &[u8]) -> io::Result<(u64, u128)> {
     let start = Instant::now(rt)?;
     let read = read_chunk(rt.alloc(), file);
@@ -90,8 +90,8 @@ fn read_time(rt: &HostRuntime, file: &[u8]) -> io::Result<(u64, u128)> {
     }
 }
 
-/// Prints the number of appends to a disk and the least times of appending to so many disks, under full sync and under
-/// normal sync, in microseconds.
+/// Prints the number of appends to a disk and the least times of appending to `disks` disks, under full
+/// sync and under normal sync, in microseconds.
 pub fn measure(rt: &HostRuntime, count: u32, disks: u32) -> io::Result<()> {
     let mut full = u128::MAX;
     let mut normal = u128::MAX;
@@ -102,8 +102,8 @@ pub fn measure(rt: &HostRuntime, count: u32, disks: u32) -> io::Result<()> {
     println!(rt; "{count} {full} {normal}")
 }
 
-/// Prints the bytes and the events of the longest file of at most so many bytes, and the least time of reading it so
-/// often, in microseconds.
+/// Prints the bytes and the events of the longest file of at most `longest` bytes, and the least time of
+/// reading it `turns` times, in microseconds.
 pub fn measure_reading(rt: &HostRuntime, longest: u32, turns: u32) -> io::Result<()> {
     let Ok(file) = plain_file(rt.alloc(), longest as usize) else {
         return rt.println("out of memory");

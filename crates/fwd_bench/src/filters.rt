@@ -15,7 +15,7 @@ use std::time::Instant;
 #[derive(Clone, Copy)]
 struct Case {
     name: &'static str,
-    /// What `grep` excludes; without it `modify` adds a pair.
+    /// The pattern that `grep` excludes; without it `modify` adds a pair.
     pattern: Option<&'static str>,
     length: u32,
 }
@@ -60,7 +60,7 @@ fn line(alloc: Global, length: u32) -> Result<Bytes, Memory> {
     Ok(line)
 }
 
-/// The body of a line, with the room that a parser makes.
+/// Returns the body of a line, with the room that a parser makes.
 fn body(alloc: Global, length: u32) -> Result<Pairs, Memory> {
     let mut body = Vec::with_capacity(alloc, 4)?;
     let key = Value::Text(bytes(alloc, "log")?);
@@ -129,7 +129,7 @@ fn steps(alloc: Global, case: Case) -> Result<FilterSteps, Memory> {
     Ok(steps)
 }
 
-/// The time that a batch takes, in nanoseconds.
+/// Returns the time that a batch takes, in nanoseconds.
 fn time_of(
     rt: &HostRuntime,
     threads: &(impl Threads + Sync),
@@ -145,14 +145,14 @@ fn time_of(
     }
 }
 
-fn made(alloc: Global, count: u32, length: u32) -> Events {
+fn new_events(alloc: Global, count: u32, length: u32) -> Events {
     match events(alloc, count, length) {
         Ok(events) => events,
         Err(Memory) => Events::new(alloc),
     }
 }
 
-/// The least time of so many batches, in nanoseconds.
+/// Returns the least time of some batches, in nanoseconds.
 fn least(
     rt: &HostRuntime,
     threads: &(impl Threads + Sync),
@@ -165,13 +165,14 @@ fn least(
     };
     let mut least = u128::MAX;
     for _ in 0..turns {
-        let events = made(rt.alloc(), count, case.length);
+        let events = new_events(rt.alloc(), count, case.length);
         least = least.min(time_of(rt, threads, &steps, events)?);
     }
     Ok(least)
 }
 
-/// Prints, for each filter, its name, how long the lines are, and the least time that a batch of so many took, in nanoseconds.
+/// Prints, for each filter, its name, how long the lines are, and the least time of a batch, in
+/// nanoseconds.
 pub fn measure(
     rt: &HostRuntime,
     threads: &(impl Threads + Sync),

@@ -1,4 +1,4 @@
-//! Streams of forward messages, in large and in small pieces.
+//! Streams of forward messages, in large and in small buffers.
 
 ghost use Rattle.std.specs.Prelude.{◌<◌};
 
@@ -7,16 +7,16 @@ use std::alloc::Global;
 use std::io;
 use std::time::Instant;
 
-/// How often each is measured; the least time counts.
+/// Rounds of each measurement; the least time counts.
 const ROUNDS: u32 = 3;
 
-/// What stands before the length of the text in a message of one event: the tag, ten seconds and a field.
+/// The bytes before the length of the text in a message of one event: the tag, ten seconds and a field.
 const FRONT: &[u8] = b"\x93\xa3app\xce\x00\x00\x00\x0a\x81\xa3log\xdb";
 
-/// The text of a message of 200 bytes.
+/// The text length of a message of 200 bytes.
 const SHORT: u32 = 180;
 
-/// The text of a message of 100,000 bytes.
+/// The text length of a message of 100,000 bytes.
 const LONG: u32 = 99_980;
 
 fn text(alloc: Global, length: u32) -> Result<Bytes, Memory> {
@@ -40,7 +40,7 @@ fn put_messages(stream: &mut Bytes, count: u32, length: u32, text: &Bytes) -> Re
     Ok(())
 }
 
-/// So many messages with a text of so many bytes.
+/// Returns `count` messages with a text of `length` bytes.
 fn messages(alloc: Global, count: u32, length: u32) -> Result<Bytes, Memory> {
     let text = text(alloc, length)?;
     let mut stream = Bytes::new(alloc);
@@ -48,7 +48,7 @@ fn messages(alloc: Global, count: u32, length: u32) -> Result<Bytes, Memory> {
     Ok(stream)
 }
 
-/// How many messages come of a stream in pieces of a size.
+/// Returns how many messages come of a stream in buffers of `size` bytes.
 fn read(alloc: Global, stream: &[u8], size: usize) -> Result<u64, Memory>
     requires { 0 < size }
 {
@@ -60,7 +60,7 @@ fn read(alloc: Global, stream: &[u8], size: usize) -> Result<u64, Memory>
     Ok(count)
 }
 
-/// The time that reading takes so many times, in microseconds.
+/// Returns the time of reading `turns` times, in microseconds.
 fn read_time(rt: &HostRuntime, stream: &[u8], size: usize, turns: u32) -> io::Result<u128>
     requires { 0 < size }
 {
@@ -73,8 +73,8 @@ fn read_time(rt: &HostRuntime, stream: &[u8], size: usize, turns: u32) -> io::Re
     Ok(start.elapsed(rt)?.as_micros())
 }
 
-/// Prints the bytes of a piece, the messages that were read, the bytes, and the least time in microseconds of reading
-/// them so often.
+/// Prints the bytes of a buffer, the messages that were read, the bytes, and the least time of reading
+/// them `turns` times, in microseconds.
 fn measure_pieces(rt: &HostRuntime, stream: &[u8], size: usize, turns: u32) -> io::Result<()>
     requires { 0 < size }
 {
@@ -96,7 +96,7 @@ fn measure_stream(rt: &HostRuntime, stream: Result<Bytes, Memory>, turns: u32) -
     measure_pieces(rt, stream.as_slice(), 16, turns)
 }
 
-/// Reads so many messages of 200 bytes, and as many bytes in messages of 100,000, so often.
+/// Measures `count` messages of 200 bytes, and as many bytes in messages of 100,000, `turns` times.
 pub fn measure(rt: &HostRuntime, count: u32, turns: u32) -> io::Result<()> {
     measure_stream(rt, messages(rt.alloc(), count, SHORT), turns)?;
     measure_stream(rt, messages(rt.alloc(), count / 500, LONG), turns)

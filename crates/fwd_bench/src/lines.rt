@@ -1,4 +1,4 @@
-//! Streams in lines, and lines as events, by a pattern and as JSON.
+//! Streams split into lines, and lines parsed to events, by a pattern and as JSON.
 
 use fwd_event::{Bytes, Memory};
 use fwd_frames::{Frames, Lines};
@@ -7,10 +7,10 @@ use std::alloc::Global;
 use std::io;
 use std::time::Instant;
 
-/// How often each is measured; the least time counts.
+/// Rounds of each measurement; the least time counts.
 const ROUNDS: u32 = 3;
 
-/// The bytes of a piece of a stream.
+/// The bytes of a buffer of a stream.
 const PIECE: usize = 65_536;
 
 /// The pattern of a web server's line, without blanks in quotes.
@@ -46,7 +46,7 @@ fn json_parser(alloc: Global) -> Result<Parser, Memory> {
     })
 }
 
-/// So many lines of a web server.
+/// Returns `count` lines of a web server.
 fn web_stream(alloc: Global, count: u32) -> Result<Bytes, Memory> {
     let mut stream = Bytes::new(alloc);
     for number in 0..count {
@@ -58,7 +58,7 @@ fn web_stream(alloc: Global, count: u32) -> Result<Bytes, Memory> {
     Ok(stream)
 }
 
-/// So many lines of JSON.
+/// Returns `count` lines of JSON.
 fn json_stream(alloc: Global, count: u32) -> Result<Bytes, Memory> {
     let mut stream = Bytes::new(alloc);
     for number in 0..count {
@@ -70,8 +70,8 @@ fn json_stream(alloc: Global, count: u32) -> Result<Bytes, Memory> {
     Ok(stream)
 }
 
-/// How many lines end in a stream that comes in pieces.
-fn parted(alloc: Global, stream: &[u8]) -> Result<u64, Memory> {
+/// Returns how many lines end in a stream that comes in buffers.
+fn count_lines(alloc: Global, stream: &[u8]) -> Result<u64, Memory> {
     let mut frames = Frames::new(alloc);
     let mut count: u64 = 0;
     for piece in stream.chunks(PIECE) {
@@ -80,8 +80,8 @@ fn parted(alloc: Global, stream: &[u8]) -> Result<u64, Memory> {
     Ok(count)
 }
 
-/// How many of the lines a parser reads with the time that stands in them.
-fn timed(alloc: Global, parser: &Parser, lines: Lines) -> Result<u64, Memory> {
+/// Returns how many of the lines a parser reads with their own time.
+fn count_timed_lines(alloc: Global, parser: &Parser, lines: Lines) -> Result<u64, Memory> {
     let mut reader = parser.reader(alloc)?;
     let mut count: u64 = 0;
     for line in lines.into_vec() {
@@ -93,40 +93,40 @@ fn timed(alloc: Global, parser: &Parser, lines: Lines) -> Result<u64, Memory> {
     Ok(count)
 }
 
-/// The same of a stream that comes in pieces.
-fn parsed(alloc: Global, parser: &Parser, stream: &[u8]) -> Result<u64, Memory> {
+/// Returns the same for a stream that comes in buffers.
+fn count_parsed_lines(alloc: Global, parser: &Parser, stream: &[u8]) -> Result<u64, Memory> {
     let mut frames = Frames::new(alloc);
     let mut count: u64 = 0;
     for piece in stream.chunks(PIECE) {
-        count = count.saturating_add(timed(alloc, parser, frames.feed(piece)?)?);
+        count = count.saturating_add(count_timed_lines(alloc, parser, frames.feed(piece)?)?);
     }
     Ok(count)
 }
 
-/// The time that parting takes so many times, in microseconds.
+/// Returns the time of splitting `turns` times, in microseconds.
 fn part_time(rt: &HostRuntime, stream: &[u8], turns: u32) -> io::Result<u128> {
     let start = Instant::now(rt)?;
     for _ in 0..turns {
-        if parted(rt.alloc(), stream).is_err() {
+        if count_lines(rt.alloc(), stream).is_err() {
             return Ok(u128::MAX);
         }
     }
     Ok(start.elapsed(rt)?.as_micros())
 }
 
-/// The time that parting and parsing takes so many times, in microseconds.
+/// Returns the time of splitting and parsing `turns` times, in microseconds.
 fn parse_time(rt: &HostRuntime, parser: &Parser, stream: &[u8], turns: u32) -> io::Result<u128> {
     let start = Instant::now(rt)?;
     for _ in 0..turns {
-        if parsed(rt.alloc(), parser, stream).is_err() {
+        if count_parsed_lines(rt.alloc(), parser, stream).is_err() {
             return Ok(u128::MAX);
         }
     }
     Ok(start.elapsed(rt)?.as_micros())
 }
 
-/// Prints what is measured, the lines read with their time, the bytes, and the least times in microseconds of parting so
-/// often, and of parting and parsing so often.
+/// Prints the parser's name, the lines read with their time, the bytes, and the least times in
+/// microseconds of splitting, and of splitting and parsing, `turns` times.
 fn measure_parser(
     rt: &HostRuntime,
     name: &str,
@@ -137,7 +137,7 @@ fn measure_parser(
     let (Ok(parser), Ok(stream)) = (parser, stream) else {
         return rt.println("out of memory");
     };
-    let Ok(read) = parsed(rt.alloc(), &parser, stream.as_slice()) else {
+    let Ok(read) = count_parsed_lines(rt.alloc(), &parser, stream.as_slice()) else {
         return rt.println("out of memory");
     };
     let mut part = u128::MAX;
@@ -149,7 +149,7 @@ fn measure_parser(
     println!(rt; "{name} {read} {} {part} {parse}", stream.len())
 }
 
-/// Parts and parses so many lines of each kind, so often.
+/// Splits and parses `count` lines of each kind, `turns` times.
 pub fn measure(rt: &HostRuntime, count: u32, turns: u32) -> io::Result<()> {
     let alloc = rt.alloc();
     measure_parser(

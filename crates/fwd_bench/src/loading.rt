@@ -1,4 +1,4 @@
-//! Files of chunks that are loaded from a disk in memory.
+//! Chunk files that are loaded from a disk in memory.
 
 use crate::chunks::plain_file;
 use fwd_backlog::load_all;
@@ -9,7 +9,7 @@ use std::io;
 use std::thread::Threads;
 use std::time::Instant;
 
-/// How long a file is at most.
+/// The most bytes of a file.
 const LONGEST: usize = 65_536;
 
 fn preset(alloc: Global, disk: &mut MemDisk, number: u32, file: &[u8]) -> Result<(), Memory> {
@@ -17,7 +17,7 @@ fn preset(alloc: Global, disk: &mut MemDisk, number: u32, file: &[u8]) -> Result
     disk.preset(name.as_bytes(), file)
 }
 
-/// A disk with so many files of these bytes.
+/// Returns a disk with `count` files of these bytes.
 fn disk_with(alloc: Global, file: &[u8], count: u32) -> Result<MemDisk, Memory> {
     let mut disk = MemDisk::new(alloc);
     for number in 1..=count {
@@ -26,7 +26,7 @@ fn disk_with(alloc: Global, file: &[u8], count: u32) -> Result<MemDisk, Memory> 
     Ok(disk)
 }
 
-/// How many files are found, and the time that loading takes, in microseconds.
+/// Returns how many files are recovered, and the time of loading, in microseconds.
 fn load_time(
     rt: &HostRuntime,
     threads: &(impl Threads + Sync),
@@ -53,8 +53,8 @@ fn load_once(
     }
 }
 
-/// Prints how many of so many files are found, the bytes of each, and the least time of loading them so often, in
-/// microseconds.
+/// Prints how many of `count` files are recovered, the bytes of each, and the least time of loading them
+/// `turns` times, in microseconds.
 pub fn measure(
     rt: &HostRuntime,
     threads: &(impl Threads + Sync),

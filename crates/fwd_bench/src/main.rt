@@ -1,6 +1,6 @@
-//! How fast events are written and read back, lines become events, forward messages are read, files of chunks are appended
-//! to, read and loaded, and batches filtered. `bench/values`, `bench/lines`, `bench/forward`, `bench/chunks` and
-//! `bench/filters` run it; without words it says what it takes.
+//! Measures how fast events are encoded and decoded, lines become events, forward messages are read,
+//! chunk files are appended to, read and loaded, and batches are filtered. `bench/values`, `bench/lines`,
+//! `bench/forward`, `bench/chunks` and `bench/filters` run it; without words it prints its usage.
 #![tactic(auto)]
 
 mod chunks;
@@ -24,7 +24,7 @@ enum Measured {
     Filters,
 }
 
-/// What is measured, over how many, and how many times over.
+/// What is measured, over how many items, and how many times.
 #[derive(Clone, Copy)]
 struct Measure {
     what: Measured,

@@ -6,10 +6,10 @@ use std::alloc::Global;
 use std::io;
 use std::time::Instant;
 
-/// How often each is measured; the least time counts.
+/// Rounds of each measurement; the least time counts.
 const ROUNDS: u32 = 5;
 
-/// The event of a log line of some 120 bytes.
+/// Returns the event of a log line of some 120 bytes.
 fn line_event(alloc: Global, number: u32) -> Result<Event, Memory> {
     let line = format!(in alloc;
         "127.0.0.1 - - [14/Nov/2023:22:13:20 +0000] \"GET /items/{number} HTTP/1.1\" 200 2326 \"-\" \"Mozilla/5.0 (X11; Linux)\""
@@ -45,7 +45,7 @@ fn write_events(events: &Events, bytes: &mut Bytes) -> Result<(), Memory> {
     Ok(())
 }
 
-/// Decodes the values one after another, each let go before the next, and gives their number.
+/// Decodes the values one after another, dropping each before the next, and returns their number.
 fn decode_values(alloc: Global, bytes: &[u8], count: u32) -> u32 {
     let mut at = 0;
     for number in 0..count {
@@ -60,7 +60,7 @@ fn decode_values(alloc: Global, bytes: &[u8], count: u32) -> u32 {
     count
 }
 
-/// The time that writing takes so many times, in microseconds.
+/// Returns the time of encoding `turns` times, in microseconds.
 fn write_time(
     rt: &HostRuntime,
     events: &Events,
@@ -76,7 +76,7 @@ fn write_time(
     Ok(start.elapsed(rt)?.as_micros())
 }
 
-/// The time that decoding one by one takes so many times, in microseconds.
+/// Returns the time of decoding one by one `turns` times, in microseconds.
 fn decode_time(rt: &HostRuntime, bytes: &[u8], count: u32, turns: u32) -> io::Result<u128> {
     let start = Instant::now(rt)?;
     for _ in 0..turns {
@@ -87,7 +87,7 @@ fn decode_time(rt: &HostRuntime, bytes: &[u8], count: u32, turns: u32) -> io::Re
     Ok(start.elapsed(rt)?.as_micros())
 }
 
-/// The time that reading as a list takes so many times, in microseconds.
+/// Returns the time of decoding as a list `turns` times, in microseconds.
 fn list_time(rt: &HostRuntime, bytes: &[u8], turns: u32) -> io::Result<u128> {
     let start = Instant::now(rt)?;
     for _ in 0..turns {
@@ -98,8 +98,8 @@ fn list_time(rt: &HostRuntime, bytes: &[u8], turns: u32) -> io::Result<u128> {
     Ok(start.elapsed(rt)?.as_micros())
 }
 
-/// Writes so many events, decodes them one by one, and reads them as a list, each so many times, and prints the number,
-/// the bytes and the least times in microseconds.
+/// Encodes `count` events, decodes them one by one, and decodes them as a list, each `turns` times, and
+/// prints the number, the bytes and the least times in microseconds.
 pub fn measure(rt: &HostRuntime, count: u32, turns: u32) -> io::Result<()> {
     let alloc = rt.alloc();
     let Ok(events) = line_events(alloc, count) else {

@@ -1,3 +1,10 @@
 pub mod Layout
 pub mod Append
-pub mod Settle
+pub mod Outcome
+pub mod Metadata
+pub mod Format
+pub mod FormatFunction
+pub mod Check
+pub mod Name
+pub mod Kept
+pub mod Content

@@ -1,7 +1,7 @@
 pub mod Lines
-pub mod Keyed
-pub mod Replacing
-pub mod Growing
-pub mod Judging
-pub mod Stepping
-pub mod Standing
+pub mod ByteMaps
+pub mod Replacement
+pub mod Append
+pub mod Meanings
+pub mod Steps
+pub mod StableFiles

@@ -2,6 +2,6 @@ pub mod Line
 pub mod Variables
 pub mod Text
 pub mod Meaning
-pub mod Shown
-pub mod Reading
-pub mod Loaded
+pub mod Representation
+pub mod Sections
+pub mod LoadResult

@@ -1,9 +1,9 @@
--- What a line means behind the text above it, and for which causes it is refused.
+-- What a line means after the text above it, and which errors refuse it.
 use Rattle.std.specs.Prelude.{ℕ, ◌-◌, Bool, true, false, ◌&&◌, ◌==◌, not, if◌then◌else◌, List, [], ◌∷◌, ◌++◌, length, take, slice_index, Option, Some, None}
 use Rattle.std.specs.List.{suffix_len}
 use Rattle.fwd_config.specs.Line.{Form, Inclusion, Setting, Heading, Pair, NoHeading, NoCommand}
-use Rattle.fwd_config.specs.Variables.{Values, replaced, has_open_brace}
-use Rattle.fwd_config.specs.Text.{Text, Variable, Header, Holds, values_behind, sections_of, entry}
+use Rattle.fwd_config.specs.Variables.{Values, replace_variables, has_open_brace}
+use Rattle.fwd_config.specs.Text.{Text, Variable, Header, EntryItem, values_after, sections_of, entry}
 use Rattle.fwd_config.specs.declared.section.Place.{Place}
 use Rattle.fwd_config.specs.declared.fault.ConfigKind.{ConfigKind}
 use Rattle.fwd_config.specs.declared.fault.ConfigKind.TheVariants.{EntryOutsideSection, NoValue, BadSection, IncludeTooDeep, BadSet, OpenBrace}
@@ -12,9 +12,9 @@ use Rattle.fwd_config.specs.declared.fault.ConfigKind.TheVariants.{EntryOutsideS
 abbrev pub folder : List ℕ → List ℕ
 folder path = take (length path - suffix_len (λ byte. not (byte == 47)) path) path
 
--- an include path stands beside the file that has it, unless it begins with a slash
-abbrev pub beside : List ℕ → List ℕ → List ℕ
-beside file path = if slice_index path 0 == 47 then path else folder file ++ path
+-- an include path is relative to the folder of the file that has it, unless it begins with a slash
+abbrev pub relative_path : List ℕ → List ℕ → List ℕ
+relative_path file path = if slice_index path 0 == 47 then path else folder file ++ path
 
 abbrev pub is_pair : Form → Bool
 is_pair (Pair key value) = true
@@ -45,8 +45,8 @@ value_of_form (Setting name value) = value
 value_of_form (Pair key value) = value
 value_of_form _ = []
 
--- The causes for which a line is refused, each with its test, in the order in which they count. So many includes may
--- still stand in one another.
+-- The errors of a line, each with its test, in the order in which they count. `includes_left` more includes
+-- may be nested.
 abbrev pub causes : ℕ → Text → Form → List (Bool × ConfigKind)
 causes includes_left above form =
     (is_pair form && length (sections_of above) == 0, EntryOutsideSection)
@@ -64,23 +64,23 @@ first_cause (cause ∷ others) = if cause.0 then Some cause.1 else first_cause o
 pub data Meaning : Type 0 where
   -- the line adds this to the text
   Adds : Text → Meaning
-  -- the lines of this file stand here
+  -- the lines of this file come here
   Includes : (path : List ℕ) → Meaning
   -- the line is refused
   Refused : ConfigKind → Meaning
 
--- a line that isn't refused, with the values that hold there
-abbrev pub accepted : Values → Place → Form → Meaning
-accepted values place (Inclusion path) = Includes (beside place.file (replaced values path))
-accepted values place (Setting name value) = Adds (Variable name (replaced values value) ∷ [])
-accepted values place (Heading name) = Adds (Header name place ∷ [])
-accepted values place (Pair key value) = Adds (Holds (entry key (replaced values value) place) ∷ [])
-accepted values place _ = Adds []
+-- a line that isn't refused, with the values of the variables there
+abbrev pub accepted_meaning : Values → Place → Form → Meaning
+accepted_meaning values place (Inclusion path) = Includes (relative_path place.file (replace_variables values path))
+accepted_meaning values place (Setting name value) = Adds (Variable name (replace_variables values value) ∷ [])
+accepted_meaning values place (Heading name) = Adds (Header name place ∷ [])
+accepted_meaning values place (Pair key value) = Adds (EntryItem (entry key (replace_variables values value) place) ∷ [])
+accepted_meaning values place _ = Adds []
 
-abbrev pub judged : Option ConfigKind → Meaning → Meaning
-judged None meaning = meaning
-judged (Some kind) meaning = Refused kind
+abbrev pub unless_refused : Option ConfigKind → Meaning → Meaning
+unless_refused None meaning = meaning
+unless_refused (Some kind) meaning = Refused kind
 
--- what a line means at its place, behind the text above, in this environment
+-- what a line means at its place, after the text above, in this environment
 abbrev pub meaning : Values → ℕ → Place → Text → Form → Meaning
-meaning env includes_left place above form = judged (first_cause (causes includes_left above form)) (accepted (values_behind env above) place form)
+meaning env includes_left place above form = unless_refused (first_cause (causes includes_left above form)) (accepted_meaning (values_after env above) place form)

@@ -1,5 +1,5 @@
--- The text of a configuration: its lines one after another, with each included file's lines in place of the line that
--- includes it, and with each variable in its values replaced.
+-- The text of a configuration: its lines in order, with each included file's lines in place of the line
+-- that includes it, and with the variables in values replaced.
 use Rattle.std.specs.Prelude.{ℕ, List, [], ◌∷◌}
 use Rattle.fwd_config.specs.Variables.{Values, with_value}
 use Rattle.fwd_config.specs.declared.section.Place.{Place}
@@ -13,17 +13,17 @@ pub data Item : Type 0 where
   -- a section begins
   Header : (name : List ℕ) (place : Place) → Item
   -- an entry
-  Holds : Entry → Item
+  EntryItem : Entry → Item
 
 abbrev pub Text : Type 0
 Text = List Item
 
--- the values behind a text, over those before it
-abbrev pub values_behind : Values → Text → Values
-values_behind values [] = values
-values_behind values (Variable name value ∷ items) = values_behind (with_value values name value) items
-values_behind values (Header name place ∷ items) = values_behind values items
-values_behind values (Holds entry ∷ items) = values_behind values items
+-- the values after a text, given those before it
+abbrev pub values_after : Values → Text → Values
+values_after values [] = values
+values_after values (Variable name value ∷ items) = values_after (with_value values name value) items
+values_after values (Header name place ∷ items) = values_after values items
+values_after values (EntryItem entry ∷ items) = values_after values items
 
 abbrev pub section : List ℕ → Place → List Entry → Section
 section name place entries = record { name = name; place = place; entries = entries }
@@ -33,14 +33,14 @@ abbrev pub entries_of : Text → List Entry
 entries_of [] = []
 entries_of (Variable name value ∷ items) = entries_of items
 entries_of (Header name place ∷ items) = []
-entries_of (Holds entry ∷ items) = entry ∷ entries_of items
+entries_of (EntryItem entry ∷ items) = entry ∷ entries_of items
 
 -- each header with the entries up to the next one
 abbrev pub sections_of : Text → List Section
 sections_of [] = []
 sections_of (Variable name value ∷ items) = sections_of items
 sections_of (Header name place ∷ items) = section name place (entries_of items) ∷ sections_of items
-sections_of (Holds entry ∷ items) = sections_of items
+sections_of (EntryItem entry ∷ items) = sections_of items
 
 abbrev pub place : List ℕ → ℕ → Place
 place file line = record { file = file; line = line }

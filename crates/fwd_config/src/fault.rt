@@ -1,4 +1,4 @@
-//! Why a configuration is refused.
+//! Errors of loading a configuration, each with its place.
 
 ghost use Rattle.std.specs.Prelude.{◌≡◌};
 ghost use Rattle.fwd_config.specs.declared.fault.ConfigKind.TheVariants as kinds;
@@ -8,25 +8,26 @@ use fwd_base::Memory;
 use std::alloc::AllocFailed;
 use thiserror::Error;
 
-/// What is wrong. Where several of these are wrong with one line, the first of them in this order is given.
+/// What is wrong with a configuration. If a line has several errors, the first of them in this order is
+/// reported.
 #[derive(Clone, Copy, Debug, PartialEq, Eq, Error)]
 pub enum ConfigKind {
-    /// An entry stands before every section.
+    /// An entry comes before the first section.
     #[error("an entry stands before every section")]
     EntryOutsideSection,
     /// An entry or an `@INCLUDE` has no value.
     #[error("a value is missing")]
     NoValue,
-    /// A line begins with `[` and is no header.
+    /// A line begins with `[` and isn't a header.
     #[error("not a section")]
     BadSection,
-    /// A file that eight others include includes a further one.
+    /// Includes are nested more than eight deep.
     #[error("included too deep")]
     IncludeTooDeep,
     /// A line begins with `@` and is neither `@INCLUDE` nor an `@SET` that names a variable.
     #[error("not a command")]
     BadSet,
-    /// A `${` has no `}` behind it.
+    /// A `${` has no `}` after it.
     #[error("an open brace")]
     OpenBrace,
     /// A file isn't UTF-8.
@@ -35,7 +36,7 @@ pub enum ConfigKind {
     /// A file can't be read.
     #[error("a file can't be read")]
     FileFault,
-    /// An allocation was refused.
+    /// An allocation failed.
     #[error("out of memory")]
     Memory,
 }
@@ -56,8 +57,8 @@ impl<T: Drop> From<AllocFailed<T>> for ConfigKind {
     }
 }
 
-/// Why a configuration is refused, and where. A file that isn't UTF-8 or can't be read is refused at its line 0. For
-/// want of memory no place is given.
+/// Why a configuration is refused, and where. A file that isn't UTF-8 or can't be read is refused at its
+/// line 0. If an allocation fails, the place is empty.
 #[derive(Debug, Drop, PartialEq, Eq, Error)]
 #[error("configuration refused: {kind}")]
 pub struct ConfigFault {

@@ -1,38 +1,39 @@
-//! One line of a configuration file, as it is written.
+//! Parsing of one line of a configuration file.
 
 ghost use Rattle.std.specs.Prelude.{◌≡◌, ◌<◌, ◌∷◌, length};
 ghost use Rattle.std.specs.Str.{str_eq_ignore_ascii_case};
 ghost use Rattle.std.specs.Str.Lines.{strip_carriage_return};
 ghost use Rattle.fwd_config.specs.Line.{lines_of, form_of, heading_of, command_of, setting_of, word, value, drop_end_blanks};
-ghost use Rattle.fwd_config.specs.Shown.{form};
+ghost use Rattle.fwd_config.specs.Representation.{form};
 
-use fwd_base::{is_blank, place_of, place_of_blank, skip_blanks};
+use fwd_base::{index_of, index_of_blank, is_blank, skip_blanks};
 
-/// What a line says. Its parts are parts of the line.
+/// A parsed line. Its parts are slices of the line.
 pub enum Line<'a> {
     /// An empty line or a comment.
     Nothing,
-    /// The lines of another file stand here.
+    /// The lines of another file come here.
     Include { path: &'a [u8] },
     /// A variable gets a value.
     Set { name: &'a [u8], value: &'a [u8] },
     /// A section begins.
     Header { name: &'a [u8] },
-    /// A key with its value.
+    /// An entry: a key with its value.
     Pair { key: &'a [u8], value: &'a [u8] },
-    /// A line that begins with `[` and is no header.
+    /// A line that begins with `[` and isn't a header.
     BadHeader,
-    /// A line that begins with `@` and is no command.
+    /// A line that begins with `@` and isn't a command.
     BadCommand,
 }
 
-/// The first line of a text that isn't empty, without its end and a carriage return there, and the text behind it.
+/// Returns the first line of a text that isn't empty, without its line feed and a carriage return before
+/// it, and the text after it.
 pub fn first_line(text: &[u8]) -> (&[u8], &[u8])
     requires { 0 < length text.now }
     ensures first { lines_of text.now ≡ result.0.now ∷ lines_of result.1.now }
     ensures shorter { length result.1.now < length text.now }
 {
-    let end = place_of(text, b'\n');
+    let end = index_of(text, b'\n');
     if end < text.len() {
         (without_return(&text[..end]), &text[end + 1..])
     } else {
@@ -49,7 +50,7 @@ fn without_return(line: &[u8]) -> &[u8]
     }
 }
 
-/// What a line says.
+/// Parses a line.
 pub fn read_line(line: &[u8]) -> Line<'_>
     ensures { form result ≡ form_of line.now }
 {
@@ -59,17 +60,17 @@ pub fn read_line(line: &[u8]) -> Line<'_>
         [b'[', header @ ..] => read_header(without_end_blanks(header)),
         [b'@', command @ ..] => read_command(command),
         _ => {
-            let (key, value) = parted(text);
+            let (key, value) = split_word(text);
             Line::Pair { key, value }
         }
     }
 }
 
-/// A header behind its `[`, without the blanks at the end of the line.
+/// Parses a header after its `[`, without the blanks at the end of the line.
 fn read_header(text: &[u8]) -> Line<'_>
     ensures { form result ≡ heading_of text.now }
 {
-    let end = place_of(text, b']');
+    let end = index_of(text, b']');
     if end > 0 && end < text.len() && end + 1 == text.len() {
         Line::Header { name: &text[..end] }
     } else {
@@ -77,11 +78,11 @@ fn read_header(text: &[u8]) -> Line<'_>
     }
 }
 
-/// A command behind its `@`.
+/// Parses a command after its `@`.
 fn read_command(command: &[u8]) -> Line<'_>
     ensures { form result ≡ command_of (word command.now) (value command.now) }
 {
-    let (name, value) = parted(command);
+    let (name, value) = split_word(command);
     if same_name(name, b"include") {
         return Line::Include { path: value };
     }
@@ -91,18 +92,18 @@ fn read_command(command: &[u8]) -> Line<'_>
     Line::BadCommand
 }
 
-/// Names of commands, sections and keys ignore case.
+/// Returns whether a name of a command, a section or a key is the known one, case ignored.
 pub fn same_name(name: &[u8], known: &[u8]) -> bool
     ensures { result ≡ str_eq_ignore_ascii_case name.now known.now }
 {
     name.eq_ignore_ascii_case(known)
 }
 
-/// What stands behind `@SET`.
+/// Parses what follows `@SET`.
 fn read_set(text: &[u8]) -> Line<'_>
     ensures { form result ≡ setting_of text.now }
 {
-    let end = place_of(text, b'=');
+    let end = index_of(text, b'=');
     if end > 0 && end < text.len() {
         Line::Set {
             name: &text[..end],
@@ -113,12 +114,12 @@ fn read_set(text: &[u8]) -> Line<'_>
     }
 }
 
-/// A text's first word and its value: what stands behind the word, without the blanks round it.
-fn parted(text: &[u8]) -> (&[u8], &[u8])
+/// Returns a text's first word and its value: what follows the word, without the blanks around it.
+fn split_word(text: &[u8]) -> (&[u8], &[u8])
     ensures word { result.0.now ≡ word text.now }
     ensures value { result.1.now ≡ value text.now }
 {
-    let end = place_of_blank(text);
+    let end = index_of_blank(text);
     let behind = skip_blanks(&text[end..]);
     (&text[..end], without_end_blanks(behind))
 }

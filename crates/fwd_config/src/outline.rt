@@ -1,12 +1,12 @@
-//! What the text of a configuration gives so far.
+//! The variables and sections of the lines read so far.
 
 ghost use Rattle.std.specs.Prelude.{◌≡◌, ◌≢◌, ◌<◌, List, ℕ, [], ◌++◌, IfOk, OnOk, IsSome, vec_len};
 ghost use Rattle.fwd_config.specs.Variables.{Values, environment};
 ghost use Rattle.fwd_config.specs.Line.{form_of, Inclusion, Setting, Heading, Pair};
 ghost use Rattle.fwd_config.specs.Text.{Text, place};
-ghost use Rattle.fwd_config.specs.Meaning.{meaning, beside, folder};
-ghost use Rattle.fwd_config.specs.Reading.{parser_files, files_of_section, files_of_entry};
-ghost use Rattle.fwd_config.specs.Shown.{Shows, Takes, with_entry};
+ghost use Rattle.fwd_config.specs.Meaning.{meaning, relative_path, folder};
+ghost use Rattle.fwd_config.specs.Sections.{parser_files, files_of_section, files_of_entry};
+ghost use Rattle.fwd_config.specs.Representation.{OutlineRepresents, FollowsMeaning, with_entry};
 
 use crate::line::{Line, read_line, same_name};
 use crate::variables::Variables;
@@ -14,20 +14,20 @@ use crate::{ConfigKind, Entries, Entry, Place, Section, Sections};
 use fwd_base::{Bytes, Memory, Names};
 use std::alloc::Global;
 
-/// The variables and the sections that the text read so far gives.
+/// The variables and the sections that the lines read so far give.
 #[derive(Drop)]
 pub struct Outline {
     variables: Variables,
     sections: Vec<Section>,
 }
 
-/// What comes behind a line: the next line, or a file that is to be read first.
+/// What follows a line: the next line (`None`), or a file to be read first.
 pub type Next = Result<Option<Bytes>, ConfigKind>;
 
 impl Outline {
-    /// No text yet.
+    /// Returns the outline of no lines, with the variables of the environment.
     pub fn new(alloc: Global, env: &[(String, String)]) -> Result<Outline, Memory>
-        ensures { IfOk result (λ outline. Shows (environment env.now) [] outline) }
+        ensures { IfOk result (λ outline. OutlineRepresents (environment env.now) [] outline) }
     {
         Ok(Outline {
             variables: Variables::new(alloc, env)?,
@@ -35,7 +35,7 @@ impl Outline {
         })
     }
 
-    /// Takes a line of a file.
+    /// Adds a line of a file.
     pub fn line(
         &mut self,
         alloc: Global,
@@ -46,8 +46,8 @@ impl Outline {
     ) -> Next
         ensures included { IfOk result (λ next. IsSome next → 0 < includes_left) }
         ensures readable { result ≢ Err ConfigKind.FileFault }
-        ensures meaning { (env : Values) (above : Text) → Shows env above self.old
-            → Takes env above (meaning env includes_left (place file.now number) above (form_of line.now)) self.new result }
+        ensures meaning { (env : Values) (above : Text) → OutlineRepresents env above self.old
+            → FollowsMeaning env above (meaning env includes_left (place file.now number) above (form_of line.now)) self.new result }
     {
         match read_line(line) {
             Line::Nothing => Ok(None),
@@ -63,8 +63,8 @@ impl Outline {
     fn include(&self, alloc: Global, file: &[u8], includes_left: usize, path: &[u8]) -> Next
         ensures included { IfOk result (λ next. IsSome next → 0 < includes_left) }
         ensures readable { result ≢ Err ConfigKind.FileFault }
-        ensures meaning { (env : Values) (above : Text) (number : ℕ) → Shows env above self.now
-            → Takes env above (meaning env includes_left (place file.now number) above (Inclusion path.now)) self.now result }
+        ensures meaning { (env : Values) (above : Text) (number : ℕ) → OutlineRepresents env above self.now
+            → FollowsMeaning env above (meaning env includes_left (place file.now number) above (Inclusion path.now)) self.now result }
     {
         if path.is_empty() {
             return Err(ConfigKind::NoValue);
@@ -72,17 +72,17 @@ impl Outline {
         if includes_left == 0 {
             return Err(ConfigKind::IncludeTooDeep);
         }
-        let path = self.variables.replaced(alloc, path)?;
-        Ok(Some(beside(alloc, file, path.as_slice())?))
+        let path = self.variables.replace_variables(alloc, path)?;
+        Ok(Some(relative_path(alloc, file, path.as_slice())?))
     }
 
     fn set(&mut self, alloc: Global, name: &[u8], value: &[u8]) -> Next
         ensures included { IfOk result (λ next. next ≡ None) }
         ensures readable { result ≢ Err ConfigKind.FileFault }
-        ensures meaning { (env : Values) (above : Text) (includes_left : ℕ) (place : Place) → Shows env above self.old
-            → Takes env above (meaning env includes_left place above (Setting name.now value.now)) self.new result }
+        ensures meaning { (env : Values) (above : Text) (includes_left : ℕ) (place : Place) → OutlineRepresents env above self.old
+            → FollowsMeaning env above (meaning env includes_left place above (Setting name.now value.now)) self.new result }
     {
-        let value = self.variables.replaced(alloc, value)?;
+        let value = self.variables.replace_variables(alloc, value)?;
         self.variables.set(alloc, name, value)?;
         Ok(None)
     }
@@ -90,8 +90,8 @@ impl Outline {
     fn header(&mut self, alloc: Global, file: &[u8], number: u64, name: &[u8]) -> Next
         ensures included { IfOk result (λ next. next ≡ None) }
         ensures readable { result ≢ Err ConfigKind.FileFault }
-        ensures meaning { (env : Values) (above : Text) (includes_left : ℕ) → Shows env above self.old
-            → Takes env above (meaning env includes_left (place file.now number) above (Heading name.now)) self.new result }
+        ensures meaning { (env : Values) (above : Text) (includes_left : ℕ) → OutlineRepresents env above self.old
+            → FollowsMeaning env above (meaning env includes_left (place file.now number) above (Heading name.now)) self.new result }
     {
         let section = Section {
             name: Bytes::from_slice(alloc, name)?,
@@ -105,8 +105,8 @@ impl Outline {
     fn pair(&mut self, alloc: Global, file: &[u8], number: u64, key: &[u8], value: &[u8]) -> Next
         ensures included { IfOk result (λ next. next ≡ None) }
         ensures readable { result ≢ Err ConfigKind.FileFault }
-        ensures meaning { (env : Values) (above : Text) (includes_left : ℕ) → Shows env above self.old
-            → Takes env above (meaning env includes_left (place file.now number) above (Pair key.now value.now)) self.new result }
+        ensures meaning { (env : Values) (above : Text) (includes_left : ℕ) → OutlineRepresents env above self.old
+            → FollowsMeaning env above (meaning env includes_left (place file.now number) above (Pair key.now value.now)) self.new result }
     {
         if self.sections.is_empty() {
             return Err(ConfigKind::EntryOutsideSection);
@@ -116,7 +116,7 @@ impl Outline {
         }
         let entry = Entry {
             key: Bytes::from_slice(alloc, key)?,
-            value: self.variables.replaced(alloc, value)?,
+            value: self.variables.replace_variables(alloc, value)?,
             place: place(alloc, file, number)?,
         };
         add_entry(&mut self.sections, entry)?;
@@ -125,7 +125,7 @@ impl Outline {
 }
 
 impl Outline {
-    /// The files that the SERVICE sections name by `Parsers_File`.
+    /// Returns the files that the SERVICE sections name by `Parsers_File`.
     pub fn parser_files(&self, alloc: Global) -> Result<Names, Memory>
         ensures { IfOk result (λ files. files ≡ parser_files self.now.sections.items) }
     {
@@ -136,7 +136,7 @@ impl Outline {
         Ok(files)
     }
 
-    /// All sections.
+    /// Returns all sections.
     pub fn into_sections(self) -> Sections
         ensures { result ≡ self.sections.items }
     {
@@ -169,12 +169,12 @@ fn add_file_of_entry(alloc: Global, entry: &Entry, files: &mut Names) -> Result<
     if !same_name(entry.key.as_slice(), b"parsers_file") {
         return Ok(());
     }
-    let file = beside(alloc, entry.place.file.as_slice(), entry.value.as_slice())?;
+    let file = relative_path(alloc, entry.place.file.as_slice(), entry.value.as_slice())?;
     files.push(file)?;
     Ok(())
 }
 
-/// Puts an entry into the last section.
+/// Appends an entry to the last section.
 fn add_entry(sections: &mut Vec<Section>, entry: Entry) -> Result<(), Memory>
     requires { 0 < vec_len sections.old }
     ensures { OnOk result (sections.new.items ≡ with_entry sections.old.items entry) }
@@ -185,7 +185,7 @@ fn add_entry(sections: &mut Vec<Section>, entry: Entry) -> Result<(), Memory>
     Ok(())
 }
 
-/// The place of a line.
+/// Returns the place of a line.
 pub fn place(alloc: Global, file: &[u8], number: u64) -> Result<Place, Memory>
     ensures { IfOk result (λ at. at ≡ place file.now number) }
 {
@@ -195,9 +195,10 @@ pub fn place(alloc: Global, file: &[u8], number: u64) -> Result<Place, Memory>
     })
 }
 
-/// The path of a file that another one names: beside that one, unless it begins with a slash.
-pub fn beside(alloc: Global, file: &[u8], path: &[u8]) -> Result<Bytes, Memory>
-    ensures { IfOk result (λ full. full ≡ beside file.now path.now) }
+/// Returns the path of a file that another one names: relative to the folder of that one, unless it begins
+/// with a slash.
+pub fn relative_path(alloc: Global, file: &[u8], path: &[u8]) -> Result<Bytes, Memory>
+    ensures { IfOk result (λ full. full ≡ relative_path file.now path.now) }
 {
     let mut full = Bytes::new(alloc);
     if path.first() != Some(&b'/') {
@@ -207,7 +208,7 @@ pub fn beside(alloc: Global, file: &[u8], path: &[u8]) -> Result<Bytes, Memory>
     Ok(full)
 }
 
-/// A path up to its last slash.
+/// Returns a path up to its last slash.
 fn folder(path: &[u8]) -> &[u8]
     ensures { result.now ≡ folder path.now }
 {

@@ -1,11 +1,11 @@
-//! Sections and their entries.
+//! The parsed configuration: sections, their entries and their places.
 
 ghost use Rattle.std.specs.Prelude.{◌≡◌, IfOk};
 
 use fwd_base::{Bytes, Items, Memory};
 use std::alloc::Global;
 
-/// Where something stands: the path by which its file was read, and the number of its line from 1.
+/// A place in a configuration: the path by which its file was read, and the line number from 1.
 #[derive(Debug, Drop, PartialEq, Eq)]
 pub struct Place {
     pub file: Bytes,
@@ -13,7 +13,7 @@ pub struct Place {
 }
 
 impl Place {
-    /// The same place, with bytes of its own.
+    /// Returns a copy.
     pub fn try_clone(&self, alloc: Global) -> Result<Place, Memory>
         ensures { IfOk result (λ copy. copy ≡ self.now) }
     {
@@ -24,8 +24,7 @@ impl Place {
     }
 }
 
-/// A key with its value, as the file has them; the variables of the value are replaced. The key of an entry ignores
-/// case.
+/// A key with its value. The variables of the value are replaced. Keys ignore case.
 #[derive(Debug, Drop, PartialEq, Eq)]
 pub struct Entry {
     pub key: Bytes,
@@ -33,11 +32,11 @@ pub struct Entry {
     pub place: Place,
 }
 
-/// The entries of a section, in their order.
+/// The entries of a section, in order.
 pub type Entries = Items<Entry>;
 
-/// A section: what stands in the brackets of its header, the place of the header, and the entries below it. The name of
-/// a section ignores case.
+/// A section: the name in its header, the place of the header, and the entries after it. Names of sections
+/// ignore case.
 #[derive(Debug, Drop, PartialEq, Eq)]
 pub struct Section {
     pub name: Bytes,
@@ -45,5 +44,5 @@ pub struct Section {
     pub entries: Entries,
 }
 
-/// Sections, in their order.
+/// Sections, in order.
 pub type Sections = Items<Section>;

@@ -1,22 +1,22 @@
-//! Variables, and the values in which they are named.
+//! Variables, and their replacement in values.
 
 ghost use Rattle.std.specs.Prelude.{◌≡◌, List, ℕ, IfOk, OnOk, MatchResult};
 ghost use Rattle.fwd_config.specs.Variables.{environment, with_value};
-ghost use Rattle.fwd_config.specs.Shown.{value_of, GivesReplaced};
+ghost use Rattle.fwd_config.specs.Representation.{value_of, IsReplacement};
 
 use crate::ConfigKind;
-use fwd_base::{Bytes, Memory, place_of};
+use fwd_base::{Bytes, Memory, index_of};
 use std::alloc::Global;
 use std::collections::HashMap;
 
-/// The variables that are set, over the environment.
+/// The variables of `@SET`, and those of the environment.
 #[derive(Drop)]
 pub struct Variables {
     values: HashMap<Vec<u8>, Bytes>,
 }
 
 impl Variables {
-    /// The variables of the environment alone. Of several with one name the first counts.
+    /// Returns the variables of the environment. If a name occurs several times, the first counts.
     pub fn new(alloc: Global, env: &[(String, String)]) -> Result<Variables, Memory>
         ensures { IfOk result (λ variables. (name : List ℕ) → value_of variables name ≡ environment env.now name) }
     {
@@ -33,7 +33,7 @@ impl Variables {
         Ok(variables)
     }
 
-    /// The value of a variable, which is empty where it isn't set.
+    /// Returns the value of a variable, which is empty if it isn't set.
     pub fn get(&self, name: &[u8]) -> &[u8]
         ensures { result.now ≡ value_of self.now name.now }
     {
@@ -43,7 +43,7 @@ impl Variables {
         }
     }
 
-    /// Gives a variable this value.
+    /// Sets a variable.
     pub fn set(&mut self, alloc: Global, name: &[u8], value: Bytes) -> Result<(), Memory>
         ensures { OnOk result ((other : List ℕ) → value_of self.new other ≡ with_value (value_of self.old) name.now value other) }
     {
@@ -52,15 +52,15 @@ impl Variables {
         Ok(())
     }
 
-    /// A value with each `${NAME}` replaced. It is refused where a `${` has no `}` behind it.
-    pub fn replaced(&self, alloc: Global, value: &[u8]) -> Result<Bytes, ConfigKind>
-        ensures { GivesReplaced (value_of self.now) value.now result }
+    /// Returns a value with each `${NAME}` replaced. Fails if a `${` has no `}` after it.
+    pub fn replace_variables(&self, alloc: Global, value: &[u8]) -> Result<Bytes, ConfigKind>
+        ensures { IsReplacement (value_of self.now) value.now result }
     {
         let mut text = Bytes::new(alloc);
         let mut rest = value;
         while !rest.is_empty() {
             if let Some(named) = rest.strip_prefix(b"${") {
-                let end = place_of(named, b'}');
+                let end = index_of(named, b'}');
                 if end == named.len() {
                     return Err(ConfigKind::OpenBrace);
                 }

@@ -1,6 +1,6 @@
-pub mod Table
+pub mod FileTable
 pub mod Told
-pub mod Seen
-pub mod Kept
+pub mod DiskState
+pub mod Fields
 pub mod Listing
 pub mod Images

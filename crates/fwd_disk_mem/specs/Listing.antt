@@ -1,10 +1,10 @@
 -- The names in a folder.
 use Rattle.std.specs.Prelude.{◌≡◌, ◌⊎◌, ℕ, is_some, IsTrue, List, [], ◌∷◌, ◌++◌, All, Contains}
 use Rattle.fwd_outside.specs.Disk.{IsFileName}
-use Rattle.fwd_image.specs.Disk.{IsUnder}
-use Rattle.fwd_disk_mem.specs.Table.{MemFile, found}
+use Rattle.fwd_outside.specs.DiskStates.{IsUnder}
+use Rattle.fwd_disk_mem.specs.FileTable.{MemFile, found}
 
--- the bytes in front of the first `/`, or all
+-- the bytes before the first `/`, or all bytes
 pub record IsUpToSlash (bytes name : List ℕ) : Type 0 where
   pub plain : Contains name 47 → ⊥
   pub rest : List ℕ

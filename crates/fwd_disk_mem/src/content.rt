@@ -1,13 +1,11 @@
-//! The bytes of one file.
-
 ghost use Rattle.std.specs.Prelude.{◌≡◌, [], IfOk, OnOk, OnErr};
-ghost use Rattle.fwd_image.specs.File.{overwritten};
+ghost use Rattle.fwd_outside.specs.File.{overwritten};
 
 use fwd_outside::Memory;
 use std::alloc::Global;
 use std::marker::Model;
 
-/// The bytes of a file, which are written over in place.
+/// The bytes of a file, which writes change in place.
 #[derive(Drop)]
 pub struct Content {
     bytes: Vec<u8>,
@@ -44,7 +42,8 @@ impl Content {
         self.bytes.as_slice()
     }
 
-    /// Writes over what is there from an offset on, and on from its end, where a later offset counts as the end. After `Err` the bytes are as before.
+    /// Overwrites the bytes from an offset, and appends the rest; an offset above the end counts as the end.
+    /// `Err` leaves the bytes unchanged.
     pub fn write(&mut self, at: usize, bytes: &[u8]) -> Result<(), Memory>
         ensures ok { OnOk result (self.new ≡ overwritten self.old at bytes.now) }
         ensures err { OnErr result (self.new ≡ self.old) }

@@ -1,22 +1,22 @@
-//! The disk that a crash leaves, by a pick.
+//! The disk after a crash, chosen by a pick.
 
 ghost use Rattle.std.specs.Prelude.{◌≡◌, ◌++◌, ◌%◌, [], List, ℕ, if◌then◌else◌, false, Some, None, IfOk, OnOk};
 ghost use Rattle.std.specs.Str.{bytes_eq};
-ghost use Rattle.fwd_image.specs.File.{content, IsImage};
-ghost use Rattle.fwd_disk_mem.specs.Table.{MemFile};
+ghost use Rattle.fwd_outside.specs.File.{content, IsPostCrash};
+ghost use Rattle.fwd_disk_mem.specs.FileTable.{MemFile};
 ghost use Rattle.fwd_disk_mem.specs.Told.{files_of, is_on};
-ghost use Rattle.fwd_disk_mem.specs.Images.{acted_file, file_at, picked, presets, preset_of};
+ghost use Rattle.fwd_disk_mem.specs.Images.{acted_file, file_at, picked, file_settings, preset_of};
 
 use crate::MemDisk;
 use crate::content::Content;
-use crate::image::{ImageFile, acted};
-use crate::told::{Kept, Told, name_of};
+use crate::image::{ImageFile, file_after};
+use crate::told::{BoxedTold, Told, name_of};
 use fwd_outside::Memory;
 use std::alloc::Global;
 use std::collections::HashMap;
 
-// Takes out the file of a name, which is one that isn't there where nothing was told of it.
-fn taken(alloc: Global, files: &mut HashMap<Vec<u8>, ImageFile>, name: &[u8]) -> ImageFile
+// Removes and returns the file of a name; a missing file if no call was about it.
+fn take_file(alloc: Global, files: &mut HashMap<Vec<u8>, ImageFile>, name: &[u8]) -> ImageFile
     ensures file { result ≡ file_at files.old.entries name.now }
     ensures others { (n : List ℕ) → bytes_eq name.now n ≡ false → file_at files.new.entries n ≡ file_at files.old.entries n }
 {
@@ -26,8 +26,8 @@ fn taken(alloc: Global, files: &mut HashMap<Vec<u8>, ImageFile>, name: &[u8]) ->
     }
 }
 
-// Makes of the files what a call makes of its own.
-fn act(
+// Applies a call to its file.
+fn apply_call(
     alloc: Global,
     pick: u64,
     files: &mut HashMap<Vec<u8>, ImageFile>,
@@ -36,20 +36,24 @@ fn act(
     ensures { OnOk result ((n : List ℕ) → file_at files.new.entries n ≡ (if is_on call.now n then acted_file pick (file_at files.old.entries n) call.now else file_at files.old.entries n)) }
 {
     let name = name_of(call);
-    let file = taken(alloc, files, name);
-    let file = acted(alloc, pick, file, call)?;
+    let file = take_file(alloc, files, name);
+    let file = file_after(alloc, pick, file, call)?;
     let name = Vec::from_slice(alloc, name)?;
     files.insert(name, file)?;
     Ok(())
 }
 
-// The files with their images, after these calls.
-fn imaged(alloc: Global, pick: u64, calls: &[Kept]) -> Result<HashMap<Vec<u8>, ImageFile>, Memory>
+// Returns the files with their post-crash states after these calls.
+fn images_after(
+    alloc: Global,
+    pick: u64,
+    calls: &[BoxedTold],
+) -> Result<HashMap<Vec<u8>, ImageFile>, Memory>
     ensures { IfOk result (λ files. (name : List ℕ) → (file_at files.entries name).image ≡ picked pick calls.now name) }
 {
     let mut files = HashMap::new(alloc);
     for call in calls {
-        act(alloc, pick, &mut files, call.told())?;
+        apply_call(alloc, pick, &mut files, call.call_log())?;
     }
     Ok(files)
 }
@@ -63,9 +67,9 @@ fn add_image(disk: &mut MemDisk, name: &[u8], image: &Option<Content>) -> Result
     }
 }
 
-// The disk of the images.
+// Returns the disk that has these post-crash states.
 fn disk_of(alloc: Global, files: &HashMap<Vec<u8>, ImageFile>) -> Result<MemDisk, Memory>
-    ensures presets { IfOk result (λ disk. (files : List MemFile) × (disk.calls ≡ presets files)) }
+    ensures presets { IfOk result (λ disk. (files : List MemFile) × (disk.calls ≡ file_settings files)) }
     ensures images { IfOk result (λ disk. (name : List ℕ) → content (files_of disk.calls name) ≡ (file_at files.now.entries name).image) }
     ensures faults { IfOk result (λ disk. disk.faults ≡ 0) }
     ensures mark { IfOk result (λ disk. disk.mark ≡ 0) }
@@ -77,13 +81,13 @@ fn disk_of(alloc: Global, files: &HashMap<Vec<u8>, ImageFile>) -> Result<MemDisk
     Ok(disk)
 }
 
-/// The disk that a crash behind these calls leaves.
-pub fn crashed(alloc: Global, pick: u64, calls: &[Kept]) -> Result<MemDisk, Memory>
-    ensures presets { IfOk result (λ disk. (files : List MemFile) × (disk.calls ≡ presets files)) }
+/// Returns the disk after a crash that follows these calls.
+pub fn disk_after_crash(alloc: Global, pick: u64, calls: &[BoxedTold]) -> Result<MemDisk, Memory>
+    ensures presets { IfOk result (λ disk. (files : List MemFile) × (disk.calls ≡ file_settings files)) }
     ensures picked { IfOk result (λ disk. (name : List ℕ) → content (files_of disk.calls name) ≡ picked pick calls.now name) }
     ensures faults { IfOk result (λ disk. disk.faults ≡ 0) }
     ensures mark { IfOk result (λ disk. disk.mark ≡ 0) }
 {
-    let files = imaged(alloc, pick, calls)?;
+    let files = images_after(alloc, pick, calls)?;
     disk_of(alloc, &files)
 }

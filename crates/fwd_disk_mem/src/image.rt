@@ -1,16 +1,16 @@
-//! What a crash leaves of one file, by a pick.
+//! The state of one file after a crash, chosen by a pick.
 
 ghost use Rattle.std.specs.Prelude.{◌≡◌, true, ◌<◌, ◌≤◌, ◌+◌, ◌^◌, ◌%◌, ◌==◌, ◌&&◌, not, if◌then◌else◌, slice_index, ℕ, List, length, IfOk, OnOk, Some, None};
-ghost use Rattle.fwd_image.specs.File.{overwritten};
+ghost use Rattle.fwd_outside.specs.File.{overwritten};
 ghost use Rattle.fwd_disk_mem.specs.Told.{written_over};
-ghost use Rattle.fwd_disk_mem.specs.Images.{mixed, variant, acted_file, fits_in, no_file, reach, until};
+ghost use Rattle.fwd_disk_mem.specs.Images.{mixed, variant, acted_file, fits_in, no_file, reach, prefix_after_mark};
 
 use crate::content::Content;
-use crate::told::{Kept, Told, calls_in};
+use crate::told::{BoxedTold, Told, calls_in};
 use fwd_outside::Memory;
 use std::alloc::Global;
 
-/// A file while its image is made: as it reads, as it was at its last sync, and as the image has it.
+/// A file and its post-crash state: as it reads, as it was at its last sync, and as the crash leaves it.
 #[derive(Drop)]
 pub struct ImageFile {
     pub there: bool,
@@ -20,7 +20,7 @@ pub struct ImageFile {
 }
 
 impl ImageFile {
-    /// A file of which nothing was told.
+    /// Returns the file that no call was about.
     pub fn missing(alloc: Global) -> Self
         ensures { result ≡ no_file }
     {
@@ -53,7 +53,7 @@ fn mixed_bytes(alloc: Global, base: &[u8], at: usize, bytes: &[u8]) -> Result<Ve
     Ok(new)
 }
 
-// What the image has of a write in doubt.
+// Returns the bytes that the crash leaves of a write that isn't durable.
 fn variant_bytes(
     alloc: Global,
     pick: u64,
@@ -73,8 +73,8 @@ fn variant_bytes(
     Ok(bytes.to_vec(alloc)?)
 }
 
-// A file that has these bytes without doubt.
-fn settled(alloc: Global, bytes: &[u8]) -> Result<ImageFile, Memory>
+// Returns a durable file with these bytes.
+fn durable_file(alloc: Global, bytes: &[u8]) -> Result<ImageFile, Memory>
     ensures { IfOk result (λ file. file ≡ record { there = true; bytes = bytes.now; base = bytes.now; image = Some bytes.now }) }
 {
     Ok(ImageFile {
@@ -85,7 +85,7 @@ fn settled(alloc: Global, bytes: &[u8]) -> Result<ImageFile, Memory>
     })
 }
 
-// What a write in doubt makes of an image.
+// Returns the post-crash state after a write that isn't durable.
 fn written_image(
     alloc: Global,
     pick: u64,
@@ -122,7 +122,7 @@ fn written_bytes(old: Content, at: usize, bytes: &[u8], ok: bool) -> Result<Cont
     Ok(new)
 }
 
-// A write, or one that failed.
+// Returns the file after a write, successful or failed.
 fn written(
     alloc: Global,
     pick: u64,
@@ -155,8 +155,8 @@ fn written(
     })
 }
 
-// A sync of a file that is there, where it took place.
-fn synced(alloc: Global, file: ImageFile, ok: bool) -> Result<ImageFile, Memory>
+// Returns the file after a sync. An `ok` sync makes an existing file durable.
+fn after_sync(alloc: Global, file: ImageFile, ok: bool) -> Result<ImageFile, Memory>
     ensures { IfOk result (λ new. new ≡ (if ok && file.there then record file { base = file.bytes; image = Some file.bytes } else file)) }
 {
     if !ok {
@@ -181,8 +181,8 @@ fn synced(alloc: Global, file: ImageFile, ok: bool) -> Result<ImageFile, Memory>
     })
 }
 
-// A removal, or one that failed.
-fn removed(pick: u64, file: ImageFile, ok: bool) -> ImageFile
+// Returns the file after a removal, successful or failed.
+fn after_remove(pick: u64, file: ImageFile, ok: bool) -> ImageFile
     ensures { result ≡ (if file.there then record file { there = not ok; image = if ok then None else if pick == 0 then file.image else None } else file) }
 {
     if !file.there {
@@ -218,8 +218,13 @@ fn removed(pick: u64, file: ImageFile, ok: bool) -> ImageFile
     }
 }
 
-// A placing that failed.
-fn not_placed(alloc: Global, pick: u64, file: ImageFile, bytes: &[u8]) -> Result<ImageFile, Memory>
+// Returns the file after a failed creation.
+fn after_failed_place(
+    alloc: Global,
+    pick: u64,
+    file: ImageFile,
+    bytes: &[u8],
+) -> Result<ImageFile, Memory>
     ensures { IfOk result (λ new. new ≡ (if file.there then file else record file { base = bytes.now; image = if pick == 0 then None else Some bytes.now })) }
 {
     if file.there {
@@ -249,34 +254,41 @@ fn not_placed(alloc: Global, pick: u64, file: ImageFile, bytes: &[u8]) -> Result
     })
 }
 
-/// What a call makes of its file.
-pub fn acted(alloc: Global, pick: u64, file: ImageFile, call: &Told) -> Result<ImageFile, Memory>
+/// Returns the file after a call on it.
+pub fn file_after(
+    alloc: Global,
+    pick: u64,
+    file: ImageFile,
+    call: &Told,
+) -> Result<ImageFile, Memory>
     ensures { IfOk result (λ new. new ≡ acted_file pick file call.now) }
 {
     match call {
         Told::Place(_, bytes, ok) => {
             if *ok {
-                settled(alloc, bytes.as_slice())
+                durable_file(alloc, bytes.as_slice())
             } else {
-                not_placed(alloc, pick, file, bytes.as_slice())
+                after_failed_place(alloc, pick, file, bytes.as_slice())
             }
         }
         Told::WriteAt(_, at, bytes, ok) => written(alloc, pick, file, *at, bytes.as_slice(), *ok),
-        Told::Sync(_, ok) => synced(alloc, file, *ok),
-        Told::Remove(_, ok) => Ok(removed(pick, file, *ok)),
-        Told::Preset(_, bytes) => settled(alloc, bytes.as_slice()),
-        _ => Ok(file),
+        Told::Sync(_, ok) => after_sync(alloc, file, *ok),
+        Told::Remove(_, ok) => Ok(after_remove(pick, file, *ok)),
+        Told::Preset(_, bytes) => durable_file(alloc, bytes.as_slice()),
+        Told::Read(_, _, _, _) => Ok(file),
+        Told::List(_, _) => Ok(file),
+        Told::FailAt(_) => Ok(file),
     }
 }
 
-/// How far so many calls reach, or all.
-fn reach_of(n: u64, calls: &[Kept]) -> usize
+/// Returns the length of the prefix with `n` calls; all if there are fewer.
+fn reach_of(n: u64, calls: &[BoxedTold]) -> usize
     ensures reach { result ≡ reach n calls.now }
     ensures within { result ≤ length calls.now }
 {
     let mut left = n;
     for i in 0..calls.len() {
-        if calls_in(calls[i].told()) == 1 {
+        if calls_in(calls[i].call_log()) == 1 {
             if left == 0 {
                 return i;
             }
@@ -286,9 +298,9 @@ fn reach_of(n: u64, calls: &[Kept]) -> usize
     calls.len()
 }
 
-/// What was told up to so many calls behind the mark.
-pub fn told_until(calls: &[Kept], mark: usize, n: u64) -> &[Kept]
-    ensures { result.now ≡ until mark n calls.now }
+/// Returns the prefix of `calls` that ends `n` calls after the mark.
+pub fn prefix_until(calls: &[BoxedTold], mark: usize, n: u64) -> &[BoxedTold]
+    ensures { result.now ≡ prefix_after_mark mark n calls.now }
 {
     if mark > calls.len() {
         return calls;

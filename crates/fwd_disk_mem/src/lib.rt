@@ -1,19 +1,19 @@
-//! A disk in memory.
+//! A disk in memory, with chosen failures and crashes.
 //!
-//! A test or a replay wants a disk whose failures and crashes are chosen. This one keeps every call with its answer, fails
-//! the calls that it was told to fail, and gives the disks that a crash after some of the calls leaves.
+//! Tests and replays use it. It records every call with its answer, fails the calls of chosen numbers, and
+//! returns the disks that a crash after some of the calls leaves.
 //!
-//! Its told answers are those of the model of a disk, each answer says the count of faults exactly, and an `image` is
-//! one that a crash may leave.
+//! Its answers are those of the model of a disk, each answer counts the faults exactly, and `image` returns
+//! a state that a crash may leave.
 #![tactic(auto)]
 
 mod content;
+mod copies;
 mod crash;
+mod disk;
+mod file_table;
 mod image;
 mod listing;
-mod memory;
-mod parts;
-mod table;
 mod told;
 
-pub use memory::MemDisk;
+pub use disk::MemDisk;

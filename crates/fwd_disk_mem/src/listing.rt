@@ -7,12 +7,12 @@ ghost use Rattle.std.specs.Ordering.{nat_cmp};
 ghost use Rattle.std.specs.Str.{bytes_eq};
 ghost use Rattle.std.proofs.Common.{refl};
 ghost use Rattle.fwd_outside.specs.Disk.{IsListing};
-ghost use Rattle.fwd_image.specs.Disk.{IsUnder};
-ghost use Rattle.fwd_disk_mem.specs.Table.{file_of};
+ghost use Rattle.fwd_outside.specs.DiskStates.{IsUnder};
+ghost use Rattle.fwd_disk_mem.specs.FileTable.{file_of};
 ghost use Rattle.fwd_disk_mem.specs.Listing.{IsUpToSlash, Adds, AreNames};
 
 use crate::content::Content;
-use crate::table::Table;
+use crate::file_table::FileTable;
 use fwd_outside::{Bytes, Memory, Names};
 use std::alloc::Global;
 use std::cmp::Ordering;
@@ -20,7 +20,7 @@ use std::collections::HashMap;
 use std::marker::Model;
 use std::str;
 
-/// A name within a folder, by the order of its bytes.
+/// A name within a folder, ordered by its bytes.
 #[derive(Drop)]
 pub struct Component {
     name: Bytes,
@@ -72,7 +72,7 @@ impl Ord for Component {
     }
 }
 
-// The bytes in front of the first `/`, or all.
+// Returns the bytes before the first `/`, or all bytes.
 fn up_to_slash(bytes: &[u8]) -> &[u8]
     ensures { IsUpToSlash bytes.now result.now }
 {
@@ -84,7 +84,7 @@ fn up_to_slash(bytes: &[u8]) -> &[u8]
     bytes
 }
 
-// The name by which a folder has a file.
+// Returns the name by which a folder has the file, if it is under the folder.
 fn name_under<'a>(folder: &[u8], file: &'a [u8]) -> Option<&'a [u8]>
     ensures { MatchOption result ((name : List ℕ) → IsUnder folder.now name file.now → ⊥) (λ name. IsUnder folder.now name.now file.now × (Contains name.now 47 → ⊥)) }
 {
@@ -135,7 +135,7 @@ fn all_names(
     Ok(names)
 }
 
-fn copied_names(alloc: Global, components: &[Component]) -> Result<Names, Memory>
+fn names_of_components(alloc: Global, components: &[Component]) -> Result<Names, Memory>
     ensures { IfOk result (λ names. names ≡ components.now) }
 {
     let mut names = Names::new(alloc);
@@ -145,13 +145,13 @@ fn copied_names(alloc: Global, components: &[Component]) -> Result<Names, Memory
     Ok(names)
 }
 
-/// The names in a folder that are texts, sorted, each once.
-pub fn names_in(alloc: Global, files: &Table, folder: &[u8]) -> Result<Names, Memory>
+/// Returns the names in a folder that are UTF-8, sorted, each once.
+pub fn names_in(alloc: Global, files: &FileTable, folder: &[u8]) -> Result<Names, Memory>
     ensures listing { IfOk result IsListing }
     ensures names { IfOk result (λ names. AreNames folder.now files.now names) }
 {
     let mut names = all_names(alloc, files.files(), folder)?;
     names.sort()?;
     names.dedup();
-    copied_names(alloc, &names)
+    names_of_components(alloc, &names)
 }

@@ -1,17 +1,17 @@
-//! What a disk in memory was asked and told, and what it answered.
+//! The record of a disk in memory: its calls with their answers, and its settings.
 
 ghost use Rattle.std.specs.Prelude.{◌≡◌, ◌++◌, ◌+◌, ◌==◌, ◌<◌, ◌^◌, [], ◌∷◌, length, if◌then◌else◌, IfOk, OnOk, OnErr};
 ghost use Rattle.std.specs.List.{list_any};
-ghost use Rattle.fwd_disk_mem.specs.declared.told.Told.TheVariants as told;
+ghost use Rattle.fwd_disk_mem.specs.declared.told.Told.TheVariants as call_log;
 ghost use Rattle.fwd_disk_mem.specs.Told.{Changes, is_call, named_by};
 
-use crate::table::Table;
+use crate::file_table::FileTable;
 use fwd_outside::{Bytes, Memory, Names};
 use std::alloc::Global;
 use std::marker::Model;
 
-/// A call with its arguments and its answer, or what was told besides: bytes of a file that are set, and the number of a
-/// call that is to fail.
+/// A call with its arguments and its answer; or a setting: the bytes of a file, or the number of a call that
+/// is to fail.
 #[derive(Drop)]
 pub enum Told {
     Place(Bytes, Bytes, bool),
@@ -24,38 +24,38 @@ pub enum Told {
     FailAt(u64),
 }
 
-/// What was told, in a place of its own: a list of them grows by moving pointers alone.
+/// A boxed call or setting: a list of them grows by moving pointers alone.
 #[derive(Drop)]
-pub struct Kept {
-    told: Box<Told>,
+pub struct BoxedTold {
+    call_log: Box<Told>,
 }
 
-impl Model for Kept {
+impl Model for BoxedTold {
     ghost use Rattle.fwd_disk_mem.specs.declared.told.Told.{Told};
 
     ghost Value = { Told };
 
-    ghost view = { λ k. k.told.value };
+    ghost view = { λ k. k.call_log.value };
 }
 
-impl Kept {
-    pub fn new(alloc: Global, told: Told) -> Result<Self, Memory>
-        ensures { IfOk result (λ kept. kept ≡ told) }
+impl BoxedTold {
+    pub fn new(alloc: Global, call_log: Told) -> Result<Self, Memory>
+        ensures { IfOk result (λ kept. kept ≡ call_log) }
     {
-        Ok(Kept {
-            told: Box::new(alloc, told)?,
+        Ok(BoxedTold {
+            call_log: Box::new(alloc, call_log)?,
         })
     }
 
-    pub fn told(&self) -> &Told
+    pub fn call_log(&self) -> &Told
         ensures { result.now ≡ self.now }
     {
-        &self.told
+        &self.call_log
     }
 }
 
-/// Makes the change that a call makes of what reads find. After `Err` the files are as before.
-pub fn change(alloc: Global, files: &mut Table, call: &Told) -> Result<(), Memory>
+/// Applies a call to the bytes that reads see. `Err` leaves the files unchanged.
+pub fn change(alloc: Global, files: &mut FileTable, call: &Told) -> Result<(), Memory>
     ensures ok { OnOk result (Changes files.old files.new call.now) }
     ensures err { OnErr result (files.new ≡ files.old) }
 {
@@ -69,30 +69,40 @@ pub fn change(alloc: Global, files: &mut Table, call: &Told) -> Result<(), Memor
             }
         }
         Told::Remove(name, true) => {
-            files.take_out(name.as_slice());
+            files.remove_file(name.as_slice());
             Ok(())
         }
         Told::Preset(name, bytes) => files.put(alloc, name.as_slice(), bytes.as_slice()),
-        _ => Ok(()),
+        Told::Place(_, _, false) => Ok(()),
+        Told::Remove(_, false) => Ok(()),
+        Told::Sync(_, _) => Ok(()),
+        Told::Read(_, _, _, _) => Ok(()),
+        Told::List(_, _) => Ok(()),
+        Told::FailAt(_) => Ok(()),
     }
 }
 
-/// 1 for a call, 0 for what is told besides.
+/// Returns 1 for a call, 0 for a setting.
 pub fn calls_in(call: &Told) -> u64
     ensures { result ≡ (if is_call call.now then 1 else 0) }
 {
     match call {
         Told::Preset(_, _) => 0,
         Told::FailAt(_) => 0,
-        _ => 1,
+        Told::Place(_, _, _) => 1,
+        Told::WriteAt(_, _, _, _) => 1,
+        Told::Sync(_, _) => 1,
+        Told::Remove(_, _) => 1,
+        Told::Read(_, _, _, _) => 1,
+        Told::List(_, _) => 1,
     }
 }
 
-/// Keeps a call, and makes the change that it makes. After `Err` the calls and the files are as before.
+/// Records a call, and applies it to the files. `Err` leaves the record and the files unchanged.
 pub fn push_and_change(
     alloc: Global,
-    calls: &mut Vec<Kept>,
-    files: &mut Table,
+    calls: &mut Vec<BoxedTold>,
+    files: &mut FileTable,
     call: Told,
 ) -> Result<(), Memory>
     ensures calls_ok { OnOk result (calls.new.items ≡ calls.old.items ++ call ∷ []) }
@@ -101,9 +111,9 @@ pub fn push_and_change(
     ensures calls_err { OnErr result (calls.new.items ≡ calls.old.items) }
     ensures files_err { OnErr result (files.new ≡ files.old) }
 {
-    calls.push(Kept::new(alloc, call)?)?;
+    calls.push(BoxedTold::new(alloc, call)?)?;
     let last = calls.len() - 1;
-    match change(alloc, files, calls[last].told()) {
+    match change(alloc, files, calls[last].call_log()) {
         Ok(()) => Ok(()),
         Err(error) => {
             calls.pop();
@@ -112,19 +122,19 @@ pub fn push_and_change(
     }
 }
 
-/// Keeps the number of a call that is to fail. After `Err` both are as before.
+/// Records the number of a call that is to fail. `Err` leaves both lists unchanged.
 pub fn push_number(
     alloc: Global,
-    calls: &mut Vec<Kept>,
+    calls: &mut Vec<BoxedTold>,
     fails: &mut Vec<u64>,
     number: u64,
 ) -> Result<(), Memory>
-    ensures calls_ok { OnOk result (calls.new.items ≡ calls.old.items ++ told.FailAt number ∷ []) }
+    ensures calls_ok { OnOk result (calls.new.items ≡ calls.old.items ++ call_log.FailAt number ∷ []) }
     ensures fails_ok { OnOk result (fails.new.items ≡ fails.old.items ++ number ∷ []) }
     ensures calls_err { OnErr result (calls.new.items ≡ calls.old.items) }
     ensures fails_err { OnErr result (fails.new.items ≡ fails.old.items) }
 {
-    calls.push(Kept::new(alloc, Told::FailAt(number))?)?;
+    calls.push(BoxedTold::new(alloc, Told::FailAt(number))?)?;
     match fails.push(number) {
         Ok(()) => Ok(()),
         Err(_) => {
@@ -134,7 +144,7 @@ pub fn push_number(
     }
 }
 
-/// Whether the call behind so many is one of those that are to fail.
+/// Returns whether the call after the first `made` calls is to fail.
 pub fn is_to_fail(fails: &[u64], made: u64) -> bool
     ensures { result ≡ list_any (λ number. number == made + 1) fails.now }
 {
@@ -146,7 +156,7 @@ pub fn is_to_fail(fails: &[u64], made: u64) -> bool
     false
 }
 
-/// The name that a call is about; none where it is about no file.
+/// Returns the name that a call is about; the empty name if it is about no file.
 pub fn name_of(call: &Told) -> &[u8]
     ensures { result.now ≡ named_by call.now }
 {

@@ -1,2 +1,6 @@
-pub mod Waiting
-pub mod Safely
+pub mod WaitCalls
+pub mod CrashSafety
+pub mod EventCounts
+pub mod RunTurns
+pub mod GracePeriod
+pub mod EventFacts

@@ -1,15 +1,21 @@
-//! The engine: it begins with what stands on the disk, and what happens outside is brought to it one thing at a time. It
-//! does what the written run says, over a loop, a disk and files.
+//! The engine: it loads the chunks on the disk, and then handles the events of the loop one at a time, until the run
+//! is over. It does what the reference model says, over a loop, a disk and files.
 //!
-//! Its clauses hold for all of these devices, whether they tell their calls or not: from each history that the engine has
-//! come to, the calls are those of the step, and it then stands where the step leads.
+//! The contracts hold for all of these devices, with or without a call log. For each history that the engine
+//! represents, the calls of a step are those of the model's step, and the engine then represents the history after
+//! it. The calls of a run are those of the model's run, to its end.
 //!
-//! `paused`, `table`, `tally`, `ticks` and `stopped` answer as the history has them. `DiskFault` comes only where a
-//! failure of the disk was counted, `LoopFault` exactly where the happening is `Failed`.
+//! `paused`, `table`, `tally`, `ticks` and `stopped` return what the history gives. `DiskFault` is returned only if a
+//! disk failure was counted, `LoopFault` exactly if the event is `Failed`.
 #![tactic(auto)]
 
+mod dispatch;
 mod engine;
+mod run_end;
+mod run_loop;
 mod setup;
 
+pub use dispatch::step;
 pub use engine::{BeginErr, Engine, EngineStop, Turn};
-pub use fwd_stepping::is_reading;
+pub use run_end::{is_clock_tick, is_finished};
+pub use run_loop::{RunEnd, run};

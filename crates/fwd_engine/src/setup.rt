@@ -1,18 +1,17 @@
-//! What an engine runs by.
-
 ghost use Rattle.std.specs.Prelude.{◌≡◌, ◌≤◌, length, map, IfOk};
 ghost use Rattle.fwd_base.specs.Limits.{most_inputs};
-ghost use Rattle.fwd_settings.specs.Sound.{IsSound};
-ghost use Rattle.fwd_settings.specs.declared.chosen.InputSet.{InputSet};
+ghost use Rattle.fwd_settings.specs.Requirements.{MeetsRequirements};
+ghost use Rattle.fwd_settings.specs.declared.settings_types.InputSet.{InputSet};
 
 use fwd_base::Memory;
+use fwd_engine_settings::RunSettings;
 use fwd_limits::MemLimits;
-use fwd_run_settings::RunSettings;
 use fwd_settings::{AllSettings, InputSet};
 use std::alloc::Global;
 use std::marker::Model;
 
-/// The settings of a run, with the limits of its inputs in their order. Contracts see the settings.
+/// The settings of a run, with the memory limits of its inputs in their order. In contracts a value is its
+/// settings.
 #[derive(Drop)]
 pub struct Setup {
     run: RunSettings,
@@ -21,9 +20,9 @@ pub struct Setup {
 
 impl Model for Setup {
     ghost use Rattle.std.specs.Prelude.{◌≡◌, map};
-    ghost use Rattle.fwd_settings.specs.declared.chosen.InputSet.{InputSet};
-    ghost use Rattle.fwd_settings.specs.declared.chosen.AllSettings.{AllSettings};
-    ghost use Rattle.fwd_settings.specs.contracts.chosen.AllSettings as all;
+    ghost use Rattle.fwd_settings.specs.declared.settings_types.InputSet.{InputSet};
+    ghost use Rattle.fwd_settings.specs.declared.settings_types.AllSettings.{AllSettings};
+    ghost use Rattle.fwd_settings.specs.contracts.settings_types.AllSettings as all;
 
     ghost Value = { AllSettings };
 
@@ -34,8 +33,8 @@ impl Model for Setup {
     ghost invariant = { λ s. s.limits ≡ map (λ (set : InputSet). set.mem_limit) s.run.inputs };
 }
 
-/// The limits of inputs, in their order.
-fn limits_of(alloc: Global, inputs: &[InputSet]) -> Result<MemLimits, Memory>
+/// Returns the memory limits of inputs, in their order.
+fn memory_limits_of(alloc: Global, inputs: &[InputSet]) -> Result<MemLimits, Memory>
     ensures { IfOk result (λ limits. limits ≡ map (λ (set : InputSet). set.mem_limit) inputs.now) }
 {
     let mut limits = MemLimits::new(alloc);
@@ -46,12 +45,12 @@ fn limits_of(alloc: Global, inputs: &[InputSet]) -> Result<MemLimits, Memory>
 }
 
 impl Setup {
-    /// What a run by these settings goes by. They ask for what is so of every configuration's.
+    /// Returns the setup of a run by these settings, which satisfy `MeetsRequirements`.
     pub fn new(alloc: Global, settings: AllSettings) -> Result<Setup, Memory>
-        requires { IsSound settings }
+        requires { MeetsRequirements settings }
         ensures { IfOk result (λ setup. setup ≡ settings) }
     {
-        let limits = limits_of(alloc, settings.inputs.as_slice())?;
+        let limits = memory_limits_of(alloc, settings.inputs.as_slice())?;
         Ok(Setup {
             run: RunSettings::new(settings),
             limits,
@@ -64,22 +63,22 @@ impl Setup {
         &self.run
     }
 
-    /// What is so of every configuration's settings is so of these.
-    pub fn are_sound(&self)
-        ensures { IsSound self.now }
+    /// Lemma: the settings satisfy `MeetsRequirements`.
+    pub fn lemma_settings_are_sound(&self)
+        ensures { MeetsRequirements self.now }
     {
-        self.run.are_sound()
+        self.run.lemma_settings_are_sound()
     }
 
     pub fn limits(&self) -> &MemLimits
         ensures value { result.now ≡ map (λ (set : InputSet). set.mem_limit) self.now.inputs }
         ensures most { length result.now ≤ most_inputs }
     {
-        self.run.are_sound();
+        self.run.lemma_settings_are_sound();
         &self.limits
     }
 
-    /// Gives the settings back.
+    /// Returns the settings.
     pub fn into_settings(self) -> AllSettings
         ensures { result ≡ self }
     {

@@ -1,8 +1,8 @@
-pub mod Parts
-pub mod Quick
-pub mod Found
-pub mod Apart
-pub mod Lists
+pub mod EventParts
+pub mod PartwiseDecoding
+pub mod DecodeAnswers
+pub mod Exclusive
+pub mod EventLists
 pub mod Answers
-pub mod Written
-pub mod Whole
+pub mod EventEncodings
+pub mod EventPrefix

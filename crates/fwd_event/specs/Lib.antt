@@ -1,3 +1,3 @@
 pub mod Event
-pub mod Reading
-pub mod Whole
+pub mod ReadAnswers
+pub mod EventPrefix

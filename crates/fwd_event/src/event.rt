@@ -1,7 +1,7 @@
 use fwd_base::{Items, crosses};
 use fwd_msgpack::Pairs;
 
-/// A log line: when it came, in seconds and nanoseconds, what is said of it, and its fields.
+/// A log event: its time in seconds and nanoseconds since 1970, its metadata, and its record.
 #[derive(Debug, Drop)]
 pub struct Event {
     pub sec: u32,
@@ -13,8 +13,8 @@ pub struct Event {
 /// Events, in order.
 pub type Events = Items<Event>;
 
-/// Threads may share events and hand them over.
-pub fn events_cross(event: &Event, events: &Events) {
+/// Shows that `Event` and `Events` are `Send` and `Sync`.
+pub fn events_are_send_sync(event: &Event, events: &Events) {
     crosses(event);
     crosses(events);
 }

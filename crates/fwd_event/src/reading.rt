@@ -1,13 +1,13 @@
-//! Events are read one after another.
+//! Decoding of events, one after another.
 
 ghost use Rattle.std.specs.Prelude.{◌≡◌, ◌≢◌, ◌⊎◌, ◌↔◌, ◌+◌, ◌≤◌, ◌<◌, ◌^◌, ℕ, List, Option, Some, length, take, drop, Result, Ok, Err, IfOk, IfSome};
 ghost use Rattle.fwd_value.specs.Val.{Val, whole, list, mapping, val, no_vals, vals_of, entries_of};
 ghost use Rattle.fwd_value.specs.Limits.{entry_nestings};
-ghost use Rattle.fwd_msgpack.specs.Decoding.{SpellsFront};
+ghost use Rattle.fwd_msgpack.specs.DecodeAnswers.{EncodesPrefix};
 ghost use Rattle.fwd_value.specs.View.{val_of};
-ghost use Rattle.fwd_event.specs.Event.{event_time, time_of, timed, headed, event_of, IsWholePrefix};
+ghost use Rattle.fwd_event.specs.Event.{event_time, time_of, event_at, event_with_header, event_of, IsWholePrefix};
 ghost use Rattle.fwd_event.specs.declared.errors.EventErr.TheVariants as event_err;
-ghost use Rattle.fwd_event.specs.Reading.{EventsRead, NextIs, IsAnswer, IsMemory};
+ghost use Rattle.fwd_event.specs.ReadAnswers.{EventsRead, OutcomeAt, IsAnswer, IsMemory};
 
 use crate::writing::{BODY_DEPTH, META_DEPTH};
 use crate::{Event, EventErr, Events};
@@ -28,7 +28,7 @@ fn event_time(bytes: &[u8]) -> Option<(u32, u32)>
     ))
 }
 
-/// The time that a value says, in seconds and nanoseconds.
+/// Returns the time that a value encodes, in seconds and nanoseconds.
 fn time_of(value: &Value) -> Option<(u32, u32)>
     ensures { result ≡ time_of (val_of value.now) }
 {
@@ -47,24 +47,24 @@ fn time_of(value: &Value) -> Option<(u32, u32)>
                 None
             }
         }
-        Value::Neg(n) => no_time(n),
+        Value::Neg(n) => no_time_below_zero(n),
         _ => None,
     }
 }
 
-/// No time is below 0.
-#[tactic(auto, using(crate::proofs::Parts::time_below))]
-fn no_time(n: &Below) -> Option<(u32, u32)>
+/// Returns no time for a negative number.
+#[tactic(auto, using(crate::proofs::EventParts::time_below))]
+fn no_time_below_zero(n: &Below) -> Option<(u32, u32)>
     ensures { result ≡ time_of (whole n.now) }
 {
     let _below_zero = n.get();
     None
 }
 
-/// An event at a moment, where there is one.
-#[tactic(auto, using(crate::proofs::Parts::pairs_back))]
-fn timed(moment: Option<(u32, u32)>, meta: Pairs, body: Pairs) -> Option<Event>
-    ensures { result ≡ timed moment (entries_of meta) (entries_of body) }
+/// Builds an event if there is a time.
+#[tactic(auto, using(crate::proofs::EventParts::pairs_back))]
+fn event_at(moment: Option<(u32, u32)>, meta: Pairs, body: Pairs) -> Option<Event>
+    ensures { result ≡ event_at moment (entries_of meta) (entries_of body) }
 {
     match moment {
         Some((sec, nsec)) => Some(Event {
@@ -77,49 +77,50 @@ fn timed(moment: Option<(u32, u32)>, meta: Pairs, body: Pairs) -> Option<Event>
     }
 }
 
-/// The event of a time, metadata and a body.
-fn stamped(time: Value, meta: Value, body: Pairs) -> Option<Event>
-    ensures { result ≡ headed (list (val (val_of time) (val (val_of meta) no_vals))) (entries_of body) }
+/// Builds the event of a time, metadata and a record.
+fn event_with_meta(time: Value, meta: Value, body: Pairs) -> Option<Event>
+    ensures { result ≡ event_with_header (list (val (val_of time) (val (val_of meta) no_vals))) (entries_of body) }
 {
     match meta {
-        Value::Map(meta) => timed(time_of(&time), meta, body),
+        Value::Map(meta) => event_at(time_of(&time), meta, body),
         _ => None,
     }
 }
 
-#[tactic(auto, using(crate::proofs::Parts::no_head))]
-fn stamped_by(mut head: Values, body: Pairs) -> Option<Event>
-    ensures { result ≡ headed (list (vals_of head)) (entries_of body) }
+#[tactic(auto, using(crate::proofs::EventParts::no_head))]
+fn event_with_parts(mut head: Values, body: Pairs) -> Option<Event>
+    ensures { result ≡ event_with_header (list (vals_of head)) (entries_of body) }
 {
     if head.len() != 2 {
         return None;
     }
     let meta = head.remove(1);
     let time = head.remove(0);
-    stamped(time, meta, body)
+    event_with_meta(time, meta, body)
 }
 
-/// The event of a head and a body.
-fn headed(alloc: Global, head: Value, body: Pairs) -> Option<Event>
-    ensures { result ≡ headed (val_of head) (entries_of body) }
+/// Builds the event of a header and a record.
+fn event_with_header(alloc: Global, head: Value, body: Pairs) -> Option<Event>
+    ensures { result ≡ event_with_header (val_of head) (entries_of body) }
 {
     match head {
-        Value::List(parts) => stamped_by(parts, body),
-        time => timed(time_of(&time), Pairs::new(alloc), body),
+        Value::List(parts) => event_with_parts(parts, body),
+        time => event_at(time_of(&time), Pairs::new(alloc), body),
     }
 }
 
-/// The event of a head and a body, where they are one: a time or a list of a time and metadata, and a map.
+/// Builds the event of a header and a record: a time, or a list of a time and metadata, and a map. Returns
+/// `None` if they have another form.
 pub fn event_of_two(alloc: Global, head: Value, body: Value) -> Option<Event>
     ensures { result ≡ event_of (list (val (val_of head) (val (val_of body) no_vals))) }
 {
     match body {
-        Value::Map(body) => headed(alloc, head, body),
+        Value::Map(body) => event_with_header(alloc, head, body),
         _ => None,
     }
 }
 
-#[tactic(auto, using(crate::proofs::Parts::not_two_parts))]
+#[tactic(auto, using(crate::proofs::EventParts::not_two_parts))]
 fn event_of_list(alloc: Global, mut values: Values) -> Option<Event>
     ensures { result ≡ event_of (list (vals_of values)) }
 {
@@ -131,7 +132,7 @@ fn event_of_list(alloc: Global, mut values: Values) -> Option<Event>
     event_of_two(alloc, head, body)
 }
 
-/// The event that a value is, in either form; none where it is no event.
+/// Converts a value to an event, from either format. Returns `None` if it isn't one.
 pub fn event_of(alloc: Global, value: Value) -> Option<Event>
     ensures { result ≡ event_of (val_of value) }
 {
@@ -141,10 +142,11 @@ pub fn event_of(alloc: Global, value: Value) -> Option<Event>
     }
 }
 
-/// The event whose spelling begins the bytes, which stand at a place, and the length of that spelling.
-fn event_here(alloc: Global, bytes: &[u8], place: u64) -> Result<(Event, usize), EventErr>
+/// Decodes the event at the beginning of the bytes, and returns it and its length in bytes. `place` is the
+/// offset of the bytes, for errors.
+fn decode_event(alloc: Global, bytes: &[u8], place: u64) -> Result<(Event, usize), EventErr>
     requires { place + length bytes.now < 2 ^ 64 }
-    ensures { NextIs place bytes.now result }
+    ensures { OutcomeAt place bytes.now result }
 {
     match decode(alloc, bytes) {
         Ok((value, length)) => match event_of(alloc, value) {
@@ -158,13 +160,13 @@ fn event_here(alloc: Global, bytes: &[u8], place: u64) -> Result<(Event, usize),
     }
 }
 
-/// The spelling of a map without pairs.
+/// The encoding of an empty map.
 const EMPTY_MAP: u8 = 0x80;
 
-/// The map whose spelling begins the bytes, by its pairs, and the length of that spelling; none where there is no such map
-/// or its keys and values are nested deeper than that.
-fn map_in_front(alloc: Global, bytes: &[u8], depth: u64) -> Option<(Pairs, usize)>
-    ensures { IfSome result (λ x. SpellsFront (mapping (entries_of x.0)) x.1 bytes.now × (entry_nestings (entries_of x.0) ≤ depth)) }
+/// Decodes the map at the beginning of the bytes, and returns its pairs and its length in bytes. Returns
+/// `None` if there is no map, or its keys and values are nested more than `depth` deep.
+fn decode_map(alloc: Global, bytes: &[u8], depth: u64) -> Option<(Pairs, usize)>
+    ensures { IfSome result (λ x. EncodesPrefix (mapping (entries_of x.0)) x.1 bytes.now × (entry_nestings (entries_of x.0) ≤ depth)) }
 {
     if let [EMPTY_MAP, ..] = bytes {
         return Some((Pairs::new(alloc), 1));
@@ -184,10 +186,10 @@ fn map_in_front(alloc: Global, bytes: &[u8], depth: u64) -> Option<(Pairs, usize
     }
 }
 
-/// The event whose spelling begins the bytes, and the length of that spelling, where it is in the form in which events are
-/// written: its parts are then read without the lists that they stand in.
-fn written_event(alloc: Global, bytes: &[u8]) -> Option<(Event, usize)>
-    ensures { IfSome result (λ x. (v : Val) × SpellsFront v x.1 bytes.now × (event_of v ≡ Some x.0)) }
+/// Decodes the event at the beginning of the bytes if it is in the format that `write_event` writes. This is
+/// faster, since it builds no value for the enclosing lists.
+fn decode_written(alloc: Global, bytes: &[u8]) -> Option<(Event, usize)>
+    ensures { IfSome result (λ x. (v : Val) × EncodesPrefix v x.1 bytes.now × (event_of v ≡ Some x.0)) }
 {
     let [0x92, 0x92, 0xd7, 0x00, parts @ ..] = bytes else {
         return None;
@@ -197,9 +199,9 @@ fn written_event(alloc: Global, bytes: &[u8]) -> Option<(Event, usize)>
     }
     let (time, maps) = parts.split_at(8);
     let (sec, nsec) = event_time(time)?;
-    let (meta, meta_length) = map_in_front(alloc, maps, META_DEPTH)?;
+    let (meta, meta_length) = decode_map(alloc, maps, META_DEPTH)?;
     let (_, last) = maps.split_at(meta_length);
-    let (body, body_length) = map_in_front(alloc, last, BODY_DEPTH)?;
+    let (body, body_length) = decode_map(alloc, last, BODY_DEPTH)?;
     let event = Event {
         sec,
         nsec,
@@ -209,29 +211,30 @@ fn written_event(alloc: Global, bytes: &[u8]) -> Option<(Event, usize)>
     Some((event, 12 + meta_length + body_length))
 }
 
-/// The event whose spelling begins the bytes, which stand at a place, and the length of that spelling, in any form.
-fn event_in_front(alloc: Global, bytes: &[u8], place: u64) -> Result<(Event, usize), EventErr>
+/// Decodes the event at the beginning of the bytes, in any format, and returns it and its length in bytes.
+/// `place` is the offset of the bytes, for errors.
+fn decode_any_event(alloc: Global, bytes: &[u8], place: u64) -> Result<(Event, usize), EventErr>
     requires { place + length bytes.now < 2 ^ 64 }
-    ensures { NextIs place bytes.now result }
+    ensures { OutcomeAt place bytes.now result }
 {
-    match written_event(alloc, bytes) {
+    match decode_written(alloc, bytes) {
         Some(found) => Ok(found),
-        None => event_here(alloc, bytes, place),
+        None => decode_event(alloc, bytes, place),
     }
 }
 
-/// The event whose spelling stands at a place, and the length of that spelling.
+/// Decodes the event at an offset, and returns it and its length in bytes.
 fn next_event(alloc: Global, bytes: &[u8], at: usize) -> Result<(Event, usize), EventErr>
     requires { at < length bytes.now }
-    ensures { NextIs at (drop at bytes.now) result }
+    ensures { OutcomeAt at (drop at bytes.now) result }
 {
     let (_, rest) = bytes.split_at(at);
-    event_in_front(alloc, rest, at as u64)
+    decode_any_event(alloc, rest, at as u64)
 }
 
-/// The events that bytes are. Both forms are taken, an EventTime in any spelling.
+/// Decodes bytes that are a list of events. Accepts both formats, and any encoding of an EventTime.
 pub fn read_events(alloc: Global, bytes: &[u8]) -> Result<Events, EventErr>
-    // Want of memory apart, the answer is the one that these bytes have.
+    // Unless memory is out, the answer is the one for these bytes.
     ensures { (answer : EventsRead) → IsMemory result ⊎ ((result ≡ answer) ↔ IsAnswer answer bytes.now) }
 {
     let mut events = Items::new(alloc);
@@ -244,8 +247,8 @@ pub fn read_events(alloc: Global, bytes: &[u8]) -> Result<Events, EventErr>
     Ok(events)
 }
 
-/// What was read up to an error, but for want of memory.
-fn kept(events: Events, at: u64, error: EventErr) -> Result<(Events, u64), Memory>
+/// Returns the events before an error, or the error if memory is out.
+fn events_unless_memory(events: Events, at: u64, error: EventErr) -> Result<(Events, u64), Memory>
     ensures { IfOk result (λ x. (x.0 ≡ events) × (x.1 ≡ at) × (error ≢ event_err.Memory)) }
 {
     match error {
@@ -254,7 +257,8 @@ fn kept(events: Events, at: u64, error: EventErr) -> Result<(Events, u64), Memor
     }
 }
 
-/// The longest prefix of the bytes that is a list of events: these events, and its length in bytes.
+/// Decodes the longest prefix of the bytes that is a list of events. Returns the events and its length in
+/// bytes.
 pub fn whole_prefix(alloc: Global, bytes: &[u8]) -> Result<(Events, u64), Memory>
     ensures { IfOk result (λ x. IsWholePrefix x.0 x.1 bytes.now) }
 {
@@ -266,7 +270,7 @@ pub fn whole_prefix(alloc: Global, bytes: &[u8]) -> Result<(Events, u64), Memory
                 events.push(event)?;
                 at += length;
             }
-            Err(error) => return kept(events, at as u64, error),
+            Err(error) => return events_unless_memory(events, at as u64, error),
         }
     }
     Ok((events, at as u64))

@@ -1,5 +1,5 @@
-pub mod Matching
-pub mod Crossing
-pub mod Computed
-mod Readying
-mod Joining
+pub mod Matches
+pub mod ThreadSafety
+pub mod FilterFunction
+mod Prepared
+mod Join

@@ -1,4 +1,4 @@
 pub mod Step
-pub mod Ready
-pub mod Filtered
-pub mod Through
+pub mod Prepared
+pub mod FilterRelation
+pub mod FilterFunction

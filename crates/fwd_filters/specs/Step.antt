@@ -4,10 +4,10 @@ use Rattle.fwd_grep.specs.Grep.{kept}
 use Rattle.fwd_reshape.specs.Rules.{modified}
 use Rattle.fwd_reshape.specs.Moves.{nested, lifted}
 use Rattle.fwd_event.specs.declared.event.Event.{Event}
-use Rattle.fwd_filters.specs.declared.steps.FilterKind.{FilterKind}
-use Rattle.fwd_filters.specs.declared.steps.FilterKind.TheVariants.{Grep, Modify, Nest, Lift}
+use Rattle.fwd_filters.specs.declared.filter_step.FilterKind.{FilterKind}
+use Rattle.fwd_filters.specs.declared.filter_step.FilterKind.TheVariants.{Grep, Modify, Nest, Lift}
 
--- what one filter makes of an event, or nothing where it drops it; all but the body stays
+-- what one filter makes of an event, or nothing if it drops it; all but the record is unchanged
 abbrev pub step_of : FilterKind → Event → Option Event
 step_of (Grep rules) e = if kept rules e.body then Some e else None
 step_of (Modify rules) e = Some (record e { body = modified rules e.body })

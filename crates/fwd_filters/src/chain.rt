@@ -1,12 +1,12 @@
-//! Filters one after another.
+//! The filters of a configuration, one after another.
 
 ghost use Rattle.std.specs.Prelude.{◌≡◌, [], IfOk, IsTrue};
-ghost use Rattle.fwd_filters.specs.Filtered.{AreMatching, IsFiltered};
-ghost use Rattle.fwd_filters.specs.Through.{filtered};
+ghost use Rattle.fwd_filters.specs.FilterRelation.{AreMatching, IsFiltered};
+ghost use Rattle.fwd_filters.specs.FilterFunction.{filtered};
 
 use crate::parallel::in_runs;
-use crate::ready::Filters;
-use crate::sifting::sift;
+use crate::prepared_filter::Filters;
+use crate::sieve::filter_events;
 use crate::{FilterStep, FilterSteps};
 use fwd_base::Memory;
 use fwd_event::Events;
@@ -15,11 +15,12 @@ use fwd_route::matches;
 use std::alloc::Global;
 use std::thread::Threads;
 
-/// So many events may be work for several threads.
-const MANY: usize = 2_048;
+/// From this many events on, several threads may be worth it.
+const PARALLEL_EVENTS: usize = 2_048;
 
-/// The events after each filter whose glob matches the tag, in order; those that are left keep their order. Of 2,048 events
-/// or more as many threads filter as that is work for. Where no glob matches, nothing is done.
+/// Returns the events after each filter whose glob matches the tag, in order; the remaining events keep
+/// their order. From 2,048 events on (`PARALLEL_EVENTS`), as many threads filter as the work is worth. If no glob
+/// matches, nothing is done.
 pub fn filter(
     rt: &(impl Threads + Sync),
     alloc: Global,
@@ -32,8 +33,9 @@ pub fn filter(
     filter_gated(rt, alloc, steps, tag, events, &Open)
 }
 
-/// As `filter`. Of 2,048 events or more each passes the gate directly before it is filtered, with its place in the list,
-/// from 0.
+/// Filters as `filter` does. From 2,048 events on, each event passes the gate right before it is filtered,
+/// with its index in the list. So a test can see which threads filter; the result doesn't depend on the
+/// gate.
 pub fn filter_gated<G: Gate>(
     rt: &(impl Threads + Sync),
     alloc: Global,
@@ -47,22 +49,27 @@ pub fn filter_gated<G: Gate>(
     if are_idle(steps.as_slice(), tag) {
         return Ok(events);
     }
-    if events.len() < MANY {
-        alone(alloc, steps, tag, events)
+    if events.len() < PARALLEL_EVENTS {
+        filter_on_this_thread(alloc, steps, tag, events)
     } else {
         in_runs(rt, alloc, steps, tag, events, gate)
     }
 }
 
-/// The events that are left, in order, by this thread.
-fn alone(alloc: Global, steps: &FilterSteps, tag: &[u8], events: Events) -> Result<Events, Memory>
+/// Returns the remaining events, in order, filtered by this thread.
+fn filter_on_this_thread(
+    alloc: Global,
+    steps: &FilterSteps,
+    tag: &[u8],
+    events: Events,
+) -> Result<Events, Memory>
     ensures { IfOk result (λ left. left ≡ filtered steps.now tag.now events) }
 {
     let mut ready = steps.ready(alloc, tag)?;
-    sift(alloc, &mut ready, events, &Open)
+    filter_events(alloc, &mut ready, events, &Open)
 }
 
-/// Whether no filter's glob matches the tag.
+/// Returns whether no filter's glob matches the tag.
 fn are_idle(steps: &[FilterStep], tag: &[u8]) -> bool
     ensures { IsTrue result → AreMatching tag.now steps.now [] }
 {

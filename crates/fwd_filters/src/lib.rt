@@ -1,19 +1,19 @@
-//! Filters stand between the reading of events and their storing: each changes the events under the tags that its glob
-//! matches, or drops some of them. Here the filters of a configuration are applied in order. A list of 2,048 events or
-//! more is cut into runs, as many as are worth a thread each and at most one for each processor, which are filtered side
-//! by side; the order and the answer are those of one thread.
+//! Applies the filters of a configuration, in order, to events between reading and storing: each filter
+//! changes the events under the tags that its glob matches, or drops some of them. A list of 2,048 events
+//! or more is cut into runs, as many as are worth a thread each and at most one for each processor, which
+//! are filtered in parallel. The order and the result are those of one thread.
 #![tactic(auto)]
 
 mod chain;
-mod laws;
+mod filter_step;
 mod parallel;
-mod ready;
+mod prepared_filter;
+mod record_filters;
 mod runs;
-mod sifting;
-mod step;
-mod steps;
+mod sieve;
+mod theorems;
 mod work;
 
 pub use chain::{filter, filter_gated};
-pub use laws::filtered_are_computed;
-pub use steps::{FilterKind, FilterStep, FilterSteps, steps_cross};
+pub use filter_step::{FilterKind, FilterStep, FilterSteps, steps_are_thread_safe};
+pub use theorems::filtered_are_computed;

@@ -1,12 +1,12 @@
-//! Long lists of events are filtered by several threads.
+//! Filtering of long lists of events by several threads.
 
 ghost use Rattle.std.specs.Prelude.{◌≡◌, IfOk};
 ghost use Rattle.std.specs.List.{filter_map};
 ghost use Rattle.fwd_filters.specs.Step.{through};
 
-use crate::ready::Filters;
-use crate::runs::{Part, Run, cut, joined};
-use crate::sifting::{sift, sift_run};
+use crate::prepared_filter::Filters;
+use crate::runs::{Part, Run, join_parts, split_runs};
+use crate::sieve::{filter_events, filter_run};
 use crate::work::worth_threads;
 use fwd_base::Memory;
 use fwd_event::Events;
@@ -16,8 +16,8 @@ use rayon::prelude::*;
 use std::alloc::Global;
 use std::thread::Threads;
 
-/// The events that are left, in order. A list that is work for several threads is cut into runs, one for each processor or
-/// fewer.
+/// Returns the remaining events, in order. A list that is worth several threads is cut into runs, at most
+/// one for each processor.
 pub fn in_runs<F: Filters + Sync, G: Gate>(
     rt: &(impl Threads + Sync),
     alloc: Global,
@@ -37,7 +37,7 @@ pub fn in_runs<F: Filters + Sync, G: Gate>(
     in_parallel(rt, alloc, filters, tag, events, length, gate)
 }
 
-/// The events that are left, in order, by this thread.
+/// Returns the remaining events, in order, filtered by this thread.
 fn in_one_run<F: Filters, G: Gate>(
     alloc: Global,
     filters: &F,
@@ -48,10 +48,11 @@ fn in_one_run<F: Filters, G: Gate>(
     ensures { IfOk result (λ left. left ≡ filter_map (through (F.kinds filters.now tag.now)) events) }
 {
     let mut ready = filters.ready(alloc, tag)?;
-    sift(alloc, &mut ready, events, gate)
+    filter_events(alloc, &mut ready, events, gate)
 }
 
-/// The events that are left, in order. The list is cut into runs of so many events, each of which is filtered by one thread.
+/// Returns the remaining events, in order. The list is cut into runs of `length` events, each of which one
+/// thread filters.
 fn in_parallel<F: Filters + Sync, G: Gate>(
     rt: &(impl Threads + Sync),
     alloc: Global,
@@ -63,7 +64,7 @@ fn in_parallel<F: Filters + Sync, G: Gate>(
 ) -> Result<Events, Memory>
     ensures { IfOk result (λ left. left ≡ filter_map (through (F.kinds filters.now tag.now)) events) }
 {
-    let parts = cut(alloc, events, length)?
+    let parts = split_runs(alloc, events, length)?
         .into_par_iter()
         .with_min_len(1)
         .map(
@@ -71,9 +72,9 @@ fn in_parallel<F: Filters + Sync, G: Gate>(
                 ensures { IfOk result (λ part. part.left ≡ filter_map (through (F.kinds filters.entry.now tag.entry.now)) run.events) }
             {
                 let mut ready = filters.ready(alloc, tag)?;
-                sift_run(alloc, &mut ready, run, gate)
+                filter_run(alloc, &mut ready, run, gate)
             },
         )
         .collect::<Result<Vec<Part>, Memory>>(rt, alloc)??;
-    joined(alloc, parts)
+    join_parts(alloc, parts)
 }

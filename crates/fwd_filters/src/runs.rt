@@ -1,4 +1,4 @@
-//! Lists of events are cut into runs, and what is left of runs is joined.
+//! Runs of a list of events, and joining of what remains of them.
 
 ghost use Rattle.std.specs.Prelude.{◌≡◌, [], IfOk};
 ghost use Rattle.std.specs.List.{flat_map};
@@ -7,15 +7,15 @@ use fwd_base::Memory;
 use fwd_event::Events;
 use std::alloc::Global;
 
-/// Events that stand side by side in a list, and the place of the first of them, from 0.
+/// Adjacent events of a list, and the index of the first of them.
 #[derive(Debug, Drop)]
 pub struct Run {
     pub first: u64,
     pub events: Events,
 }
 
-/// What is left of a run, in order, and what is dropped of it. The events that are dropped give their memory back in the
-/// thread that took it: where several give memory back that another one took, they wait for each other.
+/// The remaining events of a run, in order, and the dropped ones. Dropped events are freed by the thread
+/// that allocated them: threads that free memory of another thread wait for each other.
 #[derive(Debug, Drop)]
 pub struct Part {
     pub left: Events,
@@ -23,7 +23,7 @@ pub struct Part {
 }
 
 impl Run {
-    /// A run of no events yet, with room for so many.
+    /// Returns an empty run with room for `length` events.
     fn new(alloc: Global, first: u64, length: usize) -> Result<Self, Memory>
         ensures { IfOk result (λ run. run.events ≡ []) }
     {
@@ -33,8 +33,8 @@ impl Run {
     }
 }
 
-/// The events in runs of so many, in order; the last run may be shorter.
-pub fn cut(alloc: Global, events: Events, length: usize) -> Result<Vec<Run>, Memory>
+/// Returns the events in runs of `length`, in order; the last run may be shorter.
+pub fn split_runs(alloc: Global, events: Events, length: usize) -> Result<Vec<Run>, Memory>
     ensures { IfOk result (λ runs. flat_map (λ run. run.events) runs.items ≡ events) }
 {
     let mut runs = Vec::new(alloc);
@@ -51,8 +51,8 @@ pub fn cut(alloc: Global, events: Events, length: usize) -> Result<Vec<Run>, Mem
     Ok(runs)
 }
 
-/// What is left of all parts, in order.
-pub fn joined(alloc: Global, parts: Vec<Part>) -> Result<Events, Memory>
+/// Returns the remaining events of all parts, in order.
+pub fn join_parts(alloc: Global, parts: Vec<Part>) -> Result<Events, Memory>
     ensures { IfOk result (λ all. all ≡ flat_map (λ part. part.left) parts.items) }
 {
     let mut all = Vec::new(alloc);

@@ -1,6 +1,6 @@
-pub mod Coming
-pub mod Pushed
-pub mod Written
+pub mod Steps
+pub mod Pushes
+pub mod Programs
 pub mod Verdicts
 pub mod Links
-pub mod Flown
+pub mod Turns

@@ -1,4 +1,4 @@
-pub mod Flight
+pub mod FlushProgram
 pub mod Calls
-pub mod Pushing
+pub mod Pushes
 pub mod Verdict

@@ -1,8 +1,8 @@
-//! One flight.
+//! The state machine of one flush.
 
 ghost use Rattle.std.specs.Prelude.{◌≡◌, ◌≤◌, OnOk, OnErr};
-ghost use Rattle.fwd_flush.specs.Flight.{Flight, delivery, unopened, link_in, starts, polls, backs, breaks, writes, confirms, ends, heard};
-ghost use Rattle.fwd_flush.specs.Calls.{Goes, GoesOrStays, KeepsLink, HasDialed};
+ghost use Rattle.fwd_flush.specs.FlushProgram.{Flight, delivery, not_started, link_in, starts, polls, backs, breaks, writes, confirms_payload, ends, with_reply_bytes};
+ghost use Rattle.fwd_flush.specs.Calls.{Performs, PerformsOrStays, KeepsLink, HasDialed};
 ghost use Rattle.fwd_flush.specs.declared.stage.Stage.TheVariants.{Writing};
 
 use crate::rest::{Rest, push_rest};
@@ -12,8 +12,8 @@ use fwd_outside::{Dialed, Loop};
 use std::alloc::Global;
 use std::marker::Model;
 
-/// A payload on its way to an output. It is driven by what comes to its link: room, replies, and its breaking. Contracts
-/// see it as its output, payload and reader, and how far it has come.
+/// One attempt to send a payload to an output. The events of its link drive it: room, replies, a broken
+/// link. Contracts see its output, payload, reader and progress.
 #[derive(Debug, Drop)]
 pub struct Flush<P> {
     output: OutputId,
@@ -25,7 +25,7 @@ pub struct Flush<P> {
 }
 
 impl<P> Model for Flush<P> {
-    ghost use Rattle.fwd_flush.specs.Flight.{Flight};
+    ghost use Rattle.fwd_flush.specs.FlushProgram.{Flight};
 
     ghost Value = { Flight P };
 
@@ -38,9 +38,9 @@ impl<P> Model for Flush<P> {
 }
 
 impl<P: ReplyReader> Flush<P> {
-    /// A flight that isn't started. It takes memory for replies alone, once they come.
+    /// Returns a flush that hasn't started. It allocates for replies only, once they arrive.
     pub fn new(alloc: Global, output: OutputId, payload: Bytes, reader: P) -> Flush<P>
-        ensures { result ≡ record { output = output; payload = payload; reader = reader; progress = unopened } }
+        ensures { result ≡ record { output = output; payload = payload; reader = reader; progress = not_started } }
     {
         Flush {
             output,
@@ -52,18 +52,19 @@ impl<P: ReplyReader> Flush<P> {
         }
     }
 
-    /// Dials the output for records of a tag, once, and hands over what the link takes. A flight that was started makes
-    /// no call and stays as it is.
+    /// Dials the output for records of a tag, once, and sends what the link takes. A flush that has started
+    /// makes no call and stays as it is.
     ///
-    /// The answer is `Waiting` where the link wants to wait or the reply is still awaited, and `Ended` where the flight
-    /// came to its answer and closed its link. After `Err` the flight is under way as far as its calls have come.
+    /// Returns `Waiting` if the link is full or the reply is still awaited, and `Ended` if the flush has
+    /// its outcome and closed its link. After `Err` (out of memory) the flush keeps the progress of its
+    /// calls.
     pub fn start<L: Loop>(
         &mut self,
         alloc: Global,
         outside: &mut L,
         tag: &[u8],
     ) -> Result<Poll, Memory>
-        ensures calls { Goes (L.told outside.old) (L.told outside.new) (starts (delivery P.wanted P.judged self.old) self.old.output.0 tag.now self.old.progress) self.old.progress self.new.progress result }
+        ensures calls { Performs (L.call_log outside.old) (L.call_log outside.new) (starts (delivery P.wanted P.judged self.old) self.old.output.0 tag.now self.old.progress) self.old.progress self.new.progress result }
         ensures same { self.new ≡ record self.old { progress = self.new.progress } }
         ensures later { L.faults outside.old ≤ L.faults outside.new }
         ensures counts { HasDialed (L.counts outside.old) (L.counts outside.new) self.old.progress.stage self.new.progress.stage }
@@ -84,9 +85,9 @@ impl<P: ReplyReader> Flush<P> {
         }
     }
 
-    /// Goes on handing over, since the link has room. A flight that isn't writing makes no call and stays as it is.
+    /// Goes on sending, as the link has room. A flush that isn't writing makes no call and stays as it is.
     pub fn poll<L: Loop>(&mut self, alloc: Global, outside: &mut L) -> Result<Poll, Memory>
-        ensures calls { Goes (L.told outside.old) (L.told outside.new) (polls (delivery P.wanted P.judged self.old) self.old.progress) self.old.progress self.new.progress result }
+        ensures calls { Performs (L.call_log outside.old) (L.call_log outside.new) (polls (delivery P.wanted P.judged self.old) self.old.progress) self.old.progress self.new.progress result }
         ensures same { self.new ≡ record self.old { progress = self.new.progress } }
         ensures later { L.faults outside.old ≤ L.faults outside.new }
         ensures counts { L.counts outside.new ≡ L.counts outside.old }
@@ -97,15 +98,15 @@ impl<P: ReplyReader> Flush<P> {
         }
     }
 
-    /// Takes bytes that came back over the link. They are kept until the whole payload is taken, and judged then. After
-    /// `Err` the flight is as before.
+    /// Takes bytes of a reply. They are kept until the link has taken the whole payload, and judged then.
+    /// After `Err` the flush is unchanged.
     pub fn back<L: Loop>(
         &mut self,
         alloc: Global,
         outside: &mut L,
         bytes: &[u8],
     ) -> Result<Poll, Memory>
-        ensures calls { GoesOrStays (L.told outside.old) (L.told outside.new) (backs (delivery P.wanted P.judged self.old) bytes.now self.old.progress) self.old.progress self.new.progress result }
+        ensures calls { PerformsOrStays (L.call_log outside.old) (L.call_log outside.new) (backs (delivery P.wanted P.judged self.old) bytes.now self.old.progress) self.old.progress self.new.progress result }
         ensures same { self.new ≡ record self.old { progress = self.new.progress } }
         ensures later { L.faults outside.old ≤ L.faults outside.new }
         ensures counts { L.counts outside.new ≡ L.counts outside.old }
@@ -115,14 +116,14 @@ impl<P: ReplyReader> Flush<P> {
                 self.hear(bytes)?;
                 Ok(Poll::Waiting)
             }
-            Stage::AwaitingAck(link) => self.hear_and_confirm(alloc, outside, link, bytes),
+            Stage::AwaitingAck(link) => self.keep_and_judge(alloc, outside, link, bytes),
             stage => Ok(stage.poll()),
         }
     }
 
-    /// Gives up, since the link broke. After `Err` the flight is as before.
+    /// Ends the flush, as its link broke. After `Err` the flush is unchanged.
     pub fn broken<L: Loop>(&mut self, outside: &mut L) -> Result<Poll, Memory>
-        ensures calls { GoesOrStays (L.told outside.old) (L.told outside.new) (breaks self.old.progress) self.old.progress self.new.progress result }
+        ensures calls { PerformsOrStays (L.call_log outside.old) (L.call_log outside.new) (breaks self.old.progress) self.old.progress self.new.progress result }
         ensures same { self.new ≡ record self.old { progress = self.new.progress } }
         ensures later { L.faults outside.old ≤ L.faults outside.new }
         ensures counts { L.counts outside.new ≡ L.counts outside.old }
@@ -133,7 +134,7 @@ impl<P: ReplyReader> Flush<P> {
         }
     }
 
-    /// The link of a flight under way.
+    /// Returns the link of a flush in flight.
     pub fn link(&self) -> Option<LinkId>
         ensures { result ≡ link_in self.now.progress.stage }
     {
@@ -143,21 +144,21 @@ impl<P: ReplyReader> Flush<P> {
         }
     }
 
-    /// How many bytes of the payload are taken.
+    /// Returns how many bytes of the payload the link has taken.
     pub fn taken(&self) -> u64
         ensures { result ≡ self.now.progress.taken }
     {
         self.taken
     }
 
-    /// Pushes what is left, and confirms the payload once it is taken.
+    /// Pushes the rest of the payload, and goes on to `confirm` once the link has taken all of it.
     fn write<L: Loop>(
         &mut self,
         alloc: Global,
         outside: &mut L,
         link: LinkId,
     ) -> Result<Poll, Memory>
-        ensures calls { self.old.progress.stage ≡ Writing link → Goes (L.told outside.old) (L.told outside.new) (writes (delivery P.wanted P.judged self.old) link self.old.progress) self.old.progress self.new.progress result }
+        ensures calls { self.old.progress.stage ≡ Writing link → Performs (L.call_log outside.old) (L.call_log outside.new) (writes (delivery P.wanted P.judged self.old) link self.old.progress) self.old.progress self.new.progress result }
         ensures same { self.new ≡ record self.old { progress = self.new.progress } }
         ensures later { L.faults outside.old ≤ L.faults outside.new }
         ensures counts { L.counts outside.new ≡ L.counts outside.old }
@@ -170,14 +171,14 @@ impl<P: ReplyReader> Flush<P> {
         }
     }
 
-    /// Ends the flight, or waits for more of the reply, once the whole payload is taken.
+    /// Ends the flush or waits for more of the reply, after the link has taken the whole payload.
     fn confirm<L: Loop>(
         &mut self,
         alloc: Global,
         outside: &mut L,
         link: LinkId,
     ) -> Result<Poll, Memory>
-        ensures calls { GoesOrStays (L.told outside.old) (L.told outside.new) (confirms (delivery P.wanted P.judged self.old) link self.old.progress) self.old.progress self.new.progress result }
+        ensures calls { PerformsOrStays (L.call_log outside.old) (L.call_log outside.new) (confirms_payload (delivery P.wanted P.judged self.old) link self.old.progress) self.old.progress self.new.progress result }
         ensures same { self.new ≡ record self.old { progress = self.new.progress } }
         ensures later { L.faults outside.old ≤ L.faults outside.new }
         ensures counts { L.counts outside.new ≡ L.counts outside.old }
@@ -197,14 +198,14 @@ impl<P: ReplyReader> Flush<P> {
         }
     }
 
-    /// Closes the link; the flight is over.
+    /// Closes the link and ends the flush.
     fn end<L: Loop>(
         &mut self,
         outside: &mut L,
         link: LinkId,
         answer: Answer,
     ) -> Result<Poll, Memory>
-        ensures calls { GoesOrStays (L.told outside.old) (L.told outside.new) (ends link answer self.old.progress) self.old.progress self.new.progress result }
+        ensures calls { PerformsOrStays (L.call_log outside.old) (L.call_log outside.new) (ends link answer self.old.progress) self.old.progress self.new.progress result }
         ensures same { self.new ≡ record self.old { progress = self.new.progress } }
         ensures later { L.faults outside.old ≤ L.faults outside.new }
         ensures counts { L.counts outside.new ≡ L.counts outside.old }
@@ -215,9 +216,9 @@ impl<P: ReplyReader> Flush<P> {
         Ok(Poll::Ended(answer))
     }
 
-    /// Keeps what was replied, where a reply is wanted.
+    /// Keeps bytes of a reply, if a reply is wanted.
     fn hear(&mut self, bytes: &[u8]) -> Result<(), Memory>
-        ensures ok { OnOk result (self.new ≡ record self.old { progress = heard (delivery P.wanted P.judged self.old) bytes.now self.old.progress }) }
+        ensures ok { OnOk result (self.new ≡ record self.old { progress = with_reply_bytes (delivery P.wanted P.judged self.old) bytes.now self.old.progress }) }
         ensures err { OnErr result (self.new ≡ self.old) }
     {
         if self.reader.wanted() {
@@ -227,15 +228,15 @@ impl<P: ReplyReader> Flush<P> {
         }
     }
 
-    /// Keeps what was replied and judges all of it. After `Err` it isn't kept.
-    fn hear_and_confirm<L: Loop>(
+    /// Keeps bytes of a reply and judges the whole reply. After `Err` they aren't kept.
+    fn keep_and_judge<L: Loop>(
         &mut self,
         alloc: Global,
         outside: &mut L,
         link: LinkId,
         bytes: &[u8],
     ) -> Result<Poll, Memory>
-        ensures calls { let d = delivery P.wanted P.judged self.old in GoesOrStays (L.told outside.old) (L.told outside.new) (confirms d link (heard d bytes.now self.old.progress)) self.old.progress self.new.progress result }
+        ensures calls { let d = delivery P.wanted P.judged self.old in PerformsOrStays (L.call_log outside.old) (L.call_log outside.new) (confirms_payload d link (with_reply_bytes d bytes.now self.old.progress)) self.old.progress self.new.progress result }
         ensures same { self.new ≡ record self.old { progress = self.new.progress } }
         ensures later { L.faults outside.old ≤ L.faults outside.new }
         ensures counts { L.counts outside.new ≡ L.counts outside.old }

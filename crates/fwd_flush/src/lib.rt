@@ -1,27 +1,27 @@
-//! A payload on its way to the end of an output.
+//! One attempt to send a payload to an output over a link.
 //!
-//! A link takes a piece at a time, wants to wait, or breaks, and some peers confirm by a reply what they took. A flight
-//! hands over one payload: it dials, pushes what is left whenever there is room, keeps what is replied, and comes to an
-//! answer once. It goes on where it stopped, and an ended flight has closed its link.
+//! A push takes a part, or finds the link full or broken, and some peers acknowledge with a reply. A flush
+//! sends one payload: it dials, pushes the rest whenever there is room, keeps the reply, and ends once with
+//! an outcome. It resumes where it stopped, and closes its link when it ends.
 //!
-//! A flight makes exactly the calls of its written program on its loop, told or not. Its answer is the verdict on what
-//! happened to it in whatever order, ERROR exactly where the whole payload was taken and a wanted reply is fatal. What
-//! it handed over is a beginning of the payload, and the whole where it answered OK or ERROR.
+//! A flush makes exactly the calls of its model. Its outcome is the verdict on its events in whatever order
+//! they come; it is ERROR only if the whole payload was taken and a wanted reply is fatal. What it sent is
+//! a prefix of the payload, and the whole payload if the outcome is OK or ERROR.
 #![tactic(auto)]
 
 mod flush;
-mod judged;
-mod laws;
+mod judgement;
 mod poll;
 mod reader;
 mod rest;
 mod stage;
+mod theorems;
 
 pub use flush::Flush;
 pub use fwd_base::{Bytes, LinkId, Memory, OutputId};
 pub use fwd_table::Answer;
-pub use judged::Judged;
-pub use laws::{ended_has_closed, goes_on_as_verdict, starts_as_verdict, verdict_of_flight};
+pub use judgement::Judged;
 pub use poll::Poll;
 pub use reader::{NoReply, ReplyReader};
 pub use stage::Stage;
+pub use theorems::{ended_has_closed, goes_on_as_verdict, starts_as_verdict, verdict_of_flight};

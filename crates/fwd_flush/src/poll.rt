@@ -1,11 +1,11 @@
-//! How a flight stands.
+//! The state of a flush after a poll.
 
 use fwd_table::Answer;
 
-/// How a flight stands once it was polled.
+/// The state of a flush after a poll.
 #[derive(Clone, Copy, Debug, PartialEq, Eq)]
 pub enum Poll {
-    /// Nothing more can be done before its link has room, replies or breaks.
+    /// The flush waits until its link has room, replies or breaks.
     Waiting,
     Ended(Answer),
 }

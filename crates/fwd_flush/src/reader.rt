@@ -1,31 +1,31 @@
-//! Whether a reply is wanted, and how one is judged.
+//! Readers of replies, by kind of output.
 
 ghost use Rattle.std.specs.Prelude.{◌≡◌, Bool, List, ℕ, false, IfOk};
-ghost use Rattle.fwd_flush.specs.declared.judged.Judged.{Judged};
-ghost use Rattle.fwd_flush.specs.declared.judged.Judged.TheVariants.{Right};
+ghost use Rattle.fwd_flush.specs.declared.judgement.Judged.{Judged};
+ghost use Rattle.fwd_flush.specs.declared.judgement.Judged.TheVariants.{Right};
 
 use crate::Judged;
 use fwd_base::Memory;
 use std::alloc::Global;
 
-/// What is made of the bytes that come back over a link.
+/// Says whether a reply is wanted, and judges it.
 pub trait ReplyReader {
-    /// Whether a flight is good only once a reply is right.
+    /// Whether a flush is good only after a right reply.
     ghost wanted: { Self → Bool };
 
-    /// What a reply is, by all of its bytes so far.
+    /// The judgement of a reply, from all its bytes so far.
     ghost judged: { Self → List ℕ → Judged };
 
-    /// Whether a reply is wanted.
+    /// Returns whether a reply is wanted.
     fn wanted(&self) -> bool
         ensures { result ≡ wanted self.now };
 
-    /// Judges a reply by all of its bytes so far, which may be none.
+    /// Judges a reply from all its bytes so far, which may be none.
     fn judge(&self, alloc: Global, reply: &[u8]) -> Result<Judged, Memory>
         ensures { IfOk result (λ judgement. judgement ≡ judged self.now reply.now) };
 }
 
-/// No reply is wanted.
+/// The reader of an output without replies.
 #[derive(Clone, Copy, Debug, PartialEq, Eq)]
 pub struct NoReply;
 

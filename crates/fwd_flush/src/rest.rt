@@ -1,25 +1,25 @@
-//! The pushes of what is left of a payload.
+//! Pushes of the rest of a payload.
 
 ghost use Rattle.std.specs.Prelude.{◌≡◌, ◌+◌, ◌≤◌, ℕ, length};
-ghost use Rattle.fwd_flush.specs.Flight.{Delivery, Progress, pushes};
-ghost use Rattle.fwd_flush.specs.Pushing.{PushesOn};
+ghost use Rattle.fwd_flush.specs.FlushProgram.{Delivery, Progress, pushes};
+ghost use Rattle.fwd_flush.specs.Pushes.{PushesOn};
 
 use fwd_base::LinkId;
 use fwd_outside::{Loop, Memory, Pushed};
 
-/// What the pushes of a rest came to.
+/// How the pushes of the rest ended.
 #[derive(Clone, Copy, Debug, PartialEq, Eq)]
 pub enum Rest {
-    /// Nothing of it is left.
+    /// The link took all of it.
     Taken,
-    /// The link wants to wait.
+    /// The link is full.
     Waits,
     /// The link took nothing, or broke.
     Fails,
 }
 
-/// Pushes the rest of the payload behind the bytes that are taken, until nothing of it is left, the link wants to wait,
-/// or it fails. `taken` counts what was taken, for want of memory too.
+/// Pushes the rest of the payload after the bytes already taken, until the link took all of it, is full, or
+/// fails. `taken` counts what the link took, also if memory runs out.
 pub fn push_rest<L: Loop>(
     outside: &mut L,
     link: LinkId,
@@ -27,7 +27,7 @@ pub fn push_rest<L: Loop>(
     taken: &mut u64,
 ) -> Result<Rest, Memory>
     ensures calls { (d : Delivery) (p : Progress) → d.payload ≡ payload.now → p.taken ≡ taken.old
-        → PushesOn (L.told outside.old) (L.told outside.new) d link p (record p { taken = taken.new }) result }
+        → PushesOn (L.call_log outside.old) (L.call_log outside.new) d link p (record p { taken = taken.new }) result }
     ensures later { L.faults outside.old ≤ L.faults outside.new }
     ensures same { L.counts outside.new ≡ L.counts outside.old }
 {

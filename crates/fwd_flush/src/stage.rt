@@ -1,31 +1,31 @@
-//! The stages of a flight.
+//! The stages of a flush.
 
 ghost use Rattle.std.specs.Prelude.{◌≡◌};
-ghost use Rattle.fwd_flush.specs.Flight.{poll_in};
+ghost use Rattle.fwd_flush.specs.FlushProgram.{poll_in};
 
 use crate::{Answer, Poll};
 use fwd_base::LinkId;
 
-/// What a flight is about.
+/// The stage of a flush.
 #[derive(Clone, Copy, Debug, PartialEq, Eq)]
 pub enum Stage {
-    /// Its output isn't dialled yet.
+    /// The output isn't dialled yet.
     Opening,
-    /// It hands its payload over this link.
+    /// The flush sends its payload over this link.
     Writing(LinkId),
-    /// The whole payload is taken, and a reply is waited for.
+    /// The link took the whole payload, and the flush waits for a reply.
     AwaitingAck(LinkId),
     Ended(Answer),
 }
 
 impl Stage {
-    /// What a poll of a flight answers that comes to this stage.
+    /// Returns the result of a poll that leaves a flush in this stage.
     pub fn poll(self) -> Poll
         ensures { result ≡ poll_in self }
     {
         match self {
             Stage::Ended(answer) => Poll::Ended(answer),
-            _ => Poll::Waiting,
+            Stage::Opening | Stage::Writing(_) | Stage::AwaitingAck(_) => Poll::Waiting,
         }
     }
 }

@@ -1,4 +1,4 @@
-pub mod Finding
-pub mod Parting
-pub mod Keeping
-pub mod Parts
+pub mod FirstFeed
+pub mod StreamSplit
+pub mod KeptRest
+pub mod UniqueSplit

@@ -1,2 +1,3 @@
 pub mod Lines
-pub mod Feed
+pub mod LineSteps
+pub mod Streams

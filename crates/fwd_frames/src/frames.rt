@@ -1,16 +1,16 @@
-//! The reader of a stream that comes in pieces.
+//! The line reader for a stream that comes in several reads.
 
 ghost use Rattle.std.specs.Prelude.{◌≡◌, ℕ, ◌++◌, [], ◌∷◌, List, length, drop, IfOk, OnOk, OnErr};
-ghost use Rattle.fwd_frames.specs.Lines.{kept, kept_of, line_of, lines, last_line};
+ghost use Rattle.fwd_frames.specs.Lines.{kept, state_of_rest, line_of, lines, last_line};
 
-use crate::feed::{first_feed, push_lines, push_unless_empty, put_within, without_return};
+use crate::line_steps::{first_feed, push_lines, push_unless_empty, push_within, trim_return};
 use crate::{Line, Lines};
 use fwd_base::{Bytes, Memory};
 use std::alloc::Global;
 use std::marker::Model;
 
-/// A reader of a stream of bytes. Of the stream so far it keeps what stands behind the last line feed, at most
-/// `LONGEST_LINE` bytes of it.
+/// A line reader for a stream of bytes. It keeps the bytes after the last line feed, but at most
+/// `LONGEST_LINE` of them.
 #[derive(Debug, Drop)]
 pub struct Frames {
     rest: Bytes,
@@ -31,7 +31,7 @@ impl Model for Frames {
 }
 
 impl Frames {
-    /// A reader at the beginning of a stream.
+    /// Creates a reader at the beginning of a stream.
     pub fn new(alloc: Global) -> Self
         ensures { result ≡ kept [] }
     {
@@ -42,8 +42,8 @@ impl Frames {
         }
     }
 
-    /// Takes the next piece of the stream, and gives the lines that end in it: of the lines of the whole stream those
-    /// behind the lines of the stream before. After `Memory` the reader is unchanged.
+    /// Takes the next bytes of the stream, and returns the lines that end in them: the lines of the whole
+    /// stream without those of the stream before. After `Memory` the reader is unchanged.
     pub fn feed(&mut self, piece: &[u8]) -> Result<Lines, Memory>
         ensures lines { (stream : List ℕ) → self.old ≡ kept stream →
             IfOk result (λ given. lines stream ++ given ≡ lines (stream ++ piece.now)) }
@@ -67,8 +67,8 @@ impl Frames {
         Ok(lines)
     }
 
-    /// Ends the stream: its rest is a last line, unless that is empty. The reader then stands at the beginning of
-    /// another stream. After `Memory` it is unchanged.
+    /// Ends the stream, and returns its rest as a last line, unless that is empty. The reader is then at the
+    /// beginning of another stream. After `Memory` it is unchanged.
     pub fn finish(&mut self) -> Result<Lines, Memory>
         ensures last { (stream : List ℕ) → self.old ≡ kept stream →
             IfOk result (λ given. given ≡ last_line stream) }
@@ -84,28 +84,28 @@ impl Frames {
         Ok(lines)
     }
 
-    /// Takes bytes without a line feed behind the rest.
+    /// Appends bytes without a line feed to the rest.
     fn keep(&mut self, more: &[u8]) -> Result<(), Memory>
-        ensures ok { (part : List ℕ) → self.old ≡ kept_of part →
-            OnOk result (self.new ≡ kept_of (part ++ more.now)) }
+        ensures ok { (part : List ℕ) → self.old ≡ state_of_rest part →
+            OnOk result (self.new ≡ state_of_rest (part ++ more.now)) }
         ensures err { OnErr result (self.new ≡ self.old) }
     {
-        self.cut = put_within(&mut self.rest, self.cut, more)?;
+        self.cut = push_within(&mut self.rest, self.cut, more)?;
         Ok(())
     }
 
-    /// The line of the rest and bytes behind it.
+    /// Returns the line made of the rest and further bytes.
     pub(crate) fn line_with(&self, more: &[u8]) -> Result<Line, Memory>
-        ensures { (part : List ℕ) → self.now ≡ kept_of part →
+        ensures { (part : List ℕ) → self.now ≡ state_of_rest part →
             IfOk result (λ line. line ≡ line_of (part ++ more.now)) }
     {
         let mut bytes = self.rest.try_clone(self.alloc)?;
-        let cut = put_within(&mut bytes, self.cut, more)?;
+        let cut = push_within(&mut bytes, self.cut, more)?;
         if cut {
             return Ok(Line { bytes, cut });
         }
         Ok(Line {
-            bytes: without_return(bytes),
+            bytes: trim_return(bytes),
             cut,
         })
     }

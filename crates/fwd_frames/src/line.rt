@@ -1,14 +1,12 @@
-//! Lines.
-
 use fwd_base::{Bytes, Items, Memory};
 
-/// A line, without the line feed behind it.
+/// A line, without its line feed.
 #[derive(Debug, Drop, PartialEq, Eq)]
 pub struct Line {
-    /// The bytes of the line. Of a line that isn't cut the carriage return at its end is dropped.
+    /// The bytes of the line, without a trailing carriage return unless the line is cut.
     pub bytes: Bytes,
 
-    /// Whether the line had more than `LONGEST_LINE` bytes. The bytes are then the first ones.
+    /// Whether the line had more than `LONGEST_LINE` bytes, and was cut to the first ones.
     pub cut: bool,
 }
 

@@ -1,2 +1,2 @@
-pub mod Crossing
-mod Searching
+pub mod ThreadSafety
+mod Images

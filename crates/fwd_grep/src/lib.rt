@@ -1,11 +1,12 @@
-//! Events are dropped by the value of one key: those whose value a pattern doesn't match, or those whose value it matches.
+//! The filter `grep`: drops events by the value of one key, either those whose value a pattern doesn't
+//! match, or those whose value it matches.
 //!
-//! `keeps` answers by the definition of the rules. The patterns are made ready once for a batch (`GrepSearches`).
-//! Threads may share the rules.
+//! `keeps` returns what the definition of the rules says. `GrepSearches` prepares the patterns once for a
+//! batch. Threads may share the rules.
 #![tactic(auto)]
 
-mod keeping;
+mod rules;
 mod searches;
 
-pub use keeping::{GrepRule, GrepRules, rules_cross};
+pub use rules::{GrepRule, GrepRules, rules_are_thread_safe};
 pub use searches::{GrepSearches, keeps};

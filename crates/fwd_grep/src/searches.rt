@@ -1,19 +1,18 @@
-//! Rules at work: each is made ready once for many events.
+//! Rules prepared for many events.
 
 ghost use Rattle.std.specs.Prelude.{◌≡◌, map, IfOk};
 ghost use Rattle.fwd_base.specs.Pattern.{search_expression, expression_of};
 ghost use Rattle.fwd_value.specs.View.{val_of};
-ghost use Rattle.fwd_grep.specs.Grep.{is_hit, matches, passes, kept, looks_for};
+ghost use Rattle.fwd_grep.specs.Grep.{is_found, matches, passes, kept, searched_pattern};
 
 use crate::{GrepRule, GrepRules};
 use fwd_base::{Memory, Search};
-use fwd_body::value_of;
-use fwd_value::{Pairs, Value};
+use fwd_value::{Pairs, Value, value_of};
 use itoa::Buffer;
 use std::alloc::Global;
 use std::marker::Model;
 
-/// What tests one event after another by rules. It is made once for many events. Contracts see the rules.
+/// Tests one event after another by rules. It is made once for many events. Contracts see only the rules.
 #[derive(Drop)]
 pub struct GrepSearches<'r> {
     rules: &'r GrepRules,
@@ -24,9 +23,9 @@ impl<'r> Model for GrepSearches<'r> {
     ghost use Rattle.std.specs.Prelude.{◌≡◌, List, map};
     ghost use Rattle.std.specs.Coded.{coded_list};
     ghost use Rattle.fwd_base.specs.Pattern.{search_expression};
-    ghost use Rattle.fwd_grep.specs.declared.keeping.GrepRule.{GrepRule};
-    ghost use Rattle.fwd_grep.specs.contracts.keeping.GrepRule as rule;
-    ghost use Rattle.fwd_grep.specs.Grep.{looks_for};
+    ghost use Rattle.fwd_grep.specs.declared.rules.GrepRule.{GrepRule};
+    ghost use Rattle.fwd_grep.specs.contracts.rules.GrepRule as rule;
+    ghost use Rattle.fwd_grep.specs.Grep.{searched_pattern};
 
     ghost Value = { List GrepRule };
 
@@ -34,7 +33,7 @@ impl<'r> Model for GrepSearches<'r> {
 
     ghost view = { λ s. s.rules.now };
 
-    ghost invariant = { λ s. map search_expression s.searches.items ≡ map looks_for s.rules.now };
+    ghost invariant = { λ s. map search_expression s.searches.items ≡ map searched_pattern s.rules.now };
 }
 
 impl<'r> GrepSearches<'r> {
@@ -45,8 +44,9 @@ impl<'r> GrepSearches<'r> {
         Ok(GrepSearches { rules, searches })
     }
 
-    /// Whether every rule lets an event of this body through. What is compared is the bytes of a text or bin, a whole
-    /// number in decimal, and `true` or `false`; an absent key, and every other value, doesn't match.
+    /// Returns whether every rule keeps an event with this record. The pattern is compared with the bytes
+    /// of a text or bin, a whole number in decimal, and `true` or `false`; a missing key, and every other
+    /// value, doesn't match.
     pub fn keeps(&mut self, body: &Pairs) -> bool
         ensures kept { result ≡ kept self.old body.now }
         ensures same { self.new ≡ self.old }
@@ -55,7 +55,7 @@ impl<'r> GrepSearches<'r> {
     }
 }
 
-/// Whether every rule lets one event of this body through.
+/// Returns whether every rule keeps one event with this record.
 pub fn keeps(alloc: Global, rules: &GrepRules, body: &Pairs) -> Result<bool, Memory>
     ensures { IfOk result (λ keep. keep ≡ kept rules.now body.now) }
 {
@@ -63,9 +63,9 @@ pub fn keeps(alloc: Global, rules: &GrepRules, body: &Pairs) -> Result<bool, Mem
     Ok(searches.keeps(body))
 }
 
-/// A search for the pattern of each rule.
+/// Returns a search for the pattern of each rule.
 fn searches_of(alloc: Global, rules: &[GrepRule]) -> Result<Vec<Search<'_>>, Memory>
-    ensures { IfOk result (λ searches. map search_expression searches.items ≡ map looks_for rules.now) }
+    ensures { IfOk result (λ searches. map search_expression searches.items ≡ map searched_pattern rules.now) }
 {
     let mut searches = Vec::new(alloc);
     for rule in rules {
@@ -75,7 +75,7 @@ fn searches_of(alloc: Global, rules: &[GrepRule]) -> Result<Vec<Search<'_>>, Mem
 }
 
 fn all_pass(rules: &[GrepRule], searches: &mut Vec<Search<'_>>, body: &Pairs) -> bool
-    requires { map search_expression searches.old.items ≡ map looks_for rules.now }
+    requires { map search_expression searches.old.items ≡ map searched_pattern rules.now }
     ensures kept { result ≡ kept rules.now body.now }
     ensures same { map search_expression searches.new.items ≡ map search_expression searches.old.items }
 {
@@ -88,7 +88,7 @@ fn all_pass(rules: &[GrepRule], searches: &mut Vec<Search<'_>>, body: &Pairs) ->
 }
 
 fn passes(rule: &GrepRule, search: &mut Search<'_>, body: &Pairs) -> bool
-    requires { search_expression search.old ≡ looks_for rule.now }
+    requires { search_expression search.old ≡ searched_pattern rule.now }
     ensures passes { result ≡ passes body.now rule.now }
     ensures same { search_expression search.new ≡ search_expression search.old }
 {
@@ -125,7 +125,7 @@ fn matches(search: &mut Search<'_>, value: &Value) -> bool
 }
 
 fn hits(search: &mut Search<'_>, bytes: &[u8]) -> bool
-    ensures found { result ≡ is_hit (search_expression search.old) bytes.now }
+    ensures found { result ≡ is_found (search_expression search.old) bytes.now }
     ensures same { search_expression search.new ≡ search_expression search.old }
 {
     search.hits(bytes)

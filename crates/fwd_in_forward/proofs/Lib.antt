@@ -1,6 +1,6 @@
-pub mod Growing
-pub mod Joining
+pub mod MoreBytes
+pub mod StreamGrowth
 pub mod Parts
-pub mod Taking
-pub mod Looking
-pub mod Feeding
+pub mod NextMessage
+pub mod ScanResult
+pub mod Feed

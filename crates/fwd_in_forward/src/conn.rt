@@ -1,15 +1,15 @@
-//! A connection of a forward peer.
+//! The state of one connection, and how a buffer changes it.
 
 ghost use Rattle.std.specs.Prelude.{◌≡◌, ◌≤◌, ◌<◌, ◌++◌, ℕ, List, [], length, take, Some, All, IfOk, OnErr};
 ghost use Rattle.fwd_base.specs.Limits.{longest_message};
-ghost use Rattle.fwd_wire.specs.Message.{Said};
+ghost use Rattle.fwd_wire.specs.Message.{MessageContent};
 ghost use Rattle.fwd_wire.specs.Answer.{front};
-ghost use Rattle.fwd_wire.specs.Fits.{SaidFits};
+ghost use Rattle.fwd_wire.specs.Fits.{ContentFits};
 ghost use Rattle.fwd_wire.specs.Stream.{waiting, broken, Streams};
 ghost use Rattle.fwd_wire.specs.declared.fault.ConnFault.{ConnFault};
-ghost use Rattle.fwd_in_forward.specs.Conn.{Scans, KnownIs, ending_of, fault_of, all_said};
+ghost use Rattle.fwd_in_forward.specs.Conn.{Scans, KnownIs, ending_of, fault_of, all_content};
 
-use crate::reading::{AllRead, Messages, all_messages};
+use crate::message_reader::{AllRead, Messages, all_messages};
 use fwd_base::limits::LONGEST_MESSAGE;
 use fwd_base::{Bytes, Memory};
 use fwd_msgpack::{Scan, Scanned};
@@ -17,15 +17,15 @@ use fwd_wire::ConnFault;
 use std::alloc::Global;
 use std::marker::Model;
 
-/// The messages that ended in a piece, and what broke the stream behind them, if something did.
+/// The messages that ended in a buffer, and the fault that broke the stream after them, if any.
 #[derive(Debug, Drop)]
 pub struct Fed {
     pub messages: Messages,
     pub fault: Option<ConnFault>,
 }
 
-/// A connection of a forward peer: what has come behind the last whole message, or what broke the stream. The scan
-/// spares reading the rest again at each piece; where there is none, it is read again.
+/// A connection of a forward peer: the bytes after the last whole message, or what broke the stream. The
+/// scan saves reading these bytes again at each buffer; without it, they are read again.
 #[derive(Drop)]
 pub struct ForwardConn {
     alloc: Global,
@@ -45,18 +45,18 @@ impl Model for ForwardConn {
     ghost invariant = { λ c. Scans c.scan c.rest };
 }
 
-/// What a scan says of the bytes behind the last whole message.
+/// What a scan says of the bytes after the last whole message.
 #[derive(Clone, Copy)]
 enum Known {
-    /// They begin a message, and more is wanted.
+    /// They begin a message, and more bytes are needed.
     Waits,
-    /// No message begins them, nor will.
+    /// No message begins with them, whatever follows.
     Breaks(ConnFault),
-    /// A value may be whole in them, which is to be read.
+    /// They may contain a whole value, which is to be read.
     Open,
 }
 
-/// The bytes from a place on that a message may have.
+/// Returns the bytes after the first `before` ones that the next message may have.
 fn piece_of(rest: &[u8], before: usize) -> &[u8]
     requires within { before ≤ length rest.now }
     requires shorter { before ≤ longest_message }
@@ -68,8 +68,8 @@ fn piece_of(rest: &[u8], before: usize) -> &[u8]
     piece
 }
 
-/// What is known of bytes whose last ones, the piece, go on with a message that began before. No value is read.
-fn looked(scan: &mut Option<Scan>, rest: &[u8], before: usize) -> Known
+/// Returns what is known of bytes whose last ones continue a message that began before. Reads no value.
+fn scan_result(scan: &mut Option<Scan>, rest: &[u8], before: usize) -> Known
     requires within { before ≤ length rest.now }
     requires scan { Scans scan.old (take before rest.now) }
     ensures known { KnownIs rest.now result }
@@ -97,8 +97,8 @@ fn looked(scan: &mut Option<Scan>, rest: &[u8], before: usize) -> Known
     }
 }
 
-/// A scan that was fed these bytes, where they begin a value.
-fn scanned(alloc: Global, rest: &[u8]) -> Result<Option<Scan>, Memory>
+/// Returns a scan that was fed these bytes, if they begin a value.
+fn new_scan(alloc: Global, rest: &[u8]) -> Result<Option<Scan>, Memory>
     requires { length rest.now < longest_message }
     ensures { IfOk result (λ scan. Scans scan rest.now) }
 {
@@ -113,7 +113,7 @@ fn scanned(alloc: Global, rest: &[u8]) -> Result<Option<Scan>, Memory>
 }
 
 impl ForwardConn {
-    /// The beginning of a stream.
+    /// Returns the beginning of a stream.
     pub fn new(alloc: Global) -> Self
         ensures { result ≡ waiting [] }
     {
@@ -125,16 +125,17 @@ impl ForwardConn {
         }
     }
 
-    /// Takes the next piece of the stream, and gives the messages that end in it: with those given before they are the
-    /// messages of the whole stream so far. A fault is what breaks the stream behind them; it is given again at each
-    /// later piece, with no message. After `Memory` the connection is unchanged.
+    /// Takes the next buffer of the stream, and returns the messages that end in it: with those returned
+    /// before they are the messages of the whole stream so far. The fault is what breaks the stream after
+    /// them; each later call returns it again, with no message. If an allocation fails, the connection is
+    /// unchanged.
     pub fn feed(&mut self, piece: &[u8]) -> Result<Fed, Memory>
-        ensures messages { (stream : List ℕ) (before : List Said) → Streams before self.old stream →
-            IfOk result (λ fed. Streams (before ++ all_said fed.messages) self.new (stream ++ piece.now)) }
+        ensures messages { (stream : List ℕ) (before : List MessageContent) → Streams before self.old stream →
+            IfOk result (λ fed. Streams (before ++ all_content fed.messages) self.new (stream ++ piece.now)) }
         ensures fault { IfOk result (λ fed. fed.fault ≡ fault_of self.new) }
         ensures stays { (fault : ConnFault) → self.old ≡ broken fault → (self.new ≡ broken fault) × IfOk result (λ fed. fed.messages ≡ []) }
-        // What the messages say may be written again.
-        ensures fits { IfOk result (λ fed. All SaidFits (all_said fed.messages)) }
+        // What the messages say can be encoded again.
+        ensures fits { IfOk result (λ fed. All ContentFits (all_content fed.messages)) }
         ensures err { OnErr result (self.new ≡ self.old) }
     {
         if self.fault.is_some() {
@@ -145,18 +146,18 @@ impl ForwardConn {
         }
         let before = self.rest.len();
         self.rest.extend_from_slice(piece)?;
-        match looked(&mut self.scan, self.rest.as_slice(), before) {
+        match scan_result(&mut self.scan, self.rest.as_slice(), before) {
             Known::Waits => Ok(Fed {
                 messages: Messages::new(self.alloc),
                 fault: None,
             }),
-            Known::Breaks(fault) => Ok(self.broken_by(fault)),
-            Known::Open => self.settle(before),
+            Known::Breaks(fault) => Ok(self.break_stream(fault)),
+            Known::Open => self.remove_messages(before),
         }
     }
 
-    /// The stream is broken, and nothing of it is kept.
-    fn broken_by(&mut self, fault: ConnFault) -> Fed
+    /// Marks the stream as broken, and drops its bytes.
+    fn break_stream(&mut self, fault: ConnFault) -> Fed
         ensures broken { self.new ≡ broken fault }
         ensures messages { result.messages ≡ [] }
         ensures fault { result.fault ≡ Some fault }
@@ -170,15 +171,15 @@ impl ForwardConn {
         }
     }
 
-    /// Takes the whole messages off the rest. After `Memory` it has the bytes of before.
-    fn settle(&mut self, before: usize) -> Result<Fed, Memory>
+    /// Removes the whole messages from the rest. If an allocation fails, the rest has its earlier bytes.
+    fn remove_messages(&mut self, before: usize) -> Result<Fed, Memory>
         ensures messages { (rest : List ℕ) → self.old ≡ waiting rest →
-            IfOk result (λ fed. Streams (all_said fed.messages) self.new rest) }
+            IfOk result (λ fed. Streams (all_content fed.messages) self.new rest) }
         ensures fault { IfOk result (λ fed. fed.fault ≡ fault_of self.new) }
-        ensures fits { IfOk result (λ fed. All SaidFits (all_said fed.messages)) }
+        ensures fits { IfOk result (λ fed. All ContentFits (all_content fed.messages)) }
         ensures err { (rest : List ℕ) → self.old ≡ waiting rest → OnErr result (self.new ≡ waiting (take before rest)) }
     {
-        match all_read(self.alloc, self.rest.as_slice()) {
+        match messages_and_scan(self.alloc, self.rest.as_slice()) {
             Ok((read, scan)) => {
                 let AllRead {
                     messages,
@@ -199,13 +200,14 @@ impl ForwardConn {
     }
 }
 
-/// The messages that bytes begin with, and a scan that was fed the bytes behind them, where these begin a value.
-fn all_read(alloc: Global, bytes: &[u8]) -> Result<(AllRead, Option<Scan>), Memory>
-    ensures streams { IfOk result (λ x. Streams (all_said x.0.messages) (ending_of x.0.rest x.0.fault) bytes.now) }
-    ensures fits { IfOk result (λ x. All SaidFits (all_said x.0.messages)) }
+/// Returns the messages at the start of bytes, and a scan that was fed the bytes after them, if these begin
+/// a value.
+fn messages_and_scan(alloc: Global, bytes: &[u8]) -> Result<(AllRead, Option<Scan>), Memory>
+    ensures streams { IfOk result (λ x. Streams (all_content x.0.messages) (ending_of x.0.rest x.0.fault) bytes.now) }
+    ensures fits { IfOk result (λ x. All ContentFits (all_content x.0.messages)) }
     ensures scan { IfOk result (λ x. Scans x.1 x.0.rest) }
 {
     let read = all_messages(alloc, bytes)?;
-    let scan = scanned(alloc, read.rest.as_slice())?;
+    let scan = new_scan(alloc, read.rest.as_slice())?;
     Ok((read, scan))
 }

@@ -1,2 +1,2 @@
-pub mod Behind
-pub mod Polling
+pub mod RestLength
+pub mod PollCalls

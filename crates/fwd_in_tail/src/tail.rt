@@ -1,13 +1,13 @@
-//! A file that is followed.
+//! The state of a followed file, and its polls.
 
 ghost use Rattle.std.specs.Prelude.{◌≡◌, ◌-◌, ◌^◌, ◌≤◌, Some, None, [], IfOk, OnErr, IsErrOf, option_map};
-ghost use Rattle.fwd_program.specs.Cause.{HasCause};
-ghost use Rattle.fwd_in_tail.specs.Followed.{Followed, from_place, is_cut, said_before, settled};
-ghost use Rattle.fwd_in_tail.specs.Polls.{Follows, IsNew, PollsAs, Reads};
+ghost use Rattle.fwd_outside.specs.Cause.{HasCause};
+ghost use Rattle.fwd_in_tail.specs.Followed.{Followed, from_place, is_cut, read_before, settled};
+ghost use Rattle.fwd_in_tail.specs.Polls.{TailRepresents, IsNewTail, PollsAs, ReadsLines};
 ghost use Rattle.fwd_in_tail.specs.declared.tail.TailErr.TheVariants.{FileFault};
 ghost use Rattle.fwd_in_tail.specs.declared.tail.TailErr.TheVariants as tail_err;
 
-use crate::left::left_behind;
+use crate::rest_length::rest_after;
 use fwd_base::limits::LONGEST_READ;
 use fwd_base::{Bytes, Memory};
 use fwd_frames::{Frames, Lines};
@@ -16,7 +16,7 @@ use std::alloc::Global;
 use std::marker::Model;
 use thiserror::Error;
 
-/// Why a poll gave no lines.
+/// Why a poll returned no lines.
 #[derive(Clone, Copy, Debug, PartialEq, Eq, Error)]
 pub enum TailErr {
     /// The file can't be read, or isn't there.
@@ -48,30 +48,30 @@ impl From<Memory> for TailErr {
     }
 }
 
-/// A file that is followed, with the place up to which it was read.
+/// A followed file, with the position up to which it was read.
 #[derive(Debug, Drop)]
 pub struct Tail {
     path: Bytes,
     from_head: bool,
     place: Option<u64>,
     frames: Frames,
-    /// How many bytes stand behind the last line feed that was read.
+    /// How many bytes were read after the last line feed.
     left: u64,
     alloc: Global,
 }
 
 impl Model for Tail {
-    ghost use Rattle.fwd_in_tail.specs.Polls.{Seen};
+    ghost use Rattle.fwd_in_tail.specs.Polls.{TailView};
 
-    ghost Value = { Seen };
+    ghost Value = { TailView };
 
     ghost view = { λ t. record { path = t.path; from_head = t.from_head; place = t.place; kept = t.frames; left = t.left } };
 }
 
 impl Tail {
-    /// Follows the file of a path: from its beginning, or from the end that it has at the first poll.
+    /// Follows the file at a path: from its beginning, or from its end at the first poll.
     pub fn new(alloc: Global, path: &[u8], from_head: bool) -> Result<Self, Memory>
-        ensures { IfOk result (IsNew path.now from_head) }
+        ensures { IfOk result (IsNewTail path.now from_head) }
     {
         Ok(Tail {
             path: Bytes::from_slice(alloc, path)?,
@@ -83,8 +83,8 @@ impl Tail {
         })
     }
 
-    /// Where the next read begins, in a file of this length.
-    fn begins(&self, long: u64) -> u64
+    /// Returns where the next read begins, in a file of this length.
+    fn read_start(&self, long: u64) -> u64
         ensures { result ≡ from_place self.now.from_head long self.now.place }
     {
         match self.place {
@@ -95,7 +95,7 @@ impl Tail {
         }
     }
 
-    /// Whether the file was cut, since it has this length.
+    /// Returns whether the file was truncated, given its length.
     fn is_cut(&self, long: u64) -> bool
         ensures { result ≡ is_cut long self.now.place }
     {
@@ -105,58 +105,61 @@ impl Tail {
         }
     }
 
-    /// Takes in bytes that were read from a place on, and gives the lines that end in them.
-    fn read_on(&mut self, from: u64, bytes: &[u8]) -> Result<Lines, Memory>
-        ensures lines { (f : Followed) → Follows self.old f → Reads self.old self.new from f.said bytes.now result }
+    /// Adds bytes that were read from a position, and returns the lines that end in them.
+    fn append_read(&mut self, from: u64, bytes: &[u8]) -> Result<Lines, Memory>
+        ensures lines { (f : Followed) → TailRepresents self.old f → ReadsLines self.old self.new from f.said bytes.now result }
         ensures err { OnErr result (self.new ≡ self.old) }
     {
         let lines = self.frames.feed(bytes)?;
-        self.left = left_behind(self.left, bytes);
+        self.left = rest_after(self.left, bytes);
         self.place = Some(from.saturating_add(bytes.len() as u64));
         Ok(lines)
     }
 
-    /// Takes in bytes that were read from a place on, behind nothing, and gives the lines that end in them.
-    fn read_anew(&mut self, from: u64, bytes: &[u8]) -> Result<Lines, Memory>
-        ensures lines { Reads self.old self.new from [] bytes.now result }
+    /// Adds bytes that were read from a position, with no rest before them, and returns the lines that end
+    /// in them.
+    fn restart_read(&mut self, from: u64, bytes: &[u8]) -> Result<Lines, Memory>
+        ensures lines { ReadsLines self.old self.new from [] bytes.now result }
         ensures err { OnErr result (self.new ≡ self.old) }
     {
         let mut frames = Frames::new(self.alloc);
         let lines = frames.feed(bytes)?;
         self.frames = frames;
-        self.left = left_behind(0, bytes);
+        self.left = rest_after(0, bytes);
         self.place = Some(from.saturating_add(bytes.len() as u64));
         Ok(lines)
     }
 
-    /// Takes in what was read of a file of this length.
+    /// Adds what was read of a file of this length.
     fn take_in(&mut self, long: u64, from: u64, bytes: &[u8]) -> Result<Lines, Memory>
-        ensures lines { (f : Followed) → Follows self.old f → Reads self.old self.new from (said_before long f) bytes.now result }
+        ensures lines { (f : Followed) → TailRepresents self.old f → ReadsLines self.old self.new from (read_before long f) bytes.now result }
         ensures err { OnErr result (self.new ≡ self.old) }
     {
         if self.is_cut(long) {
-            self.read_anew(from, bytes)
+            self.restart_read(from, bytes)
         } else {
-            self.read_on(from, bytes)
+            self.append_read(from, bytes)
         }
     }
 
-    /// Asks for the length of the file once, then reads once behind the place that was reached, and gives the lines that end
-    /// in what was read. After an `Err` the place and the rest of a line are as before.
+    /// Asks for the length of the file once, then reads once from the position reached before, and returns
+    /// the lines that end in what was read. After an `Err` the position and the rest of a line are
+    /// unchanged.
     pub fn poll<F: Files>(&mut self, files: &mut F) -> Result<Lines, TailErr>
-        ensures polls { (f : Followed) → Follows self.old f → PollsAs (F.told files.old) (F.told files.new) self.old self.new f result }
+        ensures polls { (f : Followed) → TailRepresents self.old f → PollsAs (F.call_log files.old) (F.call_log files.new) self.old self.new f result }
         ensures err { OnErr result (self.new ≡ self.old) }
         ensures cause { HasCause (F.faults files.old) (F.faults files.new) (IsErrOf result FileFault) }
     {
         let long = files.length(self.path.as_slice())?;
-        let from = self.begins(long);
+        let from = self.read_start(long);
         let bytes = files.read_at(self.alloc, self.path.as_slice(), from, LONGEST_READ)?;
         Ok(self.take_in(long, from, bytes.as_slice())?)
     }
 
-    /// The place behind the last whole line that was read. None where no place was resumed and no poll was answered yet.
+    /// Returns the position after the last whole line that was read. `None` if no position was resumed and
+    /// no poll was answered yet.
     pub fn settled(&self) -> Option<u64>
-        ensures { (f : Followed) → Follows self.now f → result ≡ settled f }
+        ensures { (f : Followed) → TailRepresents self.now f → result ≡ settled f }
     {
         match self.place {
             None => None,
@@ -164,10 +167,10 @@ impl Tail {
         }
     }
 
-    /// Goes on from a place, as `settled` gave it before.
+    /// Continues from a position that `settled` returned in an earlier run.
     pub fn resume(&mut self, place: u64)
         requires { self.old.place ≡ None }
-        ensures follows { (f : Followed) → Follows self.old f → Follows self.new (record f { place = Some place }) }
+        ensures follows { (f : Followed) → TailRepresents self.old f → TailRepresents self.new (record f { place = Some place }) }
         ensures same { self.new ≡ (record self.old { place = Some place }) }
     {
         self.place = Some(place);

@@ -1,2 +1,2 @@
-pub mod Objects
-pub mod Writing
+pub mod ObjectPairs
+pub mod TextLoops

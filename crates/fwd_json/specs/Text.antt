@@ -1,4 +1,4 @@
--- The JSON text of a value, without blanks (RFC 8259, with strings of this project's own for what JSON lacks).
+-- The JSON text of a value, without blanks (RFC 8259, with tagged strings for types that JSON lacks).
 use Rattle.std.specs.Prelude.{ℕ, ◌==◌, nat_lt, if◌then◌else◌, true, false, List, [], ◌∷◌, ◌++◌, codes}
 use Rattle.std.specs.Fmt.{signed_decimal}
 use Rattle.std.specs.Int.{w32, w64, to_be_bytes}
@@ -6,7 +6,8 @@ use Rattle.std.specs.Str.{is_utf8}
 use Rattle.hex.specs.Hex.{encode_lower}
 use Rattle.fwd_value.specs.Val.{Val, nil, truth, whole, text, bin, float32, float64, ext, list, mapping, Vals, no_vals, val, Entries, no_entries, entry}
 
--- a byte within quotes: the quote and the backslash, the five control characters with a letter, and the others by `\u00` and two hex digits
+-- a byte within quotes: the quote and the backslash, the five control characters with a letter, and the
+-- others by `\u00` and two hex digits
 unfoldable pub escaped : ℕ → List ℕ
 escaped c =
     if c == 34 then 92 ∷ 34 ∷ [] else
@@ -31,11 +32,11 @@ quoted bytes = 34 ∷ (escapes bytes ++ 34 ∷ [])
 abbrev pub tagged : List ℕ → List ℕ → List ℕ
 tagged tag bytes = 34 ∷ (tag ++ (encode_lower bytes ++ 34 ∷ []))
 
--- text that isn't UTF-8 is shown as bin
+-- text that isn't UTF-8 is written as a byte string
 abbrev pub string : List ℕ → List ℕ
 string bytes = if is_utf8 bytes then quoted bytes else tagged (codes "bin:") bytes
 
--- a key, given its JSON text: UTF-8 text as it is, and any other key as the quoted JSON text
+-- a key, given its JSON text: UTF-8 text as it is, and any other key as its JSON text in quotes
 abbrev pub key_text : Val → List ℕ → List ℕ
 key_text (text bytes) json = if is_utf8 bytes then quoted bytes else quoted json
 key_text _ json = quoted json

@@ -1,8 +1,9 @@
-//! Peers send log lines as JSON, and outputs write values so. Here a line of JSON becomes the pairs of a body, or is refused
-//! with its reason, and a value becomes JSON text, one line for each, whatever bytes it holds.
+//! JSON: parsing a log line into the pairs of a record, and writing a value as one line of text, whatever
+//! bytes it has.
 //!
-//! `pairs_of_json` gives the pairs of a line, or the first refusal in order. `json_text` writes a value; `map_text` and
-//! `more_pairs_text` write pairs that need not stand in a value, `string_text` and `key_text` bytes.
+//! `pairs_of_json` returns the pairs of a line, or the first error in a fixed order. `json_text` writes a
+//! value, `map_text` and `more_pairs_text` write pairs without a `Value`, and `string_text` and `key_text`
+//! write bytes.
 #![tactic(auto)]
 
 mod reading;

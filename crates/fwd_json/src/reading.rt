@@ -1,4 +1,4 @@
-//! Reading JSON.
+//! Parsing of JSON lines into values.
 
 ghost use Rattle.std.specs.Prelude.{◌≡◌, ◌≢◌, ◌↔◌, ◌≤◌, IsTrue, IfOk, IfErr, Ok, Err};
 ghost use Rattle.serde_json.specs.Data.{depth, items_depth, members_depth};
@@ -6,7 +6,7 @@ ghost use Rattle.serde_json.specs.Errors.{IsMemory};
 ghost use Rattle.serde_json.specs.View.{view, number_view, items_view, members_view};
 ghost use Rattle.fwd_value.specs.Val.{vals_of, entries_of};
 ghost use Rattle.fwd_value.specs.View.{val_of};
-ghost use Rattle.fwd_json.specs.Reading.{is_whole, all_whole, items_whole, members_whole, number_value, value_of, values_of, pairs_of, object_pairs as pairs_of_object, pairs_in};
+ghost use Rattle.fwd_json.specs.LinePairs.{is_whole, all_whole, items_whole, members_whole, number_value, value_of, values_of, pairs_of, object_pairs as pairs_of_object, pairs_in};
 
 use fwd_base::limits::DEEPEST;
 use fwd_base::{Bytes, Memory};
@@ -15,14 +15,14 @@ use serde_json::{Error as JsonError, Map, Number, Value as Json};
 use std::alloc::Global;
 use thiserror::Error;
 
-/// Why a line gives no pairs.
+/// Why a line was rejected.
 #[derive(Clone, Copy, Debug, PartialEq, Eq, Error)]
 pub enum JsonErr {
     #[error("not JSON")]
     NotJson,
     #[error("not an object")]
     NotAnObject,
-    /// A number isn't whole, or has more than 64 bits.
+    /// A number isn't an integer, or has more than 64 bits.
     #[error("a number that isn't whole")]
     NotWhole,
     #[error("nested too deep")]
@@ -42,24 +42,24 @@ impl From<Memory> for JsonErr {
     }
 }
 
-/// How deep the members of an object may be nested, which is the body of an event.
+/// The deepest nesting of the members of an object, which becomes the record of an event.
 const MEMBERS_DEPTH: u32 = DEEPEST - 2;
 
-/// The pairs of a line that is a JSON object, in the byte order of their keys; of equal keys the last counts. Where
-/// several refusals hold, the first of `NotJson`, `NotAnObject`, `NotWhole` and `TooDeep` comes. An object nested deeper
-/// than 63 is too deep.
+/// Parses a line that is a JSON object. Returns its pairs in the byte order of their keys; of equal keys the
+/// last counts. If several errors apply, returns the first of `NotJson`, `NotAnObject`, `NotWhole` and
+/// `TooDeep`. An object nested more than 63 deep is too deep.
 pub fn pairs_of_json(alloc: Global, line: &[u8]) -> Result<Pairs, JsonErr>
     ensures pairs { IfOk result (λ pairs. pairs_in line.now ≡ Ok pairs) }
     ensures refused { IfErr result (λ e. e ≢ JsonErr.Memory → pairs_in line.now ≡ Err e) }
 {
     match Json::from_slice(alloc, line) {
         Ok(json) => object_pairs(alloc, &json),
-        Err(error) => Err(refusal(&error)),
+        Err(error) => Err(error_of(&error)),
     }
 }
 
-/// Why a line wasn't read.
-fn refusal(error: &JsonError) -> JsonErr
+/// Converts a parse error.
+fn error_of(error: &JsonError) -> JsonErr
     ensures memory { IsMemory error.now → result ≡ JsonErr.Memory }
     ensures text { ¬ IsMemory error.now → result ≡ JsonErr.NotJson }
 {
@@ -70,7 +70,7 @@ fn refusal(error: &JsonError) -> JsonErr
     }
 }
 
-/// The pairs of an object.
+/// Returns the pairs of an object, or why it is rejected.
 fn object_pairs(alloc: Global, json: &Json) -> Result<Pairs, JsonErr>
     ensures pairs { IfOk result (λ pairs. pairs_of_object (view json.now) ≡ Ok pairs) }
     ensures refused { IfErr result (λ e. e ≢ JsonErr.Memory → pairs_of_object (view json.now) ≡ Err e) }
@@ -78,7 +78,7 @@ fn object_pairs(alloc: Global, json: &Json) -> Result<Pairs, JsonErr>
     let Some(members) = json.as_object() else {
         return Err(JsonErr::NotAnObject);
     };
-    if !are_members_whole(members) {
+    if !members_are_integers(members) {
         return Err(JsonErr::NotWhole);
     }
     if !members_nest_within(members, MEMBERS_DEPTH) {
@@ -87,31 +87,31 @@ fn object_pairs(alloc: Global, json: &Json) -> Result<Pairs, JsonErr>
     Ok(members_pairs(alloc, members)?)
 }
 
-/// Whether every number in the data is whole and has at most 64 bits.
+/// Returns whether every number in the data is an integer of at most 64 bits.
 #[cycle(whole)]
-fn is_all_whole(json: &Json) -> bool
+fn has_only_integers(json: &Json) -> bool
     ensures { result ≡ all_whole (view json.now) }
 {
     match json {
-        Json::Number(number) => is_number_whole(number),
-        Json::Array(items) => are_items_whole(items),
-        Json::Object(members) => are_members_whole(members),
+        Json::Number(number) => is_integer(number),
+        Json::Array(items) => items_are_integers(items),
+        Json::Object(members) => members_are_integers(members),
         Json::Null | Json::Bool(_) | Json::String(_) => true,
     }
 }
 
-fn is_number_whole(number: &Number) -> bool
+fn is_integer(number: &Number) -> bool
     ensures { result ≡ is_whole (number_view number.now) }
 {
     number.as_u64().is_some() || number.as_i64().is_some()
 }
 
 #[cycle(whole)]
-fn are_items_whole(items: &Vec<Json>) -> bool
+fn items_are_integers(items: &Vec<Json>) -> bool
     ensures { result ≡ items_whole (items_view items.now.items) }
 {
     for item in items {
-        if !is_all_whole(item) {
+        if !has_only_integers(item) {
             return false;
         }
     }
@@ -119,18 +119,18 @@ fn are_items_whole(items: &Vec<Json>) -> bool
 }
 
 #[cycle(whole)]
-fn are_members_whole(members: &Map<String, Json>) -> bool
+fn members_are_integers(members: &Map<String, Json>) -> bool
     ensures { result ≡ members_whole (members_view members.now.entries) }
 {
     for (_key, member) in members.iter() {
-        if !is_all_whole(member) {
+        if !has_only_integers(member) {
             return false;
         }
     }
     true
 }
 
-/// Whether lists and objects are nested so deep at most in the data.
+/// Returns whether lists and objects are nested at most `most` deep in the data.
 #[cycle(nests)]
 fn nests_within(json: &Json, most: u32) -> bool
     ensures { IsTrue result ↔ (depth (view json.now) ≤ most) }
@@ -166,7 +166,7 @@ fn members_nest_within(members: &Map<String, Json>, most: u32) -> bool
     true
 }
 
-/// The value that the data stand for.
+/// Converts JSON data to a value.
 #[cycle(convert)]
 fn value(alloc: Global, json: &Json) -> Result<Value, Memory>
     ensures { IfOk result (λ value. val_of value ≡ value_of (view json.now)) }
@@ -174,15 +174,15 @@ fn value(alloc: Global, json: &Json) -> Result<Value, Memory>
     match json {
         Json::Null => Ok(Value::Nil),
         Json::Bool(truth) => Ok(Value::Truth(*truth)),
-        Json::Number(number) => Ok(whole_value(number)),
+        Json::Number(number) => Ok(integer_value(number)),
         Json::String(text) => Ok(Value::Text(Bytes::from_slice(alloc, text.as_bytes())?)),
         Json::Array(items) => Ok(Value::List(items_values(alloc, items)?)),
         Json::Object(members) => Ok(Value::Map(members_pairs(alloc, members)?)),
     }
 }
 
-/// The value of a number, or nil where it isn't whole.
-fn whole_value(number: &Number) -> Value
+/// Converts a number to a value, or to nil if it isn't an integer.
+fn integer_value(number: &Number) -> Value
     ensures { val_of result ≡ number_value (number_view number.now) }
 {
     if let Some(n) = number.as_u64() {

@@ -1,8 +1,8 @@
-//! The text of a value. It is put together in a buffer of its own and then appended in one copy, so that want of memory
-//! leaves nothing half written.
+//! JSON text of values. `json_text` builds it in a separate buffer and appends it in one copy, so that a
+//! failed allocation leaves no partial text.
 
 ghost use Rattle.std.specs.Prelude.{◌≡◌, ◌↔◌, ◌<◌, ◌≤◌, ◌^◌, ℕ, List, [], ◌∷◌, ◌++◌, true, codes, length, map, take, IsTrue, OnOk, OnErr};
-ghost use Rattle.std.specs.Fmt.{decimal, signed_decimal};
+ghost use Rattle.std.specs.Fmt.{signed_decimal};
 ghost use Rattle.hex.specs.Hex.{encode_lower};
 ghost use Rattle.fwd_value.specs.Val.{vals_of, entries_of, mapping, text};
 ghost use Rattle.fwd_value.specs.View.{val_of, pair_of};
@@ -10,7 +10,7 @@ ghost use Rattle.fwd_json.specs.Text.{escaped, escapes, quoted, tagged, string, 
 
 use fwd_base::{Bytes, Memory, is_utf8};
 use fwd_value::{Pairs, Value};
-use itoa::Buffer;
+use itoa::{Buffer, Integer};
 use std::alloc::Global;
 
 /// Appends two hex digits for each byte.
@@ -21,7 +21,7 @@ fn put_hex(alloc: Global, out: &mut Bytes, bytes: &[u8]) -> Result<(), Memory>
     out.extend_from_slice(digits.as_bytes())
 }
 
-/// Appends a control character by its two hex digits.
+/// Appends the escape of a control character, with two hex digits.
 fn put_control(out: &mut Bytes, byte: u8) -> Result<(), Memory>
     ensures { OnOk result (out.new ≡ out.old ++ (codes "\\u00" ++ encode_lower (byte ∷ []))) }
 {
@@ -33,7 +33,7 @@ fn put_control(out: &mut Bytes, byte: u8) -> Result<(), Memory>
     out.extend_from_slice(digits.as_slice())
 }
 
-/// Appends a byte as it stands within quotes.
+/// Appends a byte within quotes, escaped if necessary.
 #[tactic(auto, unfolding(crate::specs::Text::escaped))]
 fn put_escaped(out: &mut Bytes, byte: u8) -> Result<(), Memory>
     ensures { OnOk result (out.new ≡ out.old ++ escaped byte) }
@@ -60,7 +60,7 @@ fn put_quoted(out: &mut Bytes, bytes: &[u8]) -> Result<(), Memory>
     out.push(b'"')
 }
 
-/// Whether a byte stands within quotes as what it is.
+/// Returns whether a byte needs no escape within quotes.
 #[tactic(auto, unfolding(crate::specs::Text::escaped))]
 fn is_plain(byte: u8) -> bool
     ensures { result ≡ true → escaped byte ≡ byte ∷ [] }
@@ -68,7 +68,7 @@ fn is_plain(byte: u8) -> bool
     byte >= 0x20 && byte != b'"' && byte != b'\\'
 }
 
-/// How many bytes in front stand within quotes as what they are.
+/// Returns the number of leading bytes that need no escape.
 fn plain_run(bytes: &[u8]) -> usize
     ensures plain { escapes (take result bytes.now) ≡ take result bytes.now }
     ensures within { result ≤ length bytes.now }
@@ -80,7 +80,7 @@ fn plain_run(bytes: &[u8]) -> usize
     run
 }
 
-/// Appends bytes as they stand within quotes. Those that stay what they are come in runs.
+/// Appends bytes within quotes, escaped. Copies runs of bytes that need no escape.
 fn put_escapes(out: &mut Bytes, bytes: &[u8]) -> Result<(), Memory>
     ensures { OnOk result (out.new ≡ out.old ++ escapes bytes.now) }
 {
@@ -129,16 +129,9 @@ fn put_key(alloc: Global, out: &mut Bytes, bytes: &[u8]) -> Result<(), Memory>
     }
 }
 
-/// Appends a number of 0 or more.
-fn put_number(out: &mut Bytes, n: u64) -> Result<(), Memory>
-    ensures { OnOk result (out.new ≡ out.old ++ decimal n) }
-{
-    let mut buffer = Buffer::new();
-    out.extend_from_slice(buffer.format(n).as_bytes())
-}
-
-fn put_signed(out: &mut Bytes, n: i64) -> Result<(), Memory>
-    ensures { OnOk result (out.new ≡ out.old ++ signed_decimal n) }
+/// Appends a whole number in decimal digits.
+fn put_number<I: Integer>(out: &mut Bytes, n: I) -> Result<(), Memory>
+    ensures { OnOk result (out.new ≡ out.old ++ I.text n) }
 {
     let mut buffer = Buffer::new();
     out.extend_from_slice(buffer.format(n).as_bytes())
@@ -148,7 +141,7 @@ fn put_ext(alloc: Global, out: &mut Bytes, kind: i8, bytes: &[u8]) -> Result<(),
     ensures { OnOk result (out.new ≡ out.old ++ tagged (codes "ext:" ++ (signed_decimal kind ++ codes ":")) bytes.now) }
 {
     out.extend_from_slice(b"\"ext:")?;
-    put_signed(out, kind as i64)?;
+    put_number(out, kind as i64)?;
     out.push(b':')?;
     put_hex(alloc, out, bytes)?;
     out.push(b'"')
@@ -163,7 +156,7 @@ fn write_value(alloc: Global, value: &Value, out: &mut Bytes) -> Result<(), Memo
         Value::Truth(true) => out.extend_from_slice(b"true"),
         Value::Truth(false) => out.extend_from_slice(b"false"),
         Value::Uint(n) => put_number(out, *n),
-        Value::Neg(n) => put_signed(out, n.get()),
+        Value::Neg(n) => put_number(out, n.get()),
         Value::Text(bytes) => put_string(alloc, out, bytes.as_slice()),
         Value::Bin(bytes) => put_tagged(alloc, out, b"bin:", bytes.as_slice()),
         Value::Float32(bits) => put_tagged(alloc, out, b"f32:", bits.to_be_bytes().as_slice()),
@@ -182,7 +175,7 @@ fn write_value(alloc: Global, value: &Value, out: &mut Bytes) -> Result<(), Memo
     }
 }
 
-/// Appends a key: UTF-8 text as it is, and any other key as its quoted text.
+/// Appends a key: UTF-8 text as it is, and any other key as its JSON text in quotes.
 #[cycle(write)]
 fn write_key(alloc: Global, key: &Value, out: &mut Bytes) -> Result<(), Memory>
     ensures { OnOk result (out.new ≡ out.old ++ key_text (val_of key.now) (json (val_of key.now))) }
@@ -256,8 +249,9 @@ fn write_more_pairs(alloc: Global, pairs: &[(Value, Value)], out: &mut Bytes) ->
     Ok(())
 }
 
-/// Appends the JSON text of a value, without blanks. Bin, ext, floats and text that isn't UTF-8 are shown as strings with
-/// a tag and hex digits; a key that isn't UTF-8 text is the quoted text of that key. After `Err` the bytes are as before.
+/// Appends the JSON text of a value, without blanks. Byte strings, extensions, floats and text that isn't
+/// UTF-8 become strings with a tag and hex digits; a key that isn't UTF-8 text becomes its JSON text in
+/// quotes. After `Err` the bytes are unchanged.
 pub fn json_text(alloc: Global, value: &Value, out: &mut Bytes) -> Result<(), Memory>
     ensures ok { OnOk result (out.new ≡ out.old ++ json (val_of value.now)) }
     ensures err { OnErr result (out.new ≡ out.old) }
@@ -267,30 +261,32 @@ pub fn json_text(alloc: Global, value: &Value, out: &mut Bytes) -> Result<(), Me
     out.extend_from_slice(text.as_slice())
 }
 
-/// Appends the JSON text of a value, as `json_text` does, without a buffer of its own. After `Err` some of it may stand at
-/// the end.
+/// Appends the JSON text of a value, as `json_text` does, without a separate buffer. After `Err` a part of
+/// it may have been appended.
 pub fn value_text(alloc: Global, value: &Value, out: &mut Bytes) -> Result<(), Memory>
     ensures { OnOk result (out.new ≡ out.old ++ json (val_of value.now)) }
 {
     write_value(alloc, value, out)
 }
 
-/// Appends the JSON text of a text, given by its bytes, as `json_text` does. After `Err` some of it may stand at the end.
+/// Appends the JSON text of a text, given by its bytes, as `json_text` does. After `Err` a part of it may
+/// have been appended.
 pub fn string_text(alloc: Global, bytes: &[u8], out: &mut Bytes) -> Result<(), Memory>
     ensures { OnOk result (out.new ≡ out.old ++ json (text bytes.now)) }
 {
     put_string(alloc, out, bytes)
 }
 
-/// Appends a text, given by its bytes, as it stands in the text of a map as a key. After `Err` some of it may stand at the
-/// end.
+/// Appends a text, given by its bytes, as a key of a JSON object. After `Err` a part of it may have been
+/// appended.
 pub fn key_text(alloc: Global, bytes: &[u8], out: &mut Bytes) -> Result<(), Memory>
     ensures { OnOk result (out.new ≡ out.old ++ key_text (text bytes.now) (json (text bytes.now))) }
 {
     put_key(alloc, out, bytes)
 }
 
-/// Appends the JSON text of a map, given by its pairs, as `json_text` does. After `Err` some of it may stand at the end.
+/// Appends the JSON text of a map, given by its pairs, as `json_text` does. After `Err` a part of it may
+/// have been appended.
 pub fn map_text(alloc: Global, pairs: &Pairs, out: &mut Bytes) -> Result<(), Memory>
     ensures { OnOk result (out.new ≡ out.old ++ json (mapping (entries_of pairs.now))) }
 {
@@ -299,8 +295,8 @@ pub fn map_text(alloc: Global, pairs: &Pairs, out: &mut Bytes) -> Result<(), Mem
     out.push(b'}')
 }
 
-/// Appends pairs as they stand in the text of a map behind another pair: each with a comma before it. After `Err` some of
-/// them may stand at the end.
+/// Appends further pairs of a JSON object, with a comma before each. After `Err` some of them may have been
+/// appended.
 pub fn more_pairs_text(alloc: Global, pairs: &Pairs, out: &mut Bytes) -> Result<(), Memory>
     ensures { OnOk result (out.new ≡ out.old ++ more_pairs (entries_of pairs.now)) }
 {

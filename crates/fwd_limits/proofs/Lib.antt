@@ -1,6 +1,6 @@
 pub mod Sums
-pub mod Looking
-pub mod Waiting
-pub mod Losing
+pub mod ChunkStates
+pub mod WaitingBytes
+pub mod LowestChunks
 pub mod Masks
-pub mod Asking
+pub mod Evictions

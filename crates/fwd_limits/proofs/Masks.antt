@@ -1,4 +1,4 @@
--- Masks that have a bit for each number below an end of which something holds.
+-- Masks with a bit for each number below a bound that satisfies a predicate.
 use Rattle.std.proofs.Common.{◌≡◌, ◌⊎◌, inl, inr, ◌↔◌, ℕ, ◌+◌, ◌*◌, ◌%◌, ◌<◌, sym, subst, ◌∙◌, arith}
 use Prim.Native.Nat.{◌^◌}
 use Rattle.std.specs.Int.{IsBitSet, bit_at, w64}
@@ -7,7 +7,7 @@ use Rattle.std.proofs.lemmas.Nat.{bit_set_by_shift}
 use Rattle.std.proofs.lemmas.Nat.Bits.{shr_and_one, bit_at_set_same, bit_at_set_other, bit_at-zero}
 use Rattle.std.proofs.lemmas.Bool.{cases_eq}
 
--- bit i is set exactly where P holds of i, as far as the first n go
+-- bit i is set exactly if P holds for i, for i below n
 abbrev pub MaskBelow : ℕ → (ℕ → Type 0) → ℕ → Type 0
 MaskBelow n P mask = (i : ℕ) → IsBitSet mask i ↔ ((i < n) × P i)
 
@@ -34,7 +34,7 @@ mask_skip n P mask other below i = (
   λ next. (below i).1 (skip_by n P i other (cases_eq i n) next.0 next.1, next.1),
 )
 
--- the mask with one bit more
+-- the mask with one more bit
 abbrev pub with_bit : ℕ → ℕ → ℕ
 with_bit mask n = bit_or mask (1 * 2 ^ n % 2 ^ 64)
 

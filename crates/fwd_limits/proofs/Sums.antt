@@ -1,4 +1,4 @@
--- The rows that pass a test, row by row.
+-- The rows that pass a test, slot by slot.
 use Prim.Native.Nat.{◌^◌}
 use Rattle.std.proofs.Common.{◌≡◌, ℕ, ◌+◌, ◌<◌, Bool, true, false, cond, eqb, List, [], ◌∷◌, ◌++◌, length, get_or, take, drop, refl, sym, ap, ◌∙◌, arith, Option, Some, None}
 use Rattle.std.specs.Prelude.{filter, option_map}
@@ -7,19 +7,19 @@ use Rattle.std.proofs.lemmas.Nat.{pow_pos}
 use Rattle.std.proofs.lemmas.Bool.Decides.{nat_tests}
 use Rattle.std.proofs.lemmas.List.Elements.{filter-append}
 use Rattle.fwd_base.specs.declared.ids.ChunkId.{ChunkId}
-use Rattle.fwd_limits.specs.Losses.{first_chunk}
+use Rattle.fwd_limits.specs.Evictions.{first_chunk}
 use Rattle.fwd_table.specs.declared.row.Row.{Row}
 use Rattle.fwd_table.specs.declared.route.Route.{Route}
 use Rattle.fwd_table.specs.Routes.{mask_of}
 use Rattle.fwd_table.specs.Rows.{rows_at}
-use Rattle.fwd_table.specs.Kept.{size_of}
-use Rattle.fwd_table.proofs.Standing.{StandsAs, one_seen, places_part}
+use Rattle.fwd_table.specs.Usage.{size_of}
+use Rattle.fwd_table.proofs.SlotRows.{StandsAs, one_seen, places_part}
 
 pub size_if : (test : Bool) (row : Row) → size_of (cond test (row ∷ []) []) ≡ cond test row.size 0
 size_if true row = omega arith
 size_if false row = refl
 
--- a mask of routes is 0 where there are none
+-- a mask of routes is 0 exactly if there are none
 pub mask_none : (routes : List Route) → eqb (mask_of routes) 0 ≡ eqb (length routes) 0
 mask_none [] = refl
 mask_none (r ∷ routes) =
@@ -31,7 +31,7 @@ mask_none (r ∷ routes) =
     let there : eqb (length (r ∷ routes)) 0 ≡ false = grind (arith, nat_tests) in
     here ∙ sym there
 
--- ---- place by place
+-- ---- slot by slot
 
 module _ {T : Type 0} (see : Row → T) (test : T → Bool) (p : Row → Bool) (counts : (row : Row) → test (see row) ≡ p row) (places : List (Option Row)) (n : ℕ) where
   -- the rows that pass so far

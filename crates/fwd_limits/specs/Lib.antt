@@ -1,3 +1,3 @@
-pub mod Kept
-pub mod Losses
-pub mod Pausing
+pub mod ChunkState
+pub mod Evictions
+pub mod Backpressure

@@ -1,19 +1,19 @@
-//! Limits on what a run keeps: which chunks an output loses so that a new one has room in its storage, which inputs are
-//! paused as their chunks fill memory, and how much is in flight.
+//! Limits on what a run keeps: which chunks an output evicts so that a new one fits its storage, which
+//! inputs are paused as their chunks fill memory, and how much is in flight.
 //!
-//! All is asked of the table of chunks as it stands, and takes no memory.
+//! All functions read the table and allocate nothing.
 //!
-//! `next_loss`, asked again and again, gives the shortest list of the lowest chunks (`one_after_another`); `paused`,
-//! `files_up` and `found_up` are exactly their definitions.
+//! Repeated calls of `next_loss` give the shortest list of the lowest chunks (`one_after_another`);
+//! `paused`, `files_up` and `found_up` equal their definitions.
 #![tactic(auto)]
 
-mod flights;
-mod laws;
-mod loss;
-mod pausing;
-mod rows;
+mod backpressure;
+mod chunk_state;
+mod eviction;
+mod in_flight;
+mod theorems;
 
-pub use flights::{files_up, found_up};
-pub use laws::{losses_are_the_lowest, one_after_another};
-pub use loss::{Loss, next_loss};
-pub use pausing::{MemLimits, paused};
+pub use backpressure::{MemLimits, paused};
+pub use eviction::{Loss, next_loss};
+pub use in_flight::{files_up, found_up};
+pub use theorems::{losses_are_the_lowest, one_after_another};

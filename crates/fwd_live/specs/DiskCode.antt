@@ -1,9 +1,9 @@
--- How the logic stores a call of a disk with its answer, and what the disk was given.
+-- How the logic encodes a disk call with its answer, and the initial state of a disk.
 use Rattle.std.specs.Prelude.{◌≡◌, ◌⊎◌, ℕ, List, Option, refl}
 use mathlib.Core.Logic.{inl, inr}
-use base.Stored.{coded_unit}
+use base.Stored.{Gv, coded_unit}
 use Rattle.std.specs.Coded.{Coded, code_by, coded×, coded⊎, coded_ℕ, coded_list, coded_option}
-use Rattle.fwd_program.specs.Program.{entry}
+use Rattle.fwd_outside.specs.Program.{entry}
 use Rattle.fwd_outside.specs.Disk.{DiskCall, DiskAnswer, DiskEntry, DiskGiven, Place, WriteAt, Sync, Remove, Read, ListNames, Preset, FailAt}
 
 abbrev Done : Type 0
@@ -55,5 +55,10 @@ disk_code = code_by Parts
     (coded⊎ (coded× bytes_code (coded× coded_ℕ (coded× coded_ℕ (coded_option bytes_code)))) (coded⊎ (coded× bytes_code (coded_option (coded_list bytes_code))) (coded⊎ (coded× bytes_code bytes_code) coded_ℕ)))))))
     (λ e. parts_of e.call e.answer) of_parts (λ e. of_parts-parts_of e.call e.answer)
 
+-- a value as the logic stores it
+abbrev pub stored_code : Coded Gv
+stored_code = record { code = λ x. x; inj = λ x y is. is }
+
 abbrev pub stood_code : Coded DiskGiven
-stood_code = code_by (List (List ℕ × List ℕ)) (coded_list (coded× bytes_code bytes_code)) (λ g. g.files) (λ p. record { files = p }) (λ _. refl)
+stood_code = code_by (List (List ℕ × List ℕ) × Gv) (coded× (coded_list (coded× bytes_code bytes_code)) stored_code)
+    (λ g. (g.files, g.round)) (λ p. record { files = p.0; round = p.1 }) (λ _. refl)

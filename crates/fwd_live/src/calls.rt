@@ -1,4 +1,4 @@
-//! The calls that were made of a device, which only clauses read.
+//! The ghost call log of a device, which only contracts read.
 
 ghost use Rattle.std.specs.Prelude.{◌≡◌, List, [], ◌∷◌, ◌++◌};
 ghost use Rattle.std.specs.Borrow.{ftrue};
@@ -6,12 +6,12 @@ ghost use Rattle.std.specs.Coded.{coded_list};
 
 use std::marker::{Model, PhantomData};
 
-/// The calls that were made of a device so far, with their answers, the oldest first, and what it was given before them.
-/// It takes no bytes: nothing of it is kept or copied when a program runs. `G` and `E` are types whose values clauses see
-/// as what is given and as a call with its answer.
+/// The call log of a device: its calls so far with their answers, the oldest first, and its initial state.
+/// It has no size: nothing of it is kept or copied at run time. `G` and `E` are types whose values
+/// contracts see as the initial state and as a call with its answer.
 ///
-/// What it says is as true as the methods that write it: each makes a call on the machine, notes that call with the
-/// answer that it then gives, and nothing else. So `new` and `then` are for the devices of this crate alone.
+/// The log is as true as the methods that write it: each makes one system call and logs it with the answer
+/// that it returns, and nothing else. So `new` and `then` are for the devices of this crate only.
 #[derive(Drop)]
 pub struct Calls<G, E> {
     marker: PhantomData<(G, E)>,
@@ -24,7 +24,7 @@ impl<G, E> Model for Calls<G, E> {
 }
 
 impl<G, E> Calls<G, E> {
-    /// No call was made. What is given is picked by who calls this: the clause holds of each.
+    /// Returns the empty log. The caller picks the initial state: the clause holds for each.
     pub(crate) fn new() -> Calls<G, E>
         ghost given: { G }
         ensures { (result.given ≡ given) × (result.entries ≡ []) }
@@ -34,7 +34,7 @@ impl<G, E> Calls<G, E> {
         }
     }
 
-    /// One call more. Who calls this picks the entry from the note.
+    /// Returns the log with one more call. The caller picks the entry from the note.
     pub(crate) fn then<N>(&self, _note: &N) -> Calls<G, E>
         ghost entry: { E }
         ensures { (result.given ≡ self.now.given) × (result.entries ≡ self.now.entries ++ entry ∷ []) }

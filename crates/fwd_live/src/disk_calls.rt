@@ -1,28 +1,29 @@
-//! The calls of a disk.
+//! The call log of a disk.
 
 use crate::calls::Calls;
 use std::marker::Model;
 
-/// Stands for the files that stood on a disk at first. No value of it is made.
-pub struct DiskStood;
+/// Represents the initial files of a disk. No value of it is made.
+pub struct DiskStart;
 
-impl Model for DiskStood {
+impl Model for DiskStart {
     ghost use Rattle.fwd_outside.specs.Disk.{DiskGiven};
     ghost use Rattle.fwd_live.specs.DiskCode.{stood_code};
+    ghost use base.Stored.{gnil};
     ghost use Rattle.std.specs.Prelude.{[]};
 
     ghost Value = { DiskGiven };
 
     ghost coded = { stood_code };
 
-    ghost view = { λ _. record { files = [] } };
+    ghost view = { λ _. record { files = []; round = gnil } };
 }
 
-/// Stands for a call of a disk with its answer. No value of it is made.
-pub struct DiskCalled;
+/// Represents a disk call with its answer. No value of it is made.
+pub struct DiskRecord;
 
-impl Model for DiskCalled {
-    ghost use Rattle.fwd_program.specs.Program.{entry};
+impl Model for DiskRecord {
+    ghost use Rattle.fwd_outside.specs.Program.{entry};
     ghost use Rattle.fwd_outside.specs.Disk.{DiskEntry, FailAt};
     ghost use Rattle.fwd_live.specs.DiskCode.{disk_code};
 
@@ -33,5 +34,5 @@ impl Model for DiskCalled {
     ghost view = { λ _. entry (FailAt 0) tt };
 }
 
-/// The calls of a disk.
-pub type DiskCalls = Calls<DiskStood, DiskCalled>;
+/// The call log of a disk.
+pub type DiskCalls = Calls<DiskStart, DiskRecord>;

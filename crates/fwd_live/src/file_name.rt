@@ -1,4 +1,4 @@
-//! Names of files within a folder.
+//! Names of files in a folder.
 
 ghost use Rattle.std.specs.Prelude.{◌≡◌, ◌↔◌, List, ℕ, All, Some, IfOk, IfSome};
 ghost use Rattle.std.specs.List.{Contains};
@@ -7,7 +7,7 @@ ghost use Rattle.std.specs.Cmp.Lexicographic.{slice_cmp, nat_list_eq_equiv, nat_
 ghost use Rattle.std.specs.Ordering.{nat_cmp};
 ghost use Rattle.std.specs.Str.{bytes_eq};
 ghost use Rattle.std.proofs.Common.{refl};
-ghost use Rattle.fwd_live.specs.Placed.{placed};
+ghost use Rattle.fwd_live.specs.FileNames.{complete_file_name};
 ghost use Rattle.fwd_outside.specs.Disk.{IsFileName, IsListing};
 
 use fwd_outside::{Bytes, Memory, Names};
@@ -15,10 +15,10 @@ use std::alloc::Global;
 use std::cmp::Ordering;
 use std::marker::Model;
 
-/// What the name of a file ends with while it is being placed. It is no file yet.
-pub const UNPLACED: &str = ".tmp";
+/// The suffix of a file that is being written before its rename. It doesn't count as a file yet.
+pub const TEMPORARY: &str = ".tmp";
 
-/// A name within a folder, by the order of its bytes.
+/// A name in a folder, ordered by its bytes.
 #[derive(Drop)]
 pub struct FileName {
     name: Bytes,
@@ -70,13 +70,13 @@ impl Ord for FileName {
     }
 }
 
-/// The name of a file that is placed. None where it has a `/`, or isn't placed yet.
-pub fn placed_name(alloc: Global, name: &str) -> Result<Option<FileName>, Memory>
+/// Returns the name of a complete file; `None` if it has a `/` or the suffix of an incomplete one.
+pub fn complete_name(alloc: Global, name: &str) -> Result<Option<FileName>, Memory>
     ensures name { IfOk result (λ found. IfSome found IsFileName) }
-    ensures placed { IfOk result (λ found. found ≡ placed name.now) }
+    ensures placed { IfOk result (λ found. found ≡ complete_file_name name.now) }
 {
     let bytes = name.as_bytes();
-    if bytes.ends_with(UNPLACED.as_bytes()) || bytes.contains(&b'/') {
+    if bytes.ends_with(TEMPORARY.as_bytes()) || bytes.contains(&b'/') {
         return Ok(None);
     }
     let name = Bytes::from_slice(alloc, bytes)?;
@@ -93,7 +93,7 @@ fn copied_names(alloc: Global, files: &[FileName]) -> Result<Names, Memory>
     Ok(names)
 }
 
-/// Names, sorted, each once: these and no others.
+/// Returns the names sorted, each once: these and no others.
 pub fn listing(alloc: Global, names: Vec<FileName>) -> Result<Names, Memory>
     requires { All IsFileName names.items }
     ensures sorted { IfOk result IsListing }

@@ -1,12 +1,12 @@
-//! The calls of files.
+//! The call log of followed files.
 
 use crate::calls::Calls;
 use std::marker::Model;
 
-/// Stands for the files that stood there at first. No value of it is made.
-pub struct FilesStood;
+/// Represents the initial files. No value of it is made.
+pub struct FilesStart;
 
-impl Model for FilesStood {
+impl Model for FilesStart {
     ghost use Rattle.fwd_outside.specs.Files.{FilesGiven};
     ghost use Rattle.fwd_live.specs.FilesCode.{stood_code};
     ghost use Rattle.std.specs.Prelude.{[]};
@@ -18,11 +18,11 @@ impl Model for FilesStood {
     ghost view = { λ _. [] };
 }
 
-/// Stands for a call of files with its answer. No value of it is made.
-pub struct FilesCalled;
+/// Represents a files call with its answer. No value of it is made.
+pub struct FilesRecord;
 
-impl Model for FilesCalled {
-    ghost use Rattle.fwd_program.specs.Program.{entry};
+impl Model for FilesRecord {
+    ghost use Rattle.fwd_outside.specs.Program.{entry};
     ghost use Rattle.fwd_outside.specs.Files.{FilesEntry, Changed};
     ghost use Rattle.fwd_live.specs.FilesCode.{files_code};
     ghost use Rattle.std.specs.Prelude.{[]};
@@ -34,5 +34,5 @@ impl Model for FilesCalled {
     ghost view = { λ _. entry (Changed [] []) tt };
 }
 
-/// The calls of files.
-pub type FilesCalls = Calls<FilesStood, FilesCalled>;
+/// The call log of files.
+pub type FilesCalls = Calls<FilesStart, FilesRecord>;

@@ -1,7 +1,7 @@
-//! The files that the program reads.
+//! `Files` on the file system, for the files that the program follows.
 
 ghost use Rattle.std.specs.Prelude.{Some, [], ◌≡◌, ◌≤◌, length, IfOk, IsErrOf};
-ghost use Rattle.fwd_program.specs.Cause.{HasCause};
+ghost use Rattle.fwd_outside.specs.Cause.{HasCause};
 ghost use Rattle.fwd_outside.specs.Files.{FilesGiven, outcome};
 ghost use Rattle.fwd_outside.specs.declared.errors.FileErr.TheVariants.{Failed};
 
@@ -13,7 +13,7 @@ use std::alloc::Global;
 use std::fs::{self, File, OpenFile};
 use std::io;
 
-/// Files of the machine, by their paths. They are taken to stand still while they are read.
+/// Files by their paths. They are assumed not to change while they are read.
 #[derive(Drop)]
 pub struct FolderFiles {
     rt: HostRuntime,
@@ -22,7 +22,7 @@ pub struct FolderFiles {
 }
 
 impl FolderFiles {
-    /// No call was made. Who calls this picks the files that stand there at first.
+    /// Returns the files with an empty log. The caller picks the initial files.
     pub fn new(rt: HostRuntime) -> Self
         ghost given: { FilesGiven }
         ensures { (result.calls.given ≡ given) × (result.calls.entries ≡ []) }
@@ -34,8 +34,8 @@ impl FolderFiles {
         }
     }
 
-    /// What a call gave, or a failure, which is counted.
-    fn settle<T>(&mut self, answer: Option<T>) -> Result<T, FileErr>
+    /// Returns what a call gave, or the failure, which it counts.
+    fn result_of<T>(&mut self, answer: Option<T>) -> Result<T, FileErr>
         ensures outcome { outcome result ≡ Some answer }
         ensures cause { HasCause self.old.faults self.new.faults (IsErrOf result Failed) }
         ensures calls { self.new.calls ≡ self.old.calls }
@@ -61,7 +61,7 @@ fn length_of(rt: &HostRuntime, path: &[u8]) -> io::Result<u64> {
     Ok(open(rt, path)?.metadata()?.len())
 }
 
-/// How many bytes a file has from an offset on; 0 where it can't be asked.
+/// Returns how many bytes a file has after an offset; 0 if that is unknown.
 fn rest_of(rt: &HostRuntime, path: &[u8], at: u64) -> u64 {
     match length_of(rt, path) {
         Ok(long) => long.saturating_sub(at),
@@ -69,7 +69,7 @@ fn rest_of(rt: &HostRuntime, path: &[u8], at: u64) -> u64 {
     }
 }
 
-/// Reads from an offset on, until the buffer is full or the file ends.
+/// Reads from an offset on until the buffer is full or the file ends.
 fn read_part(rt: &HostRuntime, path: &[u8], at: u64, mut part: Vec<u8>) -> io::Result<Bytes>
     ensures { IfOk result (λ bytes. length bytes ≤ length part.items) }
 {
@@ -85,12 +85,12 @@ fn read_part(rt: &HostRuntime, path: &[u8], at: u64, mut part: Vec<u8>) -> io::R
 impl Files for FolderFiles {
     ghost faults = { λ files. files.faults };
 
-    ghost told = { λ files. Some (files.calls.given, files.calls.entries) };
+    ghost call_log = { λ files. Some (files.calls.given, files.calls.entries) };
 
     fn length(&mut self, path: &[u8]) -> Result<u64, FileErr> {
         let answer = length_of(&self.rt, path).ok();
         self.calls = self.calls.then(&(path, answer));
-        self.settle(answer)
+        self.result_of(answer)
     }
 
     fn read_at(&mut self, alloc: Global, path: &[u8], at: u64, max: u64) -> Result<Bytes, FileErr> {
@@ -99,6 +99,6 @@ impl Files for FolderFiles {
         part.resize(most as usize, 0)?;
         let answer = read_part(&self.rt, path, at, part).ok();
         self.calls = self.calls.then(&(path, at, max, &answer));
-        self.settle(answer)
+        self.result_of(answer)
     }
 }

@@ -1,40 +1,37 @@
-//! Files in folders of the machine, as a disk places, writes, syncs, removes, reads and lists them.
+//! Files in folders: atomic create, write, fsync, remove, read and list.
 
 ghost use Rattle.std.specs.Prelude.{◌≤◌, All, IfOk, IfSome, length};
 ghost use Rattle.fwd_outside.specs.Disk.{IsFileName, IsListing};
 
-use crate::answers::given;
-use crate::file_name::{FileName, UNPLACED, listing, placed_name};
+use crate::answer::answer_of;
+use crate::file_name::{FileName, TEMPORARY, complete_name, listing};
+use fwd_live_poll::{memory_error, text};
 use fwd_outside::{Bytes, Memory, Names};
-use std::alloc::{AllocError, Global};
+use std::alloc::Global;
 use std::fs::{self, DirEntry, File, OpenOptions};
 use std::io::{self, ErrorKind, Write};
 use std::os::unix::fs::FileExt;
 
-/// The last offset that the machine takes.
+/// The largest offset that the system takes.
 pub const LAST_OFFSET: u64 = 9_223_372_036_854_775_807;
 
-/// A file that is open to be written.
+/// A file that is open for writing.
 #[derive(Drop)]
-struct Written {
+struct OpenFile {
     name: Bytes,
     file: File,
 }
 
-/// Files by their paths. The one that was written last stays open.
+/// Files by their paths. The last one written stays open.
 #[derive(Drop)]
 pub struct Folders {
     rt: HostRuntime,
-    written: Option<Written>,
-    /// Folders that a crash leaves where they are.
-    settled: Vec<Bytes>,
-    /// Files whose sync has failed. The machine may have forgotten what it couldn't write, so a later one would say
-    /// nothing.
+    written: Option<OpenFile>,
+    /// Folders that were fsynced, so that a crash can't remove them.
+    synced_folders: Vec<Bytes>,
+    /// Files whose fsync has failed. The system may have dropped the data that it couldn't write, so a
+    /// later fsync may succeed without it.
     unsynced: Vec<Bytes>,
-}
-
-fn without_memory(_: Memory) -> io::Error {
-    io::Error::from(AllocError)
 }
 
 fn has_name(names: &[Bytes], name: &[u8]) -> bool {
@@ -46,14 +43,7 @@ fn has_name(names: &[Bytes], name: &[u8]) -> bool {
     false
 }
 
-fn text(name: &[u8]) -> io::Result<&str> {
-    match str::from_utf8(name) {
-        Ok(text) => Ok(text),
-        Err(_) => Err(io::Error::from(ErrorKind::InvalidInput)),
-    }
-}
-
-/// The folder that a file or a folder is in.
+/// Returns the folder of a file or a folder.
 fn folder_of(path: &str) -> &str {
     match path.rsplit_once('/') {
         Some((folder, _)) if !folder.is_empty() => folder,
@@ -62,14 +52,14 @@ fn folder_of(path: &str) -> &str {
     }
 }
 
-/// A crash leaves the names in this folder as they are now.
+/// Fsyncs a folder, so that a crash keeps its names as they are now.
 fn sync_folder(rt: &HostRuntime, folder: &str) -> io::Result<()> {
     fs::open(rt, folder)?.sync_all()
 }
 
-/// Makes one folder, or finds it there, and syncs it in the one that it is in. One that was found may be in a folder that
-/// isn't to be read: it wasn't made by this program.
-fn settle_level(rt: &HostRuntime, level: &str) -> io::Result<()> {
+/// Creates one folder, unless it exists, and fsyncs its parent. The parent of an existing one may be
+/// unreadable: then this program didn't create the folder.
+fn ensure_level(rt: &HostRuntime, level: &str) -> io::Result<()> {
     match fs::create_dir(rt, level) {
         Ok(()) => sync_folder(rt, folder_of(level)),
         Err(error) if error.kind() == ErrorKind::AlreadyExists => {
@@ -82,23 +72,23 @@ fn settle_level(rt: &HostRuntime, level: &str) -> io::Result<()> {
     }
 }
 
-/// Where a level of a path ends at `end`, settles it.
-fn settle_to(rt: &HostRuntime, path: &str, end: usize) -> io::Result<()> {
+/// Creates and fsyncs the level of a path that ends at `end`, if one does.
+fn ensure_prefix(rt: &HostRuntime, path: &str, end: usize) -> io::Result<()> {
     match path.split_at_checked(end) {
-        Some((level, rest)) if rest.is_empty() || rest.starts_with('/') => settle_level(rt, level),
+        Some((level, rest)) if rest.is_empty() || rest.starts_with('/') => ensure_level(rt, level),
         Some((_, _)) => Ok(()),
         None => Ok(()),
     }
 }
 
-/// Makes a folder with all above it, where they are missing. A life that was killed may have made one and not synced it,
-/// so all are synced.
-fn settle_folder(rt: &HostRuntime, folder: &str) -> io::Result<()> {
+/// Creates a folder and its parents, and fsyncs all of them: a run that was killed may have created one
+/// without an fsync.
+fn ensure_folder(rt: &HostRuntime, folder: &str) -> io::Result<()> {
     if folder == "." || folder == "/" {
         return Ok(());
     }
     for end in 1..=folder.len() {
-        settle_to(rt, folder, end)?;
+        ensure_prefix(rt, folder, end)?;
     }
     Ok(())
 }
@@ -110,7 +100,7 @@ fn write_new(rt: &HostRuntime, part: &str, bytes: &[u8]) -> io::Result<File> {
     Ok(file)
 }
 
-/// Makes a file under another name, and gives it its own once it is whole.
+/// Writes a file under a temporary name, fsyncs it and renames it.
 fn place_file(rt: &HostRuntime, path: &str, part: &str, bytes: &[u8]) -> io::Result<File> {
     let file = write_new(rt, part, bytes)?;
     fs::rename(rt, part, path)?;
@@ -118,8 +108,8 @@ fn place_file(rt: &HostRuntime, path: &str, part: &str, bytes: &[u8]) -> io::Res
     Ok(file)
 }
 
-/// Makes a file. What was begun of one that fails is taken away.
-fn place_or_clear(rt: &HostRuntime, name: &[u8], part: &[u8], bytes: &[u8]) -> io::Result<File> {
+/// Creates a file. If that fails, removes the temporary file.
+fn place_or_clean_up(rt: &HostRuntime, name: &[u8], part: &[u8], bytes: &[u8]) -> io::Result<File> {
     let path = text(name)?;
     let part = text(part)?;
     match place_file(rt, path, part, bytes) {
@@ -150,7 +140,7 @@ fn remove_file(rt: &HostRuntime, name: &[u8]) -> io::Result<()> {
     sync_folder(rt, folder_of(path))
 }
 
-/// Reads from an offset until the buffer is full or the file ends. Answers how many bytes came.
+/// Reads from an offset until the buffer is full or the file ends. Returns how many bytes were read.
 pub fn read_to(file: &File, part: &mut [u8], at: u64) -> io::Result<usize> {
     let mut filled = 0usize;
     for _ in 0..u64::MAX {
@@ -182,12 +172,12 @@ fn read_file(rt: &HostRuntime, alloc: Global, name: &[u8], at: u64, len: u64) ->
     Ok(Bytes::from_vec(part))
 }
 
-/// The name of an entry. None where it is no text, or no file that is placed.
+/// Returns the name of an entry; `None` if it isn't text, or isn't a complete file.
 fn name_of(alloc: Global, entry: io::Result<DirEntry>) -> io::Result<Option<FileName>>
     ensures { IfOk result (λ found. IfSome found IsFileName) }
 {
     match entry {
-        Ok(entry) => placed_name(alloc, entry.file_name()).map_err(without_memory),
+        Ok(entry) => complete_name(alloc, entry.file_name()).map_err(memory_error),
         Err(error) if error.kind() == ErrorKind::InvalidFilename => Ok(None),
         Err(error) => Err(error),
     }
@@ -217,45 +207,45 @@ impl Folders {
         Folders {
             rt,
             written: None,
-            settled: Vec::new(alloc),
+            synced_folders: Vec::new(alloc),
             unsynced: Vec::new(alloc),
         }
     }
 
-    /// Settles the folder of a file, once.
-    fn settle(&mut self, name: &[u8]) -> io::Result<()> {
+    /// Creates and fsyncs the folder of a file, once.
+    fn ensure_parent(&mut self, name: &[u8]) -> io::Result<()> {
         let folder = folder_of(text(name)?);
-        if has_name(&self.settled, folder.as_bytes()) {
+        if has_name(&self.synced_folders, folder.as_bytes()) {
             return Ok(());
         }
-        settle_folder(&self.rt, folder)?;
+        ensure_folder(&self.rt, folder)?;
         if let Ok(folder) = Bytes::from_slice(self.rt.alloc(), folder.as_bytes()) {
-            let _ = self.settled.push(folder);
+            let _ = self.synced_folders.push(folder);
         }
         Ok(())
     }
 
-    /// Makes a file in its folder. One that was settled may have been taken away since: then it is made anew.
-    fn place_settled(&mut self, name: &[u8], part: &[u8], bytes: &[u8]) -> io::Result<File> {
-        self.settle(name)?;
-        match place_or_clear(&self.rt, name, part, bytes) {
+    /// Creates a file in its folder. If the folder was removed since, it is created again.
+    fn place_in_folder(&mut self, name: &[u8], part: &[u8], bytes: &[u8]) -> io::Result<File> {
+        self.ensure_parent(name)?;
+        match place_or_clean_up(&self.rt, name, part, bytes) {
             Err(error) if error.kind() == ErrorKind::NotFound => {
-                self.settled.clear();
-                self.settle(name)?;
-                place_or_clear(&self.rt, name, part, bytes)
+                self.synced_folders.clear();
+                self.ensure_parent(name)?;
+                place_or_clean_up(&self.rt, name, part, bytes)
             }
             outcome => outcome,
         }
     }
 
-    /// Makes a file, and its folder where that is missing. None where the machine refuses.
+    /// Creates a file, and its folder if it is missing. Returns `None` if the system refuses.
     pub fn place(&mut self, name: &[u8], bytes: &[u8]) -> Result<Option<()>, Memory> {
         let mut part = Bytes::from_slice(self.rt.alloc(), name)?;
-        part.extend_from_slice(UNPLACED.as_bytes())?;
+        part.extend_from_slice(TEMPORARY.as_bytes())?;
         let name = Bytes::from_slice(self.rt.alloc(), name)?;
-        match self.place_settled(name.as_slice(), part.as_slice(), bytes) {
+        match self.place_in_folder(name.as_slice(), part.as_slice(), bytes) {
             Ok(file) => {
-                self.written = Some(Written { name, file });
+                self.written = Some(OpenFile { name, file });
                 Ok(Some(()))
             }
             Err(_) => Ok(None),
@@ -269,12 +259,12 @@ impl Folders {
         }
     }
 
-    /// The file becomes the one that stays open. None where it can't be had.
+    /// Opens a file, which stays open. Returns `None` if it can't be opened.
     fn open(&mut self, name: &[u8]) -> Result<Option<&File>, Memory> {
         if !self.is_open(name) {
             let kept = Bytes::from_slice(self.rt.alloc(), name)?;
             self.written = match open_to_write(&self.rt, name) {
-                Ok(file) => Some(Written { name: kept, file }),
+                Ok(file) => Some(OpenFile { name: kept, file }),
                 Err(_) => None,
             };
         }
@@ -284,7 +274,7 @@ impl Folders {
         }
     }
 
-    /// Writes from an offset on. None where the machine refuses.
+    /// Writes from an offset on. Returns `None` if the system refuses.
     pub fn write_at(&mut self, name: &[u8], at: u64, bytes: &[u8]) -> Result<Option<()>, Memory> {
         match self.open(name)? {
             Some(file) => Ok(write_to(file, at, bytes).ok()),
@@ -292,7 +282,7 @@ impl Folders {
         }
     }
 
-    /// Syncs a file. None where the machine refuses, now or at an earlier sync of this file.
+    /// Fsyncs a file. Returns `None` if the system refuses, now or at an earlier fsync of this file.
     pub fn sync(&mut self, name: &[u8]) -> Result<Option<()>, Memory> {
         if has_name(&self.unsynced, name) {
             return Ok(None);
@@ -312,7 +302,7 @@ impl Folders {
         Ok(answer)
     }
 
-    /// Takes a file away. None where the machine refuses.
+    /// Removes a file. Returns `None` if the system refuses.
     pub fn remove(&mut self, name: &[u8]) -> Option<()> {
         if self.is_open(name) {
             self.written = None;
@@ -320,7 +310,7 @@ impl Folders {
         remove_file(&self.rt, name).ok()
     }
 
-    /// Bytes of a file from an offset on. None where the machine refuses.
+    /// Reads from an offset on. Returns `None` if the system refuses.
     pub fn read(
         &self,
         alloc: Global,
@@ -330,14 +320,14 @@ impl Folders {
     ) -> Result<Option<Bytes>, Memory>
         ensures { IfOk result (λ answer. IfSome answer (λ bytes. length bytes ≤ len)) }
     {
-        given(read_file(&self.rt, alloc, name, at, len))
+        answer_of(read_file(&self.rt, alloc, name, at, len))
     }
 
-    /// The names of files in a folder that are placed. None where the machine refuses.
+    /// Lists the names of the complete files in a folder. Returns `None` if the system refuses.
     pub fn list(&self, alloc: Global, folder: &[u8]) -> Result<Option<Names>, Memory>
         ensures { IfOk result (λ answer. IfSome answer IsListing) }
     {
-        match given(names_in(&self.rt, alloc, folder))? {
+        match answer_of(names_in(&self.rt, alloc, folder))? {
             Some(names) => Ok(Some(listing(alloc, names)?)),
             None => Ok(None),
         }

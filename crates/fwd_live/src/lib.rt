@@ -1,13 +1,12 @@
-//! The devices of the machine that the program runs on: the files that it reads, standard output, a disk of folders and
-//! the loop that brings what happens. Each tells its calls with their answers, in proofs alone: nothing of it is kept
-//! when the program runs.
+//! The devices of a live run: a disk of folders, the followed files, standard output, and the event loop.
+//! Each has a ghost log of its calls with their answers, which isn't kept at run time.
 //!
-//! They meet their traits, so what clauses say of devices that tell they say of the program that is shipped, with what
-//! the machine answered as the premise. That the machine's calls were made is trusted; what the devices do with it is
-//! tried by tests.
+//! They implement the traits of `fwd_outside`, so the theorems about devices with a log hold for the
+//! shipped program, for whatever the system answers. It is trusted that each method makes the call that it
+//! logs, and tested what the devices do with it.
 #![tactic(auto)]
 
-mod answers;
+mod answer;
 mod calls;
 mod disk_calls;
 mod file_name;
@@ -21,11 +20,11 @@ mod sink_calls;
 mod std_sink;
 
 pub use calls::Calls;
-pub use disk_calls::{DiskCalled, DiskCalls, DiskStood};
-pub use files_calls::{FilesCalled, FilesCalls, FilesStood};
+pub use disk_calls::{DiskCalls, DiskRecord, DiskStart};
+pub use files_calls::{FilesCalls, FilesRecord, FilesStart};
 pub use folder_disk::FolderDisk;
 pub use folder_files::FolderFiles;
 pub use live_loop::LiveLoop;
-pub use loop_calls::{LoopBrought, LoopCalled, LoopCalls};
-pub use sink_calls::{SinkCalled, SinkCalls};
+pub use loop_calls::{LoopCalls, LoopRecord, LoopScript};
+pub use sink_calls::{SinkCalls, SinkRecord};
 pub use std_sink::StdSink;

@@ -1,11 +1,11 @@
-//! A loop over the machine.
+//! `Loop` on sockets, standard input and output, and files for appending.
 
 ghost use Rattle.std.specs.Prelude.{◌≡◌, ◌+◌, ◌≤◌, [], Some, true, IfOk, IfSome};
 ghost use Rattle.fwd_outside.specs.Loop.{LoopGiven};
 
-use crate::answers::given;
+use crate::answer::answer_of;
 use crate::loop_calls::LoopCalls;
-use fwd_machine::{Handed, Machine, USUAL_PATIENCE};
+use fwd_live_poll::{Handed, Machine, USUAL_PATIENCE};
 use fwd_outside::{
     Begun, ConnId, Dialed, Ends, Happening, InputId, LinkId, Loop, Memory, OutputId, Pushed,
     Replied,
@@ -13,9 +13,9 @@ use fwd_outside::{
 use std::alloc::Global;
 use std::io;
 
-/// A loop over sockets of peers, standard input and output, and files that are appended to. It has no end. A peer of an
-/// output that is silent for longer than `USUAL_PATIENCE` of `fwd_machine` breaks its link, and so does one that sends more than
-/// 65,536 bytes before it has taken what it is handed.
+/// The event loop of a live run, which never returns `End`. It breaks the link of an output's peer that is
+/// silent for longer than `USUAL_PATIENCE` of `fwd_live_poll`, or that sends more than 65,536 bytes before it
+/// has taken its payload.
 #[derive(Drop)]
 pub struct LiveLoop {
     machine: Machine,
@@ -26,7 +26,7 @@ pub struct LiveLoop {
 }
 
 impl LiveLoop {
-    /// No call was made. Who calls this picks what it is taken to bring.
+    /// Returns the loop with an empty log. The caller picks what it is taken to bring.
     pub fn new(rt: HostRuntime) -> io::Result<LiveLoop>
         ghost brought: { LoopGiven }
         ensures { IfOk result (λ l. (l.calls.given ≡ brought) × (l.calls.entries ≡ [])) }
@@ -41,12 +41,12 @@ impl LiveLoop {
         })
     }
 
-    /// The port that an input listens at, once the loop is started.
+    /// Returns the port of an input's listener, once the loop is started.
     pub fn port(&self, input: InputId) -> Option<u16> {
         self.machine.port(input)
     }
 
-    /// The number of a link that is new, none where the machine refuses it.
+    /// Opens a link and returns its number; `None` if the system refuses.
     fn connect(&mut self, output: OutputId, tag: &[u8]) -> Result<Option<u64>, Memory>
         ensures newer { IfOk result (λ answer. IfSome answer (λ number. self.old.greatest + 1 ≤ number)) }
         ensures faults { self.new.faults ≡ self.old.faults }
@@ -57,7 +57,7 @@ impl LiveLoop {
         let Some(number) = self.greatest.checked_add(1) else {
             return Ok(None);
         };
-        match given(self.machine.dial(LinkId(number), output, tag))? {
+        match answer_of(self.machine.dial(LinkId(number), output, tag))? {
             Some(()) => Ok(Some(number)),
             None => Ok(None),
         }
@@ -69,10 +69,10 @@ impl Loop for LiveLoop {
 
     ghost counts = { λ l. record { happenings = l.happenings; greatest = l.greatest; endless = true } };
 
-    ghost told = { λ l. Some (l.calls.given, l.calls.entries) };
+    ghost call_log = { λ l. Some (l.calls.given, l.calls.entries) };
 
     fn start(&mut self, ends: &Ends) -> Begun {
-        let Ok(answer) = given(self.machine.start(ends)) else {
+        let Ok(answer) = answer_of(self.machine.start(ends)) else {
             return Begun::Memory;
         };
         self.calls = self.calls.then(&(ends, answer));
@@ -142,7 +142,7 @@ impl Loop for LiveLoop {
     }
 
     fn reply(&mut self, conn: ConnId, bytes: &[u8]) -> Replied {
-        let Ok(answer) = given(self.machine.reply(conn, bytes)) else {
+        let Ok(answer) = answer_of(self.machine.reply(conn, bytes)) else {
             return Replied::Memory;
         };
         self.calls = self.calls.then(&(conn, bytes, answer));
@@ -161,7 +161,7 @@ impl Loop for LiveLoop {
         Ok(())
     }
 
-    /// 0 where the machine gives no random bytes.
+    /// Returns 0 if the system has no random bytes.
     fn word(&mut self) -> Result<u64, Memory> {
         let word = match self.machine.word() {
             Ok(word) => word,

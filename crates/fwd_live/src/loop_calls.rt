@@ -1,28 +1,29 @@
-//! The calls of a loop.
+//! The call log of a loop.
 
 use crate::calls::Calls;
 use std::marker::Model;
 
-/// Stands for what a loop is to bring and to answer. No value of it is made.
-pub struct LoopBrought;
+/// Represents the events and answers that a loop will give. No value of it is made.
+pub struct LoopScript;
 
-impl Model for LoopBrought {
+impl Model for LoopScript {
     ghost use Rattle.fwd_outside.specs.Loop.{LoopGiven};
     ghost use Rattle.fwd_live.specs.LoopCode.{brought_code};
+    ghost use base.Stored.{gnil};
     ghost use Rattle.std.specs.Prelude.{[]};
 
     ghost Value = { LoopGiven };
 
     ghost coded = { brought_code };
 
-    ghost view = { λ _. record { happenings = []; places = []; dials = []; pushes = []; replies = []; words = [] } };
+    ghost view = { λ _. record { happenings = []; places = []; dials = []; pushes = []; replies = []; words = []; round = gnil } };
 }
 
-/// Stands for a call of a loop with its answer. No value of it is made.
-pub struct LoopCalled;
+/// Represents a loop call with its answer. No value of it is made.
+pub struct LoopRecord;
 
-impl Model for LoopCalled {
-    ghost use Rattle.fwd_program.specs.Program.{entry};
+impl Model for LoopRecord {
+    ghost use Rattle.fwd_outside.specs.Program.{entry};
     ghost use Rattle.fwd_outside.specs.Loop.{LoopEntry, Word};
     ghost use Rattle.fwd_live.specs.LoopCode.{loop_code};
 
@@ -33,5 +34,5 @@ impl Model for LoopCalled {
     ghost view = { λ _. entry Word 0 };
 }
 
-/// The calls of a loop.
-pub type LoopCalls = Calls<LoopBrought, LoopCalled>;
+/// The call log of a loop.
+pub type LoopCalls = Calls<LoopScript, LoopRecord>;

@@ -1,13 +1,13 @@
-//! The writes to a sink.
+//! The call log of a sink.
 
 use crate::calls::Calls;
 use std::marker::Model;
 
-/// Stands for a write with its answer. No value of it is made.
-pub struct SinkCalled;
+/// Represents a write with its answer. No value of it is made.
+pub struct SinkRecord;
 
-impl Model for SinkCalled {
-    ghost use Rattle.fwd_program.specs.Program.{entry};
+impl Model for SinkRecord {
+    ghost use Rattle.fwd_outside.specs.Program.{entry};
     ghost use Rattle.fwd_outside.specs.Sink.{SinkEntry, Write, Wrote};
     ghost use Rattle.fwd_live.specs.SinkCode.{sink_code};
     ghost use Rattle.std.specs.Prelude.{[]};
@@ -19,5 +19,5 @@ impl Model for SinkCalled {
     ghost view = { λ _. entry (Write []) Wrote };
 }
 
-/// The writes to a sink, which is given nothing at first.
-pub type SinkCalls = Calls<(), SinkCalled>;
+/// The call log of a sink, which has no initial state.
+pub type SinkCalls = Calls<(), SinkRecord>;

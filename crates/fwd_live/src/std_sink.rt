@@ -1,4 +1,4 @@
-//! Standard output.
+//! `Sink` on standard output.
 
 ghost use Rattle.std.specs.Prelude.{Some, [], ◌≡◌, ◌≤◌, length, IfErr};
 
@@ -15,7 +15,7 @@ pub struct StdSink {
 }
 
 impl StdSink {
-    /// Nothing was written.
+    /// Returns the sink with an empty log.
     pub fn new(rt: HostRuntime) -> Self
         ensures { result.calls.entries ≡ [] }
     {
@@ -27,7 +27,7 @@ impl StdSink {
     }
 }
 
-/// Writes the whole piece. After `Err` it was stopped behind so many bytes.
+/// Writes all bytes. `Err` has the number of bytes written before the failure.
 fn write_whole(rt: &HostRuntime, bytes: &[u8]) -> Result<(), usize>
     ensures { IfErr result (λ taken. taken ≤ length bytes.now) }
 {
@@ -56,7 +56,7 @@ fn write_whole(rt: &HostRuntime, bytes: &[u8]) -> Result<(), usize>
 impl Sink for StdSink {
     ghost faults = { λ sink. sink.faults };
 
-    ghost told = { λ sink. Some (tt, sink.calls.entries) };
+    ghost call_log = { λ sink. Some (tt, sink.calls.entries) };
 
     fn write(&mut self, bytes: &[u8]) -> Result<(), SinkErr> {
         let stopped = write_whole(&self.rt, bytes).err();

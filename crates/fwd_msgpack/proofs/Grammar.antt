@@ -1,26 +1,27 @@
--- value_at reads Within: what is read is spelled so, what is spelled so is read, and what each fault means.
+-- value_at decodes Within: what it decodes is encoded so, what is encoded so is decoded, and what each error
+-- means.
 use Rattle.std.proofs.Common.{◌≡◌, ℕ, zero, suc, ◌+◌, ◌≤◌, ℤ, pos, Bool, true, false, List, [], ◌∷◌, ◌++◌, length, Option, Some, None, Ok, Err, refl, sym, ap, subst, ◌∙◌, arith, inl, inr, ◌⊎◌}
 use Rattle.std.specs.Int.{w8, cast_signed}
 use Rattle.fwd_value.specs.Val.{Val, nil, truth, whole, text, bin, float32, float64, ext, list, mapping, Vals, no_vals, val, Entries, no_entries, entry, vals_of, entries_of}
-use Rattle.fwd_msgpack.specs.declared.fault.Fault.TheVariants.{Short}
-use Rattle.fwd_msgpack.specs.declared.form.Wide.{Wide}
-use Rattle.fwd_msgpack.specs.declared.form.Wide.TheVariants.{Four, Eight}
+use Rattle.fwd_msgpack.specs.declared.fault.FormatError.TheVariants.{Short}
+use Rattle.fwd_msgpack.specs.declared.form.ByteWidth.{ByteWidth}
+use Rattle.fwd_msgpack.specs.declared.form.ByteWidth.TheVariants.{Four, Eight}
 use Rattle.fwd_msgpack.specs.declared.form.Count.{Count}
 use Rattle.fwd_msgpack.specs.declared.form.Count.TheVariants.{Known, Sized}
 use Rattle.fwd_msgpack.specs.declared.form.Form.{Form}
 use Rattle.fwd_msgpack.specs.declared.form.Form.TheVariants as form
 use Rattle.fwd_msgpack.specs.Table.{form_of}
-use Rattle.fwd_msgpack.specs.Spelling.{width, number, size, Counts, Counted, Follows, SpellsAll, SpellsEntries, Within}
-use Rattle.fwd_value.specs.Limits.{how_many, how_many_entries, nesting, nestings, entry_nestings}
-use Rattle.fwd_msgpack.specs.Reading.{◌>>=◌, Read, number_at, bytes_at, byte_at, count_at, counted_at, many_at, entries_at, list_at, map_at, after, value_by, inner, value_at}
-use Rattle.fwd_msgpack.proofs.Readers.{stop, IsCause, Begins, Stopped, Reads, Plain, plain_reads, front_reads, adapt, made, chain, not_ok, ok_first, ok_rest, err_is}
+use Rattle.fwd_msgpack.specs.Encodings.{width, number, size, Counts, Counted, EncodesAfter, EncodesAll, EncodesEntries, EncodesNested}
+use Rattle.fwd_value.specs.Limits.{value_count, entry_count, nesting, nestings, entry_nestings}
+use Rattle.fwd_msgpack.specs.Decoder.{◌>>=◌, Read, number_at, bytes_at, byte_at, count_at, counted_at, many_at, entries_at, list_at, map_at, after, value_by, inner, value_at}
+use Rattle.fwd_msgpack.proofs.Decoders.{stop, IsCause, Begins, Stopped, Reads, Plain, plain_reads, front_reads, adapt, made, chain, not_ok, ok_first, ok_rest, err_is}
 
 -- ---- the parts
 
-abbrev NumberIs : Wide → ℕ → List ℕ → Type 0
+abbrev NumberIs : ByteWidth → ℕ → List ℕ → Type 0
 NumberIs w n b = (length b ≡ size w) × (n ≡ number w b)
 
-number_reads : (w : Wide) → Reads (number_at w) (NumberIs w)
+number_reads : (w : ByteWidth) → Reads (number_at w) (NumberIs w)
 unfolding number_at
 number_reads w = front_reads (size w) (number w)
 
@@ -68,49 +69,49 @@ counted_reads k = chain (count_at k) (Counts k) bytes_at BytesAre (Counted k) (c
     (λ n s front back c h. (front, subst (λ m. Counts k m front) (sym h.0 ∙ ap length (sym h.1)) c, ap (λ (t : List ℕ). front ++ t) (sym h.1)))
     (λ s b h. (length s, h.0, s, h.2, h.1, (refl, refl)))
 
--- ---- values in a row
+-- ---- values one after another
 
-module _ (d : ℕ) (p : List ℕ → Read Val) (r : Reads p (Within d)) where
+module _ (d : ℕ) (p : List ℕ → Read Val) (r : Reads p (EncodesNested d)) where
   abbrev ManyAre : ℕ → List Val → List ℕ → Type 0
-  ManyAre n vs b = (how_many (vals_of vs) ≡ n) × SpellsAll (vals_of vs) b × (nestings (vals_of vs) ≤ d)
+  ManyAre n vs b = (value_count (vals_of vs) ≡ n) × EncodesAll (vals_of vs) b × (nestings (vals_of vs) ≤ d)
 
   none_from : (vs : List Val) (b : List ℕ) → ManyAre zero vs b → Plain [] vs b
   none_from [] b h = (refl, h.1)
   none_from (v ∷ vs) b h = absurd (omega (arith, h.0))
 
   many_from : (n : ℕ) (vs : List Val) (b : List ℕ) → ManyAre (suc n) vs b
-      → (v : Val) × (front : List ℕ) × (back : List ℕ) × (b ≡ front ++ back) × Within d v front × ((ws : List Val) × (vs ≡ v ∷ ws) × ManyAre n ws back)
+      → (v : Val) × (front : List ℕ) × (back : List ℕ) × (b ≡ front ++ back) × EncodesNested d v front × ((ws : List Val) × (vs ≡ v ∷ ws) × ManyAre n ws back)
   many_from n [] b h = absurd (omega (arith, h.0))
   many_from n (v ∷ vs) b h = (v, h.1.0, h.1.1, h.1.2, (h.1.3, omega (arith, h.2)), (vs, refl, (omega (arith, h.0), h.1.4, omega (arith, h.2))))
 
   many_reads : (n : ℕ) → Reads (many_at p n) (ManyAre n)
   unfolding many_at
   many_reads zero = adapt (λ b. Ok ([], b)) (Plain []) (ManyAre zero) (plain_reads []) (λ vs b h. rw (h.0, h.1) (refl, refl, omega arith)) none_from
-  many_reads (suc n) = chain p (Within d) (λ v b. many_at p n b >>= λ vs. Ok (v ∷ vs.0, vs.1)) (λ v vs b. (ws : List Val) × (vs ≡ v ∷ ws) × ManyAre n ws b) (ManyAre (suc n)) r
+  many_reads (suc n) = chain p (EncodesNested d) (λ v b. many_at p n b >>= λ vs. Ok (v ∷ vs.0, vs.1)) (λ v vs b. (ws : List Val) × (vs ≡ v ∷ ws) × ManyAre n ws b) (ManyAre (suc n)) r
       (λ v. made (many_at p n) (ManyAre n) (λ vs. v ∷ vs) (λ vs b. (ws : List Val) × (vs ≡ v ∷ ws) × ManyAre n ws b) (many_reads n) (λ ws b h. (ws, refl, h)) (λ vs b h. (h.0, h.1, h.2)))
       (λ v vs front back a h. subst (λ (us : List Val). ManyAre (suc n) us (front ++ back)) (sym h.1) (ap suc h.2.0, (front, back, refl, a.0, h.2.1), omega (arith, a.1, h.2.2)))
       (many_from n)
 
   abbrev EntriesAre : ℕ → List (Val × Val) → List ℕ → Type 0
-  EntriesAre n es b = (how_many_entries (entries_of es) ≡ n) × SpellsEntries (entries_of es) b × (entry_nestings (entries_of es) ≤ d)
+  EntriesAre n es b = (entry_count (entries_of es) ≡ n) × EncodesEntries (entries_of es) b × (entry_nestings (entries_of es) ≤ d)
 
   no_entries_from : (es : List (Val × Val)) (b : List ℕ) → EntriesAre zero es b → Plain [] es b
   no_entries_from [] b h = (refl, h.1)
   no_entries_from (e ∷ es) b h = absurd (omega (arith, h.0))
 
-  -- the entries behind a first one whose key is k, and behind a first one
+  -- the entries after a first one whose key is k, and after a first one
   abbrev EntriesBehind : ℕ → Val × Val → List (Val × Val) → List ℕ → Type 0
   EntriesBehind n e es b = (fs : List (Val × Val)) × (es ≡ e ∷ fs) × EntriesAre n fs b
 
   abbrev EntriesKeyed : ℕ → Val → List (Val × Val) → List ℕ → Type 0
-  EntriesKeyed n k es b = (v : Val) × (front : List ℕ) × (back : List ℕ) × (b ≡ front ++ back) × Within d v front × EntriesBehind n (k, v) es back
+  EntriesKeyed n k es b = (v : Val) × (front : List ℕ) × (back : List ℕ) × (b ≡ front ++ back) × EncodesNested d v front × EntriesBehind n (k, v) es back
 
   entries_from : (n : ℕ) (es : List (Val × Val)) (b : List ℕ) → EntriesAre (suc n) es b
-      → (k : Val) × (front : List ℕ) × (back : List ℕ) × (b ≡ front ++ back) × Within d k front × EntriesKeyed n k es back
+      → (k : Val) × (front : List ℕ) × (back : List ℕ) × (b ≡ front ++ back) × EncodesNested d k front × EntriesKeyed n k es back
   entries_from n [] b h = absurd (omega (arith, h.0))
   entries_from n (e ∷ es) b h = (e.0, h.1.0, h.1.1 ++ h.1.2, h.1.3, (h.1.4, omega (arith, h.2)), (e.1, h.1.1, h.1.2, refl, (h.1.5, omega (arith, h.2)), (es, refl, (omega (arith, h.0), h.1.6, omega (arith, h.2)))))
 
-  entries_to : (n : ℕ) (k : Val) (es : List (Val × Val)) (front back : List ℕ) → Within d k front → EntriesKeyed n k es back → EntriesAre (suc n) es (front ++ back)
+  entries_to : (n : ℕ) (k : Val) (es : List (Val × Val)) (front back : List ℕ) → EncodesNested d k front → EntriesKeyed n k es back → EntriesAre (suc n) es (front ++ back)
   entries_to n k es front back a h =
       let b = h.5 in
       subst (λ (us : List (Val × Val)). EntriesAre (suc n) us (front ++ back)) (sym b.1) (ap suc b.2.0, (front, h.1, h.2, ap (λ (t : List ℕ). front ++ t) h.3, a.0, h.4.0, b.2.1), omega (arith, a.1, h.4.1, b.2.2))
@@ -118,8 +119,8 @@ module _ (d : ℕ) (p : List ℕ → Read Val) (r : Reads p (Within d)) where
   entries_read : (n : ℕ) → Reads (entries_at p n) (EntriesAre n)
   unfolding entries_at
   entries_read zero = adapt (λ b. Ok ([], b)) (Plain []) (EntriesAre zero) (plain_reads []) (λ es b h. rw (h.0, h.1) (refl, refl, omega arith)) no_entries_from
-  entries_read (suc n) = chain p (Within d) (λ k b. p b >>= λ v. entries_at p n v.1 >>= λ es. Ok ((k, v.0) ∷ es.0, es.1)) (EntriesKeyed n) (EntriesAre (suc n)) r
-      (λ k. chain p (Within d) (λ v b. entries_at p n b >>= λ es. Ok ((k, v) ∷ es.0, es.1)) (λ v. EntriesBehind n (k, v)) (EntriesKeyed n k) r
+  entries_read (suc n) = chain p (EncodesNested d) (λ k b. p b >>= λ v. entries_at p n v.1 >>= λ es. Ok ((k, v.0) ∷ es.0, es.1)) (EntriesKeyed n) (EntriesAre (suc n)) r
+      (λ k. chain p (EncodesNested d) (λ v b. entries_at p n b >>= λ es. Ok ((k, v) ∷ es.0, es.1)) (λ v. EntriesBehind n (k, v)) (EntriesKeyed n k) r
       (λ v. made (entries_at p n) (EntriesAre n) (λ es. (k, v) ∷ es) (EntriesBehind n (k, v)) (entries_read n) (λ fs b h. (fs, refl, h)) (λ es b h. (h.0, h.1, h.2)))
       (λ v es front back a h. (v, front, back, refl, a, h))
       (λ es b h. (h.0, h.1, h.2, h.3, h.4, h.5)))
@@ -129,7 +130,7 @@ module _ (d : ℕ) (p : List ℕ → Read Val) (r : Reads p (Within d)) where
   -- ---- lists and maps
 
   abbrev Behind_ : Form → Val → List ℕ → Type 0
-  Behind_ f v b = Follows v f b × (nesting v ≤ suc d)
+  Behind_ f v b = EncodesAfter v f b × (nesting v ≤ suc d)
 
   vals_list : (vs : Vals) → (ws : List Val) × (vs ≡ vals_of ws)
   vals_list no_vals = ([], refl)
@@ -146,8 +147,8 @@ module _ (d : ℕ) (p : List ℕ → Read Val) (r : Reads p (Within d)) where
   list_from k (list vs) b h =
       let w = vals_list vs in
       let g = h.0 in
-      let many : ManyAre (how_many vs) w.0 g.1 = subst (λ (us : Vals). (how_many us ≡ how_many vs) × SpellsAll us g.1 × (nestings us ≤ d)) w.1 (refl, g.4, omega (arith, h.1)) in
-      (how_many vs, g.0, g.1, g.3, g.2, (w.0, ap list w.1, many))
+      let many : ManyAre (value_count vs) w.0 g.1 = subst (λ (us : Vals). (value_count us ≡ value_count vs) × EncodesAll us g.1 × (nestings us ≤ d)) w.1 (refl, g.4, omega (arith, h.1)) in
+      (value_count vs, g.0, g.1, g.3, g.2, (w.0, ap list w.1, many))
   list_from k v b h = absurd h.0
 
   list_reads : (k : Count) → Reads (list_at p k) (Behind_ (form.Array k))
@@ -163,8 +164,8 @@ module _ (d : ℕ) (p : List ℕ → Read Val) (r : Reads p (Within d)) where
   map_from k (mapping es) b h =
       let w = entries_list es in
       let g = h.0 in
-      let many : EntriesAre (how_many_entries es) w.0 g.1 = subst (λ (us : Entries). (how_many_entries us ≡ how_many_entries es) × SpellsEntries us g.1 × (entry_nestings us ≤ d)) w.1 (refl, g.4, omega (arith, h.1)) in
-      (how_many_entries es, g.0, g.1, g.3, g.2, (w.0, ap mapping w.1, many))
+      let many : EntriesAre (entry_count es) w.0 g.1 = subst (λ (us : Entries). (entry_count us ≡ entry_count es) × EncodesEntries us g.1 × (entry_nestings us ≤ d)) w.1 (refl, g.4, omega (arith, h.1)) in
+      (entry_count es, g.0, g.1, g.3, g.2, (w.0, ap mapping w.1, many))
   map_from k v b h = absurd h.0
 
   map_reads : (k : Count) → Reads (map_at p k) (Behind_ (form.Map k))
@@ -173,11 +174,11 @@ module _ (d : ℕ) (p : List ℕ → Read Val) (r : Reads p (Within d)) where
       (λ n v front back c h. subst (λ (w : Val). Behind_ (form.Map k) w (front ++ back)) (sym h.1) ((front, back, subst (λ (m : ℕ). Counts k m front) (sym h.2.0) c, refl, h.2.1), omega (arith, h.2.2)))
       (map_from k)
 
--- ---- behind a first byte
+-- ---- after a first byte
 
 module _ (d : ℕ) where
   abbrev pub FollowsIn : Form → Val → List ℕ → Type 0
-  FollowsIn f v b = Follows v f b × (nesting v ≤ d)
+  FollowsIn f v b = EncodesAfter v f b × (nesting v ≤ d)
 
   nil_from : (v : Val) (b : List ℕ) → FollowsIn form.Nil v b → Plain nil v b
   nil_from nil b h = (refl, h.0)
@@ -195,11 +196,11 @@ module _ (d : ℕ) where
   minus_from z (whole m) b h = (ap whole h.0.0, h.0.1)
   minus_from z v b h = absurd h.0
 
-  unsigned_from : (w : Wide) (v : Val) (b : List ℕ) → FollowsIn (form.Uint w) v b → (n : ℕ) × (v ≡ whole (pos n)) × NumberIs w n b
+  unsigned_from : (w : ByteWidth) (v : Val) (b : List ℕ) → FollowsIn (form.Uint w) v b → (n : ℕ) × (v ≡ whole (pos n)) × NumberIs w n b
   unsigned_from w (whole m) b h = (number w b, ap whole h.0.1, (h.0.0, refl))
   unsigned_from w v b h = absurd h.0
 
-  signed_from : (w : Wide) (v : Val) (b : List ℕ) → FollowsIn (form.Int w) v b → (n : ℕ) × (v ≡ whole (cast_signed (width w) n)) × NumberIs w n b
+  signed_from : (w : ByteWidth) (v : Val) (b : List ℕ) → FollowsIn (form.Int w) v b → (n : ℕ) × (v ≡ whole (cast_signed (width w) n)) × NumberIs w n b
   signed_from w (whole m) b h = (number w b, ap whole h.0.1, (h.0.0, refl))
   signed_from w v b h = absurd h.0
 
@@ -267,10 +268,10 @@ no_map : (k : Count) (v : Val) (b : List ℕ) → FollowsIn zero (form.Map k) v 
 no_map k (mapping es) b h = omega arith
 no_map k v b h = h.0
 
--- what reads the values inside
+-- the decoder of the values inside
 abbrev pub Deeper : ℕ → Option (List ℕ → Read Val) → Type 0
 Deeper zero None = Unit {0}
-Deeper (suc d) (Some p) = Reads p (Within d)
+Deeper (suc d) (Some p) = Reads p (EncodesNested d)
 Deeper _ _ = ⊥
 
 pub case : (d : ℕ) (deeper : Option (List ℕ → Read Val)) → Deeper d deeper → (f : Form) → Case d deeper f
@@ -298,7 +299,7 @@ case (suc d) None ok (form.Map k) = absurd ok
 
 -- ---- a whole value
 
-nil_within : (d : ℕ) → Within d nil (192 ∷ [])
+nil_within : (d : ℕ) → EncodesNested d nil (192 ∷ [])
 unfolding form_of
 nil_within d = (refl, omega arith)
 
@@ -313,11 +314,11 @@ short_stop false n e = cc
 short_stop true n e = cc
 
 module _ (d : ℕ) (deeper : Option (List ℕ → Read Val)) (ok : Deeper d deeper) where
-  by_sound : (c : ℕ) (b : List ℕ) (x : Val) (rest : List ℕ) → Case d deeper (form_of c) → after deeper (form_of c) b ≡ Ok (x, rest) → (front : List ℕ) × (c ∷ b ≡ front ++ rest) × Within d x front
+  by_sound : (c : ℕ) (b : List ℕ) (x : Val) (rest : List ℕ) → Case d deeper (form_of c) → after deeper (form_of c) b ≡ Ok (x, rest) → (front : List ℕ) × (c ∷ b ≡ front ++ rest) × EncodesNested d x front
   by_sound c b x rest (inl r) e = let s = r.sound b x rest e in (c ∷ s.0, ap (λ (t : List ℕ). c ∷ t) s.1, s.2)
   by_sound c b x rest (inr h) e = absurd (not_ok x rest (stop h.0 (length b + 1)) (sym e ∙ h.1.gives b))
 
-  value_sound : (b : List ℕ) (x : Val) (rest : List ℕ) → value_by deeper b ≡ Ok (x, rest) → (front : List ℕ) × (b ≡ front ++ rest) × Within d x front
+  value_sound : (b : List ℕ) (x : Val) (rest : List ℕ) → value_by deeper b ≡ Ok (x, rest) → (front : List ℕ) × (b ≡ front ++ rest) × EncodesNested d x front
   unfolding value_by
   value_sound [] x rest e = absurd (not_ok x rest Short (sym e))
   value_sound (c ∷ b) x rest e = by_sound c b x rest (case d deeper ok (form_of c)) e
@@ -326,21 +327,21 @@ module _ (d : ℕ) (deeper : Option (List ℕ → Read Val)) (ok : Deeper d deep
   by_whole c x front rest (inl r) h = r.whole x front rest h
   by_whole c x front rest (inr s) h = absurd (s.1.nothing x front h)
 
-  value_whole : (x : Val) (front rest : List ℕ) → Within d x front → value_by deeper (front ++ rest) ≡ Ok (x, rest)
+  value_whole : (x : Val) (front rest : List ℕ) → EncodesNested d x front → value_by deeper (front ++ rest) ≡ Ok (x, rest)
   unfolding value_by
   value_whole x [] rest h = absurd h.0
   value_whole x (c ∷ front) rest h = by_whole c x front rest (case d deeper ok (form_of c)) h
 
-  by_short : (c : ℕ) (b : List ℕ) → Case d deeper (form_of c) → after deeper (form_of c) b ≡ Err Short → Begins (Within d) (c ∷ b)
+  by_short : (c : ℕ) (b : List ℕ) → Case d deeper (form_of c) → after deeper (form_of c) b ≡ Err Short → Begins (EncodesNested d) (c ∷ b)
   by_short c b (inl r) e = r.short b e
   by_short c b (inr s) e = absurd (short_stop s.0 (length b + 1) (err_is {A = Val} _ _ (sym e ∙ s.1.gives b)))
 
-  value_short : (b : List ℕ) → value_by deeper b ≡ Err Short → Begins (Within d) b
+  value_short : (b : List ℕ) → value_by deeper b ≡ Err Short → Begins (EncodesNested d) b
   unfolding value_by
   value_short [] e = (nil, 192 ∷ [], (omega arith, tt), nil_within d)
   value_short (c ∷ b) e = by_short c b (case d deeper ok (form_of c)) e
 
-  by_stops : (c : ℕ) (k : Bool) (b : List ℕ) (left : ℕ) → Case d deeper (form_of c) → after deeper (form_of c) b ≡ Err (stop k left) → Stopped (value_by deeper) (Within d) k left (c ∷ b)
+  by_stops : (c : ℕ) (k : Bool) (b : List ℕ) (left : ℕ) → Case d deeper (form_of c) → after deeper (form_of c) b ≡ Err (stop k left) → Stopped (value_by deeper) (EncodesNested d) k left (c ∷ b)
   unfolding value_by
   by_stops c k b left (inl r) e = let s = r.stops k b left e in record {
     front = c ∷ s.front;
@@ -365,12 +366,12 @@ module _ (d : ℕ) (deeper : Option (List ℕ → Read Val)) (ok : Deeper d deep
         always = λ other. s.1.gives other ∙ ap (λ (l : Bool). Err (stop l (length other + 1))) h.0;
       }
 
-  value_stops : (k : Bool) (b : List ℕ) (left : ℕ) → value_by deeper b ≡ Err (stop k left) → Stopped (value_by deeper) (Within d) k left b
+  value_stops : (k : Bool) (b : List ℕ) (left : ℕ) → value_by deeper b ≡ Err (stop k left) → Stopped (value_by deeper) (EncodesNested d) k left b
   unfolding value_by
   value_stops k [] left e = absurd (short_stop k left (err_is {A = Val} _ _ e))
   value_stops k (c ∷ b) left e = by_stops c k b left (case d deeper ok (form_of c)) e
 
-  pub value_reads : Reads (value_by deeper) (Within d)
+  pub value_reads : Reads (value_by deeper) (EncodesNested d)
   value_reads = record { sound = value_sound; whole = value_whole; short = value_short; stops = value_stops; some = (nil, 192 ∷ [], (omega arith, tt), nil_within d) }
 
 inner_reads : (d : ℕ) → Deeper d (inner d)
@@ -378,6 +379,6 @@ unfolding inner
 inner_reads zero = tt
 inner_reads (suc d) = value_reads d (inner d) (inner_reads d)
 
--- the law of the whole grammar, at each depth
-pub reads : (d : ℕ) → Reads (value_at d) (Within d)
+-- the theorem for the whole grammar, at each depth
+pub reads : (d : ℕ) → Reads (value_at d) (EncodesNested d)
 reads d = value_reads d (inner d) (inner_reads d)

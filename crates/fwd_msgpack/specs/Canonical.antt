@@ -1,8 +1,8 @@
--- The one spelling that is written: the shortest, a number of 0 or more in an unsigned form.
+-- The canonical encoding: the shortest, with unsigned forms for numbers from 0 on.
 use Rattle.std.specs.Prelude.{ℕ, ◌+◌, ◌-◌, ◌==◌, ℤ, pos, negsuc, true, false, List, [], ◌∷◌, ◌++◌, length, nat_lt, if◌then◌else◌}
 use Rattle.std.specs.Int.{w8, w16, w32, w64, to_be_bytes, cast_unsigned}
 use Rattle.fwd_value.specs.Val.{Val, nil, truth, whole, text, bin, float32, float64, ext, list, mapping, Vals, no_vals, val, Entries, no_entries, entry}
-use Rattle.fwd_value.specs.Limits.{how_many, how_many_entries}
+use Rattle.fwd_value.specs.Limits.{value_count, entry_count}
 
 -- the number n
 unfoldable pub number_bytes : ℕ → List ℕ
@@ -27,7 +27,7 @@ abbrev pub whole_bytes : ℤ → List ℕ
 whole_bytes (pos n) = number_bytes n
 whole_bytes (negsuc n) = minus_bytes n
 
--- what stands before a text of n bytes
+-- the header of a text of n bytes
 unfoldable pub text_head : ℕ → List ℕ
 text_head n =
     if nat_lt n 32 then (160 + n) ∷ [] else
@@ -35,14 +35,14 @@ text_head n =
     if nat_lt n 65536 then 218 ∷ to_be_bytes w16 n else
     219 ∷ to_be_bytes w32 n
 
--- what stands before a bin of n bytes
+-- the header of a bin of n bytes
 unfoldable pub bin_head : ℕ → List ℕ
 bin_head n =
     if nat_lt n 256 then 196 ∷ n ∷ [] else
     if nat_lt n 65536 then 197 ∷ to_be_bytes w16 n else
     198 ∷ to_be_bytes w32 n
 
--- what stands before an ext of n bytes, before its type
+-- the header of an extension of n bytes, without its type
 unfoldable pub ext_head : ℕ → List ℕ
 ext_head n =
     if n == 1 then 212 ∷ [] else
@@ -54,14 +54,14 @@ ext_head n =
     if nat_lt n 65536 then 200 ∷ to_be_bytes w16 n else
     201 ∷ to_be_bytes w32 n
 
--- what stands before a list of n values
+-- the header of a list of n values
 unfoldable pub list_head : ℕ → List ℕ
 list_head n =
     if nat_lt n 16 then (144 + n) ∷ [] else
     if nat_lt n 65536 then 220 ∷ to_be_bytes w16 n else
     221 ∷ to_be_bytes w32 n
 
--- what stands before a map of n pairs
+-- the header of a map of n pairs
 unfoldable pub map_head : ℕ → List ℕ
 map_head n =
     if nat_lt n 16 then (128 + n) ∷ [] else
@@ -79,10 +79,10 @@ abbrev mutual
   canonical (float32 n) = 202 ∷ to_be_bytes w32 n
   canonical (float64 n) = 203 ∷ to_be_bytes w64 n
   canonical (ext t s) = ext_head (length s) ++ cast_unsigned w8 t ∷ s
-  canonical (list vs) = list_head (how_many vs) ++ canonical_all vs
-  canonical (mapping es) = map_head (how_many_entries es) ++ canonical_entries es
+  canonical (list vs) = list_head (value_count vs) ++ canonical_all vs
+  canonical (mapping es) = map_head (entry_count es) ++ canonical_entries es
 
-  -- the canonical spellings, one after another
+  -- the canonical encodings, one after another
   pub canonical_all : Vals → List ℕ
   canonical_all no_vals = []
   canonical_all (val v vs) = canonical v ++ canonical_all vs

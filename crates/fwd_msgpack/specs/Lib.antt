@@ -1,9 +1,9 @@
 pub mod Table
-pub mod Spelling
+pub mod Encodings
 pub mod Canonical
-pub mod Decoding
-pub mod Reading
-pub mod Writing
-pub mod Opens
-pub mod Part
-pub mod Scan
+pub mod DecodeAnswers
+pub mod Decoder
+pub mod KeptFront
+pub mod Levels
+pub mod Continuations
+pub mod ScanState

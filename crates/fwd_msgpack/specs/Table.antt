@@ -1,7 +1,7 @@
 -- The table of first bytes (MessagePack specification, "Formats": overview).
 use Rattle.std.specs.Prelude.{ℕ, ◌-◌, nat_lt, true, false, List, [], ◌∷◌, slice_index_or, if◌then◌else◌}
 use Rattle.std.specs.Int.{w8, cast_signed}
-use Rattle.fwd_msgpack.specs.declared.form.Wide.TheVariants.{One, Two, Four, Eight}
+use Rattle.fwd_msgpack.specs.declared.form.ByteWidth.TheVariants.{One, Two, Four, Eight}
 use Rattle.fwd_msgpack.specs.declared.form.Count.TheVariants.{Known, Sized}
 use Rattle.fwd_msgpack.specs.declared.form.Form.{Form}
 use Rattle.fwd_msgpack.specs.declared.form.Form.TheVariants as form
@@ -20,7 +20,7 @@ middle = form.Nil ∷ form.Unused ∷ form.Bool false ∷ form.Bool true
     ∷ form.Map (Sized Two) ∷ form.Map (Sized Four)
     ∷ []
 
--- what a first byte says of the value
+-- the form of a first byte
 unfoldable pub form_of : ℕ → Form
 form_of c =
     if nat_lt c 128 then form.PositiveFixint c else

@@ -4,14 +4,14 @@ ghost use Rattle.fwd_value.specs.Val.{vals_of, entries_of, text, bin, ext, whole
 ghost use Rattle.fwd_value.specs.View.{val_of, pair_of};
 ghost use Rattle.fwd_value.specs.Limits.{nesting, LengthsFit, AllLengthsFit, EntryLengthsFit, IsInRange, AreInRange, EntriesAreInRange};
 ghost use Rattle.fwd_msgpack.specs.Canonical.{number_bytes, minus_bytes, whole_bytes, text_head, bin_head, ext_head, list_head, map_head, canonical, canonical_all, canonical_entries};
-ghost use Rattle.fwd_msgpack.specs.Writing.{KeepsFront};
+ghost use Rattle.fwd_msgpack.specs.KeptFront.{KeepsFront};
 
 use fwd_base::{Bytes, Memory};
 use fwd_value::{Below, Pairs, Value};
 
-/// Appends a first byte, and the bytes behind it.
+/// Appends a first byte, and the bytes after it.
 #[inline(always)]
-#[tactic(auto, using(crate::proofs::Keeping::keeps_same, crate::proofs::Keeping::keeps_added))]
+#[tactic(auto, using(crate::proofs::KeptFront::keeps_same, crate::proofs::KeptFront::keeps_added))]
 fn put(out: &mut Bytes, first: u8, rest: &[u8]) -> Result<(), Memory>
     ensures ok { OnOk result (out.new ≡ out.old ++ first ∷ rest.now) }
     ensures err { OnErr result (KeepsFront out.old out.new) }
@@ -22,7 +22,7 @@ fn put(out: &mut Bytes, first: u8, rest: &[u8]) -> Result<(), Memory>
 
 /// Appends one byte.
 #[inline(always)]
-#[tactic(auto, using(crate::proofs::Keeping::keeps_same))]
+#[tactic(auto, using(crate::proofs::KeptFront::keeps_same))]
 fn put_byte(out: &mut Bytes, byte: u8) -> Result<(), Memory>
     ensures ok { OnOk result (out.new ≡ out.old ++ byte ∷ []) }
     ensures err { OnErr result (KeepsFront out.old out.new) }
@@ -50,7 +50,7 @@ fn put_number(out: &mut Bytes, n: u64) -> Result<(), Memory>
 
 /// Appends the number -1 - n.
 #[tactic(auto, unfolding(crate::specs::Canonical::minus_bytes))]
-fn put_minus(out: &mut Bytes, n: u64) -> Result<(), Memory>
+fn put_negative(out: &mut Bytes, n: u64) -> Result<(), Memory>
     requires { n < 2 ^ 63 }
     ensures ok { OnOk result (out.new ≡ out.old ++ minus_bytes n) }
     ensures err { OnErr result (KeepsFront out.old out.new) }
@@ -72,13 +72,13 @@ fn put_minus(out: &mut Bytes, n: u64) -> Result<(), Memory>
     }
 }
 
-fn put_below(out: &mut Bytes, below: &Below) -> Result<(), Memory>
+fn put_below_zero(out: &mut Bytes, below: &Below) -> Result<(), Memory>
     ensures ok { OnOk result (out.new ≡ out.old ++ whole_bytes below.now) }
     ensures in_range { IsInRange (whole below.now) }
     ensures err { OnErr result (KeepsFront out.old out.new) }
 {
     let n = below.get();
-    put_minus(out, (-1 - n) as u64)
+    put_negative(out, (-1 - n) as u64)
 }
 
 #[tactic(auto, unfolding(crate::specs::Canonical::text_head))]
@@ -168,7 +168,7 @@ fn put_map_head(out: &mut Bytes, n: usize) -> Result<(), Memory>
     }
 }
 
-#[tactic(auto, using(crate::proofs::Keeping::keeps_behind))]
+#[tactic(auto, using(crate::proofs::KeptFront::keeps_behind))]
 fn put_text(out: &mut Bytes, bytes: &[u8]) -> Result<(), Memory>
     requires { length bytes.now < 2 ^ 32 }
     ensures ok { OnOk result (out.new ≡ out.old ++ canonical (text bytes.now)) }
@@ -178,7 +178,7 @@ fn put_text(out: &mut Bytes, bytes: &[u8]) -> Result<(), Memory>
     put_bytes(out, bytes)
 }
 
-#[tactic(auto, using(crate::proofs::Keeping::keeps_behind))]
+#[tactic(auto, using(crate::proofs::KeptFront::keeps_behind))]
 fn put_bin(out: &mut Bytes, bytes: &[u8]) -> Result<(), Memory>
     requires { length bytes.now < 2 ^ 32 }
     ensures ok { OnOk result (out.new ≡ out.old ++ canonical (bin bytes.now)) }
@@ -188,7 +188,7 @@ fn put_bin(out: &mut Bytes, bytes: &[u8]) -> Result<(), Memory>
     put_bytes(out, bytes)
 }
 
-#[tactic(auto, using(crate::proofs::Keeping::keeps_behind))]
+#[tactic(auto, using(crate::proofs::KeptFront::keeps_behind))]
 fn put_ext(out: &mut Bytes, kind: i8, bytes: &[u8]) -> Result<(), Memory>
     requires { length bytes.now < 2 ^ 32 }
     ensures ok { OnOk result (out.new ≡ out.old ++ canonical (ext kind bytes.now)) }
@@ -201,7 +201,7 @@ fn put_ext(out: &mut Bytes, kind: i8, bytes: &[u8]) -> Result<(), Memory>
 
 /// Appends bytes.
 #[inline(always)]
-#[tactic(auto, using(crate::proofs::Keeping::keeps_same))]
+#[tactic(auto, using(crate::proofs::KeptFront::keeps_same))]
 fn put_bytes(out: &mut Bytes, bytes: &[u8]) -> Result<(), Memory>
     ensures ok { OnOk result (out.new ≡ out.old ++ bytes.now) }
     ensures err { OnErr result (KeepsFront out.old out.new) }
@@ -220,7 +220,7 @@ fn write_value(value: &Value, out: &mut Bytes) -> Result<(), Memory>
         Value::Nil => put_byte(out, 0xc0),
         Value::Truth(truth) => put_byte(out, if *truth { 0xc3 } else { 0xc2 }),
         Value::Uint(n) => put_number(out, *n),
-        Value::Neg(below) => put_below(out, below),
+        Value::Neg(below) => put_below_zero(out, below),
         Value::Text(bytes) => put_text(out, bytes.as_slice()),
         Value::Bin(bytes) => put_bin(out, bytes.as_slice()),
         Value::Float32(bits) => put(out, 0xca, bits.to_be_bytes().as_slice()),
@@ -264,8 +264,8 @@ fn write_pairs(pairs: &[(Value, Value)], out: &mut Bytes) -> Result<(), Memory>
     Ok(())
 }
 
-/// Appends the one canonical spelling: the shortest, a number of 0 or more in an unsigned form. After `Err` the bytes
-/// are as before.
+/// Appends the canonical encoding of a value: the shortest, with unsigned forms for numbers from 0 on. After
+/// `Err` the bytes are unchanged.
 pub fn encode(value: &Value, out: &mut Bytes) -> Result<(), Memory>
     requires nested { nesting (val_of value.now) ≤ deepest }
     requires lengths { LengthsFit (val_of value.now) }
@@ -281,7 +281,7 @@ pub fn encode(value: &Value, out: &mut Bytes) -> Result<(), Memory>
     written
 }
 
-/// Appends a head and the pairs behind it.
+/// Appends the header of a map and its pairs.
 fn write_map(pairs: &Pairs, out: &mut Bytes) -> Result<(), Memory>
     requires { LengthsFit (mapping (entries_of pairs.now)) }
     ensures ok { OnOk result (out.new ≡ out.old ++ canonical (mapping (entries_of pairs.now))) }
@@ -292,7 +292,7 @@ fn write_map(pairs: &Pairs, out: &mut Bytes) -> Result<(), Memory>
     write_pairs(pairs.as_slice(), out)
 }
 
-/// Appends the canonical spelling of a map, given by its pairs. After `Err` the bytes are as before.
+/// Appends the canonical encoding of a map, given by its pairs. After `Err` the bytes are unchanged.
 pub fn encode_map(pairs: &Pairs, out: &mut Bytes) -> Result<(), Memory>
     requires nested { nesting (mapping (entries_of pairs.now)) ≤ deepest }
     requires lengths { LengthsFit (mapping (entries_of pairs.now)) }

@@ -1,4 +1,4 @@
-//! What stops the reading of a value.
+//! Errors inside the decoder, which count bytes from the end of the input.
 
 ghost use Rattle.fwd_msgpack.specs.declared.fault.ReadError.TheVariants.{Memory as NoMemory};
 ghost use Rattle.std.specs.Prelude.{◌≡◌};
@@ -6,9 +6,9 @@ ghost use Rattle.std.specs.Prelude.{◌≡◌};
 use fwd_base::Memory;
 use std::alloc::{AllocError, AllocFailed};
 
-/// What stops the reading. The number counts the bytes from the one that stops it to the end.
+/// Why decoding stops. The number counts the bytes from the offending one to the end.
 #[derive(Clone, Copy)]
-pub enum Fault {
+pub enum FormatError {
     Short,
     Unused(usize),
     TooDeep(usize),
@@ -17,7 +17,7 @@ pub enum Fault {
 #[derive(Drop)]
 pub enum ReadError {
     Memory,
-    Fault(Fault),
+    FormatError(FormatError),
 }
 
 impl From<Memory> for ReadError {

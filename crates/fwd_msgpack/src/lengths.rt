@@ -1,22 +1,14 @@
-//! Which values can be written.
+//! The test whether a value can be encoded.
 
 ghost use Rattle.std.specs.Prelude.{◌≡◌, ◌↔◌, ◌≤◌, ◌<◌, ◌^◌, map, IsTrue};
-ghost use Rattle.fwd_base.specs.Limits.{deepest};
 ghost use Rattle.fwd_value.specs.Val.{vals_of, entries_of, mapping};
 ghost use Rattle.fwd_value.specs.View.{val_of, pair_of};
-ghost use Rattle.fwd_value.specs.Limits.{nesting, entry_nestings, LengthsFit, AllLengthsFit, EntryLengthsFit};
+ghost use Rattle.fwd_value.specs.Limits.{entry_nestings, LengthsFit, AllLengthsFit, EntryLengthsFit};
 
-use fwd_base::limits::DEEPEST;
 use fwd_value::{Pairs, Value};
 
-/// Whether a value can be written: it is nested at most 64, and each length in it is below 2^32.
-pub fn can_encode(value: &Value) -> bool
-    ensures { IsTrue result ↔ (nesting (val_of value.now) ≤ deepest) × LengthsFit (val_of value.now) }
-{
-    value.nests_within(u64::from(DEEPEST)) && lengths_fit(value)
-}
-
-/// Whether a map of these pairs can be written, given as deep as lists and maps may be nested in it.
+/// Returns whether a map of these pairs can be encoded: its keys and values are nested at most `depth` deep,
+/// and every length is below 2^32.
 pub fn can_encode_map(pairs: &Pairs, depth: u64) -> bool
     ensures { IsTrue result ↔ (entry_nestings (entries_of pairs.now) ≤ depth) × LengthsFit (mapping (entries_of pairs.now)) }
 {
@@ -26,10 +18,10 @@ pub fn can_encode_map(pairs: &Pairs, depth: u64) -> bool
 fn map_lengths_fit(pairs: &Pairs) -> bool
     ensures { IsTrue result ↔ LengthsFit (mapping (entries_of pairs.now)) }
 {
-    has_form(pairs.len()) && entry_lengths_fit(pairs.as_slice())
+    has_length_form(pairs.len()) && entry_lengths_fit(pairs.as_slice())
 }
 
-fn has_form(length: usize) -> bool
+fn has_length_form(length: usize) -> bool
     ensures { IsTrue result ↔ (length < 2 ^ 32) }
 {
     length < 4_294_967_296
@@ -40,11 +32,11 @@ fn lengths_fit(value: &Value) -> bool
     ensures { IsTrue result ↔ LengthsFit (val_of value.now) }
 {
     match value {
-        Value::Text(bytes) => has_form(bytes.len()),
-        Value::Bin(bytes) => has_form(bytes.len()),
-        Value::Ext(_, bytes) => has_form(bytes.len()),
-        Value::List(values) => has_form(values.len()) && all_lengths_fit(values.as_slice()),
-        Value::Map(pairs) => has_form(pairs.len()) && entry_lengths_fit(pairs.as_slice()),
+        Value::Text(bytes) => has_length_form(bytes.len()),
+        Value::Bin(bytes) => has_length_form(bytes.len()),
+        Value::Ext(_, bytes) => has_length_form(bytes.len()),
+        Value::List(values) => has_length_form(values.len()) && all_lengths_fit(values.as_slice()),
+        Value::Map(pairs) => has_length_form(pairs.len()) && entry_lengths_fit(pairs.as_slice()),
         _ => true,
     }
 }

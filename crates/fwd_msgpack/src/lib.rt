@@ -1,11 +1,11 @@
-//! Values travel and are stored as MessagePack. Bytes come from peers and from files that were cut anywhere, so reading
-//! has to say exactly what they are: a value and how long its spelling is, the beginning of one, or bytes that no
-//! spelling begins with. Writing gives the one shortest spelling.
+//! MessagePack: an encoder and a decoder for values, and an incremental scanner. Bytes come from peers and
+//! from files that may be cut anywhere, so the decoder tells a whole value from a proper prefix of one and
+//! from bytes that begin no encoding.
 //!
-//! `decode` gives a value and a length exactly where the first bytes spell it, by the table of the MessagePack
-//! specification, and each refusal exactly where it stands; no spelling begins another. `Scan` says of a value that
-//! comes in pieces what all bytes fed so far are, exactly as `decode` says it, and looks at each byte once; feeding
-//! takes no memory.
+//! `decode` returns a value and a length exactly if the first bytes encode it, by the table of the
+//! MessagePack specification, and each error exactly at its offset. No encoding is a proper prefix of
+//! another. The encoder writes the one shortest encoding. `Scan` gives the same answer as `decode` for a
+//! value that comes in several reads. It inspects each byte once, and feeding it allocates nothing.
 #![tactic(auto)]
 
 mod decoding;
@@ -13,19 +13,19 @@ mod encoding;
 mod errors;
 mod fault;
 mod form;
-mod laws;
 mod lengths;
-mod opens;
+mod levels;
 mod part;
 mod reading;
 mod scan;
+mod theorems;
 
 pub use decoding::decode;
 pub use encoding::{encode, encode_map};
 pub use errors::DecodeErr;
 pub use fwd_value::{Below, Pairs, Value, Values};
-pub use laws::{
-    canonical_is_a_spelling, canonical_is_read_back, canonical_is_shortest, one_reading,
-};
-pub use lengths::{can_encode, can_encode_map};
+pub use lengths::can_encode_map;
 pub use scan::{Scan, Scanned};
+pub use theorems::{
+    canonical_decodes, canonical_is_encoding, canonical_is_shortest, encodings_are_prefix_free,
+};

@@ -1,22 +1,22 @@
-//! What of a value is still to come.
+//! The position of the scanner within a value, and the steps of the scanner.
 
 ghost use Rattle.std.specs.Prelude.{◌≡◌};
-ghost use Rattle.fwd_msgpack.specs.Spelling.{size};
-ghost use Rattle.fwd_msgpack.specs.Part.{counted, what_follows, IsShortCount, IsTabled};
+ghost use Rattle.fwd_msgpack.specs.Encodings.{size};
+ghost use Rattle.fwd_msgpack.specs.Continuations.{counted, continuation_of, IsShortCount, IsTabled};
 
-use crate::form::{Count, Form, Wide};
+use crate::form::{ByteWidth, Count, Form};
 
-/// The bytes of a length that are still to come: so many, behind those that came, which are kept.
+/// A partly read length: how many bytes of it are missing, and the ones that came.
 #[derive(Clone, Copy)]
-pub enum Left {
+pub enum PartialLength {
     Four,
     Three(u8),
     Two(u16),
     One(u16, u8),
 }
 
-/// What a length counts: the bytes of a text or bin; the bytes of an ext, behind its type; the values of a list; the
-/// pairs of a map.
+/// What a length counts: the bytes of a text or bin; the bytes of an extension, after its type; the values
+/// of a list; the pairs of a map.
 #[derive(Clone, Copy)]
 pub enum Holds {
     Bytes,
@@ -25,74 +25,74 @@ pub enum Holds {
     Pairs,
 }
 
-/// Where in a value the bytes end.
+/// The position within a value.
 #[derive(Clone, Copy)]
 pub enum Part {
     /// Before its first byte.
     First,
-    /// So many bytes before its end, of which none is looked at.
+    /// This many bytes before its end, which are skipped.
     Skip(u64),
-    /// In its length.
-    Length(Left, Holds),
+    /// Within its length.
+    Length(PartialLength, Holds),
 }
 
-/// What a first byte says of the bytes behind it.
+/// What follows a first byte.
 #[derive(Clone, Copy)]
 pub enum Begun {
-    /// It begins no value.
+    /// Nothing: the byte begins no value.
     Unused,
-    /// So many bytes follow.
+    /// This many bytes.
     Bytes(u8),
-    /// The length is in the first byte.
+    /// Content whose length is in the first byte.
     Known(u8, Holds),
-    /// A length follows.
-    Sized(Left, Holds),
+    /// A length, and then the content.
+    Sized(PartialLength, Holds),
 }
 
-/// What came of some bytes.
+/// The outcome of scanning some bytes.
 #[derive(Clone, Copy)]
 pub enum Step {
-    /// More bytes are wanted.
+    /// The value is incomplete.
     On,
-    /// The value has ended.
+    /// The value is complete.
     Ended,
     /// The last byte begins no value.
     Unused,
-    /// The last byte begins a list or map inside 64 others.
+    /// The last byte begins a list or map that is nested in 64 others.
     TooDeep,
 }
 
-/// How many bytes a number has.
-#[tactic(auto, unfolding(crate::specs::Spelling::size))]
-fn bytes_of(w: Wide) -> u8
+/// Returns the width of a number, in bytes.
+#[tactic(auto, unfolding(crate::specs::Encodings::size))]
+fn bytes_of(w: ByteWidth) -> u8
     ensures { result ≡ size w }
 {
     match w {
-        Wide::One => 1,
-        Wide::Two => 2,
-        Wide::Four => 4,
-        Wide::Eight => 8,
+        ByteWidth::One => 1,
+        ByteWidth::Two => 2,
+        ByteWidth::Four => 4,
+        ByteWidth::Eight => 8,
     }
 }
 
-/// A length behind a first byte. None has eight bytes.
+/// Returns what follows a first byte with this length. No length has eight bytes.
 fn counted(k: Count, holds: Holds) -> Begun
     requires { IsShortCount k }
     ensures { result ≡ counted k holds }
 {
     match k {
         Count::Known(n) => Begun::Known(n, holds),
-        Count::Sized(Wide::One) => Begun::Sized(Left::One(0, 0), holds),
-        Count::Sized(Wide::Two) => Begun::Sized(Left::Two(0), holds),
-        Count::Sized(Wide::Four) => Begun::Sized(Left::Four, holds),
-        Count::Sized(Wide::Eight) => unreachable!(),
+        Count::Sized(ByteWidth::One) => Begun::Sized(PartialLength::One(0, 0), holds),
+        Count::Sized(ByteWidth::Two) => Begun::Sized(PartialLength::Two(0), holds),
+        Count::Sized(ByteWidth::Four) => Begun::Sized(PartialLength::Four, holds),
+        Count::Sized(ByteWidth::Eight) => unreachable!(),
     }
 }
 
-/// What a first byte of this form says.
-pub fn what_follows(form: Form) -> Begun
+/// Returns what follows a first byte of this format.
+pub fn continuation_of(form: Form) -> Begun
     requires { IsTabled form }
-    ensures { result ≡ what_follows form }
+    ensures { result ≡ continuation_of form }
 {
     match form {
         Form::Unused => Begun::Unused,

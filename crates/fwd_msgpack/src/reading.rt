@@ -1,42 +1,42 @@
-//! Reading from left to right. What is read is given with the bytes behind it.
+//! The recursive decoder. Each function returns what it decoded and the bytes after it.
 
 ghost use Rattle.std.specs.Prelude.{◌≡◌, ◌≤◌, ℕ, List, [], length, map, pos, vec_capacity, Ok, IfOk};
 ghost use Rattle.fwd_value.specs.View.{val_of, pair_of};
 ghost use Rattle.std.specs.Int.{cast_signed};
-ghost use Rattle.fwd_msgpack.specs.Spelling.{width, IsWithin};
+ghost use Rattle.fwd_msgpack.specs.Encodings.{width, IsWithin};
 ghost use Rattle.fwd_value.specs.Val.{whole};
 ghost use Rattle.fwd_msgpack.specs.declared.form.Form.TheVariants as form;
-ghost use Rattle.fwd_msgpack.specs.Reading.{Gives, number_at, bytes_at, byte_at, count_at, counted_at, many_at, entries_at, after, inner, value_at};
+ghost use Rattle.fwd_msgpack.specs.Decoder.{DecodesAs, number_at, bytes_at, byte_at, count_at, counted_at, many_at, entries_at, after, inner, value_at};
 
-use crate::fault::{Fault, ReadError};
-use crate::form::{Count, Form, Wide, form_of};
+use crate::fault::{FormatError, ReadError};
+use crate::form::{ByteWidth, Count, Form, form_of};
 use fwd_base::Bytes;
 use fwd_value::{Below, Pairs, Value, Values};
 use std::alloc::{AllocError, Global};
 
-#[tactic(auto, unfolding(crate::specs::Reading::number_at, crate::specs::Spelling::number, crate::specs::Spelling::size))]
-fn number_of(bytes: &[u8], w: Wide) -> Result<(u64, &[u8]), ReadError>
-    ensures read { Gives (λ x. (x.0, x.1.now)) result (number_at w bytes.now) }
+#[tactic(auto, unfolding(crate::specs::Decoder::number_at, crate::specs::Encodings::number, crate::specs::Encodings::size))]
+fn number_of(bytes: &[u8], w: ByteWidth) -> Result<(u64, &[u8]), ReadError>
+    ensures read { DecodesAs (λ x. (x.0, x.1.now)) result (number_at w bytes.now) }
     ensures fits { IfOk result (λ x. IsWithin w x.0) }
 {
     match w {
-        Wide::One => {
+        ByteWidth::One => {
             if bytes.len() < 1 {
-                return Err(ReadError::Fault(Fault::Short));
+                return Err(ReadError::FormatError(FormatError::Short));
             }
             let (front, rest) = bytes.split_at(1);
             Ok((front[0] as u64, rest))
         }
-        Wide::Two => {
+        ByteWidth::Two => {
             if bytes.len() < 2 {
-                return Err(ReadError::Fault(Fault::Short));
+                return Err(ReadError::FormatError(FormatError::Short));
             }
             let (front, rest) = bytes.split_at(2);
             Ok((u16::from_be_bytes([front[0], front[1]]) as u64, rest))
         }
-        Wide::Four => {
+        ByteWidth::Four => {
             if bytes.len() < 4 {
-                return Err(ReadError::Fault(Fault::Short));
+                return Err(ReadError::FormatError(FormatError::Short));
             }
             let (front, rest) = bytes.split_at(4);
             Ok((
@@ -44,9 +44,9 @@ fn number_of(bytes: &[u8], w: Wide) -> Result<(u64, &[u8]), ReadError>
                 rest,
             ))
         }
-        Wide::Eight => {
+        ByteWidth::Eight => {
             if bytes.len() < 8 {
-                return Err(ReadError::Fault(Fault::Short));
+                return Err(ReadError::FormatError(FormatError::Short));
             }
             let (front, rest) = bytes.split_at(8);
             Ok((
@@ -59,9 +59,9 @@ fn number_of(bytes: &[u8], w: Wide) -> Result<(u64, &[u8]), ReadError>
     }
 }
 
-#[tactic(auto, unfolding(crate::specs::Reading::count_at))]
+#[tactic(auto, unfolding(crate::specs::Decoder::count_at))]
 fn count_of(bytes: &[u8], k: Count) -> Result<(u64, &[u8]), ReadError>
-    ensures { Gives (λ x. (x.0, x.1.now)) result (count_at k bytes.now) }
+    ensures { DecodesAs (λ x. (x.0, x.1.now)) result (count_at k bytes.now) }
 {
     match k {
         Count::Known(n) => Ok((n as u64, bytes)),
@@ -69,44 +69,44 @@ fn count_of(bytes: &[u8], k: Count) -> Result<(u64, &[u8]), ReadError>
     }
 }
 
-#[tactic(auto, unfolding(crate::specs::Reading::byte_at))]
+#[tactic(auto, unfolding(crate::specs::Decoder::byte_at))]
 fn byte_of(bytes: &[u8]) -> Result<(u8, &[u8]), ReadError>
-    ensures { Gives (λ x. (x.0, x.1.now)) result (byte_at bytes.now) }
+    ensures { DecodesAs (λ x. (x.0, x.1.now)) result (byte_at bytes.now) }
 {
     match bytes {
-        [] => Err(ReadError::Fault(Fault::Short)),
+        [] => Err(ReadError::FormatError(FormatError::Short)),
         [c, rest @ ..] => Ok((*c, rest)),
     }
 }
 
-#[tactic(auto, unfolding(crate::specs::Reading::bytes_at))]
+#[tactic(auto, unfolding(crate::specs::Decoder::bytes_at))]
 fn bytes_of(alloc: Global, bytes: &[u8], n: u64) -> Result<(Bytes, &[u8]), ReadError>
-    ensures { Gives (λ x. (x.0, x.1.now)) result (bytes_at n bytes.now) }
+    ensures { DecodesAs (λ x. (x.0, x.1.now)) result (bytes_at n bytes.now) }
 {
     if (bytes.len() as u64) < n {
-        return Err(ReadError::Fault(Fault::Short));
+        return Err(ReadError::FormatError(FormatError::Short));
     }
     let (text, rest) = bytes.split_at(n as usize);
     Ok((Bytes::from_slice(alloc, text)?, rest))
 }
 
-#[tactic(auto, unfolding(crate::specs::Reading::counted_at))]
+#[tactic(auto, unfolding(crate::specs::Decoder::counted_at))]
 fn counted_of(alloc: Global, bytes: &[u8], k: Count) -> Result<(Bytes, &[u8]), ReadError>
-    ensures { Gives (λ x. (x.0, x.1.now)) result (counted_at k bytes.now) }
+    ensures { DecodesAs (λ x. (x.0, x.1.now)) result (counted_at k bytes.now) }
 {
     let (n, rest) = count_of(bytes, k)?;
     bytes_of(alloc, rest, n)
 }
 
-fn signed(n: u64, w: Wide) -> i64
+fn sign_extended(n: u64, w: ByteWidth) -> i64
     requires { IsWithin w n }
     ensures { result ≡ cast_signed (width w) n }
 {
     match w {
-        Wide::One => (n as u8).cast_signed() as i64,
-        Wide::Two => (n as u16).cast_signed() as i64,
-        Wide::Four => (n as u32).cast_signed() as i64,
-        Wide::Eight => n.cast_signed(),
+        ByteWidth::One => (n as u8).cast_signed() as i64,
+        ByteWidth::Two => (n as u16).cast_signed() as i64,
+        ByteWidth::Four => (n as u32).cast_signed() as i64,
+        ByteWidth::Eight => n.cast_signed(),
     }
 }
 
@@ -120,14 +120,14 @@ pub fn whole(n: i64) -> Value
 }
 
 #[cycle(read)]
-#[tactic(auto, unfolding(crate::specs::Reading::value_by, crate::specs::Reading::after))]
+#[tactic(auto, unfolding(crate::specs::Decoder::value_by, crate::specs::Decoder::after))]
 pub fn value_of(alloc: Global, bytes: &[u8], depth: u32) -> Result<(Value, &[u8]), ReadError>
-    ensures { Gives (λ x. (val_of x.0, x.1.now)) result (value_at depth bytes.now) }
+    ensures { DecodesAs (λ x. (val_of x.0, x.1.now)) result (value_at depth bytes.now) }
 {
     match bytes {
-        [] => Err(ReadError::Fault(Fault::Short)),
+        [] => Err(ReadError::FormatError(FormatError::Short)),
         [c, rest @ ..] => match form_of(*c) {
-            Form::Unused => Err(ReadError::Fault(Fault::Unused(rest.len() + 1))),
+            Form::Unused => Err(ReadError::FormatError(FormatError::Unused(rest.len() + 1))),
             Form::Nil => Ok((Value::Nil, rest)),
             Form::Bool(t) => Ok((Value::Truth(t), rest)),
             Form::PositiveFixint(n) => Ok((Value::Uint(n as u64), rest)),
@@ -138,14 +138,14 @@ pub fn value_of(alloc: Global, bytes: &[u8], depth: u32) -> Result<(Value, &[u8]
             }
             Form::Int(w) => {
                 let (n, rest) = number_of(rest, w)?;
-                Ok((whole(signed(n, w)), rest))
+                Ok((whole(sign_extended(n, w)), rest))
             }
             Form::Float32 => {
-                let (n, rest) = number_of(rest, Wide::Four)?;
+                let (n, rest) = number_of(rest, ByteWidth::Four)?;
                 Ok((Value::Float32(n as u32), rest))
             }
             Form::Float64 => {
-                let (n, rest) = number_of(rest, Wide::Eight)?;
+                let (n, rest) = number_of(rest, ByteWidth::Eight)?;
                 Ok((Value::Float64(n), rest))
             }
             Form::Str(k) => {
@@ -169,12 +169,12 @@ pub fn value_of(alloc: Global, bytes: &[u8], depth: u32) -> Result<(Value, &[u8]
 }
 
 #[cycle(read)]
-#[tactic(auto, unfolding(crate::specs::Reading::after))]
+#[tactic(auto, unfolding(crate::specs::Decoder::after))]
 fn list_of(alloc: Global, bytes: &[u8], k: Count, depth: u32) -> Result<(Value, &[u8]), ReadError>
-    ensures { Gives (λ x. (val_of x.0, x.1.now)) result (after (inner depth) (form.Array k) bytes.now) }
+    ensures { DecodesAs (λ x. (val_of x.0, x.1.now)) result (after (inner depth) (form.Array k) bytes.now) }
 {
     if depth == 0 {
-        return Err(ReadError::Fault(Fault::TooDeep(bytes.len() + 1)));
+        return Err(ReadError::FormatError(FormatError::TooDeep(bytes.len() + 1)));
     }
     let (n, rest) = count_of(bytes, k)?;
     let (vs, rest) = values_of(alloc, rest, n, depth - 1)?;
@@ -182,12 +182,12 @@ fn list_of(alloc: Global, bytes: &[u8], k: Count, depth: u32) -> Result<(Value, 
 }
 
 #[cycle(read)]
-#[tactic(auto, unfolding(crate::specs::Reading::after))]
+#[tactic(auto, unfolding(crate::specs::Decoder::after))]
 fn map_of(alloc: Global, bytes: &[u8], k: Count, depth: u32) -> Result<(Value, &[u8]), ReadError>
-    ensures { Gives (λ x. (val_of x.0, x.1.now)) result (after (inner depth) (form.Map k) bytes.now) }
+    ensures { DecodesAs (λ x. (val_of x.0, x.1.now)) result (after (inner depth) (form.Map k) bytes.now) }
 {
     if depth == 0 {
-        return Err(ReadError::Fault(Fault::TooDeep(bytes.len() + 1)));
+        return Err(ReadError::FormatError(FormatError::TooDeep(bytes.len() + 1)));
     }
     let (n, rest) = count_of(bytes, k)?;
     let (es, rest) = pairs_of(alloc, rest, n, depth - 1)?;
@@ -196,9 +196,9 @@ fn map_of(alloc: Global, bytes: &[u8], k: Count, depth: u32) -> Result<(Value, &
 
 #[cycle(read)]
 fn values_of(alloc: Global, bytes: &[u8], n: u64, depth: u32) -> Result<(Values, &[u8]), ReadError>
-    ensures { Gives (λ x. (x.0, x.1.now)) result (many_at (value_at depth) n bytes.now) }
+    ensures { DecodesAs (λ x. (x.0, x.1.now)) result (many_at (value_at depth) n bytes.now) }
 {
-    let mut values = with_room(alloc, n, bytes)?;
+    let mut values = with_reserve(alloc, n, bytes)?;
     let mut rest = bytes;
     for _ in 0..n {
         let (v, after) = value_of(alloc, rest, depth)?;
@@ -210,9 +210,9 @@ fn values_of(alloc: Global, bytes: &[u8], n: u64, depth: u32) -> Result<(Values,
 
 #[cycle(read)]
 fn pairs_of(alloc: Global, bytes: &[u8], n: u64, depth: u32) -> Result<(Pairs, &[u8]), ReadError>
-    ensures { Gives (λ x. (x.0, x.1.now)) result (entries_at (value_at depth) n bytes.now) }
+    ensures { DecodesAs (λ x. (x.0, x.1.now)) result (entries_at (value_at depth) n bytes.now) }
 {
-    let mut pairs = with_room(alloc, n, bytes)?;
+    let mut pairs = with_reserve(alloc, n, bytes)?;
     let mut rest = bytes;
     for _ in 0..n {
         let (k, after) = value_of(alloc, rest, depth)?;
@@ -223,15 +223,16 @@ fn pairs_of(alloc: Global, bytes: &[u8], n: u64, depth: u32) -> Result<(Pairs, &
     Ok((Pairs::from_vec(pairs), rest))
 }
 
-/// How much room is set aside at most before anything is read.
-const MOST_ROOM: usize = 16;
+/// The largest capacity to reserve before any item is decoded.
+const MOST_RESERVED: usize = 16;
 
-/// A list with room for as many values as are said to come, as far as the bytes that are left can have so many.
-fn with_room<T>(alloc: Global, n: u64, bytes: &[u8]) -> Result<Vec<T>, AllocError>
+/// Returns an empty list with capacity for `n` items, but at most for `MOST_RESERVED` and for one per remaining
+/// byte.
+fn with_reserve<T>(alloc: Global, n: u64, bytes: &[u8]) -> Result<Vec<T>, AllocError>
     ensures empty { IfOk result (λ items. items.items ≡ []) }
     ensures filled { IfOk result (λ items. vec_capacity items ≤ length bytes.now) }
-    ensures little { IfOk result (λ items. vec_capacity items ≤ MOST_ROOM) }
+    ensures little { IfOk result (λ items. vec_capacity items ≤ MOST_RESERVED) }
 {
-    let said = n.min(MOST_ROOM as u64) as usize;
+    let said = n.min(MOST_RESERVED as u64) as usize;
     Vec::with_capacity(alloc, said.min(bytes.len()))
 }

@@ -1,44 +1,44 @@
-//! A value that comes in pieces is looked at once.
+//! The incremental scanner for a value that comes in several reads.
 
 ghost use Rattle.std.specs.Prelude.{◌≡◌, ◌↔◌, ◌≤◌, ◌<◌, ◌^◌, ◌+◌, ℕ, List, [], ◌∷◌, ◌++◌, min, length, IfOk, IsTrue};
 ghost use Rattle.fwd_value.specs.Val.{Val};
-ghost use Rattle.fwd_msgpack.specs.Opens.{WantsOne};
-ghost use Rattle.fwd_msgpack.specs.Decoding.{SpellsFront, IsProperPrefix, StopsBy, IsUnused, IsListOrMap};
-ghost use Rattle.fwd_msgpack.specs.Scan.{all_passed, behind, behind_length, from_part, after_step, StaysOpen, IsOpen, IsFed, Takes, TakesAll, has_room, answered, TookOne, IsMore, IsWholeAt, IsUnusedAt, IsTooDeepAt};
+ghost use Rattle.fwd_msgpack.specs.Levels.{MissesOne};
+ghost use Rattle.fwd_msgpack.specs.DecodeAnswers.{EncodesPrefix, IsProperPrefix, FailsAtForm, IsUnused, IsListOrMap};
+ghost use Rattle.fwd_msgpack.specs.ScanState.{skip_levels, behind, after_length, from_part, outcome_after_step, StaysOpen, IsOpen, IsFed, Takes, TakesAll, may_open, scan_answer, HasTaken, IsMore, IsWholeAt, IsUnusedAt, IsTooDeepAt};
 ghost use Rattle.fwd_msgpack.specs.declared.part.Part.TheVariants as part;
 
 use crate::form::form_of;
-use crate::opens::{MOST_OPEN, Opens};
-use crate::part::{Begun, Holds, Left, Part, Step, what_follows};
+use crate::levels::{Levels, MOST_LEVELS};
+use crate::part::{Begun, Holds, Part, PartialLength, Step, continuation_of};
 use fwd_base::Memory;
 use std::alloc::Global;
 
-/// What the bytes that were fed so far are. A place is counted from the first of them.
+/// What the bytes fed so far are. `at` is an offset from the first of them, in bytes.
 #[derive(Clone, Copy, Debug, PartialEq, Eq)]
 pub enum Scanned {
-    /// They are the beginning of a spelling, and more is wanted.
+    /// A proper prefix of an encoding.
     More,
-    /// The first ones spell a value, which ends at the place.
+    /// The encoding of a value, which ends at `at`, and perhaps more bytes.
     Whole { at: u64 },
-    /// The byte c1 stands where a value is wanted.
+    /// The byte c1 is at the beginning of a value.
     Unused { at: u64 },
-    /// A list or map stands inside 64 others.
+    /// A list or map is nested in 64 others.
     TooDeep { at: u64 },
 }
 
-/// How far the first value of some bytes has come. The bytes are fed piece by piece and aren't kept: each is looked at
-/// once, and those inside a text, a bin or an ext not at all.
+/// An incremental scanner for the first value of some bytes. It keeps none of them: it inspects each byte
+/// once, and skips those inside a text, a bin or an extension.
 #[derive(Drop)]
 pub struct Scan {
-    opens: Opens,
+    levels: Levels,
     part: Part,
     seen: u64,
 }
 
-/// What is answered behind a step, where so many bytes were taken.
-fn answered(step: Step, at: u64) -> Scanned
-    requires { TookOne step at }
-    ensures { result ≡ answered step at }
+/// Returns the answer after a step, if `at` bytes were taken in all.
+fn scan_answer(step: Step, at: u64) -> Scanned
+    requires { HasTaken step at }
+    ensures { result ≡ scan_answer step at }
 {
     match step {
         Step::On => Scanned::More,
@@ -48,8 +48,8 @@ fn answered(step: Step, at: u64) -> Scanned
     }
 }
 
-/// How many of some bytes stand before an end.
-fn lesser(left: u64, length: usize) -> usize
+/// Returns the lesser of two lengths.
+fn lesser_length(left: u64, length: usize) -> usize
     ensures { result ≡ min left length }
 {
     if left < length as u64 {
@@ -60,49 +60,50 @@ fn lesser(left: u64, length: usize) -> usize
 }
 
 impl Scan {
-    /// Nothing was fed.
+    /// Creates a scanner that was fed nothing.
     pub fn new(alloc: Global) -> Result<Scan, Memory>
         ensures { IfOk result (λ scan. IsFed scan []) }
     {
         Ok(Scan {
-            opens: Opens::new(alloc)?,
+            levels: Levels::new(alloc)?,
             part: Part::First,
             seen: 0,
         })
     }
 
-    /// How many bytes were fed.
+    /// Returns the number of bytes fed so far.
     pub fn seen(&self) -> u64
         ensures { result ≡ self.now.seen }
     {
         self.seen
     }
 
-    /// Feeds the next bytes to a scan that hasn't come to an end, and says what all bytes fed so far are.
+    /// Feeds the next bytes, and returns what all bytes fed so far are. Must not be called after another
+    /// answer than `More`.
     pub fn feed(&mut self, bytes: &[u8]) -> Scanned
         requires wanting { IsOpen self.old }
         requires fits { self.old.seen + length bytes.now < 2 ^ 64 }
-        // More exactly where they are a proper prefix of a spelling; the scan then goes on.
+        // More exactly if they are a proper prefix of an encoding; the scan then continues.
         ensures more { (fed : List ℕ) → IsFed self.old fed → (IsMore result ↔ IsProperPrefix (fed ++ bytes.now)) }
         ensures fed { (fed : List ℕ) → IsFed self.old fed → IsMore result → IsFed self.new (fed ++ bytes.now) }
         ensures wanting { IsMore result → IsOpen self.new }
-        // Whole exactly where so many of the first ones spell a value.
+        // Whole exactly if the first n bytes encode a value.
         ensures whole { (fed : List ℕ) (n : ℕ) → IsFed self.old fed →
-            (IsWholeAt result n ↔ (v : Val) × SpellsFront v n (fed ++ bytes.now)) }
-        // Unused and TooDeep exactly where such a byte is the first that no spelling goes on with.
+            (IsWholeAt result n ↔ (v : Val) × EncodesPrefix v n (fed ++ bytes.now)) }
+        // Unused and TooDeep exactly if such a byte is the first with which no encoding continues.
         ensures unused { (fed : List ℕ) (n : ℕ) → IsFed self.old fed →
-            (IsUnusedAt result n ↔ StopsBy IsUnused n (fed ++ bytes.now)) }
+            (IsUnusedAt result n ↔ FailsAtForm IsUnused n (fed ++ bytes.now)) }
         ensures too_deep { (fed : List ℕ) (n : ℕ) → IsFed self.old fed →
-            (IsTooDeepAt result n ↔ StopsBy IsListOrMap n (fed ++ bytes.now)) }
+            (IsTooDeepAt result n ↔ FailsAtForm IsListOrMap n (fed ++ bytes.now)) }
         ensures seen { self.new.seen ≡ self.old.seen + length bytes.now }
     {
         let (step, rest) = self.take_all(bytes);
         let at = self.seen + (bytes.len() - rest.len()) as u64;
         self.seen += bytes.len() as u64;
-        answered(step, at)
+        scan_answer(step, at)
     }
 
-    /// Takes all bytes, or as many as come before an end, and gives those behind.
+    /// Takes all bytes, or those up to the end of the scan. Returns the remaining ones.
     fn take_all<'b>(&mut self, bytes: &'b [u8]) -> (Step, &'b [u8])
         requires { IsOpen self.old }
         ensures { TakesAll self.old self.new bytes.now result.1.now result.0 }
@@ -119,7 +120,7 @@ impl Scan {
         (Step::On, rest)
     }
 
-    /// Takes the next bytes, at least one, and gives those behind.
+    /// Takes one or more bytes. Returns the remaining ones.
     fn take<'b>(&mut self, bytes: &'b [u8]) -> (Step, &'b [u8])
         requires wanting { IsOpen self.old }
         requires some { 0 < length bytes.now }
@@ -127,7 +128,7 @@ impl Scan {
     {
         match self.part {
             Part::Skip(left) => {
-                let passed = lesser(left, bytes.len());
+                let passed = lesser_length(left, bytes.len());
                 let (_, rest) = bytes.split_at(passed);
                 (self.skip(left - passed as u64), rest)
             }
@@ -142,26 +143,26 @@ impl Scan {
         }
     }
 
-    /// A value begins with this byte.
+    /// Takes the first byte of a value.
     fn take_first(&mut self, byte: u8) -> Step
-        requires { WantsOne self.old.opens }
-        ensures same { (b : List ℕ) → after_step result self.new b ≡ all_passed self.old.opens (byte ∷ b) }
+        requires { MissesOne self.old.levels }
+        ensures same { (b : List ℕ) → outcome_after_step result self.new b ≡ skip_levels self.old.levels (byte ∷ b) }
         ensures stays { StaysOpen result self.new }
         ensures seen { self.new.seen ≡ self.old.seen }
     {
-        self.opens.take_one();
-        match what_follows(form_of(byte)) {
+        self.levels.count_value();
+        match continuation_of(form_of(byte)) {
             Begun::Unused => Step::Unused,
             Begun::Bytes(n) => self.skip(n as u64),
             Begun::Known(n, holds) => {
-                if !self.has_room(holds) {
+                if !self.may_open(holds) {
                     return Step::TooDeep;
                 }
                 self.counted(n as u32, holds)
             }
             Begun::Sized(left, holds) => {
                 let length = Part::Length(left, holds);
-                if !self.has_room(holds) {
+                if !self.may_open(holds) {
                     return Step::TooDeep;
                 }
                 self.part = length;
@@ -170,28 +171,31 @@ impl Scan {
         }
     }
 
-    /// Whether what is counted may stand here: values may be nested no deeper than `DEEPEST`.
-    fn has_room(&self, holds: Holds) -> bool
-        ensures { result ≡ has_room holds self.now.opens }
+    /// Returns whether a list or map may be opened here: nesting may not exceed `DEEPEST`.
+    fn may_open(&self, holds: Holds) -> bool
+        ensures { result ≡ may_open holds self.now.levels }
     {
         match holds {
             Holds::Bytes | Holds::Typed => true,
-            Holds::Values | Holds::Pairs => self.opens.len() < MOST_OPEN,
+            Holds::Values | Holds::Pairs => self.levels.len() < MOST_LEVELS,
         }
     }
 
-    /// A byte of a length comes.
-    fn take_length(&mut self, left: Left, holds: Holds, byte: u8) -> Step
-        requires { IsTrue (has_room holds self.old.opens) }
-        ensures same { (b : List ℕ) → after_step result self.new b ≡ from_part (part.Length left holds) self.old.opens (byte ∷ b) }
+    /// Takes the next byte of a length.
+    fn take_length(&mut self, left: PartialLength, holds: Holds, byte: u8) -> Step
+        requires { IsTrue (may_open holds self.old.levels) }
+        ensures same { (b : List ℕ) → outcome_after_step result self.new b ≡ from_part (part.Length left holds) self.old.levels (byte ∷ b) }
         ensures stays { StaysOpen result self.new }
         ensures seen { self.new.seen ≡ self.old.seen }
     {
         self.part = match left {
-            Left::Four => Part::Length(Left::Three(byte), holds),
-            Left::Three(n) => Part::Length(Left::Two(n as u16 * 256 + byte as u16), holds),
-            Left::Two(n) => Part::Length(Left::One(n, byte), holds),
-            Left::One(n, m) => {
+            PartialLength::Four => Part::Length(PartialLength::Three(byte), holds),
+            PartialLength::Three(n) => Part::Length(
+                PartialLength::Two(n as u16 * 256 + byte as u16),
+                holds,
+            ),
+            PartialLength::Two(n) => Part::Length(PartialLength::One(n, byte), holds),
+            PartialLength::One(n, m) => {
                 let number = (n as u32 * 256 + m as u32) * 256 + byte as u32;
                 return self.counted(number, holds);
             }
@@ -199,10 +203,10 @@ impl Scan {
         Step::On
     }
 
-    /// A length is known.
+    /// Continues after a complete length.
     fn counted(&mut self, n: u32, holds: Holds) -> Step
-        requires { IsTrue (has_room holds self.old.opens) }
-        ensures same { (b : List ℕ) → after_step result self.new b ≡ behind_length holds n self.old.opens b }
+        requires { IsTrue (may_open holds self.old.levels) }
+        ensures same { (b : List ℕ) → outcome_after_step result self.new b ≡ after_length holds n self.old.levels b }
         ensures stays { StaysOpen result self.new }
         ensures seen { self.new.seen ≡ self.old.seen }
     {
@@ -214,20 +218,20 @@ impl Scan {
         }
     }
 
-    /// So many values are wanted behind this.
+    /// Opens a list or map of `n` values.
     fn nest(&mut self, n: u64) -> Step
-        requires { length self.old.opens < 65 }
-        ensures same { (b : List ℕ) → after_step result self.new b ≡ all_passed (n ∷ self.old.opens) b }
+        requires { length self.old.levels < 65 }
+        ensures same { (b : List ℕ) → outcome_after_step result self.new b ≡ skip_levels (n ∷ self.old.levels) b }
         ensures stays { StaysOpen result self.new }
         ensures seen { self.new.seen ≡ self.old.seen }
     {
-        self.opens.push(n);
+        self.levels.push(n);
         self.end()
     }
 
-    /// So many bytes follow in this value.
+    /// Skips the next `n` bytes, which end the value.
     fn skip(&mut self, n: u64) -> Step
-        ensures same { (b : List ℕ) → after_step result self.new b ≡ behind n self.old.opens b }
+        ensures same { (b : List ℕ) → outcome_after_step result self.new b ≡ behind n self.old.levels b }
         ensures stays { StaysOpen result self.new }
         ensures seen { self.new.seen ≡ self.old.seen }
     {
@@ -238,15 +242,15 @@ impl Scan {
         Step::On
     }
 
-    /// A value has ended, and with it what it was the last of.
+    /// Ends a value, and each list and map that it completes.
     fn end(&mut self) -> Step
-        ensures same { (b : List ℕ) → after_step result self.new b ≡ all_passed self.old.opens b }
+        ensures same { (b : List ℕ) → outcome_after_step result self.new b ≡ skip_levels self.old.levels b }
         ensures stays { StaysOpen result self.new }
         ensures seen { self.new.seen ≡ self.old.seen }
     {
         self.part = Part::First;
-        self.opens.close();
-        if self.opens.is_empty() {
+        self.levels.close();
+        if self.levels.is_empty() {
             Step::Ended
         } else {
             Step::On

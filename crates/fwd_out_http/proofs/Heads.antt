@@ -1,4 +1,4 @@
--- The lines of a head, and what they are read as.
+-- The lines of a head, and their readings.
 use Rattle.std.proofs.Common.{◌≡◌, ℕ, ◌+◌, ◌<◌, ◌≤◌, true, false, eqb, List, [], ◌∷◌, ◌++◌, length, get_or, refl, sym, ap, ◌∙◌, subst, arith, append_assoc, Option, Some, None}
 use Rattle.std.specs.Prelude.{All, fold}
 use Rattle.std.specs.List.{flat_map, list_all}
@@ -12,12 +12,12 @@ use Rattle.httparse.specs.Grammar.{is_token_byte, is_value_byte, AllPass, IsToke
 use Rattle.httparse.specs.Pieces.{is_newline}
 use Rattle.httparse.proofs.PieceLemmas.{token_is_no_newline, colon_ends_token}
 use Rattle.httparse.proofs.GrammarLemmas.{print_response-append}
-use Rattle.fwd_out_http.specs.Reply.{is_empty, is_reason, is_between, status_behind, status_of, is_field_end, is_field, Reading, Before, Within, finished, behind, whole_lines, most_fields}
+use Rattle.fwd_out_http.specs.Reply.{is_empty, is_reason, is_between, status_after_version, status_of, is_field_end, is_field, Reading, Before, Within, finished, reading_after, whole_lines, most_fields}
 use Rattle.fwd_out_http.proofs.Lines.{IsPlain, lines-line}
 
--- what a reply's bytes are read as from a reading on
+-- the reading of more bytes of a reply, from a reading on
 abbrev pub reads_on : Reading → List ℕ → Reading
-reads_on reading bytes = fold behind reading (whole_lines bytes)
+reads_on reading bytes = fold reading_after reading (whole_lines bytes)
 
 -- ---- which bytes end no line
 
@@ -71,7 +71,7 @@ field_line f bytes is =
     ap whole_lines (append_assoc (field_text f) (print_end f.end) bytes) ∙ lines-line (field_text f) f.end bytes plain
 
 -- a field is counted
-field_step : (status n : ℕ) (line : List ℕ) → is_empty line ≡ false → is_field line ≡ true → n < most_fields → behind (Within status n) line ≡ Within status (n + 1)
+field_step : (status n : ℕ) (line : List ℕ) → is_empty line ≡ false → is_field line ≡ true → n < most_fields → reading_after (Within status n) line ≡ Within status (n + 1)
 field_step status n line some is room = let less = lt-ltb n most_fields room in rw (some, is, less) refl
 
 -- a section is its first line and the others
@@ -82,15 +82,15 @@ section-cons f fields last rest =
 -- a section is read to its end
 pub reads_section : (status n : ℕ) (fields : List Field) (last : LineEnd) (rest : List ℕ) → All IsField fields → n + length fields ≤ most_fields
     → reads_on (Within status n) (print_section fields last ++ rest) ≡ reads_on (finished status) rest
-reads_section status n [] last rest all room = ap (fold behind (Within status n)) (lines-line [] last rest (All-nil (λ c. is_newline c ≡ false)))
+reads_section status n [] last rest all room = ap (fold reading_after (Within status n)) (lines-line [] last rest (All-nil (λ c. is_newline c ≡ false)))
 reads_section status n (f ∷ fields) last rest all room =
     let here = All-head IsField f fields all in
     let again = reads_section status (n + 1) fields last rest (All-tail IsField f fields all) (omega (arith, room)) in
     let split = section-cons f fields last rest in
     let step = field_step status n (field_text f) (empty_field f.name f.raw) (field_is f.name f.raw here.name here.raw) (omega (arith, room)) in
     ap (reads_on (Within status n)) split
-    ∙ ap (fold behind (Within status n)) (field_line f (print_section fields last ++ rest) here)
-    ∙ ap (λ (r : Reading). fold behind r (whole_lines (print_section fields last ++ rest))) step
+    ∙ ap (fold reading_after (Within status n)) (field_line f (print_section fields last ++ rest) here)
+    ∙ ap (λ (r : Reading). fold reading_after r (whole_lines (print_section fields last ++ rest))) step
     ∙ again
 
 -- ---- status lines
@@ -103,7 +103,7 @@ reason_is None pass = refl
 reason_is (Some phrase) pass = list_all-from_AllPass is_value_byte phrase pass
 
 status_digits : (minor : ℕ) (digits : List ℕ) (reason : Option (List ℕ)) → minor ≤ 1 → length digits ≡ 3 → AllPass is_ascii_digit digits → AllPass is_value_byte (reason_phrase reason)
-    → status_behind ((48 + minor) ∷ 32 ∷ (digits ++ print_reason reason)) ≡ Some (digits_value 10 digits)
+    → status_after_version ((48 + minor) ∷ 32 ∷ (digits ++ print_reason reason)) ≡ Some (digits_value 10 digits)
 status_digits minor [] reason small three all pass = absurd (omega (arith, three))
 status_digits minor (a ∷ []) reason small three all pass = absurd (omega (arith, three))
 status_digits minor (a ∷ b ∷ []) reason small three all pass = absurd (omega (arith, three))
@@ -147,7 +147,7 @@ reads_blank (end ∷ ends) bytes =
     rw (append_assoc (print_end end) (print_blank ends) bytes, lines-line [] end (print_blank ends ++ bytes) (All-nil (λ c. is_newline c ≡ false)))
     (reads_blank ends bytes)
 
-begin_step : (line : List ℕ) (status : ℕ) → is_empty line ≡ false → status_of line ≡ Some status → behind Before line ≡ Within status 0
+begin_step : (line : List ℕ) (status : ℕ) → is_empty line ≡ false → status_of line ≡ Some status → reading_after Before line ≡ Within status 0
 begin_step line status some is = rw (some, is) refl
 
 -- a head is its empty lines, its status line and its section
@@ -168,6 +168,6 @@ reads_head bytes h rest reads fits =
     let step = begin_step (line_text h) (status_code h) refl (status_is h reads.0) in
     ap (reads_on Before) split
     ∙ reads_blank h.blank (line_text h ++ (print_end h.line_end ++ (print_section h.fields h.last ++ rest)))
-    ∙ ap (fold behind Before) first
-    ∙ ap (λ (r : Reading). fold behind r (whole_lines (print_section h.fields h.last ++ rest))) step
+    ∙ ap (fold reading_after Before) first
+    ∙ ap (λ (r : Reading). fold reading_after r (whole_lines (print_section h.fields h.last ++ rest))) step
     ∙ reads_section (status_code h) 0 h.fields h.last rest reads.0.fields (omega (arith, fits))

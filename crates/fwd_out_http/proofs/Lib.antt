@@ -1,7 +1,7 @@
 pub mod Lines
 pub mod Heads
-pub mod Read
-pub mod Judging
-pub mod Written
-pub mod Parsed
+pub mod Readings
+pub mod Judgement
+pub mod HeadGrowth
+pub mod ParserResults
 pub mod Requests

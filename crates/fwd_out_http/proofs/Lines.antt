@@ -1,4 +1,4 @@
--- The lines of a reply, as its heads have them.
+-- The lines of a reply's heads.
 use Rattle.std.proofs.Common.{◌≡◌, ◌⊎◌, inl, inr, ℕ, ◌+◌, ◌-◌, Bool, true, false, ◌||◌, eqb, List, [], ◌∷◌, ◌++◌, length, get_or, take, refl, sym, ap, ◌∙◌, subst, arith, append_assoc, length-append}
 use Rattle.std.specs.Prelude.{map, All}
 use Rattle.std.specs.Str.Lines.{strip_carriage_return}
@@ -7,13 +7,13 @@ use Rattle.std.proofs.lemmas.List.{take_more, take_all}
 use Rattle.std.proofs.lemmas.List.Elements.{All-head, All-tail}
 use Rattle.std.proofs.lemmas.Bool.{eqb-true}
 use Rattle.std.proofs.lemmas.Bool.Decides.{nat_tests}
-use Rattle.fwd_frames.specs.Lines.{has_feed, ended, rest}
-use Rattle.fwd_frames.proofs.Parting.{ended-none, rest-none, ended-feed}
+use Rattle.fwd_frames.specs.Lines.{has_feed, ended_parts, rest}
+use Rattle.fwd_frames.proofs.StreamSplit.{ended_parts-none, rest-none, ended_parts-feed}
 use Rattle.httparse.specs.Grammar.{LineEnd, crlf, lf, print_end}
 use Rattle.httparse.specs.Pieces.{is_newline}
 use Rattle.fwd_out_http.specs.Reply.{whole_lines}
 
--- no byte of a text ends a line
+-- no byte of the text ends a line
 abbrev pub IsPlain : List ℕ → Type 0
 IsPlain text = All (λ b. is_newline b ≡ false) text
 
@@ -43,7 +43,7 @@ strip-plain (b ∷ text) plain =
     let last = no_return _ (plain (length (b ∷ text) - 1) 0 (omega arith)) in
     strip_by (b ∷ text) _ last refl
 
--- a part is a text and a carriage return behind it, or a text alone
+-- a part is a text and a carriage return, or a text alone
 strip_either : (part : List ℕ) (test : Bool) → eqb (get_or part (length part - 1) 0) 13 ≡ test → (part ≡ strip_carriage_return part) ⊎ (part ≡ strip_carriage_return part ++ 13 ∷ [])
 strip_either part false is = inl (rw is refl)
 strip_either [] true is = inl refl
@@ -77,8 +77,8 @@ no_feed-return (b ∷ text) none = by (no_feed-return text) (eqb b 10) refl
 
 lines-part : (part bytes : List ℕ) → has_feed part ≡ false → whole_lines (part ++ 10 ∷ bytes) ≡ strip_carriage_return part ∷ whole_lines bytes
 lines-part part bytes none =
-    let parts : ended (part ++ 10 ∷ bytes) ≡ part ∷ ended bytes =
-    ended-feed part bytes ∙ ap (λ (ps : List (List ℕ)). ps ++ rest part ∷ ended bytes) (ended-none part none) ∙ ap (λ (p : List ℕ). p ∷ ended bytes) (rest-none part none) in
+    let parts : ended_parts (part ++ 10 ∷ bytes) ≡ part ∷ ended_parts bytes =
+    ended_parts-feed part bytes ∙ ap (λ (ps : List (List ℕ)). ps ++ rest part ∷ ended_parts bytes) (ended_parts-none part none) ∙ ap (λ (p : List ℕ). p ∷ ended_parts bytes) (rest-none part none) in
     ap (map strip_carriage_return) parts
 
 -- a plain text with its line end is the first line
@@ -139,10 +139,10 @@ line_of_feed bytes found = by (strip_either found.part _ refl)
       lines = lines;
     }
 
--- some bytes have no whole line, or a first one
+-- some bytes have no complete line, or a first one
 pub first_line : (bytes : List ℕ) → (whole_lines bytes ≡ []) ⊎ FirstLine bytes
 first_line bytes = by (has_feed bytes) refl
   where
     by : (test : Bool) → has_feed bytes ≡ test → (whole_lines bytes ≡ []) ⊎ FirstLine bytes
     by true some = inr (line_of_feed bytes (feed_first bytes some))
-    by false none = inl (ap (map strip_carriage_return) (ended-none bytes none))
+    by false none = inl (ap (map strip_carriage_return) (ended_parts-none bytes none))

@@ -9,8 +9,8 @@ use Rattle.std.proofs.lemmas.Fmt.{decimal_by_steps}
 use Rattle.std.proofs.lemmas.List.Elements.{All-head, All-cons, All-nil, All-append, All-push}
 use Rattle.std.proofs.lemmas.List.Sums.{AllPass-from_list_all}
 use Rattle.std.proofs.lemmas.Bool.Decides.{nat_tests}
-use Rattle.fwd_base.specs.declared.choices.Form.{Form}
-use Rattle.fwd_base.specs.declared.choices.Form.TheVariants.{JsonLines, OutFile, MsgPack}
+use Rattle.fwd_base.specs.declared.output_options.Form.{Form}
+use Rattle.fwd_base.specs.declared.output_options.Form.TheVariants.{JsonLines, OutFile, MsgPack}
 use Rattle.fwd_event.specs.declared.event.Event.{Event}
 use Rattle.fwd_out_text.specs.Payload.{payload_of}
 use Rattle.httparse.specs.Grammar.{is_token_byte, is_uri_byte, is_value_byte, is_ows, AllPass, IsToken, crlf, Field, print_field, IsField, skip_ows, RequestHead, print_request, IsRequestHead}
@@ -38,7 +38,7 @@ visible_small b visible = grind (arith, nat_tests)
 visible_no_blank : (b : ℕ) → is_ascii_graphic b ≡ true → is_ows b ≡ false
 visible_no_blank b visible = grind (arith, nat_tests)
 
--- ---- what is visible
+-- ---- visible bytes
 
 digit_visible : (n : ℕ) → n < 10 → is_ascii_graphic (48 + n) ≡ true
 digit_visible n small = grind (arith, nat_tests)

@@ -1,4 +1,4 @@
 pub mod Request
 pub mod Reply
 pub mod Head
-pub mod Front
+pub mod FirstHead

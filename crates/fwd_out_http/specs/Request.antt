@@ -1,21 +1,21 @@
--- A request that hands over a payload (RFC 9112, sections 3 and 6).
+-- A request with a payload (RFC 9112, sections 3 and 6).
 use Rattle.std.specs.Prelude.{◌≡◌, ℕ, List, [], ◌∷◌, ◌++◌, length, map, codes, decimal, IsTrue}
 use Rattle.std.specs.List.{list_all}
 use Rattle.std.specs.Char.{is_ascii_graphic}
-use Rattle.fwd_base.specs.declared.choices.Form.{Form}
-use Rattle.fwd_base.specs.declared.choices.Form.TheVariants.{JsonLines, OutFile, MsgPack}
+use Rattle.fwd_base.specs.declared.output_options.Form.{Form}
+use Rattle.fwd_base.specs.declared.output_options.Form.TheVariants.{JsonLines, OutFile, MsgPack}
 use Rattle.fwd_event.specs.declared.event.Event.{Event}
 use Rattle.fwd_out_text.specs.Payload.{payload_of}
 use Rattle.httparse.specs.Grammar.{RequestHead, ReadsRequest}
 use Rattle.httparse.specs.Spans.{name_and_value}
 
--- the media type of a payload in a form
+-- the media type of a format
 abbrev pub content_type : Form → List ℕ
 content_type JsonLines = codes "application/x-ndjson"
 content_type OutFile = codes "text/plain"
 content_type MsgPack = codes "application/msgpack"
 
--- the first line: a post to a URI
+-- the request line: a POST to a URI
 abbrev pub request_line : List ℕ → List ℕ
 request_line uri = codes "POST " ++ uri ++ codes " HTTP/1.1\r\n"
 
@@ -23,7 +23,7 @@ request_line uri = codes "POST " ++ uri ++ codes " HTTP/1.1\r\n"
 abbrev pub field : List ℕ → List ℕ → List ℕ
 field name value = name ++ codes ": " ++ value ++ codes "\r\n"
 
--- the server, as a request names it
+-- the server's name and port in a request
 abbrev pub server : List ℕ → ℕ → List ℕ
 server host port = host ++ codes ":" ++ decimal port
 
@@ -37,17 +37,17 @@ http_head host port uri form size =
     ++ field (codes "Connection") (codes "close")
     ++ codes "\r\n"
 
--- the request that hands over the events of a tag: its body is their payload in the form
+-- the request with the events of a tag: its body is their payload in the format
 abbrev pub http_payload : List ℕ → ℕ → List ℕ → Form → List ℕ → List Event → List ℕ
 http_payload host port uri form tag events =
     let body = payload_of form tag events in
     http_head host port uri form (length body) ++ body
 
--- visible ASCII characters alone: bytes from 21 to 7e in hex
+-- only visible ASCII characters: bytes from 21 to 7e in hex
 abbrev pub IsVisible : List ℕ → Type 0
 IsVisible text = IsTrue (list_all is_ascii_graphic text)
 
--- a slash, and visible characters behind it
+-- a slash and then visible characters
 abbrev pub IsUri : List ℕ → Type 0
 IsUri [] = ⊥
 IsUri (b ∷ text) = (b ≡ 47) × IsVisible text
@@ -61,7 +61,7 @@ fields_of host port form size =
     ∷ (codes "Connection", codes "close")
     ∷ []
 
--- a request is read as a head with the method, the URI and these fields, and behind it stands the payload
+-- a request is read back as a head with the method, the URI and these fields, and then the payload
 pub record ReadsBack (host : List ℕ) (port : ℕ) (uri : List ℕ) (form : Form) (tag : List ℕ) (events : List Event) : Type 0 where
   pub head : RequestHead
   pub reads : ReadsRequest (http_payload host port uri form tag events) head (payload_of form tag events)

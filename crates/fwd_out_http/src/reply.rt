@@ -1,8 +1,8 @@
-//! What a server's reply to a request is.
+//! The judgement of a server's reply.
 
 ghost use Rattle.std.specs.Prelude.{◌≡◌, IfSome, IfNone};
 ghost use Rattle.fwd_out_http.specs.Reply.{by_status, is_interim, status_in, http_judged};
-ghost use Rattle.fwd_out_http.specs.Front.{StandsInFront, HasNoFront};
+ghost use Rattle.fwd_out_http.specs.FirstHead.{StartsWithHead, StartsWithNoHead};
 
 use fwd_base::Memory;
 use fwd_base::limits::LONGEST_HEAD;
@@ -11,15 +11,15 @@ use httparse::Status;
 use httparse::spans::{EMPTY_HEADER_SPAN, parse_response};
 use std::alloc::Global;
 
-/// The most fields of a head.
+/// The largest number of fields of a head.
 const MOST_FIELDS: usize = 64;
 
-/// Reads the replies of servers over HTTP: a reply is wanted, and the status of its first head that isn't interim
-/// decides. 200 to 299 is right; 429 and 500 to 599 are to be tried again, and so is a reply that has no such head in its
-/// first 8,192 bytes; every other status is fatal. What stands behind the head isn't read.
+/// Judges replies of HTTP servers by the status of the first head that isn't interim. 200 to 299 is right.
+/// 429 and 500 to 599 are retried, and so is a reply without such a head in its first 8,192 bytes. Every
+/// other status is fatal. The bytes after the head aren't read.
 ///
-/// A reply is judged from its beginning whenever more of it comes. A piece has a byte at least and no more than 8,192
-/// bytes are looked at, so that this is quadratic within these bytes alone.
+/// Each piece of a reply is judged from the reply's start. A piece has a byte at least and only the first
+/// 8,192 bytes are read, so this is quadratic in these bytes alone.
 #[derive(Clone, Copy, Debug, PartialEq, Eq)]
 pub struct HttpReader;
 
@@ -40,14 +40,14 @@ impl ReplyReader for HttpReader {
     }
 }
 
-/// Whether a head of this status comes before the one that counts.
+/// Returns whether a head with this status comes before the final one.
 fn is_interim(status: u16) -> bool
     ensures { result ≡ is_interim status }
 {
     matches!(status, 100..=199)
 }
 
-/// What a reply is by the status of its head.
+/// Judges a reply by the status of its head.
 fn by_status(status: u16) -> Judged
     ensures { result ≡ by_status status }
 {
@@ -58,18 +58,18 @@ fn by_status(status: u16) -> Judged
     }
 }
 
-/// The head that some bytes begin with.
+/// The head that bytes start with.
 #[derive(Clone, Copy, Debug, PartialEq, Eq)]
 struct Head {
     status: u16,
-    /// How many bytes it has.
+    /// Its length in bytes.
     len: usize,
 }
 
-/// The head that some bytes begin with, where it is whole and has no more fields than a head may have.
+/// Returns the head that the bytes start with, if it is complete and has at most `MOST_FIELDS` fields.
 fn head_of(bytes: &[u8]) -> Option<Head>
-    ensures found { IfSome result (λ head. StandsInFront bytes.now head.status head.len) }
-    ensures none { IfNone result (HasNoFront bytes.now) }
+    ensures found { IfSome result (λ head. StartsWithHead bytes.now head.status head.len) }
+    ensures none { IfNone result (StartsWithNoHead bytes.now) }
 {
     let mut fields = [EMPTY_HEADER_SPAN; MOST_FIELDS];
     match parse_response(bytes, &mut fields) {
@@ -81,8 +81,8 @@ fn head_of(bytes: &[u8]) -> Option<Head>
     }
 }
 
-/// The status of the first head in some bytes that isn't interim, where it and the heads before it are whole and have no
-/// more fields than a head may have.
+/// Returns the status of the first head that isn't interim, if it and the heads before it are complete and
+/// have at most `MOST_FIELDS` fields.
 fn status_in(bytes: &[u8]) -> Option<u16>
     ensures { result ≡ status_in bytes.now }
 {
@@ -96,7 +96,7 @@ fn status_in(bytes: &[u8]) -> Option<u16>
     }
 }
 
-/// What a reply is by all of its bytes so far.
+/// Judges a reply by all its bytes so far.
 fn judged(reply: &[u8]) -> Judged
     ensures { result ≡ http_judged reply.now }
 {

@@ -1,7 +1,7 @@
-//! The request that hands over a payload.
+//! The request with a payload.
 
 ghost use Rattle.std.specs.Prelude.{◌≡◌, ◌++◌, All, IfOk, OnOk, codes, decimal, length};
-ghost use Rattle.fwd_base.specs.declared.choices.Form.TheVariants.{MsgPack};
+ghost use Rattle.fwd_base.specs.declared.output_options.Form.TheVariants.{MsgPack};
 ghost use Rattle.fwd_event.specs.Event.{EventFits};
 ghost use Rattle.fwd_out_http.specs.Request.{content_type, field, http_head, http_payload, request_line, server};
 
@@ -11,7 +11,7 @@ use fwd_out_text::payload_text;
 use itoa::Buffer;
 use std::alloc::Global;
 
-/// The media type of a payload in a form.
+/// Returns the media type of a format.
 fn content_type(form: Form) -> &'static [u8]
     ensures { result.now ≡ content_type form }
 {
@@ -22,7 +22,7 @@ fn content_type(form: Form) -> &'static [u8]
     }
 }
 
-/// Appends a line of a request's head.
+/// Appends a field line of a request's head.
 fn write_field(out: &mut Bytes, name: &[u8], value: &[u8]) -> Result<(), Memory>
     ensures { OnOk result (out.new ≡ out.old ++ field name.now value.now) }
 {
@@ -32,7 +32,7 @@ fn write_field(out: &mut Bytes, name: &[u8], value: &[u8]) -> Result<(), Memory>
     out.extend_from_slice(b"\r\n")
 }
 
-/// Appends the line that names the server.
+/// Appends the field line with the server's name.
 fn write_host(out: &mut Bytes, host: &[u8], port: u16) -> Result<(), Memory>
     ensures { OnOk result (out.new ≡ out.old ++ field (codes "Host") (server host.now port)) }
 {
@@ -44,7 +44,7 @@ fn write_host(out: &mut Bytes, host: &[u8], port: u16) -> Result<(), Memory>
     out.extend_from_slice(b"\r\n")
 }
 
-/// Appends the line that says how long the body is.
+/// Appends the field line with the length of the body.
 fn write_length(out: &mut Bytes, length: usize) -> Result<(), Memory>
     ensures { OnOk result (out.new ≡ out.old ++ field (codes "Content-Length") (decimal length)) }
 {
@@ -52,7 +52,7 @@ fn write_length(out: &mut Bytes, length: usize) -> Result<(), Memory>
     write_field(out, b"Content-Length", buffer.format(length).as_bytes())
 }
 
-/// Appends the first line.
+/// Appends the request line.
 fn write_request_line(out: &mut Bytes, uri: &[u8]) -> Result<(), Memory>
     ensures { OnOk result (out.new ≡ out.old ++ request_line uri.now) }
 {
@@ -61,7 +61,7 @@ fn write_request_line(out: &mut Bytes, uri: &[u8]) -> Result<(), Memory>
     out.extend_from_slice(b" HTTP/1.1\r\n")
 }
 
-/// The head of a request with a body of so many bytes.
+/// Returns the head of a request with a body of so many bytes.
 fn head(
     alloc: Global,
     host: &[u8],
@@ -82,9 +82,9 @@ fn head(
     Ok(out)
 }
 
-/// The request (RFC 9112) that hands over the events of a tag, in a form: it posts to a URI of a server, says the length
-/// and the type of its body and that the connection closes behind it, and its body is the payload of `fwd_out_text` in
-/// that form. As MessagePack it is written for events that have a spelling of their own.
+/// Returns the request (RFC 9112) with the events of a tag, in a format. It is a POST to a URI of a server,
+/// with the length and type of the body and `Connection: close`; its body is the payload of `fwd_out_text`.
+/// As MessagePack it requires events that can be encoded.
 pub fn payload_http(
     alloc: Global,
     host: &[u8],
@@ -101,7 +101,7 @@ pub fn payload_http(
     request_of(alloc, host, port, uri, form, body.as_slice())
 }
 
-/// The same request, whose body was made already.
+/// Returns the same request for a body that is already written.
 pub fn request_of(
     alloc: Global,
     host: &[u8],

@@ -1,3 +1,3 @@
-pub mod Judgements
-pub mod Replies
+pub mod ReplyLemmas
+pub mod Decoding
 pub mod Sizes

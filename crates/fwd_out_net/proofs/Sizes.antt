@@ -1,4 +1,4 @@
--- How long the entries of a message are.
+-- The size of the entries of a message.
 use Rattle.std.proofs.Common.{◌≡◌, ℕ, ◌≤◌, Bool, true, false, nat_lt, if◌then◌else◌, List, [], ◌∷◌, ◌++◌, length, refl, ap, arith}
 use Rattle.std.specs.List.{flat_map}
 use Rattle.std.specs.Int.{w16, w32, w64, to_be_bytes}
@@ -7,9 +7,9 @@ use Rattle.fwd_value.specs.Val.{mapping, entries_of}
 use Rattle.fwd_msgpack.specs.Canonical.{canonical, number_bytes}
 use Rattle.fwd_event.specs.declared.event.Event.{Event}
 use Rattle.fwd_event.specs.Event.{event_val}
-use Rattle.fwd_event.proofs.Written.{event_bytes}
-use Rattle.fwd_wire.specs.Written.{time_val, entry_val, entry_bytes}
-use Rattle.fwd_wire.proofs.Spelled.{time_parts, entry_parts}
+use Rattle.fwd_event.proofs.EventEncodings.{event_bytes}
+use Rattle.fwd_wire.specs.Encode.{time_val, entry_val, entry_bytes}
+use Rattle.fwd_wire.proofs.EncodedParts.{time_parts, entry_parts}
 
 two : (n : ℕ) → length (to_be_bytes w16 n) ≡ 2
 two n = refl

@@ -1,4 +1,4 @@
--- The id of a chunk at an output.
+-- The id by which an output acknowledges a chunk.
 use Rattle.std.specs.Prelude.{ℕ, List, [], ◌∷◌, ◌++◌}
 use Rattle.std.specs.Int.{w32, w64, to_be_bytes}
 use Rattle.base64.specs.Engines.{standard}

@@ -1,4 +1,4 @@
 pub mod Id
-pub mod Judged
+pub mod Judgement
 pub mod Reader
-pub mod Without
+pub mod Undecodable

@@ -1,17 +1,17 @@
--- What a reader wants, and how it judges.
+-- Whether a reader wants a reply, and how it judges it.
 use Rattle.std.specs.Prelude.{ℕ, Bool, true, false, List}
-use Rattle.fwd_flush.specs.declared.judged.Judged.{Judged}
-use Rattle.fwd_flush.specs.declared.judged.Judged.TheVariants.{Right}
+use Rattle.fwd_flush.specs.declared.judgement.Judged.{Judged}
+use Rattle.fwd_flush.specs.declared.judgement.Judged.TheVariants.{Right}
 use Rattle.fwd_out_net.specs.declared.reader.EndReader.{EndReader}
 use Rattle.fwd_out_net.specs.declared.reader.EndReader.TheVariants.{Quiet, Ack}
-use Rattle.fwd_out_net.specs.Judged.{ack_judged}
+use Rattle.fwd_out_net.specs.Judgement.{ack_judged}
 
 -- whether a reply is wanted
 abbrev pub wants : EndReader → Bool
 wants Quiet = false
 wants (Ack id) = true
 
--- what a reply is
+-- the judgement of a reply
 abbrev pub judges : EndReader → List ℕ → Judged
 judges Quiet reply = Right
 judges (Ack id) reply = ack_judged id reply

@@ -1,4 +1,4 @@
-//! The id of a chunk at an output.
+//! The id by which an output acknowledges a chunk.
 
 ghost use Rattle.std.specs.Prelude.{◌≡◌, IfOk};
 ghost use Rattle.fwd_out_net.specs.Id.{chunk_id};
@@ -7,7 +7,7 @@ use base64::engine::general_purpose::STANDARD;
 use fwd_base::{Bytes, ChunkId, Memory, OutputId};
 use std::alloc::Global;
 
-/// Base64 of the chunk's number in 8 bytes, the output's in 4 and 4 zeros.
+/// Returns base64 of the chunk's number in 8 bytes, the output's in 4 and 4 zeros.
 pub fn chunk_id(alloc: Global, chunk: ChunkId, output: OutputId) -> Result<Bytes, Memory>
     ensures { IfOk result (λ id. id ≡ chunk_id chunk.0 output.0) }
 {

@@ -1,11 +1,11 @@
-//! What is made of a peer's reply.
+//! The reader of a peer's reply.
 
-use crate::judging::judged;
+use crate::judgement::judged;
 use fwd_base::{Bytes, Memory};
 use fwd_flush::{Judged, ReplyReader};
 use std::alloc::Global;
 
-/// What a peer is to answer: nothing, or the acknowledgement of an id.
+/// The reply that a peer has to give: none, or the acknowledgement of an id.
 #[derive(Debug, Drop)]
 pub enum EndReader {
     Quiet,

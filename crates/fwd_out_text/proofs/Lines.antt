@@ -1,34 +1,34 @@
--- An event that is written straight from its spelling.
+-- An event that is written directly from its encoding.
 use Rattle.std.proofs.Common.{◌≡◌, ℕ, ◌+◌, ◌-◌, ◌<◌, List, [], ◌∷◌, ◌++◌, length, take, refl, sym, ap, subst, ◌∙◌, append_assoc, arith}
 use Rattle.std.proofs.lemmas.List.{length-append, take_at}
 use Rattle.fwd_value.specs.Val.{Val, mapping, entries_of}
-use Rattle.fwd_msgpack.specs.Spelling.{Spells}
-use Rattle.fwd_msgpack.specs.Decoding.{SpellsFront}
-use Rattle.fwd_msgpack.proofs.Writing.{how_many_entries_is}
+use Rattle.fwd_msgpack.specs.Encodings.{Encodes}
+use Rattle.fwd_msgpack.specs.DecodeAnswers.{EncodesPrefix}
+use Rattle.fwd_msgpack.proofs.EncodeLoops.{how_many_entries_is}
 use Rattle.fwd_json.specs.Text.{pair_text, pairs_text, more_pairs}
 use Rattle.fwd_event.specs.declared.event.Event.{Event}
-use Rattle.fwd_event.proofs.Quick.{empty_spelled, event_spelled}
-use Rattle.fwd_out_text.specs.Content.{Begins}
-use Rattle.fwd_out_text.specs.Spelling.{LeadsMap, LeadsEvent, LeadsPair, LeadsPairs}
+use Rattle.fwd_event.proofs.PartwiseDecoding.{empty_spelled, event_spelled}
+use Rattle.fwd_out_text.specs.FirstEvent.{StartsWithEvent}
+use Rattle.fwd_out_text.specs.Headers.{StartsWithMap, StartsWithHeader, StartsWithPair, StartsWithPairs}
 
--- the bytes behind which some stand are no fewer
+-- a suffix of the bytes isn't longer than they are
 pub not_longer : (front rest b : List ℕ) → b ≡ front ++ rest → length b ≡ length front + length rest
 not_longer front rest b e = ap length e ∙ length-append front rest
 
--- the map whose head and pairs were read
-map_spelled : (count : ℕ) (ps : List (Val × Val)) (body pairs rest : List ℕ) → LeadsMap count pairs body → length ps ≡ count → LeadsPairs ps rest pairs → SpellsFront (mapping (entries_of ps)) (length body - length rest) body
+-- the map whose header and pairs were decoded
+map_spelled : (count : ℕ) (ps : List (Val × Val)) (body pairs rest : List ℕ) → StartsWithMap count pairs body → length ps ≡ count → StartsWithPairs ps rest pairs → EncodesPrefix (mapping (entries_of ps)) (length body - length rest) body
 map_spelled count ps body pairs rest m many p =
     let front = m.0 ++ p.front in
     let parts : body ≡ front ++ rest = m.1 ∙ ap (λ (t : List ℕ). m.0 ++ t) p.parts ∙ sym (append_assoc m.0 p.front rest) in
     let k = length body - length rest in
     let size : length front ≡ k = omega (arith, not_longer front rest body parts) in
     let first : take k body ≡ front = ap (take k) parts ∙ take_at front rest k size in
-    let spelled : Spells (mapping (entries_of ps)) front = m.2 (entries_of ps) p.front (how_many_entries_is ps ∙ many) p.spelled in
-    (omega arith, subst (Spells (mapping (entries_of ps))) (sym first) spelled, omega (arith, p.nested))
+    let spelled : Encodes (mapping (entries_of ps)) front = m.2 (entries_of ps) p.front (how_many_entries_is ps ∙ many) p.spelled in
+    (omega arith, subst (Encodes (mapping (entries_of ps))) (sym first) spelled, omega (arith, p.nested))
 
--- the event whose parts were read
-event_begins : (sec nsec count : ℕ) (ps : List (Val × Val)) (b pairs rest : List ℕ) → LeadsEvent sec nsec count pairs b → length ps ≡ count → LeadsPairs ps rest pairs
-    → Begins (record { sec = sec; nsec = nsec; meta = []; body = ps }) (length b - length rest) b
+-- the event whose parts were decoded
+event_begins : (sec nsec count : ℕ) (ps : List (Val × Val)) (b pairs rest : List ℕ) → StartsWithHeader sec nsec count pairs b → length ps ≡ count → StartsWithPairs ps rest pairs
+    → StartsWithEvent (record { sec = sec; nsec = nsec; meta = []; body = ps }) (length b - length rest) b
 event_begins sec nsec count ps b pairs rest h many p =
     let body = h.0 in
     let l = h.1 in
@@ -37,13 +37,13 @@ event_begins sec nsec count ps b pairs rest h many p =
     let k = length body - length rest in
     let event = event_spelled b l.0 (128 ∷ body) 1 k sec nsec [] ps l.1 l.2 l.3 none.0 (omega arith) (map_spelled count ps body pairs rest m many p) p.nested in
     let size : 12 + 1 + k ≡ length b - length rest = omega (arith, l.2, ap length l.1, length-append l.0 (128 ∷ body), not_longer m.0 pairs body m.1, not_longer p.front rest pairs p.parts) in
-    (event.0, subst (λ (n : ℕ). SpellsFront event.0 n b) size event.1, event.2)
+    (event.0, subst (λ (n : ℕ). EncodesPrefix event.0 n b) size event.1, event.2)
 
--- the event was written with some text before its body and some behind it
+-- the event was written, with some text before its record and some after it
 pub event_written : (sec nsec count : ℕ) (b pairs rest : List ℕ) (text : List (Val × Val) → List ℕ) (before behind old start middle new : List ℕ) (written : Event → List ℕ)
     → ((ps : List (Val × Val)) → written (record { sec = sec; nsec = nsec; meta = []; body = ps }) ≡ before ++ text ps ++ behind)
-    → LeadsEvent sec nsec count pairs b → start ≡ old ++ before → ((ps : List (Val × Val)) × (length ps ≡ count) × LeadsPairs ps rest pairs × (middle ≡ start ++ text ps)) → new ≡ middle ++ behind
-    → (e : Event) × Begins e (length b - length rest) b × (new ≡ old ++ written e)
+    → StartsWithHeader sec nsec count pairs b → start ≡ old ++ before → ((ps : List (Val × Val)) × (length ps ≡ count) × StartsWithPairs ps rest pairs × (middle ≡ start ++ text ps)) → new ≡ middle ++ behind
+    → (e : Event) × StartsWithEvent e (length b - length rest) b × (new ≡ old ++ written e)
 event_written sec nsec count b pairs rest text before behind old start middle new written is h one w two =
     let body = text w.0 in
     let said : new ≡ old ++ ((before ++ body) ++ behind) =
@@ -52,15 +52,15 @@ event_written sec nsec count b pairs rest text before behind old start middle ne
 
 -- ---- pairs with commas between
 
--- one pair and those behind it
-pub members_written : (count : ℕ) (b behind rest old between new : List ℕ) → 0 < count → ((p : Val × Val) × LeadsPair p behind b × (between ≡ old ++ pair_text p))
-    → ((ps : List (Val × Val)) × (length ps ≡ count - 1) × LeadsPairs ps rest behind × (new ≡ between ++ more_pairs (entries_of ps)))
-    → (ps : List (Val × Val)) × (length ps ≡ count) × LeadsPairs ps rest b × (new ≡ old ++ pairs_text (entries_of ps))
+-- one pair and those after it
+pub members_written : (count : ℕ) (b behind rest old between new : List ℕ) → 0 < count → ((p : Val × Val) × StartsWithPair p behind b × (between ≡ old ++ pair_text p))
+    → ((ps : List (Val × Val)) × (length ps ≡ count - 1) × StartsWithPairs ps rest behind × (new ≡ between ++ more_pairs (entries_of ps)))
+    → (ps : List (Val × Val)) × (length ps ≡ count) × StartsWithPairs ps rest b × (new ≡ old ++ pairs_text (entries_of ps))
 members_written count b behind rest old between new some first w =
     let p = first.0 in
     let ps = w.0 in
     let one = first.1 in
-    let read : LeadsPairs (p ∷ ps) rest b = record {
+    let read : StartsWithPairs (p ∷ ps) rest b = record {
       front = one.key ++ (one.value ++ w.2.front);
       parts = one.parts ∙ ap (λ (t : List ℕ). one.key ++ (one.value ++ t)) w.2.parts ∙ ap (λ (t : List ℕ). one.key ++ t) (sym (append_assoc one.value w.2.front rest)) ∙ sym (append_assoc one.key (one.value ++ w.2.front) rest);
       spelled = (one.key, one.value, w.2.front, refl, one.key_spelled, one.value_spelled, w.2.spelled);

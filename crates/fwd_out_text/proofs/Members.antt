@@ -1,26 +1,26 @@
--- Pairs that are read and written one after another.
+-- Pairs that are decoded and written one after another.
 use Rattle.std.proofs.Common.{◌≡◌, ℕ, ◌+◌, ◌≤◌, List, [], ◌∷◌, ◌++◌, length, Result, Ok, Err, refl, sym, ap, ◌∙◌, append_assoc, arith}
 use Rattle.std.specs.Prelude.{IfOk}
 use Rattle.std.proofs.lemmas.List.{append-nil, length-append}
 use Rattle.fwd_value.specs.Val.{Val, text, entries_of}
 use Rattle.fwd_value.specs.Limits.{nesting, entry_nestings}
-use Rattle.fwd_msgpack.specs.Spelling.{Spells, SpellsEntries}
+use Rattle.fwd_msgpack.specs.Encodings.{Encodes, EncodesEntries}
 use Rattle.fwd_json.specs.Text.{json, key_text, pair_text, more_pairs}
-use Rattle.fwd_out_text.specs.Spelling.{deepest_member, Leads, LeadsPair, LeadsPairs}
+use Rattle.fwd_out_text.specs.Headers.{deepest_member, StartsWith, StartsWithPair, StartsWithPairs}
 
--- what holds of a value that was given, where more holds of it
+-- a property of a result implies a weaker one
 pub if_ok : {A E : Type 0} (r : Result A E) (P Q : A → Type 0) → ((x : A) → P x → Q x) → IfOk r P → IfOk r Q
 if_ok (Ok x) P Q f h = f x h
 if_ok (Err e) P Q f h = tt
 
 -- ---- one pair
 
-pub pair_written : (key b behind rest old between colon new : List ℕ) → Leads (text key) behind b → between ≡ old ++ key_text (text key) (json (text key)) → colon ≡ between ++ 58 ∷ []
-    → ((v : Val) × Leads v rest behind × (nesting v ≤ deepest_member) × (new ≡ colon ++ json v)) → (p : Val × Val) × LeadsPair p rest b × (new ≡ old ++ pair_text p)
+pub pair_written : (key b behind rest old between colon new : List ℕ) → StartsWith (text key) behind b → between ≡ old ++ key_text (text key) (json (text key)) → colon ≡ between ++ 58 ∷ []
+    → ((v : Val) × StartsWith v rest behind × (nesting v ≤ deepest_member) × (new ≡ colon ++ json v)) → (p : Val × Val) × StartsWithPair p rest b × (new ≡ old ++ pair_text p)
 pair_written key b behind rest old between colon new k one two w =
     let v = w.0 in
     let shown = key_text (text key) (json (text key)) in
-    let read : LeadsPair (text key, v) rest b = record {
+    let read : StartsWithPair (text key, v) rest b = record {
       key = k.0;
       value = w.1.0;
       parts = k.1 ∙ ap (λ (t : List ℕ). k.0 ++ t) w.1.1;
@@ -35,7 +35,7 @@ pair_written key b behind rest old between colon new k one two w =
 
 -- ---- one more pair
 
-spelled_more : (ps : List (Val × Val)) (p : Val × Val) (front key value : List ℕ) → SpellsEntries (entries_of ps) front → Spells p.0 key → Spells p.1 value → SpellsEntries (entries_of (ps ++ p ∷ [])) (front ++ (key ++ value))
+spelled_more : (ps : List (Val × Val)) (p : Val × Val) (front key value : List ℕ) → EncodesEntries (entries_of ps) front → Encodes p.0 key → Encodes p.1 value → EncodesEntries (entries_of (ps ++ p ∷ [])) (front ++ (key ++ value))
 spelled_more [] p front key value s k v = (key, value, [], ap (λ (t : List ℕ). t ++ (key ++ value)) s ∙ ap (λ (t : List ℕ). key ++ t) (sym (append-nil value)), k, v, refl)
 spelled_more (q ∷ ps) p front key value s k v =
     let first = s.0 in
@@ -53,15 +53,15 @@ text_more [] p = append-nil (44 ∷ pair_text p)
 text_more (q ∷ ps) p =
     ap (λ (t : List ℕ). (44 ∷ pair_text q) ++ t) (text_more ps p) ∙ sym (append_assoc (44 ∷ pair_text q) (more_pairs (entries_of ps)) (44 ∷ pair_text p))
 
--- so many pairs were read, and written behind what was there
+-- so many pairs were decoded, and written after the old text
 pub record IsWritten (old new : List ℕ) (count : ℕ) (rest b : List ℕ) : Type 0 where
   pub pairs : List (Val × Val)
   pub many : length pairs ≡ count
-  pub lead : LeadsPairs pairs rest b
+  pub lead : StartsWithPairs pairs rest b
   pub written : new ≡ old ++ more_pairs (entries_of pairs)
 
 pub one_more : (old between comma new : List ℕ) (count : ℕ) (b behind rest : List ℕ) → IsWritten old between count behind b → comma ≡ between ++ 44 ∷ []
-    → ((p : Val × Val) × LeadsPair p rest behind × (new ≡ comma ++ pair_text p)) → IsWritten old new (count + 1) rest b
+    → ((p : Val × Val) × StartsWithPair p rest behind × (new ≡ comma ++ pair_text p)) → IsWritten old new (count + 1) rest b
 one_more old between comma new count b behind rest so_far said w =
     let ps = so_far.pairs in
     let p = w.0 in

@@ -1,3 +1,3 @@
-pub mod Content
+pub mod FirstEvent
 pub mod Payload
-pub mod Spelling
+pub mod Headers

@@ -1,19 +1,19 @@
--- The payload of a chunk: what is written for each of its events, one after another.
+-- The payload of a chunk: the texts of its events, concatenated.
 use Rattle.std.specs.Prelude.{ℕ, ◌-◌, List, ◌++◌, length, codes, decimal, replicate}
 use Rattle.std.specs.List.{flat_map}
 use Rattle.fwd_value.specs.Val.{entries_of, mapping}
 use Rattle.fwd_json.specs.Text.{json, more_pairs}
 use Rattle.fwd_msgpack.specs.Canonical.{canonical}
-use Rattle.fwd_base.specs.declared.choices.Form.{Form}
-use Rattle.fwd_base.specs.declared.choices.Form.TheVariants.{JsonLines, OutFile, MsgPack}
+use Rattle.fwd_base.specs.declared.output_options.Form.{Form}
+use Rattle.fwd_base.specs.declared.output_options.Form.TheVariants.{JsonLines, OutFile, MsgPack}
 use Rattle.fwd_event.specs.declared.event.Event.{Event}
 use Rattle.fwd_event.specs.Event.{event_val}
 
--- at least nine digits, with zeros in front
+-- at least nine digits, with leading zeros
 abbrev pub nanoseconds : ℕ → List ℕ
 nanoseconds n = replicate (9 - length (decimal n)) 48 ++ decimal n
 
--- a time in seconds, with its nanoseconds behind a dot
+-- a time in seconds, with its nanoseconds after a dot
 abbrev pub time_text : ℕ → ℕ → List ℕ
 time_text sec nsec = decimal sec ++ codes "." ++ nanoseconds nsec
 
@@ -25,7 +25,7 @@ date_text sec nsec = codes "{\"date\":" ++ time_text sec nsec
 abbrev pub json_line : Event → List ℕ
 json_line e = date_text e.sec e.nsec ++ more_pairs (entries_of e.body) ++ codes "}\n"
 
--- TAG: [TIME, and a blank
+-- TAG: [TIME, and a space
 abbrev pub tag_text : List ℕ → ℕ → ℕ → List ℕ
 tag_text tag sec nsec = tag ++ codes ": [" ++ time_text sec nsec ++ codes ", "
 
@@ -33,7 +33,7 @@ tag_text tag sec nsec = tag ++ codes ": [" ++ time_text sec nsec ++ codes ", "
 abbrev pub tagged_line : List ℕ → Event → List ℕ
 tagged_line tag e = tag_text tag e.sec e.nsec ++ json (mapping (entries_of e.body)) ++ codes "]\n"
 
--- what is written for an event of a tag
+-- the text of an event of a tag
 abbrev pub record_of : Form → List ℕ → Event → List ℕ
 record_of JsonLines tag e = json_line e
 record_of OutFile tag e = tagged_line tag e

@@ -1,19 +1,20 @@
-//! The payload of a chunk, straight from its content: each event is read, written and let go before the next.
+//! Streams the content of a chunk into a payload: each event is decoded, written and freed before the next.
 
 ghost use Rattle.std.specs.Prelude.{◌≡◌, ◌<◌, ◌++◌, List, ℕ, length, drop, IsTrue, IfOk, IfSome, None};
 ghost use Rattle.fwd_event.specs.declared.event.Event.{Event};
 ghost use Rattle.fwd_event.specs.Event.{AreEvents, EventFits};
-ghost use Rattle.fwd_out_text.specs.Content.{Begins, BeginsNone};
+ghost use Rattle.fwd_out_text.specs.FirstEvent.{StartsWithEvent, StartsWithNoEvent};
 ghost use Rattle.fwd_out_text.specs.Payload.{record_of, payload_of};
 
 use crate::payload::write_record;
-use crate::straight::write_spelled;
+use crate::transcode::write_encoded;
 use fwd_base::{Bytes, Form, Memory};
 use fwd_event::{Event, event_of};
 use fwd_msgpack::{DecodeErr, decode};
 use std::alloc::Global;
 
-/// The payload for the events that bytes spell, one after another, in a form; none where the bytes are no list of events.
+/// Returns the payload of the events that the bytes encode, in a format; `None` if the bytes aren't a list
+/// of events.
 pub fn payload_of_content(
     alloc: Global,
     form: Form,
@@ -32,8 +33,8 @@ pub fn payload_of_content(
     }
 }
 
-/// Appends what is written for each of the events that bytes spell, one after another; false where the bytes are no list
-/// of events.
+/// Appends the text of each event that the bytes encode. Returns false if the bytes aren't a list of
+/// events.
 fn write_content(
     alloc: Global,
     form: Form,
@@ -54,8 +55,8 @@ fn write_content(
     Ok(true)
 }
 
-/// Appends what is written for the event that stands at a place, and gives the length of its spelling; none where no event
-/// stands there.
+/// Appends the text of the event that is encoded at an offset, and returns its encoded length; `None` if
+/// there is none.
 fn write_next(
     alloc: Global,
     form: Form,
@@ -65,18 +66,18 @@ fn write_next(
     out: &mut Bytes,
 ) -> Result<Option<usize>, Memory>
     requires { at < length content.now }
-    ensures given { IfOk result (λ found. IfSome found (λ n. (e : Event) × Begins e n (drop at content.now) × (out.new ≡ out.old ++ record_of form tag.now e))) }
-    ensures none { IfOk result (λ found. found ≡ None → BeginsNone (drop at content.now)) }
+    ensures given { IfOk result (λ found. IfSome found (λ n. (e : Event) × StartsWithEvent e n (drop at content.now) × (out.new ≡ out.old ++ record_of form tag.now e))) }
+    ensures none { IfOk result (λ found. found ≡ None → StartsWithNoEvent (drop at content.now)) }
 {
     let (_, rest) = content.split_at(at);
-    match write_spelled(alloc, form, tag, rest, out)? {
+    match write_encoded(alloc, form, tag, rest, out)? {
         Some(length) => Ok(Some(length)),
         None => write_read(alloc, form, tag, rest, out),
     }
 }
 
-/// Appends what is written for the event whose spelling begins the bytes, and gives the length of that spelling; none where
-/// no event begins them.
+/// Appends the text of the event that the bytes start with, and returns its encoded length; `None` if there
+/// is none.
 fn write_read(
     alloc: Global,
     form: Form,
@@ -84,10 +85,10 @@ fn write_read(
     bytes: &[u8],
     out: &mut Bytes,
 ) -> Result<Option<usize>, Memory>
-    ensures given { IfOk result (λ found. IfSome found (λ n. (e : Event) × Begins e n bytes.now × (out.new ≡ out.old ++ record_of form tag.now e))) }
-    ensures none { IfOk result (λ found. found ≡ None → BeginsNone bytes.now) }
+    ensures given { IfOk result (λ found. IfSome found (λ n. (e : Event) × StartsWithEvent e n bytes.now × (out.new ≡ out.old ++ record_of form tag.now e))) }
+    ensures none { IfOk result (λ found. found ≡ None → StartsWithNoEvent bytes.now) }
 {
-    match event_in_front(alloc, bytes)? {
+    match decode_first(alloc, bytes)? {
         Some((event, length)) => {
             write_record(alloc, form, tag, &event, out)?;
             Ok(Some(length))
@@ -96,11 +97,12 @@ fn write_read(
     }
 }
 
-/// The event whose spelling begins the bytes, and the length of that spelling; none where no event begins them.
-fn event_in_front(alloc: Global, bytes: &[u8]) -> Result<Option<(Event, usize)>, Memory>
-    ensures given { IfOk result (λ found. IfSome found (λ x. Begins x.0 x.1 bytes.now)) }
+/// Decodes the event that the bytes start with, and returns it with its encoded length; `None` if there is
+/// none.
+fn decode_first(alloc: Global, bytes: &[u8]) -> Result<Option<(Event, usize)>, Memory>
+    ensures given { IfOk result (λ found. IfSome found (λ x. StartsWithEvent x.0 x.1 bytes.now)) }
     ensures fits { IfOk result (λ found. IfSome found (λ x. EventFits x.0)) }
-    ensures none { IfOk result (λ found. found ≡ None → BeginsNone bytes.now) }
+    ensures none { IfOk result (λ found. found ≡ None → StartsWithNoEvent bytes.now) }
 {
     match decode(alloc, bytes) {
         Ok((value, length)) => match event_of(alloc, value) {

@@ -1,16 +1,16 @@
-//! The text that outputs are handed.
+//! Payloads of text and MessagePack for outputs.
 //!
-//! A chunk's events become one payload: lines of JSON with the time under `date`, lines of tag, time and body, or the
-//! events as they are stored. Each form writes the events in their order, one after another.
+//! The events of a chunk become one payload: lines of JSON with the time as `date`, lines of tag, time and
+//! record, or the events as they are stored. Each format writes the events in their order.
 //!
-//! `payload_text` writes events that were read before, `payload_of_content` those that bytes spell, without a list of them.
+//! `payload_text` writes decoded events. `payload_of_content` writes encoded ones, without a list of them.
 #![tactic(auto)]
 
 mod content;
+mod header;
 mod payload;
 mod record_text;
-mod spelling;
-mod straight;
+mod transcode;
 
 pub use content::payload_of_content;
 pub use fwd_base::{Bytes, Form, Memory};

@@ -1,7 +1,7 @@
-//! The payload of a chunk.
+//! The payload of decoded events.
 
 ghost use Rattle.std.specs.Prelude.{◌≡◌, ◌++◌, All, IfOk, OnOk};
-ghost use Rattle.fwd_base.specs.declared.choices.Form.TheVariants.{MsgPack};
+ghost use Rattle.fwd_base.specs.declared.output_options.Form.TheVariants.{MsgPack};
 ghost use Rattle.fwd_event.specs.Event.{EventFits};
 ghost use Rattle.fwd_out_text.specs.Payload.{record_of, payload_of};
 
@@ -10,7 +10,8 @@ use fwd_base::{Bytes, Form, Memory};
 use fwd_event::{Event, Events, write_event};
 use std::alloc::Global;
 
-/// The payload for events of a tag, in a form. As MessagePack it is written for events that have a spelling of their own.
+/// Returns the payload of the events of a tag, in a format. As MessagePack it requires events that can be
+/// encoded.
 pub fn payload_text(alloc: Global, form: Form, tag: &[u8], events: &Events) -> Result<Bytes, Memory>
     requires { form ≡ MsgPack → All EventFits events.now }
     ensures { IfOk result (λ payload. payload ≡ payload_of form tag.now events.now) }
@@ -22,7 +23,7 @@ pub fn payload_text(alloc: Global, form: Form, tag: &[u8], events: &Events) -> R
     Ok(payload)
 }
 
-/// Appends what is written for one event.
+/// Appends the text of one event.
 pub fn write_record(
     alloc: Global,
     form: Form,

@@ -9,7 +9,7 @@ use fwd_json::{map_text, more_pairs_text};
 use itoa::Buffer;
 use std::alloc::Global;
 
-/// Appends at least nine digits, with zeros in front.
+/// Appends at least nine digits, with leading zeros.
 fn write_nanoseconds(out: &mut Bytes, nsec: u32) -> Result<(), Memory>
     ensures { OnOk result (out.new ≡ out.old ++ nanoseconds nsec) }
 {
@@ -40,7 +40,7 @@ pub fn write_date(sec: u32, nsec: u32, out: &mut Bytes) -> Result<(), Memory>
     write_moment(sec, nsec, out)
 }
 
-/// Appends `{"date":TIME,"key":value}` and a line feed, with the pairs of the body in their order.
+/// Appends `{"date":TIME,"key":value}` and a line feed, with the pairs of the record in their order.
 pub fn write_json_line(alloc: Global, event: &Event, out: &mut Bytes) -> Result<(), Memory>
     ensures { OnOk result (out.new ≡ out.old ++ json_line event.now) }
 {

@@ -1,2 +1,14 @@
-pub mod Reading
-pub mod Honest
+pub mod KeepsBytes
+pub mod Calls
+pub mod Invariant
+pub mod UnchangedFiles
+pub mod AtomicFiles
+pub mod DiskPrograms
+pub mod OneByte
+pub mod ReadWhole
+pub mod ConsistentFiles
+pub mod LogGrowth
+pub mod Executions
+pub mod CrashPointLemmas
+pub mod AndThen
+pub mod SinceLemmas

@@ -1,10 +1,11 @@
--- A disk: the calls that are made of it, and what each may answer.
+-- A disk: its calls, and what each may answer.
 use Rattle.std.specs.Prelude.{ℕ, List, Option, Some, None, Result, Ok, Err, All, Contains, IsUtf8}
 use Rattle.std.specs.List.Sorted.{IsStrictlySortedBy}
 use Rattle.std.specs.Cmp.Lexicographic.{slice_cmp}
 use Rattle.std.specs.Ordering.{nat_cmp}
-use Rattle.fwd_program.specs.Program.{Entry, Program, Return, Ask}
-use Rattle.fwd_program.specs.Told.{Told}
+use base.Stored.{Gv}
+use Rattle.fwd_outside.specs.Program.{Entry, Program, Return, Ask}
+use Rattle.fwd_outside.specs.Log.{CallLog}
 use Rattle.fwd_outside.specs.declared.errors.DiskErr.{DiskErr}
 use Rattle.fwd_outside.specs.declared.errors.DiskErr.TheVariants.{Failed, Memory}
 
@@ -15,12 +16,13 @@ pub data DiskCall : Type 0 where
   Remove : (name : List ℕ) → DiskCall
   Read : (name : List ℕ) → (at len : ℕ) → DiskCall
   ListNames : (folder : List ℕ) → DiskCall
-  -- No calls, but what is told to a disk in memory. The file of this name has these bytes from here on, without doubt.
+  -- Not a call, but an instruction to a disk in memory: the file of this name has these bytes from here on,
+  -- fsynced.
   Preset : (name bytes : List ℕ) → DiskCall
-  -- the call of this number is to fail
+  -- not a call either: the call of this number is to fail
   FailAt : (number : ℕ) → DiskCall
 
--- none where the call failed
+-- None if the call failed
 abbrev pub DiskAnswer : DiskCall → Type 0
 DiskAnswer (Place name bytes) = Option (Unit {0})
 DiskAnswer (WriteAt name at bytes) = Option (Unit {0})
@@ -34,28 +36,30 @@ DiskAnswer (FailAt number) = Unit {0}
 abbrev pub DiskEntry : Type 0
 DiskEntry = Entry DiskCall DiskAnswer
 
--- the files that stood there at first, by name
+-- the files that were there at first, by name; and for a disk that wraps another: which one, as the logic
+-- stores it; else empty
 pub record DiskGiven : Type 0 where
   pub files : List (List ℕ × List ℕ)
+  pub round : Gv
 
-abbrev pub DiskTold : Type 0
-DiskTold = Told DiskGiven DiskCall DiskAnswer
+abbrev pub DiskLog : Type 0
+DiskLog = CallLog DiskGiven DiskCall DiskAnswer
 
 abbrev pub DiskProgram : Type 0 → Type 0
 DiskProgram R = Program DiskCall DiskAnswer R
 
--- what a call came to: a value, a failure, or nothing for want of memory
+-- the outcome of a call: a value, a failure, or none if memory was out
 abbrev pub disk_outcome : {T : Type 0} → Result T DiskErr → Option (Option T)
 disk_outcome (Ok value) = Some (Some value)
 disk_outcome (Err Failed) = Some None
 disk_outcome (Err Memory) = None
 
--- a name within a folder: a text without `/`
+-- a name within a folder: UTF-8 without `/`
 pub record IsFileName (name : List ℕ) : Type 0 where
   pub text : IsUtf8 name
   pub plain : Contains name 47 → ⊥
 
--- names as a disk lists them: sorted, each once
+-- a listing of a disk: names, sorted, each once
 pub record IsListing (names : List (List ℕ)) : Type 0 where
   pub each : All IsFileName names
   pub sorted : IsStrictlySortedBy (slice_cmp nat_cmp) names

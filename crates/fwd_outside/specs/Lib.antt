@@ -1,5 +1,13 @@
+pub mod File
+pub mod DiskStates
+pub mod PostCrash
 pub mod Disk
 pub mod Files
 pub mod Sink
 pub mod Loop
-pub mod Honest
+pub mod ConsistentFiles
+pub mod Program
+pub mod Log
+pub mod Cause
+pub mod AtCrashPoints
+pub mod Reachable

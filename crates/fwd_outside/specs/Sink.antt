@@ -1,41 +1,41 @@
--- A sink: the writes that are made of it, what each may answer, and what was written.
+-- A sink: its writes, what each may answer, and what was written.
 use Rattle.std.specs.Prelude.{◌≡◌, ◌⊎◌, ℕ, ◌≤◌, List, [], ◌∷◌, ◌++◌, length, take, Result, Ok, Err}
-use Rattle.fwd_program.specs.Program.{Entry, entry}
-use Rattle.fwd_program.specs.Told.{Told}
+use Rattle.fwd_outside.specs.Program.{Entry, entry}
+use Rattle.fwd_outside.specs.Log.{CallLog}
 use Rattle.fwd_outside.specs.declared.errors.SinkErr.{SinkErr}
 use Rattle.fwd_outside.specs.declared.errors.SinkErr.TheVariants.{Failed, Memory}
 
 pub data SinkCall : Type 0 where
   Write : (bytes : List ℕ) → SinkCall
 
--- the whole piece was written, or a write stopped behind so many bytes
-pub data Written : Type 0 where
-  Wrote : Written
-  Stopped : (taken : ℕ) → Written
+-- all bytes were written, or the write stopped after so many
+pub data WriteOutcome : Type 0 where
+  Wrote : WriteOutcome
+  Stopped : (taken : ℕ) → WriteOutcome
 
 abbrev pub SinkAnswer : SinkCall → Type 0
-SinkAnswer (Write bytes) = Written
+SinkAnswer (Write bytes) = WriteOutcome
 
 abbrev pub SinkEntry : Type 0
 SinkEntry = Entry SinkCall SinkAnswer
 
-abbrev pub SinkTold : Type 0
-SinkTold = Told (Unit {0}) SinkCall SinkAnswer
+abbrev pub SinkLog : Type 0
+SinkLog = CallLog (Unit {0}) SinkCall SinkAnswer
 
-abbrev pub stopped : List ℕ → ℕ → List SinkEntry
-stopped bytes taken = entry (Write bytes) (Stopped taken) ∷ []
+abbrev pub log_of_stopped : List ℕ → ℕ → List SinkEntry
+log_of_stopped bytes taken = entry (Write bytes) (Stopped taken) ∷ []
 
--- What a write adds to the list. One that is refused for want of memory may have written nothing and not be told.
-abbrev pub Writes : {T : Type 0} → List ℕ → Result T SinkErr → List SinkEntry → Type 0
-Writes bytes (Ok done) entries = entries ≡ entry (Write bytes) Wrote ∷ []
-Writes bytes (Err Failed) entries = (taken : ℕ) × (taken ≤ length bytes) × (entries ≡ stopped bytes taken)
-Writes bytes (Err Memory) entries = (entries ≡ []) ⊎ ((taken : ℕ) × (taken ≤ length bytes) × (entries ≡ stopped bytes taken))
+-- What a write adds to the log. If memory is out, the write may have done nothing and not be recorded.
+abbrev pub LogsWrite : {T : Type 0} → List ℕ → Result T SinkErr → List SinkEntry → Type 0
+LogsWrite bytes (Ok done) entries = entries ≡ entry (Write bytes) Wrote ∷ []
+LogsWrite bytes (Err Failed) entries = (taken : ℕ) × (taken ≤ length bytes) × (entries ≡ log_of_stopped bytes taken)
+LogsWrite bytes (Err Memory) entries = (entries ≡ []) ⊎ ((taken : ℕ) × (taken ≤ length bytes) × (entries ≡ log_of_stopped bytes taken))
 
-abbrev pub taken_of : (call : SinkCall) → SinkAnswer call → List ℕ
-taken_of (Write bytes) Wrote = bytes
-taken_of (Write bytes) (Stopped taken) = take taken bytes
+abbrev pub written_by : (call : SinkCall) → SinkAnswer call → List ℕ
+written_by (Write bytes) Wrote = bytes
+written_by (Write bytes) (Stopped taken) = take taken bytes
 
 -- all bytes written, in their order
 abbrev pub written : List SinkEntry → List ℕ
 written [] = []
-written (e ∷ es) = taken_of e.call e.answer ++ written es
+written (e ∷ es) = written_by e.call e.answer ++ written es

@@ -1,40 +1,40 @@
-//! What a loop answers.
+//! Answers of a loop. Each has a case for memory that is out.
 
 use fwd_base::LinkId;
 
-/// What a loop answers where it is started.
+/// The answer to `Loop::start`.
 #[derive(Clone, Copy, Debug, PartialEq, Eq)]
 pub enum Begun {
     Ready,
-    /// An end can't be had.
+    /// An endpoint isn't available.
     Failed,
     Memory,
 }
 
-/// What a loop answers to a dial.
+/// The answer to `Loop::dial`.
 #[derive(Clone, Copy, Debug, PartialEq, Eq)]
 pub enum Dialed {
-    /// The link to the end of the output, under a number that is greater than all before.
+    /// The link to the endpoint of the output. Its number is greater than all before.
     Link(LinkId),
     Refused,
     Memory,
 }
 
-/// What a loop answers to a push.
+/// The answer to `Loop::push`.
 #[derive(Clone, Copy, Debug, PartialEq, Eq)]
 pub enum Pushed {
-    /// So many bytes from the beginning of the piece are taken.
+    /// The link accepted this many bytes from the beginning of the buffer.
     Took(u64),
-    /// None is taken now. The loop tells when there is room.
+    /// The link accepts nothing now. A `Room` event follows when it does.
     Again,
     Broken,
     Memory,
 }
 
-/// What a loop answers to a reply.
+/// The answer to `Loop::reply`.
 #[derive(Clone, Copy, Debug, PartialEq, Eq)]
 pub enum Replied {
-    /// The whole reply is taken.
+    /// The connection accepted the whole reply.
     Taken,
     Broken,
     Memory,

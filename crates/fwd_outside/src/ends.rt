@@ -1,34 +1,34 @@
-//! What a loop connects the engine with.
+//! Endpoints: where inputs get their bytes from, and where outputs send theirs.
 
 use fwd_base::{Bytes, Items};
 
-/// Where an input takes its bytes from.
+/// The endpoint of an input.
 #[derive(Debug, Drop, PartialEq, Eq)]
 pub enum InEnd {
-    /// Peers connect to this port.
+    /// A port that peers connect to.
     Listen { host: Bytes, port: u16 },
     Stdin,
-    /// From nothing that the loop brings.
+    /// No endpoint: the loop brings nothing for this input.
     Quiet,
 }
 
-/// Where an output's bytes go.
+/// The endpoint of an output.
 #[derive(Debug, Drop, PartialEq, Eq)]
 pub enum OutEnd {
     Stdout,
-    /// A file of a folder. Without a name it is named by the tag.
+    /// A file in a folder. Without a name, the tag is its name.
     Folder { path: Bytes, file: Option<Bytes> },
-    /// A peer that is connected to.
+    /// A peer to connect to.
     Peer { host: Bytes, port: u16 },
 }
 
-/// The ends of inputs, in the order of the configuration.
+/// The endpoints of the inputs, in the order of the configuration.
 pub type InEnds = Items<InEnd>;
 
-/// The ends of outputs, in the order of the configuration.
+/// The endpoints of the outputs, in the order of the configuration.
 pub type OutEnds = Items<OutEnd>;
 
-/// The ends of all inputs and outputs.
+/// The endpoints of all inputs and outputs.
 #[derive(Debug, Drop, PartialEq, Eq)]
 pub struct Ends {
     pub inputs: InEnds,

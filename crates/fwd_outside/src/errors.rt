@@ -1,4 +1,4 @@
-//! What a call on the outside answers where it doesn't succeed.
+//! Errors of the platform traits. Each tells a failure of the device from memory that is out.
 
 ghost use Rattle.std.specs.Prelude.{◌≡◌};
 ghost use Rattle.fwd_outside.specs.declared.errors.DiskErr.TheVariants as disk_err;
@@ -9,7 +9,7 @@ use fwd_base::Memory;
 use std::alloc::{AllocError, AllocFailed};
 use thiserror::Error;
 
-/// A call on a disk that was not made to its end.
+/// Why a call on a `Disk` failed.
 #[derive(Clone, Copy, Debug, PartialEq, Eq, Error)]
 pub enum DiskErr {
     #[error("the disk has failed")]
@@ -42,7 +42,7 @@ impl<T: Drop> From<AllocFailed<T>> for DiskErr {
     }
 }
 
-/// A call on files that gave nothing.
+/// Why a call on `Files` failed.
 #[derive(Clone, Copy, Debug, PartialEq, Eq, Error)]
 pub enum FileErr {
     #[error("the file can't be read")]
@@ -75,7 +75,7 @@ impl<T: Drop> From<AllocFailed<T>> for FileErr {
     }
 }
 
-/// A write to a sink that was not made to its end.
+/// Why a write to a `Sink` failed.
 #[derive(Clone, Copy, Debug, PartialEq, Eq, Error)]
 pub enum SinkErr {
     #[error("the output can't be written")]

@@ -1,39 +1,39 @@
-//! Files that are read.
+//! The trait for followed files and configuration files, which are only read.
 
 ghost use Rattle.std.specs.Prelude.{◌≡◌, ℕ, ◌≤◌, length, IfOk, IsErrOf};
-ghost use Rattle.fwd_program.specs.Told.{Grew, Attempts, asking};
-ghost use Rattle.fwd_program.specs.Cause.{HasCause};
-ghost use Rattle.fwd_outside.specs.Files.{FilesTold, Length, ReadAt, outcome, reads_whole};
-ghost use Rattle.fwd_outside.specs.Honest.{WholeIsFound};
+ghost use Rattle.fwd_outside.specs.Log.{LogGrew, RunsFallible, log_of_call};
+ghost use Rattle.fwd_outside.specs.Cause.{HasCause};
+ghost use Rattle.fwd_outside.specs.Files.{FilesLog, Length, ReadAt, outcome, read_whole_program};
+ghost use Rattle.fwd_outside.specs.ConsistentFiles.{WholeReadIsContent};
 ghost use Rattle.fwd_outside.specs.declared.errors.FileErr.TheVariants.{Failed};
 
 use crate::FileErr;
 use fwd_base::Bytes;
 use std::alloc::Global;
 
-/// Files that are read by their paths.
+/// Files that are read by path.
 pub trait Files {
-    /// How often a call has failed. The count stops at its last value, 2^64 - 1.
+    /// The number of failed calls. The count saturates at 2^64 - 1.
     ghost faults: { Self → ℕ };
 
-    /// The files that stood there at first, and the calls so far with their answers, where it tells them.
-    ghost told: { Self → FilesTold };
+    /// The call log: the first files, and the calls so far with their answers, if one is kept.
+    ghost call_log: { Self → FilesLog };
 
-    /// The length of a file, in bytes. A file that isn't there is a failure.
+    /// Returns the length of a file, in bytes. Fails if there is no such file.
     fn length(&mut self, path: &[u8]) -> Result<u64, FileErr>
-        ensures told { Grew (told self.old) (told self.new) (asking (Length path.now) (outcome result)) }
+        ensures call_log { LogGrew (call_log self.old) (call_log self.new) (log_of_call (Length path.now) (outcome result)) }
         ensures cause { HasCause (faults self.old) (faults self.new) (IsErrOf result Failed) };
 
-    /// Bytes of a file from an offset on, at most `max` of them. None means the end.
+    /// Reads at most `max` bytes of a file from an offset on. An empty answer means the end.
     fn read_at(&mut self, alloc: Global, path: &[u8], at: u64, max: u64) -> Result<Bytes, FileErr>
-        ensures told { Grew (told self.old) (told self.new) (asking (ReadAt path.now at max) (outcome result)) }
+        ensures call_log { LogGrew (call_log self.old) (call_log self.new) (log_of_call (ReadAt path.now at max) (outcome result)) }
         ensures cause { HasCause (faults self.old) (faults self.new) (IsErrOf result Failed) }
         ensures within { IfOk result (λ bytes. length bytes ≤ max) };
 }
 
-/// Reads a file to the length that it has when it is asked, once. Reading ends earlier where the file does.
+/// Reads a whole file: its length once, and then that many bytes, or fewer if the file has become shorter.
 pub fn read_whole<F: Files>(alloc: Global, files: &mut F, path: &[u8]) -> Result<Bytes, FileErr>
-    ensures calls { Attempts (F.told files.old) (F.told files.new) (reads_whole path.now) (outcome result) }
+    ensures calls { RunsFallible (F.call_log files.old) (F.call_log files.new) (read_whole_program path.now) (outcome result) }
     ensures cause { HasCause (F.faults files.old) (F.faults files.new) (IsErrOf result Failed) }
 {
     let length = files.length(path)?;
@@ -49,7 +49,7 @@ pub fn read_whole<F: Files>(alloc: Global, files: &mut F, path: &[u8]) -> Result
     Ok(bytes)
 }
 
-/// Over files that give what stands there, a file that was read whole is as it stands there.
-pub fn whole_is_found()
-    ensures { WholeIsFound }
+/// If the files answer with what they contain, `read_whole` returns the content of the file.
+pub fn whole_read_is_content()
+    ensures { WholeReadIsContent }
 {}

@@ -1,12 +1,12 @@
-//! What work on a list in several threads passes, item by item.
+//! A hook by which tests see that threads work side by side.
 
-/// What is passed directly before an item of a list is worked on, by its place from 0. So a test can see in which threads
-/// the items are worked on; what comes of them doesn't depend on it.
+/// A hook that parallel work on a list calls with the index of each item, directly before the item. With it
+/// a test sees which threads meet; the result doesn't depend on it.
 pub trait Gate: Sync {
     fn pass(&self, item: u64);
 }
 
-/// The gate that does nothing.
+/// The gate that does nothing, which the program uses.
 #[derive(Clone, Copy, Debug)]
 pub struct Open;
 

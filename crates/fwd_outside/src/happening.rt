@@ -1,14 +1,14 @@
-//! What the outside brings to the engine.
+//! Events of the loop.
 
 ghost use Rattle.std.specs.Prelude.{◌≡◌, IfOk};
 
 use fwd_base::{Bytes, ConnId, InputId, LinkId, Memory};
 use std::alloc::Global;
 
-/// One event of the outside. The engine is changed by nothing else.
+/// An event of the loop. Nothing else changes the engine.
 #[derive(Debug, Drop, PartialEq, Eq)]
 pub enum Happening {
-    /// The clock reads so many milliseconds.
+    /// The clock reads `now`, in milliseconds.
     Tick {
         now: u64,
     },
@@ -17,18 +17,18 @@ pub enum Happening {
         input: InputId,
         conn: ConnId,
     },
-    /// Bytes came over a connection, one at least and at most `LONGEST_PIECE` of them.
+    /// Bytes came over a connection: one to `LONGEST_PIECE` of them.
     Piece {
         input: InputId,
         conn: ConnId,
         bytes: Bytes,
     },
-    /// A peer's connection is over.
+    /// The connection of a peer has ended.
     Gone {
         input: InputId,
         conn: ConnId,
     },
-    /// A link takes bytes again.
+    /// A link accepts bytes again.
     Room {
         link: LinkId,
     },
@@ -41,20 +41,20 @@ pub enum Happening {
     Broken {
         link: LinkId,
     },
-    /// An input has come to its end.
+    /// An input has reached its end.
     InputEnd {
         input: InputId,
     },
-    /// No further input is to be taken, and the run ends once nothing is owed.
+    /// The engine accepts no further input, and ends once nothing is pending.
     Stop,
-    /// Nothing more comes.
+    /// No further event comes.
     End,
-    /// The outside can't go on.
+    /// The loop can't continue.
     Failed,
 }
 
 impl Happening {
-    /// The same happening, with bytes of its own.
+    /// Returns a copy. Fails only if memory is out.
     pub fn try_clone(&self, alloc: Global) -> Result<Happening, Memory>
         ensures { IfOk result (λ copy. copy ≡ self.now) }
     {

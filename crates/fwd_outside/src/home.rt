@@ -1,8 +1,8 @@
-/// Where a chunk is kept.
+/// Where a chunk is stored.
 #[derive(Clone, Copy, Debug, PartialEq, Eq)]
 pub enum Home {
-    /// In a file of the disk.
+    /// In a file on the disk.
     Disk,
-    /// In memory alone.
+    /// In memory only.
     Ram,
 }

@@ -1,17 +1,17 @@
--- Fields of groups, one after another.
+-- Fields of groups, in order.
 use Rattle.std.proofs.Common.{◌≡◌, ◌∙◌, sym, ap, cond, Bool, true, false, ℕ, ◌+◌, ◌<◌, List, [], ◌∷◌, ◌++◌, length, take, get_or, map, filter, refl}
 use Rattle.std.proofs.lemmas.List.{take_more, map-append}
 use Rattle.fwd_base.specs.Pattern.{Captured, captured}
 use Rattle.fwd_base.specs.declared.search.Capture.{Capture}
 use Rattle.fwd_value.specs.Val.{Val}
-use Rattle.fwd_parser.specs.Field.{fields_of, field_of, is_given}
+use Rattle.fwd_parser.specs.Field.{fields_of, field_of, is_kept_group}
 use Rattle.fwd_parser.specs.declared.parser.FieldType.{FieldType}
 
 module _ (types : List FieldType) (skip : Bool) where
   joined : (gs hs : List Captured) → fields_of types skip (gs ++ hs) ≡ fields_of types skip gs ++ fields_of types skip hs
   joined [] hs = refl
   joined (g ∷ gs) hs =
-      elim (is_given skip g) as (λ b. map (field_of types) (cond b (g ∷ filter (is_given skip) (gs ++ hs)) (filter (is_given skip) (gs ++ hs))) ≡ map (field_of types) (cond b (g ∷ filter (is_given skip) gs) (filter (is_given skip) gs)) ++ fields_of types skip hs) [
+      elim (is_kept_group skip g) as (λ b. map (field_of types) (cond b (g ∷ filter (is_kept_group skip) (gs ++ hs)) (filter (is_kept_group skip) (gs ++ hs))) ≡ map (field_of types) (cond b (g ∷ filter (is_kept_group skip) gs) (filter (is_kept_group skip) gs)) ++ fields_of types skip hs) [
         | true ↦ ap (λ (fs : List (Val × Val)). field_of types g ∷ fs) (joined gs hs)
         | false ↦ joined gs hs
       ]

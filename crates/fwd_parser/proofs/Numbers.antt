@@ -9,11 +9,11 @@ use Rattle.std.proofs.lemmas.List.Sums.{prefix_len-le-length}
 use Rattle.std.proofs.Math.Nat.{pow-suc, pow-succ', pow-le-pow_right, mul-le-mul_left, mul-le-mul_right, mul_assoc}
 use Rattle.fwd_parser.specs.Number.{number_in, number_of, value_in, digits_at}
 
--- a number and further digits
+-- a number with further digits appended
 abbrev pub with_digits : ℕ → ℕ → List ℕ → ℕ
 with_digits base number digits = fold (λ n c. n * base + digit_value c) number digits
 
--- the number of a number and further digits, if they are digits and it has at most 64 bits
+-- a number with further digits appended, if they are digits and it has at most 64 bits
 abbrev pub number_from : ℕ → ℕ → List ℕ → Option ℕ
 number_from base n cs =
     cond (list_all (λ c. is_digit c base) cs && ltb (with_digits base n cs) (2 ^ 64)) (Some (with_digits base n cs)) None
@@ -46,7 +46,7 @@ stopped base n c cs true false d s h past_it =
     let past : ltb (with_digits base (n * base + digit_value c) cs) (2 ^ 64) ≡ false = grind (arith, nat_tests) in
     rw (d, past) (elim (list_all (λ c. is_digit c base) cs) as (λ b. cond (b && false) (Some (with_digits base (n * base + digit_value c) cs)) None ≡ None) [ true ↦ refl | false ↦ refl ])
 
--- what isn't a further digit, or passes 64 bits with it, gives no number
+-- a byte that isn't a further digit, or that takes the number past 64 bits, gives no number
 pub number_from_stop : (base n i : ℕ) (cs : List ℕ) → i < length cs → 2 ≤ base → ((digit_value (get_or cs i 0) < base) × (n * base + digit_value (get_or cs i 0) < 2 ^ 64) → ⊥) → number_from base n (drop i cs) ≡ None
 number_from_stop base n i cs within h past_it =
     at_drop_more (number_from base n) cs i 0 within ∙ stopped base n (get_or cs i 0) (drop (i + 1) cs) _ _ refl refl h past_it
@@ -57,7 +57,7 @@ decimal_digit c h = grind (arith, nat_tests)
 one_more : (k : ℕ) → 1 + k ≡ suc k
 one_more k = omega arith
 
--- the digits that stand first are digits
+-- the counted bytes are digits
 pub digits_are : (most : ℕ) (text : List ℕ) → list_all (λ c. is_digit c 10) (take (digits_at most text) text) ≡ true
 digits_are zero text = refl
 digits_are (suc most) [] = refl
@@ -92,7 +92,7 @@ and_right : (x y : Bool) → (x && y) ≡ true → y ≡ true
 and_right true y e = e
 and_right false y e = cc
 
--- so many digits write a number below the power of ten
+-- n digits give a number below the power of ten
 digits_below : (n : ℕ) (cs : List ℕ) → list_all (λ c. is_digit c 10) cs ≡ true → with_digits 10 n cs < (n + 1) * 10 ^ length cs
 digits_below n [] all = within 0 n
 digits_below n (c ∷ cs) all =
@@ -101,7 +101,7 @@ digits_below n (c ∷ cs) all =
     let more = digits_below (n * 10 + digit_value c) cs (and_right (ltb (digit_value c) 10) _ all) in
     below (length cs) n (digit_value c) _ digit more
 
--- no more digits are taken than there are
+-- no more digits are counted than there are bytes
 pub digits_within : (most : ℕ) (text : List ℕ) → digits_at most text ≤ length text
 digits_within most text =
     let h = prefix_len-le-length is_ascii_digit (take most text) in
@@ -120,7 +120,7 @@ taken most text =
     let k = length-take (digits_at most text) text in
     omega arith
 
--- the digits that stand first write a number below the power of ten
+-- the counted digits give a number below the power of ten
 pub number_below : (most : ℕ) (text : List ℕ) → value_in 10 (take (digits_at most text) text) < 10 ^ digits_at most text
 number_below most text =
     let h = digits_below 0 (take (digits_at most text) text) (digits_are most text) in
@@ -130,7 +130,7 @@ number_below most text =
 pub power_most : (k most : ℕ) → k ≤ most → 10 ^ k ≤ 10 ^ most
 power_most k most h = pow-le-pow_right (omega arith) h
 
--- a fraction of so many digits, in billionths
+-- a fraction of k digits, in billionths
 pub in_billionths : (k n : ℕ) → k ≤ 9 → n < 10 ^ k → n * 10 ^ (9 - k) < 1_000_000_000
 in_billionths k n h below =
     let whole : k + (9 - k) ≡ 9 = omega arith in
@@ -154,13 +154,13 @@ unfolding number_in
 number_in-empty base [] h = refl
 number_in-empty base (c ∷ text) h = absurd (omega arith)
 
--- a number that stands at the end of its digits
+-- a number with no digits left
 pub number_from-end : (base n : ℕ) → n < 2 ^ 64 → number_from base n [] ≡ Some n
 number_from-end base n h =
     let fits : ltb n (2 ^ 64) ≡ true = grind (arith, nat_tests) in
     rw fits refl
 
--- the digits that stand first are a number of at most 64 bits
+-- the counted digits give a number of at most 64 bits
 pub digits_number : (most : ℕ) (text : List ℕ) → most ≤ 18 → 0 < digits_at most text → number_in 10 (take (digits_at most text) text) ≡ Some (value_in 10 (take (digits_at most text) text))
 digits_number most text h some =
     let ds = take (digits_at most text) text in
@@ -177,7 +177,7 @@ found_value least most text ds count found e enough one fits is same =
     let value : Some found ≡ Some (value_in 10 (take (digits_at most text) text)) = sym is ∙ all in
     cc
 
--- the number of the digits that were counted, and what is behind them
+-- the number of the counted digits, and what follows them
 pub number_of_is : (least most : ℕ) (text ds : List ℕ) (count found : ℕ) → count ≡ digits_at most text → least ≤ count → 1 ≤ least → most ≤ 18 → number_in 10 ds ≡ Some found → ds ≡ take count text → Some (found, take (length text - count) (drop count text)) ≡ number_of least most text
 unfolding number_of
 number_of_is least most text ds count found e enough one fits is same =

@@ -3,7 +3,7 @@ use Rattle.std.specs.Prelude.{ℕ, ℤ, pos, neg_ℤ, ◌+◌, ◌^◌, ◌==◌
 use Rattle.std.specs.Str.{byte, bytes_eq}
 use Rattle.fwd_base.specs.Pattern.{Captured}
 use Rattle.fwd_value.specs.Val.{Val, truth, whole, text}
-use Rattle.fwd_body.specs.Keys.{Body}
+use Rattle.fwd_value.specs.Keys.{Record}
 use Rattle.fwd_parser.specs.Number.{number_in}
 use Rattle.fwd_parser.specs.declared.parser.FieldType.{FieldType}
 use Rattle.fwd_parser.specs.declared.parser.TypeKind.{TypeKind}
@@ -31,7 +31,7 @@ hex_of (b ∷ c ∷ digits) =
 unfoldable pub truth_of : List ℕ → Option Bool
 truth_of s = if bytes_eq s (codes "true") then Some true else (if bytes_eq s (codes "false") then Some false else None)
 
--- what the bytes of a field are read as
+-- the bytes of a field, parsed as a type
 unfoldable pub read_as : TypeKind → List ℕ → Option Val
 read_as kind.Integer s = option_map whole (integer_of s)
 read_as kind.Hex s = option_map (λ n. whole (pos n)) (hex_of s)
@@ -42,7 +42,7 @@ read_as kind.Text s = None
 unfoldable pub typed : TypeKind → List ℕ → Val
 typed kind s = unwrap_or (read_as kind s) (text s)
 
--- the type of a key: of a key that is given twice the last counts, and a key that isn't given has text
+-- the type of a key: if a key is given twice, the last type counts, and a key that isn't given has text
 unfoldable pub kind_of : List FieldType → List ℕ → TypeKind
 kind_of types key = fold (λ former t. if bytes_eq t.key key then t.kind else former) kind.Text types
 
@@ -50,10 +50,10 @@ kind_of types key = fold (λ former t. if bytes_eq t.key key then t.kind else fo
 abbrev pub field_of : List FieldType → Captured → Val × Val
 field_of types g = (text g.name, typed (kind_of types g.name) g.bytes)
 
--- whether a group becomes a field: not where it is empty and empty ones are skipped
-abbrev pub is_given : Bool → Captured → Bool
-is_given skip_empty g = not (skip_empty && length g.bytes == 0)
+-- whether a group becomes a field: not if it is empty and empty ones are skipped
+abbrev pub is_kept_group : Bool → Captured → Bool
+is_kept_group skip_empty g = not (skip_empty && length g.bytes == 0)
 
--- the fields of the groups that took part, in their order
-abbrev pub fields_of : List FieldType → Bool → List Captured → Body
-fields_of types skip_empty groups = map (field_of types) (filter (is_given skip_empty) groups)
+-- the fields of the groups that took part, in order
+abbrev pub fields_of : List FieldType → Bool → List Captured → Record
+fields_of types skip_empty groups = map (field_of types) (filter (is_kept_group skip_empty) groups)

@@ -1,5 +1,5 @@
 pub mod Number
 pub mod Time
 pub mod Field
-pub mod Parsed
-pub mod Ready
+pub mod LineEvent
+pub mod LineReader

@@ -1,4 +1,4 @@
-//! Moments of the calendar.
+//! Days and times of day as seconds since 1970.
 
 ghost use Rattle.std.specs.Prelude.{◌≡◌, ◌+◌, ◌*◌, ◌<◌, ◌≤◌, pos, ◌+ℤ◌, ◌-ℤ◌, ◌*ℤ◌, IfSome};
 ghost use Rattle.jiff.specs.Words.{IsEpochDay};
@@ -7,7 +7,7 @@ ghost use Rattle.fwd_parser.specs.Time.{day_number, day_of, clock_seconds, clock
 use crate::directives::Fields;
 use jiff::civil::Date;
 
-/// The days from 1970-01-01 to a day, if the calendar has it.
+/// Returns the days from 1970-01-01 to a day, if the calendar has it.
 #[tactic(auto, unfolding(crate::specs::Time::day_number))]
 fn day_number(year: u32, month: u32, day: u32) -> Option<i32>
     ensures value { result ≡ day_number year month day }
@@ -22,7 +22,7 @@ fn day_number(year: u32, month: u32, day: u32) -> Option<i32>
     }
 }
 
-/// The day that was read.
+/// Returns the day that was read.
 fn day(fields: &Fields) -> Option<i32>
     ensures value { result ≡ day_of fields.now }
     ensures bound { IfSome result IsEpochDay }
@@ -30,7 +30,7 @@ fn day(fields: &Fields) -> Option<i32>
     day_number(fields.year?, fields.month?, fields.day?)
 }
 
-/// The seconds of a clock.
+/// Returns the seconds of a time of day.
 fn clock_seconds(hour: u32, minute: u32, second: u32) -> Option<u32>
     ensures value { result ≡ clock_seconds hour minute second }
     ensures bound { IfSome result (λ n. n < 86400) }
@@ -41,7 +41,7 @@ fn clock_seconds(hour: u32, minute: u32, second: u32) -> Option<u32>
     Some(3600 * hour + 60 * minute + second)
 }
 
-/// The clock that was read.
+/// Returns the time of day that was read.
 fn clock(fields: &Fields) -> Option<u32>
     ensures value { result ≡ clock_of fields.now }
     ensures bound { IfSome result (λ n. n < 86400) }
@@ -53,7 +53,7 @@ fn clock(fields: &Fields) -> Option<u32>
     )
 }
 
-/// The seconds of the day and the clock that were read.
+/// Returns the seconds of the day and the time of day that were read.
 fn civil_seconds(fields: &Fields) -> Option<i64>
     ensures { result ≡ civil_seconds fields.now }
 {
@@ -62,7 +62,7 @@ fn civil_seconds(fields: &Fields) -> Option<i64>
     Some(since_1970(day, clock, fields.offset.unwrap_or(0)))
 }
 
-/// The seconds since 1970 in UTC of a clock on a day, at an offset.
+/// Returns the seconds since 1970 in UTC of a time on a day, at an offset.
 fn since_1970(day: i32, clock: u32, offset: i32) -> i64
     requires day { IsEpochDay day }
     requires clock { clock < 86400 }
@@ -71,7 +71,7 @@ fn since_1970(day: i32, clock: u32, offset: i32) -> i64
     86400 * day as i64 + clock as i64 - offset as i64
 }
 
-/// The seconds since 1970 in UTC that the fields give.
+/// Returns the seconds since 1970 in UTC that the fields give.
 #[tactic(auto, unfolding(crate::specs::Time::seconds_of))]
 pub fn seconds_of(fields: &Fields) -> Option<i64>
     ensures { result ≡ seconds_of fields.now }

@@ -1,10 +1,10 @@
-//! Numbers in digits.
+//! Numbers from digits.
 
 ghost use Rattle.std.specs.Prelude.{◌≡◌, ◌+◌, ◌*◌, ◌<◌, ◌≤◌, ◌^◌, option_map, length, SomeIff, IfSome, IsTrue};
 ghost use Rattle.std.specs.Char.{digit_value};
 ghost use Rattle.fwd_parser.specs.Number.{number_in, number_of, digits_at};
 
-/// The number of a text that is one digit or more of a base, if it has at most 64 bits.
+/// Returns the number of a text that is one digit or more of a base, if it has at most 64 bits.
 pub fn number(base: u32, text: &[u8]) -> Option<u64>
     requires least { 2 ≤ base }
     requires most { base ≤ 36 }
@@ -23,7 +23,7 @@ pub fn number(base: u32, text: &[u8]) -> Option<u64>
     Some(number)
 }
 
-/// A number with a further digit, if that is one of the base and the number has at most 64 bits.
+/// Returns a number with one more digit, if that is a digit of the base and the number has at most 64 bits.
 fn with_digit(base: u32, number: u64, digit: u8) -> Option<u64>
     requires least { 2 ≤ base }
     requires most { base ≤ 36 }
@@ -36,7 +36,7 @@ fn with_digit(base: u32, number: u64, digit: u8) -> Option<u64>
         .checked_add(u64::from(value))
 }
 
-/// How many decimal digits stand first, at most so many.
+/// Counts the decimal digits at the start of a text, up to `most`.
 #[tactic(auto, using(crate::proofs::Numbers::digits_within, crate::proofs::Numbers::digits_most))]
 pub fn digits_at(most: usize, text: &[u8]) -> usize
     ensures value { result ≡ digits_at most text.now }
@@ -49,8 +49,8 @@ pub fn digits_at(most: usize, text: &[u8]) -> usize
         .count()
 }
 
-/// The number of the decimal digits that stand first, as many as there are up to `most`, and what is left. There must be
-/// `least` of them.
+/// Returns the number of the decimal digits at the start of a text, at least `least` and at most `most` of
+/// them, and the rest of the text.
 #[tactic(auto, using(crate::proofs::Numbers::digits_number, crate::proofs::Numbers::number_below), unfolding(crate::specs::Number::number_of))]
 pub fn digits(least: usize, most: usize, text: &[u8]) -> Option<(u64, &[u8])>
     requires least { 1 ≤ least }

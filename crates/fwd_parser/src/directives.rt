@@ -1,15 +1,15 @@
-//! What the directives of a format read.
+//! What each directive of a format reads.
 
 ghost use Rattle.std.specs.Prelude.{◌≡◌, ◌+◌, ◌*◌, ◌-◌, ◌<◌, ◌≤◌, ◌^◌, codes, length, map, option_map, IfSome};
 ghost use Rattle.std.specs.Char.{to_ascii_lowercase};
 ghost use Rattle.std.specs.Str.{bytes_eq};
 ghost use Rattle.fwd_parser.specs.Number.{number_of, digits_at};
-ghost use Rattle.fwd_parser.specs.Time.{behind_same as left_behind_same, behind_byte as left_behind_byte, behind_colon as left_behind_colon, month_named, month_of, fraction_of, two_digits_of, distance_of, offset_of, of_clock, single as single_of, walk, directive as directive_of};
+ghost use Rattle.fwd_parser.specs.Time.{after_byte as left_behind_same, after_format_byte as left_behind_byte, after_colon as left_behind_colon, month_named, month_of, fraction_of, two_digits_of, distance_of, offset_of, of_clock, single as single_of, read_format, directive as directive_of};
 
 use crate::digits::{digits, digits_at};
 use fwd_base::{is_blank, skip_blanks};
 
-/// What a format read from a text. Of a field that was read twice the last counts.
+/// The fields that a format read from a text. If a field was read twice, the last counts.
 #[derive(Clone, Copy, Debug, PartialEq, Eq)]
 pub struct Fields {
     pub year: Option<u32>,
@@ -35,8 +35,8 @@ const MONTHS: [[u8; 3]; 12] = [
     *b"nov", *b"dec",
 ];
 
-/// What is left behind this byte, where it stands first.
-fn behind_same(byte: u8, text: &[u8]) -> Option<&[u8]>
+/// Returns the text after this byte, if it begins with it.
+fn after_byte(byte: u8, text: &[u8]) -> Option<&[u8]>
     ensures { option_map (λ t. t.now) result ≡ left_behind_same byte text.now }
 {
     match text {
@@ -45,9 +45,9 @@ fn behind_same(byte: u8, text: &[u8]) -> Option<&[u8]>
     }
 }
 
-/// What is left behind what a byte of the format takes: blanks for a blank, else the same byte.
-#[tactic(auto, unfolding(crate::specs::Time::behind_byte))]
-pub fn behind_byte(byte: u8, text: &[u8]) -> Option<&[u8]>
+/// Returns the text after what a byte of the format matches: blanks for a blank, else the same byte.
+#[tactic(auto, unfolding(crate::specs::Time::after_format_byte))]
+pub fn after_format_byte(byte: u8, text: &[u8]) -> Option<&[u8]>
     ensures { option_map (λ t. t.now) result ≡ left_behind_byte byte text.now }
 {
     if byte == b'%' {
@@ -56,10 +56,10 @@ pub fn behind_byte(byte: u8, text: &[u8]) -> Option<&[u8]>
     if is_blank(byte) {
         return Some(skip_blanks(text));
     }
-    behind_same(byte, text)
+    after_byte(byte, text)
 }
 
-/// As `digits`, of at most nine digits.
+/// Reads at most nine digits, as `digits`.
 #[tactic(auto, using(crate::proofs::Numbers::power_most))]
 fn few_digits(least: usize, most: usize, text: &[u8]) -> Option<(u32, &[u8])>
     requires least { 1 ≤ least }
@@ -71,14 +71,14 @@ fn few_digits(least: usize, most: usize, text: &[u8]) -> Option<(u32, &[u8])>
     Some((found as u32, left))
 }
 
-/// Whether two texts are the same, case ignored.
+/// Returns whether two texts are the same, case ignored.
 fn is_same(text: &[u8], other: &[u8]) -> bool
     ensures { result ≡ bytes_eq (map to_ascii_lowercase text.now) (map to_ascii_lowercase other.now) }
 {
     text.eq_ignore_ascii_case(other)
 }
 
-/// The month whose name begins with these letters, case ignored.
+/// Returns the month whose name begins with these letters, case ignored.
 #[tactic(auto, unfolding(crate::specs::Time::month_named))]
 fn month_named(letters: &[u8]) -> Option<u32>
     ensures { result ≡ month_named letters.now }
@@ -103,7 +103,7 @@ fn month(text: &[u8]) -> Option<(u32, &[u8])>
     Some((month, &text[3..]))
 }
 
-/// A fraction of a second in nanoseconds.
+/// Reads a fraction of a second in nanoseconds.
 #[tactic(auto, using(crate::proofs::Numbers::in_billionths, crate::proofs::Numbers::power_most), unfolding(crate::specs::Time::fraction_of))]
 fn fraction(text: &[u8]) -> Option<(u32, &[u8])>
     ensures { option_map (λ p. (p.0, p.1.now)) result ≡ fraction_of text.now }
@@ -113,9 +113,9 @@ fn fraction(text: &[u8]) -> Option<(u32, &[u8])>
     Some((found * 10u32.pow(9 - count), left))
 }
 
-/// What is left behind a colon, or the whole where none stands first.
-#[tactic(auto, unfolding(crate::specs::Time::behind_colon))]
-fn behind_colon(text: &[u8]) -> &[u8]
+/// Returns the text after a colon, or the whole text if it doesn't begin with one.
+#[tactic(auto, unfolding(crate::specs::Time::after_colon))]
+fn after_colon(text: &[u8]) -> &[u8]
     ensures { result.now ≡ left_behind_colon text.now }
 {
     match text {
@@ -137,18 +137,18 @@ fn two_digits(greatest: u32, text: &[u8]) -> Option<(u32, &[u8])>
     }
 }
 
-/// A distance from UTC in seconds.
+/// Reads a distance from UTC in seconds.
 #[tactic(auto, unfolding(crate::specs::Time::distance_of))]
 fn distance(text: &[u8]) -> Option<(u32, &[u8])>
     ensures value { option_map (λ p. (p.0, p.1.now)) result ≡ distance_of text.now }
     ensures bound { IfSome result (λ p. p.0 < 86400) }
 {
     let (hours, left) = two_digits(23, text)?;
-    let (minutes, left) = two_digits(59, behind_colon(left))?;
+    let (minutes, left) = two_digits(59, after_colon(left))?;
     Some((3600 * hours + 60 * minutes, left))
 }
 
-/// An offset from UTC in seconds.
+/// Reads an offset from UTC in seconds.
 #[tactic(auto, unfolding(crate::specs::Time::offset_of))]
 fn offset(text: &[u8]) -> Option<(i32, &[u8])>
     ensures { option_map (λ p. (p.0, p.1.now)) result ≡ offset_of text.now }
@@ -167,7 +167,7 @@ fn offset(text: &[u8]) -> Option<(i32, &[u8])>
     }
 }
 
-/// What a directive of the clock reads into one field.
+/// Reads a directive for the time of day into one field.
 #[tactic(auto, unfolding(crate::specs::Time::of_clock))]
 fn clock_field<'t>(letter: u8, text: &'t [u8], fields: Fields) -> Option<(Fields, &'t [u8])>
     ensures { option_map (λ p. (p.0, p.1.now)) result ≡ of_clock letter text.now fields }
@@ -204,12 +204,12 @@ fn clock_field<'t>(letter: u8, text: &'t [u8], fields: Fields) -> Option<(Fields
             read.stamp = Some(stamp as i64);
             Some((read, left))
         }
-        b'%' => Some((read, behind_same(b'%', text)?)),
+        b'%' => Some((read, after_byte(b'%', text)?)),
         _ => None,
     }
 }
 
-/// What a directive reads into one field.
+/// Reads a directive into one field.
 #[tactic(auto, unfolding(crate::specs::Time::single))]
 fn single<'t>(letter: u8, text: &'t [u8], fields: Fields) -> Option<(Fields, &'t [u8])>
     ensures { option_map (λ p. (p.0, p.1.now)) result ≡ single_of letter text.now fields }
@@ -245,25 +245,25 @@ fn single<'t>(letter: u8, text: &'t [u8], fields: Fields) -> Option<(Fields, &'t
     }
 }
 
-/// As `%Y-%m-%d`.
+/// Reads `%Y-%m-%d`.
 fn date<'t>(text: &'t [u8], fields: Fields) -> Option<(Fields, &'t [u8])>
-    ensures { option_map (λ p. (p.0, p.1.now)) result ≡ walk single_of (codes "%Y-%m-%d") text.now fields }
+    ensures { option_map (λ p. (p.0, p.1.now)) result ≡ read_format single_of (codes "%Y-%m-%d") text.now fields }
 {
     let (fields, left) = single(b'Y', text, fields)?;
-    let (fields, left) = single(b'm', behind_byte(b'-', left)?, fields)?;
-    single(b'd', behind_byte(b'-', left)?, fields)
+    let (fields, left) = single(b'm', after_format_byte(b'-', left)?, fields)?;
+    single(b'd', after_format_byte(b'-', left)?, fields)
 }
 
-/// As `%H:%M:%S`.
+/// Reads `%H:%M:%S`.
 fn clock<'t>(text: &'t [u8], fields: Fields) -> Option<(Fields, &'t [u8])>
-    ensures { option_map (λ p. (p.0, p.1.now)) result ≡ walk single_of (codes "%H:%M:%S") text.now fields }
+    ensures { option_map (λ p. (p.0, p.1.now)) result ≡ read_format single_of (codes "%H:%M:%S") text.now fields }
 {
     let (fields, left) = single(b'H', text, fields)?;
-    let (fields, left) = single(b'M', behind_byte(b':', left)?, fields)?;
-    single(b'S', behind_byte(b':', left)?, fields)
+    let (fields, left) = single(b'M', after_format_byte(b':', left)?, fields)?;
+    single(b'S', after_format_byte(b':', left)?, fields)
 }
 
-/// What a directive reads.
+/// Reads a directive.
 #[tactic(auto, unfolding(crate::specs::Time::directive))]
 pub fn directive<'t>(letter: u8, text: &'t [u8], fields: Fields) -> Option<(Fields, &'t [u8])>
     ensures { option_map (λ p. (p.0, p.1.now)) result ≡ directive_of letter text.now fields }

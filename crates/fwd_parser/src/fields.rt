@@ -1,4 +1,4 @@
-//! Typed fields of a body.
+//! Typed fields of a record.
 
 ghost use Rattle.std.specs.Prelude.{◌≡◌, ◌++◌, [], ◌∷◌, map, option_map, if◌then◌else◌, IfOk, OnOk};
 ghost use Rattle.std.specs.Str.{bytes_eq};
@@ -13,7 +13,7 @@ use fwd_base::{Bytes, Capture, Memory};
 use fwd_event::{Below, Pairs, Value};
 use std::alloc::Global;
 
-/// A whole number below 0 or 0, if it is at least -2^63.
+/// Returns the negated number, if it is at least -2^63.
 fn negative(number: u64) -> Option<Value>
     ensures { option_map val_of result ≡ option_map whole (below_zero number) }
 {
@@ -24,7 +24,7 @@ fn negative(number: u64) -> Option<Value>
     }
 }
 
-/// An optional minus and decimal digits.
+/// Parses an optional minus and decimal digits.
 #[tactic(auto, unfolding(crate::specs::Field::integer_of))]
 fn integer(text: &[u8]) -> Option<Value>
     ensures { option_map val_of result ≡ option_map whole (integer_of text.now) }
@@ -36,7 +36,7 @@ fn integer(text: &[u8]) -> Option<Value>
     }
 }
 
-/// An optional `0x` and hexadecimal digits.
+/// Parses an optional `0x` and hexadecimal digits.
 #[tactic(auto, unfolding(crate::specs::Field::hex_of))]
 fn hex(text: &[u8]) -> Option<u64>
     ensures { result ≡ hex_of text.now }
@@ -61,7 +61,7 @@ fn truth(text: &[u8]) -> Option<bool>
     None
 }
 
-/// What the bytes of a field are read as.
+/// Parses the bytes of a field as a type.
 #[tactic(auto, unfolding(crate::specs::Field::read_as))]
 fn read_as(kind: TypeKind, text: &[u8]) -> Option<Value>
     ensures { option_map val_of result ≡ read_as kind text.now }
@@ -74,7 +74,7 @@ fn read_as(kind: TypeKind, text: &[u8]) -> Option<Value>
     }
 }
 
-/// The value of a field; bytes that don't have the form of the type are text.
+/// Returns the value of a field. Bytes that don't have the form of the type are text.
 #[tactic(auto, unfolding(crate::specs::Field::typed))]
 fn typed(alloc: Global, kind: TypeKind, bytes: &[u8]) -> Result<Value, Memory>
     ensures { IfOk result (λ value. val_of value ≡ typed kind bytes.now) }
@@ -85,7 +85,8 @@ fn typed(alloc: Global, kind: TypeKind, bytes: &[u8]) -> Result<Value, Memory>
     }
 }
 
-/// The type of a key. Of a key that is given twice the last counts; a key that isn't given has text.
+/// Returns the type of a key. If a key is given twice, the last type counts; a key that isn't given has
+/// text.
 #[tactic(auto, unfolding(crate::specs::Field::kind_of))]
 fn kind_of(types: &FieldTypes, key: &[u8]) -> TypeKind
     ensures { result ≡ kind_of types.now key.now }
@@ -97,7 +98,7 @@ fn kind_of(types: &FieldTypes, key: &[u8]) -> TypeKind
     kind
 }
 
-/// The type of a key behind a further type.
+/// Returns the type of a key after one more given type.
 fn kind_after(given: &FieldType, key: &[u8], former: TypeKind) -> TypeKind
     ensures { result ≡ (if bytes_eq given.now.key key.now then given.now.kind else former) }
 {
@@ -108,7 +109,7 @@ fn kind_after(given: &FieldType, key: &[u8], former: TypeKind) -> TypeKind
     }
 }
 
-/// The fields of the groups that took part, in their order.
+/// Returns the fields of the groups that took part, in order.
 #[tactic(auto, using(crate::proofs::Groups::fields_of_more))]
 pub fn fields_of(
     alloc: Global,
@@ -125,7 +126,7 @@ pub fn fields_of(
     Ok(body)
 }
 
-/// Puts the field of a group at the end, unless the group is empty and empty ones are skipped.
+/// Appends the field of a group, unless the group is empty and empty ones are skipped.
 fn push_field(
     alloc: Global,
     body: &mut Pairs,

@@ -5,39 +5,39 @@ use fwd_base::{Bytes, Items, Memory, Pattern};
 use fwd_event::Event;
 use std::alloc::Global;
 
-/// How the event of a line is read.
+/// How to read the event of a line.
 #[derive(Debug, Drop)]
 pub struct Parser {
     pub shape: Shape,
 
-    /// Where the event's time stands; without it, the event has the time of the clock.
+    /// The field with the event's time. Without it, the event has the time of the clock.
     pub time: Option<TimeRule>,
 }
 
-/// What a line is read as.
+/// What to read a line as.
 #[derive(Debug, Drop)]
 pub enum Shape {
     /// The whole line, under `log`.
     Plain,
-    /// An object of JSON, whose pairs are the body.
+    /// A JSON object, whose pairs are the record.
     Json,
-    /// A text that a pattern matches, whose named groups are the body.
+    /// A text that a pattern matches, whose named groups are the record.
     Groups {
         pattern: Pattern,
         types: FieldTypes,
-        /// Whether a group that took part with no bytes is left out.
+        /// Whether to leave out a group that matched no bytes.
         skip_empty: bool,
     },
 }
 
-/// The type of a field of the body.
+/// The type of a field of the record.
 #[derive(Debug, Drop)]
 pub struct FieldType {
     pub key: Bytes,
     pub kind: TypeKind,
 }
 
-/// What the text of a field is read as.
+/// What to read the text of a field as.
 #[derive(Clone, Copy, Debug, PartialEq, Eq)]
 pub enum TypeKind {
     /// A whole number in decimal.
@@ -46,35 +46,36 @@ pub enum TypeKind {
     Hex,
     /// `true` or `false`.
     Bool,
-    /// Itself.
+    /// The text itself.
     Text,
 }
 
-/// Types of fields. Of a key twice the last counts.
+/// Types of fields. If a key is given twice, the last counts.
 pub type FieldTypes = Items<FieldType>;
 
-/// The field of the body that has the event's time.
+/// The field of the record that has the event's time.
 #[derive(Debug, Drop)]
 pub struct TimeRule {
     pub key: Bytes,
     pub format: Bytes,
-    /// Whether the field stays in the body.
+    /// Whether the field stays in the record.
     pub keep: bool,
 }
 
 impl Parser {
     ghost use Rattle.std.specs.Prelude.{◌≡◌, IfOk};
-    ghost use Rattle.fwd_parser.specs.Parsed.{parsed};
+    ghost use Rattle.fwd_parser.specs.LineEvent.{parsed};
 
-    /// Makes ready to read lines, one after another.
+    /// Returns a reader for many lines.
     pub fn reader(&self, alloc: Global) -> Result<LineReader<'_>, Memory>
         ensures { IfOk result (λ reader. reader ≡ self.now) }
     {
         LineReader::new(alloc, self)
     }
 
-    /// The event of one line. `now` is the greatest reading of the clock so far, in milliseconds since 1970 in UTC; above
-    /// 4,294,967,295,999 it counts as this. A line that isn't of the parser's shape stays whole under `log`.
+    /// Returns the event of one line. `now` is the greatest reading of the clock so far, in milliseconds
+    /// since 1970 in UTC; above 4,294,967,295,999 it counts as this. A line that doesn't have the parser's
+    /// shape is kept whole under `log`.
     pub fn parse(&self, alloc: Global, line: &[u8], now: u64) -> Result<Event, Memory>
         ensures { IfOk result (λ event. event ≡ parsed self.now line.now now) }
     {

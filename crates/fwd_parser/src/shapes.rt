@@ -1,10 +1,10 @@
-//! The body of a line.
+//! The record of a line.
 
 ghost use Rattle.std.specs.Prelude.{◌≡◌, IfOk};
 ghost use Rattle.fwd_base.specs.Pattern.{SearchesFor, SearchesAs};
 ghost use Rattle.fwd_base.specs.declared.pattern.Pattern.{Pattern};
-ghost use Rattle.fwd_parser.specs.Parsed.{plain, body_of};
-ghost use Rattle.fwd_parser.specs.Ready.{IsReady};
+ghost use Rattle.fwd_parser.specs.LineEvent.{plain, body_of};
+ghost use Rattle.fwd_parser.specs.LineReader.{IsReady};
 ghost use Rattle.fwd_parser.specs.declared.parser.Shape.TheVariants as shape;
 
 use crate::fields::fields_of;
@@ -14,10 +14,10 @@ use fwd_event::{Pairs, Value};
 use fwd_json::{JsonErr, pairs_of_json};
 use std::alloc::Global;
 
-/// How many pairs the body of a whole line has room for: its own, and some that filters add.
+/// The capacity of the record of a whole line: its own pair, and some that filters add.
 const PAIRS: usize = 4;
 
-/// The whole line, under `log`.
+/// Returns the record of a whole line, under `log`.
 fn plain(alloc: Global, line: Bytes) -> Result<Pairs, Memory>
     ensures { IfOk result (λ body. body ≡ plain line) }
 {
@@ -27,7 +27,7 @@ fn plain(alloc: Global, line: Bytes) -> Result<Pairs, Memory>
     Ok(Pairs::from_vec(body))
 }
 
-#[tactic(auto, unfolding(crate::specs::Parsed::body_of))]
+#[tactic(auto, unfolding(crate::specs::LineEvent::body_of))]
 fn json(alloc: Global, line: Bytes) -> Result<Pairs, Memory>
     ensures { IfOk result (λ body. body ≡ body_of shape.Json line) }
 {
@@ -38,8 +38,8 @@ fn json(alloc: Global, line: Bytes) -> Result<Pairs, Memory>
     }
 }
 
-/// The body of a line that a search is made for.
-#[tactic(auto, unfolding(crate::specs::Parsed::body_of))]
+/// Returns the record of a line, by the search for the shape's pattern.
+#[tactic(auto, unfolding(crate::specs::LineEvent::body_of))]
 fn groups(
     alloc: Global,
     search: &mut Search<'_>,
@@ -57,7 +57,7 @@ fn groups(
     plain(alloc, line)
 }
 
-/// The search for the pattern of a shape that has one.
+/// Returns the search for the pattern of a shape, if it has one.
 pub fn search_of(alloc: Global, shape: &Shape) -> Result<Option<Search<'_>>, Memory>
     ensures { IfOk result (IsReady shape.now) }
 {
@@ -67,9 +67,9 @@ pub fn search_of(alloc: Global, shape: &Shape) -> Result<Option<Search<'_>>, Mem
     }
 }
 
-/// The body of a line. One that isn't an object of JSON within the limits, or that the pattern doesn't match, stays under
-/// `log`, and isn't copied for that.
-#[tactic(auto, unfolding(crate::specs::Parsed::body_of))]
+/// Returns the record of a line. A line that isn't a JSON object within the limits, or that the pattern
+/// doesn't match, is moved under `log`, not copied.
+#[tactic(auto, unfolding(crate::specs::LineEvent::body_of))]
 pub fn body_of(
     alloc: Global,
     shape: &Shape,

@@ -1,6 +1,7 @@
+pub mod Load
 pub mod Text
-pub mod Changing
-pub mod Lives
-pub mod Naming
-pub mod Live
-pub mod Stage
+pub mod FileChanges
+pub mod Runs
+pub mod Names
+pub mod LiveRun
+pub mod RunState

@@ -1,26 +1,34 @@
-//! The engine runs over a life: the lives of a schedule, which are replayed over a disk and files in memory, or one that
-//! devices bring. What is written of it is its text: the report, and of a life that is replayed what its standard outputs
-//! took before it, where that is shown.
+//! Runs the engine: over the runs of a schedule, which are replayed over a disk and files in memory, or
+//! over the devices of a live run. The output is a text: the report, and for a replayed run, if that is
+//! shown, what its standard outputs took before it.
 //!
-//! `run_live`, over devices told or not, makes the calls of the written run's life from its loading on, stopped behind
-//! so many readings of the clock where their number is given. `DiskFailed` and `LoopFailed` come only where a failure
-//! of the disk or the loop was counted, `TurnsSpent` only where the loop gave so many happenings. In `replay` each
-//! life's joined trace is one of the written run in which all devices answer as the schedule says, with its changes of
-//! files at their places. A life that is to be cut is cut in the turn that takes its last happening, and the next one
-//! finds on the disk the image that the crash leaves, after so many calls, by the pick (`IsReplayed`).
+//! `run_live`, over devices with a call log or without, makes the calls of the reference model's run from
+//! its loading on, stopped after the given number of clock ticks, if there is one. It ends in
+//! `DiskFailed` or `LoopFailed` only if a failure of the disk or the loop was counted, and in
+//! `TurnsSpent` only if the loop returned that many events. In `replay` the joined trace of each run is
+//! one of the reference model in which all devices answer as the schedule says, with its changes of files
+//! at their positions. A run that is to be cut is cut in the turn that takes its last event. The next run
+//! finds on the disk the post-crash state after the given number of calls, chosen by the pick
+//! (`IsReplayed`).
+//!
+//! `generate` returns a generated load: a configuration, and a schedule in which one connection sends numbered
+//! lines. It writes the two texts exactly as their definitions say, line by line. Its only error is out of
+//! memory.
 #![tactic(auto)]
 
-mod going;
-mod laws;
+mod guarantee;
 mod life;
-mod live;
-mod named;
-mod replaying;
-mod reported;
-mod starting;
-mod turning;
+mod live_run;
+mod load;
+mod names;
+mod progress;
+mod report;
+mod runs;
+mod start;
+mod turns;
 
-pub use laws::what_is_run_keeps_the_promise;
-pub use live::run_live;
-pub use replaying::replay;
-pub use reported::{Ending, Reported, Shown};
+pub use guarantee::all_runs_keep_the_guarantee;
+pub use live_run::run_live;
+pub use load::{Load, generate};
+pub use report::{Ending, Reported, Shown};
+pub use runs::replay;

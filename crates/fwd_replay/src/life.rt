@@ -1,29 +1,29 @@
-//! A life of a schedule, from what it finds to what it leaves.
+//! One run of a schedule, from what it finds to what it leaves.
 
 ghost use Rattle.std.specs.Prelude.{◌≡◌, ◌<◌, ◌≤◌, ◌++◌, ℕ, List, [], Some, None, OnOk, IfOk};
-ghost use Rattle.fwd_disk_mem.specs.Seen.{Seen};
-ghost use Rattle.fwd_settings.specs.Ends.{ends_of};
-ghost use Rattle.fwd_settings.specs.Sound.{IsSound};
-ghost use Rattle.fwd_settings.specs.declared.chosen.AllSettings.{AllSettings};
-ghost use Rattle.fwd_script.specs.FilesHeld.{FilesHeld};
+ghost use Rattle.fwd_disk_mem.specs.DiskState.{Seen};
+ghost use Rattle.fwd_settings.specs.Endpoints.{ends_of};
+ghost use Rattle.fwd_settings.specs.Requirements.{MeetsRequirements};
+ghost use Rattle.fwd_settings.specs.declared.settings_types.AllSettings.{AllSettings};
+ghost use Rattle.fwd_script.specs.FilesState.{FilesState};
 ghost use Rattle.fwd_script.specs.declared.schedule.Life.{Life};
-ghost use Rattle.fwd_play.specs.Handed.{handed};
-ghost use Rattle.fwd_play.specs.Told.{entries_of};
-ghost use Rattle.fwd_written.specs.Fact.{History};
-ghost use Rattle.fwd_engine.specs.Steps.{IsAt};
-ghost use Rattle.fwd_replay.specs.Lives.{Start};
-ghost use Rattle.fwd_replay.specs.Naming.{IsNamed, IsNamedOf, printed_mask};
-ghost use Rattle.fwd_replay.specs.Stage.{AreRenewed, CameBy, CameTo, ComesBy, ComesTo, Finds, HasFailed, HavePlayed, IsCrashed, IsOver, IsReady, IsTold, IsUnderWay, WasCut};
+ghost use Rattle.fwd_script_loop.specs.LinkBytes.{handed};
+ghost use Rattle.fwd_script_loop.specs.Told.{entries_of};
+ghost use Rattle.fwd_model.specs.Fact.{History};
+ghost use Rattle.fwd_engine.specs.EngineSteps.{IsAt};
+ghost use Rattle.fwd_replay.specs.Runs.{Start};
+ghost use Rattle.fwd_replay.specs.Names.{IsNamed, IsNamedOf, printed_mask};
+ghost use Rattle.fwd_replay.specs.RunState.{AreRenewed, EndsBy, EndsAs, ProducesText, ProducesOutcome, DevicesAreReady, LoopHasFailed, HaveAnswered, IsCrashed, IsOver, IsReady, IsSetUp, IsInProgress, HandsOver};
 ghost use Rattle.fwd_replay.specs.Text.{report, with_line_end};
-ghost use Rattle.fwd_replay.specs.declared.going.Going.{Going};
+ghost use Rattle.fwd_replay.specs.declared.progress.Going.{Going};
 ghost use Rattle.fwd_replay.specs.declared.life.Next.TheVariants as follow;
-ghost use Rattle.fwd_replay.specs.declared.reported.Shown.{Shown};
+ghost use Rattle.fwd_replay.specs.declared.report.Shown.{Shown};
 
-use crate::going::Going;
-use crate::named::Named;
-use crate::reported::{Ending, report_text};
-use crate::starting::{StartErr, start, tell};
-use crate::turning::{TurnsEnd, is_wanting, take, take_turns};
+use crate::names::Named;
+use crate::progress::Going;
+use crate::report::{Ending, report_text};
+use crate::start::{StartErr, set_up, start};
+use crate::turns::{TurnsEnd, is_out_of_memory, take, take_turns};
 use fwd_base::{Bytes, Memory};
 use fwd_disk_mem::MemDisk;
 use fwd_outside::Ends;
@@ -32,8 +32,8 @@ use fwd_settings::{AllSettings, ends};
 use std::alloc::Global;
 use std::thread::Threads;
 
-/// What a life leaves to the next one besides the disk and the files: the crash that it was cut by, the settings, and how many
-/// turns it took.
+/// What a run leaves to the next one besides the disk and the files: the crash that cut it, the settings,
+/// and how many turns it took.
 #[derive(Drop)]
 pub struct Left {
     pub cut: Cut,
@@ -41,39 +41,39 @@ pub struct Left {
     pub taken: u64,
 }
 
-/// What follows a life.
+/// What follows a run.
 #[derive(Drop)]
 pub enum Next {
-    /// Nothing: the replay ends so.
+    /// Nothing: the replay ends this way.
     Ends(Ending),
-    /// Another life: it was cut, and leaves this.
+    /// Another run: this one was cut, and leaves this.
     Life(Left),
 }
 
-/// What comes of a life: its text, and what follows it.
+/// The outcome of a run: its text, and what follows it.
 #[derive(Drop)]
 pub struct Outcome {
     pub text: Bytes,
     pub next: Next,
 }
 
-/// How a life that was under way has ended.
+/// How a run in progress ended.
 #[derive(Clone, Copy)]
 pub enum LifeEnd {
     /// The replay ends with it.
     Ends(Ending),
-    /// It was cut by this crash.
+    /// This crash cut it.
     Cut(Cut),
 }
 
-/// The text of a life that was under way, and how it has ended.
+/// The text of a run in progress, and how it ended.
 #[derive(Drop)]
 pub struct Came {
     pub text: Bytes,
     pub end: LifeEnd,
 }
 
-/// A line feed behind a text that isn't empty and doesn't end in one.
+/// Ends a text that isn't empty with a line feed, unless it has one.
 fn end_line(text: &mut Bytes) -> Result<(), Memory>
     ensures { OnOk result (text.new ≡ with_line_end text.old) }
 {
@@ -84,7 +84,8 @@ fn end_line(text: &mut Bytes) -> Result<(), Memory>
     Ok(())
 }
 
-/// What the standard outputs took where that is shown, a line feed where that doesn't end in one, and the report.
+/// Returns the bytes that the standard outputs took, if they are shown, with a line feed at their end,
+/// and the report.
 fn text_of(alloc: Global, named: &Named, going: &Going) -> Result<Bytes, Memory>
     requires { IsNamedOf named.now going.now.engine }
     ensures { (s : AllSettings) (h : History) → IsAt going.now.engine s h → IsNamed named.now s
@@ -97,15 +98,16 @@ fn text_of(alloc: Global, named: &Named, going: &Going) -> Result<Bytes, Memory>
     Ok(text)
 }
 
-/// Loop and disk in memory have answered as they were to.
-fn are_played(going: &Going, disk: &MemDisk)
-    ensures { HavePlayed going.now.script disk.now }
+/// States that the loop and the disk in memory answered as the schedule says.
+fn lemma_have_answered(going: &Going, disk: &MemDisk)
+    ensures { HaveAnswered going.now.script disk.now }
 {
     going.script.is_played();
     disk.is_played();
 }
 
-/// The disk as a crash leaves it, after so many of its calls behind a place.
+/// Puts the disk in its state after a crash, which comes `cut`'s number of calls after the call number
+/// `since`.
 fn crash_disk(alloc: Global, disk: &mut MemDisk, since: usize, cut: Cut) -> Result<(), Memory>
     ensures { OnOk result (IsCrashed since cut disk.old disk.new) }
 {
@@ -114,7 +116,7 @@ fn crash_disk(alloc: Global, disk: &mut MemDisk, since: usize, cut: Cut) -> Resu
     Ok(())
 }
 
-/// The same files, of which nothing was asked.
+/// Replaces the files by equal ones with an empty call log.
 fn renew_files(alloc: Global, files: &mut MemFiles) -> Result<(), Memory>
     ensures { OnOk result (AreRenewed files.old files.new) }
 {
@@ -123,7 +125,7 @@ fn renew_files(alloc: Global, files: &mut MemFiles) -> Result<(), Memory>
     Ok(())
 }
 
-/// Disk and files as the next life finds them behind a crash.
+/// Puts disk and files in their states after a crash, for the next run.
 fn crash(
     alloc: Global,
     disk: &mut MemDisk,
@@ -137,7 +139,7 @@ fn crash(
     renew_files(alloc, files)
 }
 
-/// The turn in which the life is cut, and the crash.
+/// Makes the turn in which the run is cut, and the crash.
 fn cut_turn(
     rt: &(impl Threads + Sync),
     alloc: Global,
@@ -149,16 +151,16 @@ fn cut_turn(
 ) -> Result<(), Memory>
     requires { going.old.taken < most }
     ensures { (s : AllSettings) (begins : Start) (planned : Life) (ready : IsReady s begins planned going.old disk.old files.old (Some cut))
-        → OnOk result (WasCut s most begins planned cut going.new ready.history ready.trace disk.new files.new) }
+        → OnOk result (HandsOver s most begins planned cut going.new ready.history ready.trace disk.new files.new) }
 {
     let since = disk.told_len();
-    if is_wanting(take(rt, going, disk, files)) {
+    if is_out_of_memory(take(rt, going, disk, files)) {
         return Err(Memory);
     }
     crash(alloc, disk, files, since, cut)
 }
 
-/// What comes of a life that is cut in its next turn.
+/// Returns the outcome of a run that is cut in its next turn.
 fn leave_in_turn(
     rt: &(impl Threads + Sync),
     alloc: Global,
@@ -172,7 +174,7 @@ fn leave_in_turn(
     requires named { IsNamedOf named.now going.old.engine }
     requires left { going.old.taken < most }
     ensures { (s : AllSettings) (begins : Start) (planned : Life) → IsNamed named.now s → IsReady s begins planned going.old disk.old files.old (Some cut)
-        → IfOk result (CameTo named.now.shown s most begins planned going.new disk.new files.new) }
+        → IfOk result (EndsAs named.now.shown s most begins planned going.new disk.new files.new) }
 {
     let text = text_of(alloc, named, going)?;
     cut_turn(rt, alloc, going, disk, files, cut, most)?;
@@ -182,7 +184,7 @@ fn leave_in_turn(
     })
 }
 
-/// What comes of a life that was over before its crash came.
+/// Returns the outcome of a run that was over before its crash came.
 fn leave_over(
     alloc: Global,
     named: &Named,
@@ -193,10 +195,10 @@ fn leave_over(
 ) -> Result<Came, Memory>
     requires { IsNamedOf named.now going.now.engine }
     ensures { (s : AllSettings) (begins : Start) (planned : Life) (most : ℕ) → IsNamed named.now s → IsOver s begins planned going.now disk.old files.old → planned.cut ≡ Some cut → going.now.taken ≤ most
-        → IfOk result (CameTo named.now.shown s most begins planned going.now disk.new files.new) }
+        → IfOk result (EndsAs named.now.shown s most begins planned going.now disk.new files.new) }
 {
     let text = text_of(alloc, named, going)?;
-    are_played(going, disk);
+    lemma_have_answered(going, disk);
     let since = disk.told_len();
     crash(alloc, disk, files, since, cut)?;
     Ok(Came {
@@ -205,13 +207,13 @@ fn leave_over(
     })
 }
 
-/// The replay ends with a life that is over and isn't to be cut.
+/// Ends the replay with a run that is over and isn't to be cut.
 fn end_over(alloc: Global, named: &Named, going: &Going, disk: &MemDisk) -> Result<Came, Memory>
     requires { IsNamedOf named.now going.now.engine }
-    ensures { (s : AllSettings) (begins : Start) (planned : Life) (most : ℕ) (held : FilesHeld) → IsNamed named.now s → IsOver s begins planned going.now disk.now held → planned.cut ≡ None → going.now.taken ≤ most
-        → IfOk result (CameTo named.now.shown s most begins planned going.now disk.now held) }
+    ensures { (s : AllSettings) (begins : Start) (planned : Life) (most : ℕ) (held : FilesState) → IsNamed named.now s → IsOver s begins planned going.now disk.now held → planned.cut ≡ None → going.now.taken ≤ most
+        → IfOk result (EndsAs named.now.shown s most begins planned going.now disk.now held) }
 {
-    are_played(going, disk);
+    lemma_have_answered(going, disk);
     let text = text_of(alloc, named, going)?;
     Ok(Came {
         text,
@@ -219,13 +221,13 @@ fn end_over(alloc: Global, named: &Named, going: &Going, disk: &MemDisk) -> Resu
     })
 }
 
-/// The replay ends with a life that has taken all turns.
+/// Ends the replay with a run that has taken all turns.
 fn end_spent(alloc: Global, named: &Named, going: &Going, disk: &MemDisk) -> Result<Came, Memory>
     requires { IsNamedOf named.now going.now.engine }
-    ensures { (s : AllSettings) (begins : Start) (planned : Life) (held : FilesHeld) → IsNamed named.now s → IsUnderWay s begins planned going.now disk.now held
-        → IfOk result (CameTo named.now.shown s going.now.taken begins planned going.now disk.now held) }
+    ensures { (s : AllSettings) (begins : Start) (planned : Life) (held : FilesState) → IsNamed named.now s → IsInProgress s begins planned going.now disk.now held
+        → IfOk result (EndsAs named.now.shown s going.now.taken begins planned going.now disk.now held) }
 {
-    are_played(going, disk);
+    lemma_have_answered(going, disk);
     let text = text_of(alloc, named, going)?;
     Ok(Came {
         text,
@@ -233,19 +235,19 @@ fn end_spent(alloc: Global, named: &Named, going: &Going, disk: &MemDisk) -> Res
     })
 }
 
-/// The replay ends with a life whose loop couldn't go on.
+/// Ends the replay with a run whose loop failed.
 fn end_failed(alloc: Global, going: &Going, disk: &MemDisk) -> Came
-    ensures { (shown : Shown) (s : AllSettings) (begins : Start) (planned : Life) (most : ℕ) (held : FilesHeld) → HasFailed s begins planned going.now disk.now held → going.now.taken ≤ most
-        → CameTo shown s most begins planned going.now disk.now held result }
+    ensures { (shown : Shown) (s : AllSettings) (begins : Start) (planned : Life) (most : ℕ) (held : FilesState) → LoopHasFailed s begins planned going.now disk.now held → going.now.taken ≤ most
+        → EndsAs shown s most begins planned going.now disk.now held result }
 {
-    are_played(going, disk);
+    lemma_have_answered(going, disk);
     Came {
         text: Bytes::new(alloc),
         end: LifeEnd::Ends(Ending::LoopFailed),
     }
 }
 
-/// A life under way, to its end or its crash.
+/// Goes on with a run in progress, to its end or its crash.
 fn live(
     rt: &(impl Threads + Sync),
     alloc: Global,
@@ -257,9 +259,9 @@ fn live(
     most: u64,
 ) -> Result<Came, Memory>
     requires new { going.old.taken ≡ 0 }
-    requires stands { (s : AllSettings) × (begins : Start) × IsNamed named.now s × IsUnderWay s begins life.now going.old disk.old files.old }
-    ensures { (s : AllSettings) (begins : Start) → IsNamed named.now s → IsUnderWay s begins life.now going.old disk.old files.old
-        → IfOk result (CameTo named.now.shown s most begins life.now going.new disk.new files.new) }
+    requires stands { (s : AllSettings) × (begins : Start) × IsNamed named.now s × IsInProgress s begins life.now going.old disk.old files.old }
+    ensures { (s : AllSettings) (begins : Start) → IsNamed named.now s → IsInProgress s begins life.now going.old disk.old files.old
+        → IfOk result (EndsAs named.now.shown s most begins life.now going.new disk.new files.new) }
 {
     let end = take_turns(rt, going, life, disk, files, most)?;
     match end {
@@ -273,10 +275,10 @@ fn live(
     }
 }
 
-/// What follows a life that has ended so, and gave its settings back.
+/// Returns what follows a run that ended this way and gave its settings back.
 fn next_of(end: LifeEnd, settings: AllSettings, taken: u64) -> Next
-    ensures { (shown : Shown) (s : AllSettings) (most : ℕ) (begins : Start) (planned : Life) (going : Going) (seen : Seen) (held : FilesHeld) (text : List ℕ) → CameBy shown s most begins planned going seen held text end
-        → ((now : History) → IsAt going.engine s now → settings ≡ s) → taken ≡ going.taken → ComesBy shown s most begins planned seen held text result }
+    ensures { (shown : Shown) (s : AllSettings) (most : ℕ) (begins : Start) (planned : Life) (going : Going) (seen : Seen) (held : FilesState) (text : List ℕ) → EndsBy shown s most begins planned going seen held text end
+        → ((now : History) → IsAt going.engine s now → settings ≡ s) → taken ≡ going.taken → ProducesText shown s most begins planned seen held text result }
 {
     match end {
         LifeEnd::Ends(ending) => Next::Ends(ending),
@@ -288,14 +290,14 @@ fn next_of(end: LifeEnd, settings: AllSettings, taken: u64) -> Next
     }
 }
 
-/// What comes of a life that was under way, and gave its settings back.
+/// Returns the outcome of a run in progress that gave its settings back.
 fn outcome_of(
     came: Result<Came, Memory>,
     settings: AllSettings,
     taken: u64,
 ) -> Result<Outcome, Memory>
-    ensures { (shown : Shown) (s : AllSettings) (most : ℕ) (begins : Start) (planned : Life) (going : Going) (seen : Seen) (held : FilesHeld) → IfOk came (CameTo shown s most begins planned going seen held)
-        → ((now : History) → IsAt going.engine s now → settings ≡ s) → taken ≡ going.taken → IfOk result (ComesTo shown s most begins planned seen held) }
+    ensures { (shown : Shown) (s : AllSettings) (most : ℕ) (begins : Start) (planned : Life) (going : Going) (seen : Seen) (held : FilesState) → IfOk came (EndsAs shown s most begins planned going seen held)
+        → ((now : History) → IsAt going.engine s now → settings ≡ s) → taken ≡ going.taken → IfOk result (ProducesOutcome shown s most begins planned seen held) }
 {
     match came {
         Ok(came) => Ok(Outcome {
@@ -306,8 +308,8 @@ fn outcome_of(
     }
 }
 
-/// A life that has started, to its end or its crash.
-fn go_on(
+/// Goes on with a run that has started, to its end or its crash.
+fn run_started(
     rt: &(impl Threads + Sync),
     alloc: Global,
     named: &Named,
@@ -318,17 +320,17 @@ fn go_on(
     most: u64,
 ) -> Result<Outcome, Memory>
     requires new { going.taken ≡ 0 }
-    requires stands { (s : AllSettings) × (begins : Start) × IsNamed named.now s × IsUnderWay s begins life.now going disk.old files.old }
-    ensures { (s : AllSettings) (begins : Start) → IsNamed named.now s → IsUnderWay s begins life.now going disk.old files.old
-        → IfOk result (ComesTo named.now.shown s most begins life.now disk.new files.new) }
+    requires stands { (s : AllSettings) × (begins : Start) × IsNamed named.now s × IsInProgress s begins life.now going disk.old files.old }
+    ensures { (s : AllSettings) (begins : Start) → IsNamed named.now s → IsInProgress s begins life.now going disk.old files.old
+        → IfOk result (ProducesOutcome named.now.shown s most begins life.now disk.new files.new) }
 {
     let came = live(rt, alloc, named, &mut going, life, disk, files, most);
     let taken = going.taken;
     outcome_of(came, going.engine.finish(), taken)
 }
 
-/// The replay ends with a life that couldn't start.
-fn unstarted(alloc: Global, ending: Ending) -> Outcome
+/// Ends the replay with a run that couldn't start.
+fn failed_start(alloc: Global, ending: Ending) -> Outcome
     ensures { result ≡ record { text = []; next = follow.Ends ending } }
 {
     Outcome {
@@ -337,8 +339,8 @@ fn unstarted(alloc: Global, ending: Ending) -> Outcome
     }
 }
 
-/// A life of which disk and files were told, with at most so many turns.
-fn live_told(
+/// Makes a run whose disk and files are set up, with at most `most` turns.
+fn run_prepared(
     rt: &(impl Threads + Sync),
     alloc: Global,
     named: &Named,
@@ -349,22 +351,22 @@ fn live_told(
     files: &mut MemFiles,
     most: u64,
 ) -> Result<Outcome, Memory>
-    requires sound { IsSound settings }
+    requires sound { MeetsRequirements settings }
     requires named { IsNamed named.now settings }
     requires ends { ends.now ≡ ends_of settings }
-    requires told { (begins : Start) × IsTold begins life.now disk.old files.old }
-    ensures { (begins : Start) → IsTold begins life.now disk.old files.old → IfOk result (ComesTo named.now.shown settings most begins life.now disk.new files.new) }
+    requires call_log { (begins : Start) × IsSetUp begins life.now disk.old files.old }
+    ensures { (begins : Start) → IsSetUp begins life.now disk.old files.old → IfOk result (ProducesOutcome named.now.shown settings most begins life.now disk.new files.new) }
 {
     match start(rt, alloc, settings, ends, life, disk) {
-        Ok(going) => go_on(rt, alloc, named, going, life, disk, files, most),
-        Err(StartErr::DiskFailed) => Ok(unstarted(alloc, Ending::DiskFailed)),
-        Err(StartErr::LoopFailed) => Ok(unstarted(alloc, Ending::LoopFailed)),
+        Ok(going) => run_started(rt, alloc, named, going, life, disk, files, most),
+        Err(StartErr::DiskFailed) => Ok(failed_start(alloc, Ending::DiskFailed)),
+        Err(StartErr::LoopFailed) => Ok(failed_start(alloc, Ending::LoopFailed)),
         Err(StartErr::Memory) => Err(Memory),
     }
 }
 
-/// A life with at most so many turns, from what disk and files have for it.
-pub fn live_through(
+/// Sets up disk and files for a run, and makes it with at most `most` turns.
+pub fn run_life(
     rt: &(impl Threads + Sync),
     alloc: Global,
     named: &Named,
@@ -374,12 +376,12 @@ pub fn live_through(
     files: &mut MemFiles,
     most: u64,
 ) -> Result<Outcome, Memory>
-    requires sound { IsSound settings }
+    requires sound { MeetsRequirements settings }
     requires named { IsNamed named.now settings }
-    requires finds { (begins : Start) × Finds begins disk.old files.old }
-    ensures { (begins : Start) → Finds begins disk.old files.old → IfOk result (ComesTo named.now.shown settings most begins life.now disk.new files.new) }
+    requires finds { (begins : Start) × DevicesAreReady begins disk.old files.old }
+    ensures { (begins : Start) → DevicesAreReady begins disk.old files.old → IfOk result (ProducesOutcome named.now.shown settings most begins life.now disk.new files.new) }
 {
-    tell(disk, files, life)?;
+    set_up(disk, files, life)?;
     let ends = ends(alloc, &settings)?;
-    live_told(rt, alloc, named, settings, &ends, life, disk, files, most)
+    run_prepared(rt, alloc, named, settings, &ends, life, disk, files, most)
 }

@@ -5,13 +5,13 @@ use Rattle.std.proofs.lemmas.List.{take_more, take_all, append-nil}
 use Rattle.std.proofs.lemmas.List.Concat.{flat_map-append, flat_map-cons}
 use Rattle.std.proofs.lemmas.Slice.Zip.{length-zip, get_or-zip}
 
--- one line more
+-- one more line
 pub lines_more : {X : Type 0} (f : X → List ℕ) (xs : List X) (i : ℕ) (d : X) → i < length xs → flat_map f (take (i + 1) xs) ≡ flat_map f (take i xs) ++ f (get_or xs i d)
 lines_more f xs i d within =
     ap (flat_map f) (take_more xs i d within) ∙ flat_map-append f (take i xs) (get_or xs i d ∷ [])
     ∙ ap (λ (l : List ℕ). flat_map f (take i xs) ++ l) (flat_map-cons f (get_or xs i d) [] ∙ append-nil (f (get_or xs i d)))
 
--- one line more of names and their counts
+-- one more line of names and their counters
 pub pairs_more : {X : Type 0} (line : List ℕ → X → List ℕ) (names : List (List ℕ)) (counts : List X) (i : ℕ) (d : List ℕ) (e : X) (name old text next : List ℕ)
     → length counts ≡ length names → i < length names → name ≡ get_or names i d → text ≡ old ++ flat_map (λ (p : List ℕ × X). line p.0 p.1) (take i (zip names counts))
     → next ≡ text ++ line name (get_or counts i e) → next ≡ old ++ flat_map (λ (p : List ℕ × X). line p.0 p.1) (take (i + 1) (zip names counts))

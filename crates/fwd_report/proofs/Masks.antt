@@ -38,7 +38,7 @@ owed_clear row owed rest i is at none =
 
 -- ---- as many routes as bits
 
--- a number of which bit o is set, and the same without it
+-- a number whose bit o is set, and the same without it
 high_bit : (h j : ℕ) → h % 2 ≡ 1 → bit_at (h - 1) (j + 1) ≡ bit_at h (j + 1)
 high_bit h j odd =
     let half : (h - 1) / 2 ≡ h / 2 = omega (arith, odd) in
@@ -75,7 +75,7 @@ ones_left h o low less odd =
     let same : count_ones ((h - 1) / 2) ≡ count_ones (h / 2) = ap (λ (n : ℕ). count_ones n) half in
     omega (arith, whole, left, first, second, even, odd, same)
 
--- what is known of a number whose bit o is set
+-- a number whose bit o is set
 record Cut (mask o : ℕ) : Type 0 where
   pub rest : ℕ
   pub is : mask ≡ rest + 2 ^ o
@@ -103,7 +103,7 @@ cut mask o set =
     let less : mask % 2 ^ o < 2 ^ o = omega (arith, some) in
     cut_at mask o (mask / 2 ^ o) (mask % 2 ^ o) less set (sym (div-add-mod' mask (2 ^ o)))
 
--- a mask whose bits are outputs of these routes is their mask only where each bit is that of one route
+-- a mask of outputs of these routes is their mask only if each bit is that of one route
 record Within (mask : ℕ) (rs : List Route) : Type 0 where
   pub most : mask ≤ mask_of rs
   pub ones : mask ≡ mask_of rs → count_ones mask ≡ length rs

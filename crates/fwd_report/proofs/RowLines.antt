@@ -16,7 +16,7 @@ use Rattle.fwd_table.specs.declared.row.Row.{Row}
 use Rattle.fwd_table.specs.declared.row.RowSeen.{RowSeen}
 use Rattle.fwd_table.specs.Routes.{mask_of, IsMaskOf}
 use Rattle.fwd_table.specs.Rows.{rows_at, seen_of}
-use Rattle.fwd_table.proofs.Standing.{place_more, none_seen, one_seen}
+use Rattle.fwd_table.proofs.SlotRows.{place_more, none_seen, one_seen}
 use Rattle.fwd_report.specs.Report.{owed_routes, names_from, chunk_line, row_lines}
 use Rattle.fwd_report.proofs.Masks.{owed_set, owed_clear, owed_none, ones-routes}
 
@@ -54,7 +54,7 @@ chunk_text row seen tag outputs old sized named new is same first then last =
     let size : seen.size ≡ row.size = ap (λ (s : RowSeen). s.size) is in
     rw (last, then, first, number, size, same) (simp append_assoc refl)
 
--- the line of a row that is owed to an output
+-- the line of a row that is pending for an output
 pub line_put : (at : Option Row) (seen : RowSeen) (tag : List ℕ) (outputs : List (List ℕ)) (old new : List ℕ) → Some seen ≡ option_map seen_of at → tag ≡ option_map_or (λ (row : Row). row.tag) at []
     → IfSome at (λ row. IsMaskOf row.routes seen.owed) → (seen.owed ≡ 0 → ⊥)
     → ((row : Row) → seen ≡ seen_of row → tag ≡ row.tag → IsMaskOf row.routes seen.owed → new ≡ old ++ chunk_line outputs row) → new ≡ old ++ option_map_or (row_lines outputs) at []
@@ -80,7 +80,7 @@ lines_of : (lines : Row → List ℕ) (at : Option Row) → flat_map lines (opti
 lines_of lines None = refl
 lines_of lines (Some row) = append-nil (lines row)
 
--- the lines of a place more
+-- the lines of one more slot
 pub rows_more : (places : List (Option Row)) (outputs : List (List ℕ)) (n : ℕ) (old before next : List ℕ) → before ≡ old ++ flat_map (row_lines outputs) (rows_at (take n places))
     → next ≡ before ++ option_map_or (row_lines outputs) (get_or places n None) [] → next ≡ old ++ flat_map (row_lines outputs) (rows_at (take (n + 1) places))
 rows_more places outputs n old before next is then =
@@ -92,7 +92,7 @@ rows_more places outputs n old before next is then =
     in
     then ∙ ap (λ (l : List ℕ). l ++ here) is ∙ append_assoc old so_far here ∙ ap (λ (l : List ℕ). old ++ l) (sym more)
 
--- ---- the number of owed routes
+-- ---- the number of pending routes
 
 added : (owed bits sum next more : ℕ) → owed ≡ min sum (2 ^ 64 - 1) → next ≡ min (owed + bits) (2 ^ 64 - 1) → more ≡ sum + bits → next ≡ min more (2 ^ 64 - 1)
 added owed bits sum next more is then plus = rw (then, is, plus) (omega arith)

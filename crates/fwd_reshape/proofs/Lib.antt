@@ -1,3 +1,3 @@
 pub mod Places
 pub mod Depths
-pub mod Lifting
+pub mod LiftLemmas

@@ -1,47 +1,46 @@
-//! Bodies are modified.
+//! The filter `modify`.
 
 ghost use Rattle.std.specs.Prelude.{◌≡◌, IfOk, fold};
 ghost use Rattle.std.specs.List.{list_all};
 ghost use Rattle.fwd_value.specs.View.{val_of};
-ghost use Rattle.fwd_reshape.specs.Rules.{holds, changed, modified, set_to, added, called, renamed, hard_renamed, copied, hard_copied};
+ghost use Rattle.fwd_reshape.specs.Rules.{holds, apply_change, modified, set_to, added, renamed_first, renamed, hard_renamed, copied, hard_copied};
 
-use crate::keys::{text, without, without_beginning};
+use crate::keys::{text, without, without_keys_beginning};
 use crate::{Change, Changes, Condition, Conditions, ModifyRules};
 use fwd_base::{Bytes, Memory};
-use fwd_body::{has, is_text, place_of, value_of};
-use fwd_value::{Pairs, Value};
+use fwd_value::{Pairs, Value, has, index_of, is_text, value_of};
 use std::alloc::Global;
 
-/// The body with the changes made, in order, where all conditions hold of it; else the body as it is. After `Memory` the
-/// body is given up.
+/// Returns the record with the changes made, in order, if all conditions hold; else the record unchanged.
+/// If an allocation fails, the record is dropped.
 pub fn modify(alloc: Global, rules: &ModifyRules, body: Pairs) -> Result<Pairs, Memory>
     ensures { IfOk result (λ new. new ≡ modified rules.now body) }
 {
     if all_hold(&rules.conditions, &body) {
-        all_changed(alloc, &rules.rules, body)
+        apply_all(alloc, &rules.rules, body)
     } else {
         Ok(body)
     }
 }
 
-/// Whether all conditions hold of the body.
+/// Returns whether all conditions hold of the record.
 fn all_hold(conditions: &Conditions, body: &Pairs) -> bool
     ensures { result ≡ list_all (holds body.now) conditions.now }
 {
     conditions.iter().all(|condition| holds(condition, body))
 }
 
-/// The body after all changes.
-fn all_changed(alloc: Global, changes: &Changes, mut body: Pairs) -> Result<Pairs, Memory>
-    ensures { IfOk result (λ new. new ≡ fold changed body changes.now) }
+/// Returns the record after all changes.
+fn apply_all(alloc: Global, changes: &Changes, mut body: Pairs) -> Result<Pairs, Memory>
+    ensures { IfOk result (λ new. new ≡ fold apply_change body changes.now) }
 {
     for change in changes.as_slice() {
-        body = changed(alloc, change, body)?;
+        body = apply_change(alloc, change, body)?;
     }
     Ok(body)
 }
 
-/// Whether the condition holds of the body.
+/// Returns whether the condition holds of the record.
 fn holds(condition: &Condition, body: &Pairs) -> bool
     ensures { result ≡ holds body.now condition.now }
 {
@@ -59,15 +58,15 @@ fn holds(condition: &Condition, body: &Pairs) -> bool
     }
 }
 
-/// The body after one change.
-fn changed(alloc: Global, change: &Change, body: Pairs) -> Result<Pairs, Memory>
-    ensures { IfOk result (λ new. new ≡ changed body change.now) }
+/// Returns the record after one change.
+fn apply_change(alloc: Global, change: &Change, body: Pairs) -> Result<Pairs, Memory>
+    ensures { IfOk result (λ new. new ≡ apply_change body change.now) }
 {
     match change {
         Change::Set { key, value } => set(alloc, body, key, text(alloc, value)?),
         Change::Add { key, value } => add(alloc, body, key, text(alloc, value)?),
         Change::Remove { key } => Ok(without(body, key)),
-        Change::RemoveWildcard { key } => Ok(without_beginning(body, key)),
+        Change::RemoveWildcard { key } => Ok(without_keys_beginning(body, key)),
         Change::Rename { key, to } => rename(alloc, body, key, to),
         Change::HardRename { key, to } => hard_rename(alloc, body, key, to),
         Change::Copy { key, to } => copy(alloc, body, key, to),
@@ -78,7 +77,7 @@ fn changed(alloc: Global, change: &Change, body: Pairs) -> Result<Pairs, Memory>
 fn set(alloc: Global, mut body: Pairs, key: &Bytes, value: Value) -> Result<Pairs, Memory>
     ensures { IfOk result (λ new. new ≡ set_to body key.now (val_of value)) }
 {
-    let Some(at) = place_of(&body, key) else {
+    let Some(at) = index_of(&body, key) else {
         body.push((text(alloc, key)?, value))?;
         return Ok(body);
     };
@@ -96,11 +95,11 @@ fn add(alloc: Global, mut body: Pairs, key: &Bytes, value: Value) -> Result<Pair
     Ok(body)
 }
 
-/// The first pair of the key is called by another.
-fn call(alloc: Global, mut body: Pairs, key: &Bytes, to: &Bytes) -> Result<Pairs, Memory>
-    ensures { IfOk result (λ new. new ≡ called body key.now to.now) }
+/// Renames the first pair with the key.
+fn rename_first(alloc: Global, mut body: Pairs, key: &Bytes, to: &Bytes) -> Result<Pairs, Memory>
+    ensures { IfOk result (λ new. new ≡ renamed_first body key.now to.now) }
 {
-    let Some(at) = place_of(&body, key) else {
+    let Some(at) = index_of(&body, key) else {
         return Ok(body);
     };
     body.set_key(at, text(alloc, to)?);
@@ -111,7 +110,7 @@ fn rename(alloc: Global, body: Pairs, key: &Bytes, to: &Bytes) -> Result<Pairs, 
     ensures { IfOk result (λ new. new ≡ renamed body key.now to.now) }
 {
     if has(&body, key) && !has(&body, to) {
-        call(alloc, body, key, to)
+        rename_first(alloc, body, key, to)
     } else {
         Ok(body)
     }
@@ -121,7 +120,7 @@ fn hard_rename(alloc: Global, body: Pairs, key: &Bytes, to: &Bytes) -> Result<Pa
     ensures { IfOk result (λ new. new ≡ hard_renamed body key.now to.now) }
 {
     if has(&body, key) && key != to {
-        call(alloc, without(body, to), key, to)
+        rename_first(alloc, without(body, to), key, to)
     } else {
         Ok(body)
     }

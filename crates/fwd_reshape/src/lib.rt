@@ -1,8 +1,9 @@
-//! Log lines are reshaped before they are stored: fields are set, removed, renamed and copied, or gathered under one
-//! field and lifted out of it again. Each rule works on the body of an event, a list of keys and values, in place.
+//! Filters that reshape records before they are stored: they set, remove, rename and copy fields, or gather
+//! fields under one and lift them out again. Each rule works in place on the record of an event, a list of
+//! keys and values.
 //!
-//! `modify`, `nest` and `lift` give the body that the definition of each rule gives; each rule is one function on lists
-//! of pairs. Threads may share the rules.
+//! `modify`, `nest` and `lift` return the record that the definition of each rule gives; each rule is one
+//! function on lists of pairs. Threads may share the rules.
 #![tactic(auto)]
 
 mod changes;
@@ -13,5 +14,5 @@ mod rules;
 pub use changes::modify;
 pub use moves::{lift, nest};
 pub use rules::{
-    Change, Changes, Condition, Conditions, LiftRule, ModifyRules, NestRule, rules_cross,
+    Change, Changes, Condition, Conditions, LiftRule, ModifyRules, NestRule, rules_are_thread_safe,
 };

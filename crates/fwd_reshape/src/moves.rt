@@ -1,4 +1,4 @@
-//! Pairs are gathered under a key, and lifted out again.
+//! The filter `nest`: gathers pairs under a key, and lifts them out again.
 
 ghost use Rattle.std.specs.Prelude.{◌≡◌, ◌-◌, ◌++◌, [], ◌∷◌, ◌&&◌, IfOk, OnOk, nat_le, if◌then◌else◌};
 ghost use Rattle.std.specs.List.{list_any};
@@ -6,37 +6,36 @@ ghost use Rattle.fwd_base.specs.Limits.{deepest};
 ghost use Rattle.fwd_value.specs.Limits.{nesting, entry_nestings};
 ghost use Rattle.fwd_value.specs.Val.{entries_of};
 ghost use Rattle.fwd_value.specs.View.{val_of, pair_of};
-ghost use Rattle.fwd_reshape.specs.Moves.{takes, is_taken, moved, moved_key, without_prefix, nested, gathered, lifted, fits};
+ghost use Rattle.fwd_reshape.specs.Moves.{wildcard_matches, is_matched, moved, moved_key, without_prefix, nested, gathered, lifted, fits};
 
 use crate::keys::text;
 use crate::{LiftRule, NestRule};
 use fwd_base::limits::DEEPEST;
 use fwd_base::{Bytes, Memory, Names};
-use fwd_body::place_of;
-use fwd_value::{Pairs, Value};
+use fwd_value::{Pairs, Value, index_of};
 use std::alloc::Global;
 
-/// How deep the keys and values of a body may be nested: an event with the body is then nested two deeper.
+/// How deep the keys and values of a record may be nested: an event with the record is nested two deeper.
 const PAIR_DEPTH: u64 = DEEPEST as u64 - 2;
 
-/// The pairs that the wildcards take leave the body and form a map that goes last. Where nothing is taken, or the body
-/// would be nested deeper than 63, the body stays as it is. After `Memory` the body is given up.
+/// Moves the pairs that the wildcards match into a map that is appended. If none match, or the record would
+/// be nested deeper than 63, the record is unchanged. If an allocation fails, the record is dropped.
 pub fn nest(alloc: Global, rule: &NestRule, body: Pairs) -> Result<Pairs, Memory>
     ensures { IfOk result (λ new. new ≡ nested rule.now body) }
 {
-    if takes_any(&rule.wildcards, &body) && fits_gathered(rule, &body) {
+    if matches_any(&rule.wildcards, &body) && fits_gathered(rule, &body) {
         gather(alloc, rule, body)
     } else {
         Ok(body)
     }
 }
 
-/// Where the first pair of the key holds a map, the pair goes and the map's pairs go last, in order. Where the body would
-/// be nested deeper than 63, it stays as it is. After `Memory` the body is given up.
+/// If the first pair with the key has a map, removes the pair and appends the map's pairs, in order. If the
+/// record would be nested deeper than 63, it is unchanged. If an allocation fails, the record is dropped.
 pub fn lift(alloc: Global, rule: &LiftRule, mut body: Pairs) -> Result<Pairs, Memory>
     ensures { IfOk result (λ new. new ≡ lifted rule.now body) }
 {
-    let Some(at) = place_of(&body, &rule.under) else {
+    let Some(at) = index_of(&body, &rule.under) else {
         return Ok(body);
     };
     let (key, value) = body.remove(at);
@@ -55,14 +54,14 @@ pub fn lift(alloc: Global, rule: &LiftRule, mut body: Pairs) -> Result<Pairs, Me
     }
 }
 
-/// The body without the pairs that are taken, and behind it the map of these.
+/// Returns the record without the matched pairs, and with the map of these appended.
 fn gather(alloc: Global, rule: &NestRule, body: Pairs) -> Result<Pairs, Memory>
     ensures { IfOk result (λ new. new ≡ gathered rule.now body) }
 {
     let mut left = Pairs::new(alloc);
     let mut taken = Pairs::new(alloc);
     for pair in body.into_vec() {
-        if is_taken(&rule.wildcards, &pair.0) {
+        if is_matched(&rule.wildcards, &pair.0) {
             push_moved(
                 alloc,
                 &mut taken,
@@ -78,7 +77,7 @@ fn gather(alloc: Global, rule: &NestRule, body: Pairs) -> Result<Pairs, Memory>
     Ok(left)
 }
 
-/// The body, and behind it the pairs of a map.
+/// Appends the pairs of a map to the record.
 fn push_all_moved(
     alloc: Global,
     mut body: Pairs,
@@ -100,7 +99,7 @@ fn push_all_moved(
     Ok(body)
 }
 
-/// Puts a pair last whose key is moved.
+/// Appends a pair with its key moved.
 fn push_moved(
     alloc: Global,
     body: &mut Pairs,
@@ -116,7 +115,7 @@ fn push_moved(
     Ok(())
 }
 
-/// A key that is moved: of a text the one prefix is taken off where it stands, then the other is put before.
+/// Returns a moved key: a text loses the one prefix if it has it, then gets the other.
 fn moved_key(alloc: Global, remove: &Bytes, add: &Bytes, key: Value) -> Result<Value, Memory>
     ensures { IfOk result (λ new. val_of new ≡ moved_key remove.now add.now (val_of key)) }
 {
@@ -140,25 +139,27 @@ fn without_prefix<'t>(text: &'t [u8], prefix: &[u8]) -> &'t [u8]
     }
 }
 
-/// Whether the wildcards take a pair of the body.
-fn takes_any(wildcards: &Names, body: &Pairs) -> bool
-    ensures { result ≡ list_any (λ p. is_taken wildcards.now p.0) body.now }
+/// Returns whether the wildcards match a pair of the record.
+fn matches_any(wildcards: &Names, body: &Pairs) -> bool
+    ensures { result ≡ list_any (λ p. is_matched wildcards.now p.0) body.now }
 {
-    body.iter().any(|pair| is_taken(wildcards, &pair.0))
+    body.iter().any(|pair| is_matched(wildcards, &pair.0))
 }
 
-/// Whether one of the wildcards takes the key.
-fn is_taken(wildcards: &Names, key: &Value) -> bool
-    ensures { result ≡ is_taken wildcards.now (val_of key.now) }
+/// Returns whether one of the wildcards matches the key.
+fn is_matched(wildcards: &Names, key: &Value) -> bool
+    ensures { result ≡ is_matched wildcards.now (val_of key.now) }
 {
     match key {
-        Value::Text(text) => wildcards.iter().any(|wildcard| takes(wildcard, text)),
+        Value::Text(text) => wildcards
+            .iter()
+            .any(|wildcard| wildcard_matches(wildcard, text)),
         _ => false,
     }
 }
 
-fn takes(wildcard: &Bytes, text: &Bytes) -> bool
-    ensures { result ≡ takes text.now wildcard.now }
+fn wildcard_matches(wildcard: &Bytes, text: &Bytes) -> bool
+    ensures { result ≡ wildcard_matches text.now wildcard.now }
 {
     let wildcard = wildcard.as_slice();
     if wildcard.ends_with(b"*") {
@@ -168,7 +169,7 @@ fn takes(wildcard: &Bytes, text: &Bytes) -> bool
     }
 }
 
-/// Whether the body would be nested at most 63 after the pairs that are taken are gathered.
+/// Returns whether the record would be nested at most 63 deep after the matched pairs are gathered.
 fn fits_gathered(rule: &NestRule, body: &Pairs) -> bool
     ensures { result ≡ fits (gathered rule.now body.now) }
 {
@@ -177,11 +178,11 @@ fn fits_gathered(rule: &NestRule, body: &Pairs) -> bool
         .all(|pair| nests_within(pair, deepest(wildcards, &pair.0)))
 }
 
-/// How deep a pair may be nested for the body to fit: one that is taken comes one deeper.
+/// Returns how deep a pair may be nested for the record to fit: a matched pair goes one deeper.
 fn deepest(wildcards: &Names, key: &Value) -> u64
-    ensures { result ≡ (if is_taken wildcards.now (val_of key.now) then deepest - 3 else deepest - 2) }
+    ensures { result ≡ (if is_matched wildcards.now (val_of key.now) then deepest - 3 else deepest - 2) }
 {
-    if is_taken(wildcards, key) {
+    if is_matched(wildcards, key) {
         PAIR_DEPTH - 1
     } else {
         PAIR_DEPTH
@@ -194,7 +195,7 @@ fn nests_within(pair: &(Value, Value), depth: u64) -> bool
     pair.0.nests_within(depth) && pair.1.nests_within(depth)
 }
 
-/// Whether neither is nested too deep for the pairs of both to stand in one body.
+/// Returns whether neither is nested too deep for the pairs of both to be in one record.
 fn nest_within(body: &Pairs, pairs: &Pairs) -> bool
     ensures { result ≡ (nat_le (entry_nestings (entries_of body.now)) (deepest - 2) && nat_le (entry_nestings (entries_of pairs.now)) (deepest - 2)) }
 {

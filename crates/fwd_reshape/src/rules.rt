@@ -1,39 +1,40 @@
-//! The rules by which a body is reshaped.
+//! The rules that reshape a record.
 
 use fwd_base::{Bytes, Items, Names, crosses};
 
-/// What a body must have for the rules of `modify` to act.
+/// What a record must have for the rules of `modify` to apply.
 #[derive(Debug, Drop)]
 pub enum Condition {
     /// The key is there.
     KeyExists { key: Bytes },
-    /// The key is not there.
+    /// The key is missing.
     KeyDoesNotExist { key: Bytes },
     /// The value of the key is this text.
     KeyValueEquals { key: Bytes, value: Bytes },
-    /// The key is there, and its value is not this text.
+    /// The key is there, and its value isn't this text.
     KeyValueDoesNotEqual { key: Bytes, value: Bytes },
 }
 
-/// One change of a body. New values are text.
+/// One change of a record. New values are text.
 #[derive(Debug, Drop)]
 pub enum Change {
-    /// The first pair of the key gets the value in its place; if there is none, the pair goes last.
+    /// Sets the value of the first pair with the key, in its place; if there is none, appends the pair.
     Set { key: Bytes, value: Bytes },
-    /// The pair goes last where the key is absent.
+    /// Appends the pair if the key is missing.
     Add { key: Bytes, value: Bytes },
-    /// Every pair of the key goes.
+    /// Removes every pair with the key.
     Remove { key: Bytes },
-    /// Every pair whose key is a text that begins with this one goes.
+    /// Removes every pair whose key is a text that begins with this one.
     RemoveWildcard { key: Bytes },
-    /// Where the key is there and the other absent, the first pair of the key is called by the other, in its place.
+    /// If the key is there and the other is missing, renames the first pair with the key to the other, in
+    /// its place.
     Rename { key: Bytes, to: Bytes },
-    /// Where the key is there and isn't the other, every pair of the other goes, then the first pair of the key is called
-    /// by the other.
+    /// If the key is there and isn't the other, removes every pair with the other, then renames the first
+    /// pair with the key to the other.
     HardRename { key: Bytes, to: Bytes },
-    /// Where the key is there and the other absent, the other with the value of the key goes last.
+    /// If the key is there and the other is missing, appends the other with the value of the key.
     Copy { key: Bytes, to: Bytes },
-    /// Where the key is there and isn't the other, the other is set to the value of the key.
+    /// If the key is there and isn't the other, sets the other to the value of the key.
     HardCopy { key: Bytes, to: Bytes },
 }
 
@@ -43,26 +44,26 @@ pub type Conditions = Items<Condition>;
 /// Changes, made in order.
 pub type Changes = Items<Change>;
 
-/// The rules of a filter that modifies: the changes are made where all conditions hold.
+/// The rules of a `modify` filter: the changes are made if all conditions hold.
 #[derive(Debug, Drop)]
 pub struct ModifyRules {
     pub conditions: Conditions,
     pub rules: Changes,
 }
 
-/// The rule of a filter that nests: which keys are taken, and the key under which they are gathered. An empty prefix
-/// stands for none.
+/// The rule of a `nest` filter that nests: which keys are matched, and the key under which they are
+/// gathered. An empty prefix means none.
 #[derive(Debug, Drop)]
 pub struct NestRule {
-    /// A wildcard that ends in a star takes the text keys that begin with what stands before the star, another takes its
-    /// own text alone.
+    /// A wildcard that ends in a star matches the text keys that begin with what comes before the star; any
+    /// other matches its own text only.
     pub wildcards: Names,
     pub under: Bytes,
     pub remove_prefix: Bytes,
     pub add_prefix: Bytes,
 }
 
-/// The rule of a filter that lifts: the key whose map is lifted out. An empty prefix stands for none.
+/// The rule of a `nest` filter that lifts: the key whose map is lifted out. An empty prefix means none.
 #[derive(Debug, Drop)]
 pub struct LiftRule {
     pub under: Bytes,
@@ -70,8 +71,8 @@ pub struct LiftRule {
     pub add_prefix: Bytes,
 }
 
-/// Threads may share rules and hand them over.
-pub fn rules_cross(modify: &ModifyRules, nest: &NestRule, lift: &LiftRule) {
+/// States that threads may share rules and send them to each other.
+pub fn rules_are_thread_safe(modify: &ModifyRules, nest: &NestRule, lift: &LiftRule) {
     crosses(modify);
     crosses(nest);
     crosses(lift);

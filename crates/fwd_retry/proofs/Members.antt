@@ -39,7 +39,7 @@ member_filter p [] x within passes = within
 member_filter p (y ∷ xs) x within passes =
     kept_by p y xs x (p y) refl passes (λ behind. member_filter p xs x behind passes) (member_cases y xs x within)
 
--- a list is longer than what a filter keeps of it, where it leaves something out
+-- a list is longer than what a filter keeps of it, if it drops something
 pub shorter_without : {X : Type 0} (p : X → Bool) (xs : List X) (x : X) → Contains xs x → p x ≡ true → length (filter (λ y. not (p y)) xs) + 1 ≤ length xs
 shorter_without p xs x within passes =
     let kept = member_filter p xs x within passes in

@@ -25,7 +25,7 @@ is_next now after timer = nat_le timer.due now && is_after after timer
 abbrev pub is_of : ChunkId → OutputId → Timer → Bool
 is_of chunk output timer = timer.chunk.0 == chunk.0 && timer.output.0 == output.0
 
--- the earlier one of two, where there are two
+-- the earlier of two, if there are two
 abbrev pub earlier : Option Timer → Timer → Timer
 earlier None timer = timer
 earlier (Some first) timer = if is_before timer first then timer else first

@@ -1,8 +1,9 @@
--- Waits before a further try, as the manual's page on scheduling and retries has them: the wait is drawn from a range
+-- Waits before a retry, as in the manual's page on scheduling and retries: the wait is drawn from a range
 -- whose upper end doubles at each try.
 use Rattle.std.specs.Prelude.{ℕ, ◌+◌, ◌-◌, ◌*◌, ◌%◌, ◌^◌, min, max}
 
--- the longest wait at the n-th further try: the base doubled n times, at most the cap, but never less than the base
+-- the longest wait before the n-th retry: the base doubled n times, at most the cap, but never less than
+-- the base
 abbrev pub longest : ℕ → ℕ → ℕ → ℕ
 longest n base cap = max base (min cap (base * 2 ^ n))
 

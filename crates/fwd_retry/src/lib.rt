@@ -1,8 +1,8 @@
-//! When a flush that failed is tried again: how long it waits, and which of several waiting ones comes first.
+//! Retry waits and timers: how long a failed flush waits, and which due timer comes first.
 //!
-//! `wait_of` gives the wait of its definition, in whole numbers without bound. `Timers` holds exactly the timers that
-//! were set and not cleared, and `next` gives the first that is due behind a given one. Where room was reserved,
-//! nothing takes memory.
+//! `wait_of` equals its definition over unbounded integers. `Timers` holds exactly the timers that were set
+//! and not cleared, and `next` returns the first due one after a given one. With reserved room, nothing
+//! allocates.
 #![tactic(auto)]
 
 mod timer;

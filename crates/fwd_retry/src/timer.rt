@@ -5,17 +5,17 @@ ghost use Rattle.fwd_retry.specs.Timer.{is_before, is_after, is_next, earlier as
 
 use fwd_base::{ChunkId, OutputId};
 
-/// When a chunk is to be handed to an output again. Timers are ordered by due time, then chunk, then output.
+/// The time at which a chunk is due for an output. Timers are ordered by due time, then chunk, then output.
 #[derive(Clone, Copy, Debug, PartialEq, Eq, PartialOrd, Ord)]
 pub struct Timer {
-    /// The clock reading in milliseconds from which on it is due.
+    /// The time in milliseconds from which it is due.
     pub due: u64,
     pub chunk: ChunkId,
     pub output: OutputId,
 }
 
 impl Timer {
-    /// Whether this timer comes before the other one.
+    /// Returns whether this timer comes before the other one.
     fn is_before(self, other: Timer) -> bool
         ensures { result ≡ is_before self other }
     {
@@ -25,7 +25,7 @@ impl Timer {
                     || (self.chunk.0 == other.chunk.0 && self.output.0 < other.output.0)))
     }
 
-    /// Whether this timer comes after the given one, if one is given.
+    /// Returns whether this timer comes after the given one, if one is given.
     fn is_after(self, after: Option<Timer>) -> bool
         ensures { result ≡ is_after after self }
     {
@@ -35,7 +35,7 @@ impl Timer {
         }
     }
 
-    /// Whether this timer is due at `now` and comes after the given one, if one is given.
+    /// Returns whether this timer is due at `now` and comes after the given one, if one is given.
     pub fn is_next(self, now: u64, after: Option<Timer>) -> bool
         ensures { result ≡ is_next now after self }
     {
@@ -43,7 +43,7 @@ impl Timer {
     }
 }
 
-/// The earlier one of two timers, where there are two.
+/// Returns the earlier of two timers; `timer` if there is no first one.
 pub fn earlier(first: Option<Timer>, timer: Timer) -> Timer
     ensures { result ≡ earlier_of first timer }
 {

@@ -1,4 +1,4 @@
-//! Timers that are set.
+//! A set of timers with reserved room.
 
 ghost use Rattle.std.specs.Prelude.{◌≡◌, ◌+◌, ◌≤◌, [], Any, IsTrue, filter, MatchOption, OnOk};
 ghost use Rattle.fwd_retry.specs.Timer.{first, is_next, IsFirst, is_of};
@@ -9,8 +9,8 @@ use fwd_base::{ChunkId, Memory, OutputId};
 use std::alloc::Global;
 use std::marker::Model;
 
-/// The timers that are set. Contracts see them as a list without an order, and beside it for how many more there is
-/// room.
+/// The timers that were set and not cleared. Contracts see them as a list without an order, and how many
+/// more are reserved.
 #[derive(Debug, Drop)]
 pub struct Timers {
     timers: Vec<Timer>,
@@ -26,7 +26,7 @@ impl Model for Timers {
 }
 
 impl Timers {
-    /// No timers.
+    /// Returns an empty set.
     pub fn new(alloc: Global) -> Self
         ensures { result.timers ≡ [] }
     {
@@ -35,7 +35,7 @@ impl Timers {
         }
     }
 
-    /// Makes room for so many timers more. The timers stay.
+    /// Reserves room for `more` timers. The timers stay the same.
     pub fn reserve(&mut self, more: u64) -> Result<(), Memory>
         ensures timers { self.new.timers ≡ self.old.timers }
         ensures room { OnOk result (more ≤ self.new.spare) }
@@ -45,7 +45,7 @@ impl Timers {
         Ok(())
     }
 
-    /// Sets a timer. It asks for room that was reserved, and takes no memory.
+    /// Sets a timer. Requires reserved room, and doesn't allocate.
     pub fn set(&mut self, due: u64, chunk: ChunkId, output: OutputId)
         requires { 1 ≤ self.old.spare }
         ensures timers { IsWith (record { due = due; chunk = chunk; output = output }) self.old.timers self.new.timers }
@@ -54,7 +54,7 @@ impl Timers {
         self.timers.push_reserved(Timer { due, chunk, output });
     }
 
-    /// Takes away the timers of a chunk and an output. It takes no memory.
+    /// Clears the timers of a chunk and an output. Doesn't allocate.
     pub fn clear(&mut self, chunk: ChunkId, output: OutputId)
         ensures timers { IsWithout chunk output self.old.timers self.new.timers }
         ensures spare { self.old.spare ≤ self.new.spare }
@@ -64,7 +64,8 @@ impl Timers {
             .retain(|timer| !(timer.chunk == chunk && timer.output == output));
     }
 
-    /// The first timer that is due at `now` and comes after the given one, if one is given. It takes no memory.
+    /// Returns the first timer that is due at `now` and comes after the given one, if one is given. Doesn't
+    /// allocate.
     pub fn next(&self, now: u64, after: Option<Timer>) -> Option<Timer>
         ensures value { result ≡ first (filter (is_next now after) self.now.timers) }
         ensures first { let due = filter (is_next now after) self.now.timers in MatchOption result (due ≡ []) (IsFirst due) }

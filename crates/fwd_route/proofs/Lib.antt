@@ -1,5 +1,5 @@
-pub mod Fitting
-pub mod Scanning
+pub mod ByteMatching
+pub mod ScanInvariant
 pub mod Masks
 pub mod Stars
-pub mod Telling
+pub mod TestDecides

@@ -1,4 +1,4 @@
--- Masks that have a bit for each glob.
+-- Masks with a bit for each glob.
 use Rattle.std.proofs.Common.{◌≡◌, ◌⊎◌, inl, inr, ◌↔◌, ℕ, ◌+◌, ◌*◌, ◌%◌, ◌<◌, Some, List, length, sym, subst, ◌∙◌, arith}
 use Prim.Native.Nat.{◌^◌}
 use Rattle.std.specs.Int.{IsBitSet, bit_at, w64}
@@ -13,7 +13,7 @@ use Rattle.fwd_route.specs.Glob.{Glob, RoutesTo}
 abbrev pub Matched : List (List ℕ) → List ℕ → ℕ → Type 0
 Matched globs tag i = (glob : List ℕ) × (slice_get globs i ≡ Some glob) × Glob glob tag
 
--- bit i is set exactly where glob i matches, as far as the first n go
+-- bit i is set exactly if glob i matches, for the first n globs
 abbrev pub RoutesBelow : ℕ → List (List ℕ) → List ℕ → ℕ → Type 0
 RoutesBelow n globs tag mask = (i : ℕ) → IsBitSet mask i ↔ ((i < n) × Matched globs tag i)
 
@@ -31,7 +31,7 @@ pub routes_whole : (globs : List (List ℕ)) (tag : List ℕ) (mask : ℕ) → R
 routes_whole globs tag mask below i =
     (λ set. ((below i).0 set).1, λ matched. (below i).1 (slice_get_within globs i matched.0 matched.1, matched))
 
--- the glob that stands at a place, alone
+-- the glob at an index is unique
 matched_at : (globs : List (List ℕ)) (tag : List ℕ) (i n : ℕ) (glob : List ℕ) → i ≡ n → slice_get globs n ≡ Some glob → Matched globs tag i → Glob glob tag
 matched_at globs tag i n glob same is matched =
     let at : slice_get globs n ≡ Some matched.0 = subst (λ (k : ℕ). slice_get globs k ≡ Some matched.0) same matched.1 in
@@ -42,7 +42,7 @@ skip_by : (n : ℕ) (globs : List (List ℕ)) (tag : List ℕ) (glob : List ℕ)
 skip_by n globs tag glob i is other (inl same) below matched = absurd (other (matched_at globs tag i n glob same is matched))
 skip_by n globs tag glob i is other (inr apart) below matched = omega (arith, below, apart)
 
--- behind a glob that doesn't match
+-- after a glob that doesn't match
 pub routes_skip : (n : ℕ) (globs : List (List ℕ)) (tag : List ℕ) (mask : ℕ) (glob : List ℕ) → slice_get globs n ≡ Some glob → (Glob glob tag → ⊥) → RoutesBelow n globs tag mask → RoutesBelow (n + 1) globs tag mask
 routes_skip n globs tag mask glob is other below i = (set_below, below_set)
   where
@@ -56,7 +56,7 @@ routes_skip n globs tag mask glob is other below i = (set_below, below_set)
 abbrev pub with_bit : ℕ → ℕ → ℕ
 with_bit mask n = bit_or mask (1 * 2 ^ n % 2 ^ 64)
 
--- behind one that does
+-- after one that does
 pub routes_more : (n : ℕ) (globs : List (List ℕ)) (tag : List ℕ) (mask : ℕ) (glob : List ℕ) → n < 64 → slice_get globs n ≡ Some glob → Glob glob tag → RoutesBelow n globs tag mask → RoutesBelow (n + 1) globs tag (with_bit mask n)
 routes_more n globs tag mask glob within is matches below i = by (cases_eq i n)
   where

@@ -1,3 +1,3 @@
 pub mod Glob
-pub mod Globs
-pub mod Steps
+pub mod GlobTest
+pub mod NextStep

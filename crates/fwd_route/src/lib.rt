@@ -1,34 +1,34 @@
-//! Which outputs take a chunk: those whose glob matches its tag. Tags are matched in one scan that takes no memory: where
-//! the bytes behind a star don't stand, that star, and no earlier one, takes one byte more.
+//! Routing: which outputs get a chunk, by matching their globs against its tag. Matching is one scan without
+//! allocation: on a mismatch the last star, and no earlier one, takes one byte more.
 //!
-//! `matches` is the relation of globs, `routes` the mask of the globs that match. The relation is also a test that
-//! computes (`test_tells`).
+//! `matches` decides whether a glob matches, and `routes` returns the mask of the globs that match. The
+//! relation between globs and tags is also a computable test (`test_decides_globs`).
 #![tactic(auto)]
 
 ghost use Rattle.std.specs.Prelude.{◌↔◌, ◌≤◌, IsTrue, length};
 ghost use Rattle.fwd_base.specs.Limits.{most_outputs};
 ghost use Rattle.fwd_route.specs.Glob.{Glob, HasNoStar, RoutesTo};
-ghost use Rattle.fwd_route.specs.Steps.{IsEnd, Steps};
+ghost use Rattle.fwd_route.specs.NextStep.{IsSuffix, IsNextStep};
 
-mod laws;
+mod theorems;
 
 use fwd_base::Names;
-pub use laws::test_tells;
+pub use theorems::test_decides_globs;
 
-/// How a glob and a tag go on.
+/// How a glob and a tag continue.
 enum Step<'a> {
-    /// Both are at their end.
+    /// Both have ended.
     Over,
-    /// The glob goes on with a star.
+    /// The glob continues with a star.
     Star { behind: &'a [u8] },
-    /// Both go on with the same byte.
+    /// Both continue with the same byte.
     Same { behind: &'a [u8], rest: &'a [u8] },
-    /// The tag doesn't go on as the glob does.
+    /// The tag doesn't continue as the glob does.
     Other,
 }
 
 fn next_step<'a>(pattern: &'a [u8], tag: &'a [u8]) -> Step<'a>
-    ensures { Steps pattern.now tag.now result }
+    ensures { IsNextStep pattern.now tag.now result }
 {
     let Some((wanted, behind)) = pattern.split_first() else {
         return if tag.is_empty() {
@@ -46,32 +46,32 @@ fn next_step<'a>(pattern: &'a [u8], tag: &'a [u8]) -> Step<'a>
     }
 }
 
-/// Where the scan goes back to.
+/// Where the scan resumes after a mismatch.
 #[derive(Clone, Copy)]
 struct Back<'a> {
-    /// The glob behind its last star.
+    /// The glob after its last star.
     behind: &'a [u8],
-    /// The tag from where the run of that star ends.
+    /// The tag from the end of the run of that star on.
     from: &'a [u8],
 }
 
-/// Whether a glob has no star.
+/// Returns whether a glob has no star.
 fn is_plain(glob: &[u8]) -> bool
     ensures { IsTrue result ↔ HasNoStar glob.now }
 {
     !glob.contains(&b'*')
 }
 
-/// Whether a text ends so.
-fn is_end(end: &[u8], text: &[u8]) -> bool
-    ensures { IsTrue result ↔ IsEnd end.now text.now }
+/// Returns whether a text ends with `end`.
+fn is_suffix(end: &[u8], text: &[u8]) -> bool
+    ensures { IsTrue result ↔ IsSuffix end.now text.now }
 {
     text.ends_with(end)
 }
 
-/// Whether a glob matches a tag. `*` stands for any run of bytes, also none; every other byte stands for itself, and
-/// case counts. It takes time in proportion to the product of the lengths at most, and to their sum where the glob has
-/// one star.
+/// Returns whether a glob matches a tag. `*` matches any run of bytes, also none; every other byte matches
+/// itself, in the same case. The time is at most proportional to the product of the lengths, and to their
+/// sum if the glob has one star.
 pub fn matches(pattern: &[u8], tag: &[u8]) -> bool
     ensures { IsTrue result ↔ Glob pattern.now tag.now }
 {
@@ -83,7 +83,7 @@ pub fn matches(pattern: &[u8], tag: &[u8]) -> bool
             Step::Over => return true,
             Step::Star { behind } => {
                 if is_plain(behind) {
-                    return is_end(behind, text);
+                    return is_suffix(behind, text);
                 }
                 glob = behind;
                 back = Some(Back { behind, from: text });
@@ -107,7 +107,8 @@ pub fn matches(pattern: &[u8], tag: &[u8]) -> bool
     }
 }
 
-/// Which globs match a tag: bit `i` of the answer is set exactly where glob `i` does. There may be as many globs as outputs.
+/// Returns the mask of the globs that match a tag: bit `i` is set exactly if glob `i` does. There may be at
+/// most `MOST_OUTPUTS` globs.
 pub fn routes(globs: &Names, tag: &[u8]) -> u64
     requires { length globs.now ≤ most_outputs }
     ensures { RoutesTo globs.now tag.now result }

@@ -1,4 +1,4 @@
--- No line that is written has a line feed, and each counts.
+-- No line that is written has a line feed, and no line is skipped.
 use Rattle.std.proofs.Common.{◌≡◌, ℕ, true, false, List, ◌∷◌, ◌++◌, codes, decimal, refl, arith}
 use Rattle.std.proofs.lemmas.Fmt.{decimal_is_IsNumeral}
 use Rattle.fwd_outside.specs.declared.happening.Happening.{Happening}
@@ -13,10 +13,10 @@ use Rattle.fwd_script.specs.declared.schedule.Given.TheVariants as given
 use Rattle.fwd_script.specs.declared.schedule.PushWord.{PushWord}
 use Rattle.fwd_script.specs.declared.schedule.PushWord.TheVariants as push
 use Rattle.fwd_script.specs.Keywords.{keywords}
-use Rattle.fwd_script.specs.Schedule.{comes_happening, is_passed_over}
+use Rattle.fwd_script.specs.Schedule.{next_is_happening, is_passed_over}
 use Rattle.fwd_script.specs.Text.{crash_text, disk_text, file_text, given_text, happening_text, octets_text, planned_text, push_text, stored_text}
 use Rattle.fwd_script.specs.Writable.{GivenFits, HappeningFits, Is32, Is64, Lacks, PlannedFits, PushFits, StoredFits}
-use Rattle.fwd_script.proofs.Written.{digits_lack}
+use Rattle.fwd_script.proofs.WrittenWords.{digits_lack}
 use Rattle.fwd_script.proofs.Octets.{lacks_append, octets_lack}
 
 number_lacks : (n : ℕ) → Is64 n → Lacks 10 (decimal n)
@@ -105,8 +105,8 @@ given_counts (given.Reply true) = refl
 given_counts (given.Reply false) = refl
 given_counts (given.Word w) = refl
 
--- the line of a happening begins with the word of one happening
-pub comes : (h : Happening) → HappeningFits h → (rest : List (List ℕ)) → comes_happening (happening_text h ∷ rest) ≡ true
+-- the line of a loop event begins with a keyword of one event
+pub comes : (h : Happening) → HappeningFits h → (rest : List (List ℕ)) → next_is_happening (happening_text h ∷ rest) ≡ true
 unfolding keywords
 comes (happening.Tick now) fits rest = refl
 comes (happening.Joined i k) fits rest = refl

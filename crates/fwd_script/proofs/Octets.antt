@@ -1,4 +1,4 @@
--- What is written as BYTES is read as these bytes.
+-- BYTES are read back as the bytes that were written.
 use Rattle.std.proofs.Common.{◌≡◌, ℕ, zero, suc, ◌/◌, ◌%◌, ◌<◌, ◌≤◌, ◌==◌, ◌&&◌, ◌||◌, nat_le, nat_lt, Bool, true, false, if◌then◌else◌, List, [], ◌∷◌, ◌++◌, length, slice_index, codes, Option, Some, None, Result, Ok, refl, sym, ◌∙◌, ap, arith, inl, inr}
 use Rattle.std.specs.List.{flat_map, list_all, list_any}
 use Rattle.std.proofs.lemmas.List.Folds.{list_any-append}
@@ -8,16 +8,16 @@ use Rattle.hex.specs.Hex.{IsBytes, encode_lower, encode_with, lower_digits}
 use Rattle.hex.specs.declared.error.FromHexError.{FromHexError}
 use Rattle.hex.proofs.HexLemmas.{decode_of-encode_lower}
 use Rattle.fwd_base.specs.Limits.{longest_piece}
-use Rattle.fwd_script.specs.declared.refused.ScheduleKind.TheVariants.{BadHex, BadNumber}
+use Rattle.fwd_script.specs.declared.refusal.ScheduleKind.TheVariants.{BadHex, BadNumber}
 use Rattle.fwd_script.specs.Words.{decoded, escaped, in_front, judged, octets, piece, then_read, unescaped}
 use Rattle.fwd_script.specs.Text.{byte_text, is_text, octets_text}
 use Rattle.fwd_script.specs.Writable.{Lacks}
-use Rattle.fwd_script.proofs.Written.{parted_whole}
+use Rattle.fwd_script.proofs.WrittenWords.{parted_whole}
 
 same_byte : (x y : ℕ) → (x == y) ≡ true → x ≡ y
 same_byte x y is = grind (arith, nat_tests)
 
--- a byte that is no backslash stands for itself
+-- a byte other than a backslash stands for itself
 plain_one : (x : ℕ) (rest : List ℕ) → (x == 92) ≡ false → unescaped (x ∷ rest) ≡ in_front (Some x) (unescaped rest)
 plain_one x [] is = ap (λ (b : Bool). if b then None else Some (x ∷ [])) is
 plain_one x (y ∷ rest) is = ap (λ (b : Bool). if b then in_front (escaped y) (unescaped rest) else in_front (Some x) (unescaped (y ∷ rest))) is
@@ -37,7 +37,7 @@ escapes_read : (bytes : List ℕ) → unescaped (flat_map byte_text bytes) ≡ S
 escapes_read [] = refl
 escapes_read (x ∷ xs) = one_byte x (flat_map byte_text xs) ∙ ap (in_front (Some x)) (escapes_read xs)
 
--- the hex digits stand high
+-- the hex digits have high codes
 abbrev all_high : ℕ → Bool
 all_high zero = true
 all_high (suc n) = nat_le 48 (slice_index lower_digits n) && all_high n

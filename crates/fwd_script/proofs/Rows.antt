@@ -1,4 +1,4 @@
--- What is written is read as what it was written for: the lines.
+-- The lines that are written are read back.
 use Rattle.std.proofs.Common.{◌≡◌, ℕ, ◌≤◌, Bool, true, false, List, ◌∷◌, ◌++◌, codes, decimal, append_assoc, Some, None, Result, Ok, refl, ◌∙◌, ap, arith}
 use Rattle.hex.specs.Hex.{IsBytes}
 use Rattle.fwd_base.specs.declared.ids.InputId.{InputId}
@@ -18,18 +18,18 @@ use Rattle.fwd_script.specs.declared.schedule.Given.{Given}
 use Rattle.fwd_script.specs.declared.schedule.Given.TheVariants as given
 use Rattle.fwd_script.specs.declared.schedule.PushWord.{PushWord}
 use Rattle.fwd_script.specs.declared.schedule.PushWord.TheVariants as push
-use Rattle.fwd_script.specs.declared.refused.ScheduleKind.{ScheduleKind}
-use Rattle.fwd_script.specs.declared.refused.ScheduleKind.TheVariants.{UnknownWord}
+use Rattle.fwd_script.specs.declared.refusal.ScheduleKind.{ScheduleKind}
+use Rattle.fwd_script.specs.declared.refusal.ScheduleKind.TheVariants.{UnknownWord}
 use Rattle.fwd_script.specs.Keywords.{keywords}
 use Rattle.fwd_script.specs.Words.{Left, ◌>>=◌, id, judged, number, number_to, octets, over, piece, then_read}
-use Rattle.fwd_script.specs.Table.{conn, happens, input, line_meaning, link, meant, output, push_word, row, taken_or}
+use Rattle.fwd_script.specs.Table.{conn, happens, input, line_meaning, link, whole_line, output, push_word, row, ok_or_word}
 use Rattle.fwd_script.specs.Schedule.{ticks_of}
 use Rattle.fwd_script.specs.Text.{crash_text, disk_text, file_text, given_text, happening_text, octets_text, planned_text, push_text, stored_text}
 use Rattle.fwd_script.specs.Writable.{GivenFits, HappeningFits, Is32, Is64, IsName, PlannedFits, PushFits, StoredFits}
-use Rattle.fwd_script.proofs.Written.{number_is_read, spaced, word_is_read}
+use Rattle.fwd_script.proofs.WrittenWords.{number_is_read, spaced, word_is_read}
 use Rattle.fwd_script.proofs.Octets.{octets_read, piece_read}
 
--- what a reading gives
+-- the result of a reader
 abbrev Gave : Type 0 → Type 0
 Gave X = Result (X × Left) ScheduleKind
 
@@ -119,24 +119,24 @@ row_push left o p small fits =
     ap (λ (r : Gave OutputId). then_read (λ (a : OutputId). push_word >>= (λ (b : PushWord). over (Answers (given.Push a b)))) r) (output_read o small (Some (push_text p)))
     ∙ ap (λ (r : Gave PushWord). then_read (λ (b : PushWord). over (Answers (given.Push o b))) r) (push_read p fits)
 
-row_dial : (left : ℕ) (o : OutputId) (taken : Bool) (chosen : List ℕ) → taken_or (codes "refused") (Some chosen) ≡ Ok (taken, None) → Is32 o.0
+row_dial : (left : ℕ) (o : OutputId) (taken : Bool) (chosen : List ℕ) → ok_or_word (codes "refused") (Some chosen) ≡ Ok (taken, None) → Is32 o.0
     → row keyword.Dial left (Some (spaced (decimal o.0) (Some chosen))) ≡ Ok (Answers (given.Dial o taken), None)
 row_dial left o taken chosen is small =
-    ap (λ (r : Gave OutputId). then_read (λ (a : OutputId). taken_or (codes "refused") >>= (λ (b : Bool). over (Answers (given.Dial a b)))) r) (output_read o small (Some chosen))
+    ap (λ (r : Gave OutputId). then_read (λ (a : OutputId). ok_or_word (codes "refused") >>= (λ (b : Bool). over (Answers (given.Dial a b)))) r) (output_read o small (Some chosen))
     ∙ ap (λ (r : Gave Bool). then_read (λ (b : Bool). over (Answers (given.Dial o b))) r) is
 
 -- the line of each
 happening_read : (left : ℕ) (h : Happening) → HappeningFits h → line_meaning left (happening_text h) ≡ Ok (Plans (Happens h))
 unfolding keywords
-happening_read left (happening.Tick now) fits = ap (λ (r : Gave ℕ). meant (then_read (λ (n : ℕ). happens (happening.Tick n)) r)) (number_read now fits None)
-happening_read left (happening.Joined i k) fits = ap (λ (l : List ℕ). meant (row keyword.Joined left (Some l))) (two (decimal i.0) (decimal k.0)) ∙ ap meant (row_joined left i k fits.0 fits.1)
+happening_read left (happening.Tick now) fits = ap (λ (r : Gave ℕ). whole_line (then_read (λ (n : ℕ). happens (happening.Tick n)) r)) (number_read now fits None)
+happening_read left (happening.Joined i k) fits = ap (λ (l : List ℕ). whole_line (row keyword.Joined left (Some l))) (two (decimal i.0) (decimal k.0)) ∙ ap whole_line (row_joined left i k fits.0 fits.1)
 happening_read left (happening.Piece i k bytes) fits =
-    ap (λ (l : List ℕ). meant (row keyword.Piece left (Some l))) (three (decimal i.0) (decimal k.0) (octets_text bytes)) ∙ ap meant (row_piece left i k bytes fits)
-happening_read left (happening.Gone i k) fits = ap (λ (l : List ℕ). meant (row keyword.Gone left (Some l))) (two (decimal i.0) (decimal k.0)) ∙ ap meant (row_gone left i k fits.0 fits.1)
-happening_read left (happening.Room k) fits = ap (λ (r : Gave LinkId). meant (then_read (λ (n : LinkId). happens (happening.Room n)) r)) (link_read k fits None)
-happening_read left (happening.Back k bytes) fits = ap (λ (l : List ℕ). meant (row keyword.Back left (Some l))) (two (decimal k.0) (octets_text bytes)) ∙ ap meant (row_back left k bytes fits.0 fits.1)
-happening_read left (happening.Broken k) fits = ap (λ (r : Gave LinkId). meant (then_read (λ (n : LinkId). happens (happening.Broken n)) r)) (link_read k fits None)
-happening_read left (happening.InputEnd i) fits = ap (λ (r : Gave InputId). meant (then_read (λ (n : InputId). happens (happening.InputEnd n)) r)) (input_read i fits None)
+    ap (λ (l : List ℕ). whole_line (row keyword.Piece left (Some l))) (three (decimal i.0) (decimal k.0) (octets_text bytes)) ∙ ap whole_line (row_piece left i k bytes fits)
+happening_read left (happening.Gone i k) fits = ap (λ (l : List ℕ). whole_line (row keyword.Gone left (Some l))) (two (decimal i.0) (decimal k.0)) ∙ ap whole_line (row_gone left i k fits.0 fits.1)
+happening_read left (happening.Room k) fits = ap (λ (r : Gave LinkId). whole_line (then_read (λ (n : LinkId). happens (happening.Room n)) r)) (link_read k fits None)
+happening_read left (happening.Back k bytes) fits = ap (λ (l : List ℕ). whole_line (row keyword.Back left (Some l))) (two (decimal k.0) (octets_text bytes)) ∙ ap whole_line (row_back left k bytes fits.0 fits.1)
+happening_read left (happening.Broken k) fits = ap (λ (r : Gave LinkId). whole_line (then_read (λ (n : LinkId). happens (happening.Broken n)) r)) (link_read k fits None)
+happening_read left (happening.InputEnd i) fits = ap (λ (r : Gave InputId). whole_line (then_read (λ (n : InputId). happens (happening.InputEnd n)) r)) (input_read i fits None)
 happening_read left happening.Stop fits = refl
 happening_read left happening.Failed fits = refl
 happening_read left happening.End fits = absurd fits
@@ -145,34 +145,34 @@ pub planned_read : (left : ℕ) (p : Planned) → PlannedFits p → ticks_of p �
 unfolding keywords
 planned_read left (Happens h) fits within = happening_read left h fits
 planned_read left (Ticks first step count) fits within =
-    ap (λ (l : List ℕ). meant (row keyword.Ticks left (Some l))) (three (decimal first) (decimal step) (decimal count)) ∙ ap meant (row_ticks left first step count fits within)
+    ap (λ (l : List ℕ). whole_line (row keyword.Ticks left (Some l))) (three (decimal first) (decimal step) (decimal count)) ∙ ap whole_line (row_ticks left first step count fits within)
 planned_read left (Changes (change.Append path bytes)) fits within =
-    ap (λ (l : List ℕ). meant (row keyword.Append left (Some l))) (two path (octets_text bytes)) ∙ ap meant (row_append left path bytes fits.0 fits.1)
+    ap (λ (l : List ℕ). whole_line (row keyword.Append left (Some l))) (two path (octets_text bytes)) ∙ ap whole_line (row_append left path bytes fits.0 fits.1)
 planned_read left (Changes (change.Cut path most)) fits within =
-    ap (λ (l : List ℕ). meant (row keyword.Cut left (Some l))) (two path (decimal most)) ∙ ap meant (row_cut left path most fits.0 fits.1)
+    ap (λ (l : List ℕ). whole_line (row keyword.Cut left (Some l))) (two path (decimal most)) ∙ ap whole_line (row_cut left path most fits.0 fits.1)
 
 pub given_read : (left : ℕ) (g : Given) → GivenFits g → line_meaning left (given_text g) ≡ Ok (Answers g)
 unfolding keywords
-given_read left (given.Dial o true) fits = ap meant (row_dial left o true (codes "ok") refl fits)
-given_read left (given.Dial o false) fits = ap meant (row_dial left o false (codes "refused") refl fits)
-given_read left (given.Push o p) fits = ap (λ (l : List ℕ). meant (row keyword.Push left (Some l))) (two (decimal o.0) (push_text p)) ∙ ap meant (row_push left o p fits.0 fits.1)
+given_read left (given.Dial o true) fits = ap whole_line (row_dial left o true (codes "ok") refl fits)
+given_read left (given.Dial o false) fits = ap whole_line (row_dial left o false (codes "refused") refl fits)
+given_read left (given.Push o p) fits = ap (λ (l : List ℕ). whole_line (row keyword.Push left (Some l))) (two (decimal o.0) (push_text p)) ∙ ap whole_line (row_push left o p fits.0 fits.1)
 given_read left (given.Reply true) fits = refl
 given_read left (given.Reply false) fits = refl
-given_read left (given.Word w) fits = ap (λ (r : Gave ℕ). meant (then_read (λ (n : ℕ). over (Answers (given.Word n))) r)) (number_read w fits None)
+given_read left (given.Word w) fits = ap (λ (r : Gave ℕ). whole_line (then_read (λ (n : ℕ). over (Answers (given.Word n))) r)) (number_read w fits None)
 
 pub disk_read : (left call : ℕ) → Is64 call → line_meaning left (disk_text call) ≡ Ok (DiskFails call)
 unfolding keywords
-disk_read left call small = ap (λ (r : Gave ℕ). meant (then_read (λ (n : ℕ). over (DiskFails n)) r)) (number_read call small None)
+disk_read left call small = ap (λ (r : Gave ℕ). whole_line (then_read (λ (n : ℕ). over (DiskFails n)) r)) (number_read call small None)
 
 pub file_read : (left call : ℕ) → Is64 call → line_meaning left (file_text call) ≡ Ok (FileFails call)
 unfolding keywords
-file_read left call small = ap (λ (r : Gave ℕ). meant (then_read (λ (n : ℕ). over (FileFails n)) r)) (number_read call small None)
+file_read left call small = ap (λ (r : Gave ℕ). whole_line (then_read (λ (n : ℕ). over (FileFails n)) r)) (number_read call small None)
 
 pub stored_read : (left : ℕ) (s : Stored) → StoredFits s → line_meaning left (stored_text s) ≡ Ok (Stores s)
 unfolding keywords
-stored_read left s fits = ap (λ (l : List ℕ). meant (row keyword.Store left (Some l))) (two s.name (octets_text s.bytes)) ∙ ap meant (row_store left s.name s.bytes fits.0 fits.1)
+stored_read left s fits = ap (λ (l : List ℕ). whole_line (row keyword.Store left (Some l))) (two s.name (octets_text s.bytes)) ∙ ap whole_line (row_store left s.name s.bytes fits.0 fits.1)
 
 pub crash_read : (left : ℕ) (c : Cut) → Is64 c.calls → Is64 c.pick → line_meaning left (crash_text c) ≡ Ok (Crashes c)
 unfolding keywords
 crash_read left c small_calls small_pick =
-    ap (λ (l : List ℕ). meant (row keyword.Crash left (Some l))) (two (decimal c.calls) (decimal c.pick)) ∙ ap meant (row_crash left c.calls c.pick small_calls small_pick)
+    ap (λ (l : List ℕ). whole_line (row keyword.Crash left (Some l))) (two (decimal c.calls) (decimal c.pick)) ∙ ap whole_line (row_crash left c.calls c.pick small_calls small_pick)

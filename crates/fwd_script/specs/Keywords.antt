@@ -1,11 +1,11 @@
--- The first words of the lines.
+-- The keywords of a schedule, the first words of its lines.
 use Rattle.std.specs.Prelude.{ℕ, Bool, true, false, List, [], ◌∷◌, codes, Option}
 use Rattle.std.specs.List.{find}
 use Rattle.std.specs.Str.{bytes_eq}
 use Rattle.fwd_script.specs.declared.keywords.Keyword.{Keyword}
 use Rattle.fwd_script.specs.declared.keywords.Keyword.TheVariants.{Tick, Ticks, Joined, Piece, Gone, InputEnd, Room, Back, Broken, Stop, Failed, Append, Cut, Dial, Push, Reply, Word, Disk, File, Store, Crash}
 
--- as they are written
+-- the texts of the keywords
 abbrev pub name_of : Keyword → List ℕ
 name_of Tick = codes "tick"
 name_of Ticks = codes "ticks"
@@ -29,18 +29,18 @@ name_of File = codes "file"
 name_of Store = codes "store"
 name_of Crash = codes "crash"
 
--- each of them, once
+-- all keywords
 unfoldable pub keywords : List Keyword
 keywords = Tick ∷ Ticks ∷ Joined ∷ Piece ∷ Gone ∷ InputEnd ∷ Room ∷ Back ∷ Broken ∷ Stop ∷ Failed ∷ Append ∷ Cut ∷ Dial ∷ Push ∷ Reply ∷ Word ∷ Disk ∷ File ∷ Store ∷ Crash ∷ []
 
 abbrev pub is_named : List ℕ → Keyword → Bool
 is_named word keyword = bytes_eq (name_of keyword) word
 
--- the one that a word is; none where it isn't in the table
+-- the keyword of a word; `None` if it isn't in the table
 abbrev pub keyword_of : List ℕ → Option Keyword
 keyword_of word = find (is_named word) keywords
 
--- the lines of one happening; `ticks` is of many
+-- the keywords with exactly one loop event; `ticks` has many
 abbrev pub is_one_happening : Keyword → Bool
 is_one_happening Ticks = false
 is_one_happening Append = false

@@ -1,7 +1,7 @@
-pub mod FilesHeld
-pub mod FilesPlayed
+pub mod FilesState
+pub mod FilesAnswers
 pub mod MemFiles
-pub mod SinkHeld
+pub mod SinkState
 pub mod MemSink
 pub mod Words
 pub mod Keywords

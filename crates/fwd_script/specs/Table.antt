@@ -1,4 +1,4 @@
--- The table of the lines: what each line means, by its first word and the words behind it.
+-- The table of the lines: the meaning of each line by its keyword and the words after it.
 use Rattle.std.specs.Prelude.{ℕ, Bool, true, false, if◌then◌else◌, List, codes, Option, Some, None, Result, Ok, Err}
 use Rattle.std.specs.Str.{bytes_eq}
 use Rattle.fwd_base.specs.declared.ids.InputId.{InputId}
@@ -16,16 +16,16 @@ use Rattle.fwd_script.specs.declared.schedule.FileChange.TheVariants as change
 use Rattle.fwd_script.specs.declared.schedule.Given.TheVariants as given
 use Rattle.fwd_script.specs.declared.schedule.PushWord.{PushWord}
 use Rattle.fwd_script.specs.declared.schedule.PushWord.TheVariants as push
-use Rattle.fwd_script.specs.declared.refused.ScheduleKind.{ScheduleKind}
-use Rattle.fwd_script.specs.declared.refused.ScheduleKind.TheVariants.{UnknownWord}
+use Rattle.fwd_script.specs.declared.refusal.ScheduleKind.{ScheduleKind}
+use Rattle.fwd_script.specs.declared.refusal.ScheduleKind.TheVariants.{UnknownWord}
 use Rattle.fwd_script.specs.Keywords.{keyword_of}
-use Rattle.fwd_script.specs.Words.{Left, parted, Reader, ◌>>=◌, over, word, judged, number_to, number, id, octets, piece}
+use Rattle.fwd_script.specs.Words.{Left, split_at_byte, Reader, ◌>>=◌, over, word, judged, number_to, number, id, octets, piece}
 
--- the line is over here, and this happens
+-- the line ends here, and is this loop event
 abbrev pub happens : Happening → Reader LineMeaning
 happens what = over (Plans (planned.Happens what))
 
--- IN and OUT, the places in the configuration, and the numbers of connections and links
+-- IN and OUT, the indices in the configuration, and the numbers of connections and links
 abbrev pub input : Reader InputId
 input = do
   place ← id
@@ -47,8 +47,8 @@ link = do
   judged UnknownWord (Some (record { 0 = place }))
 
 -- `ok`, or the word for the opposite
-abbrev pub taken_or : List ℕ → Reader Bool
-taken_or not_taken = do
+abbrev pub ok_or_word : List ℕ → Reader Bool
+ok_or_word not_taken = do
   chosen ← word
   judged UnknownWord (if bytes_eq chosen (codes "ok") then Some true else if bytes_eq chosen not_taken then Some false else None)
 
@@ -66,7 +66,7 @@ push_word = do
   chosen ← word
   push_by chosen
 
--- one clause a row; `left` is how many clock readings may still come
+-- one clause a row; at most `left` clock readings may still come
 abbrev pub row : Keyword → ℕ → Reader LineMeaning
 row Tick left = do
   now ← number
@@ -114,14 +114,14 @@ row Cut left = do
   over (Plans (planned.Changes (change.Cut path most)))
 row Dial left = do
   output ← output
-  taken ← taken_or (codes "refused")
+  taken ← ok_or_word (codes "refused")
   over (Answers (given.Dial output taken))
 row Push left = do
   output ← output
   push ← push_word
   over (Answers (given.Push output push))
 row Reply left = do
-  taken ← taken_or (codes "broken")
+  taken ← ok_or_word (codes "broken")
   over (Answers (given.Reply taken))
 row Word left = do
   word ← number
@@ -146,9 +146,9 @@ row_of None left words = Err UnknownWord
 row_of (Some keyword) left words = row keyword left words
 
 -- the meaning of a whole line
-abbrev pub meant : Result (LineMeaning × Left) ScheduleKind → Result LineMeaning ScheduleKind
-meant (Ok read) = Ok read.0
-meant (Err kind) = Err kind
+abbrev pub whole_line : Result (LineMeaning × Left) ScheduleKind → Result LineMeaning ScheduleKind
+whole_line (Ok read) = Ok read.0
+whole_line (Err kind) = Err kind
 
 abbrev pub line_meaning : ℕ → List ℕ → Result LineMeaning ScheduleKind
-line_meaning left line = meant (row_of (keyword_of (parted 32 line).0) left (parted 32 line).1)
+line_meaning left line = whole_line (row_of (keyword_of (split_at_byte 32 line).0) left (split_at_byte 32 line).1)

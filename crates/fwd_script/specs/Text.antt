@@ -1,4 +1,4 @@
--- The text that a schedule is written as.
+-- The text of a schedule.
 use Rattle.std.specs.Prelude.{ℕ, ◌-◌, ◌==◌, ◌&&◌, ◌||◌, nat_le, Bool, if◌then◌else◌, List, [], ◌∷◌, ◌++◌, length, take, drop, map, codes, decimal, Option, Some, None}
 use Rattle.std.specs.List.{list_all, flat_map}
 use Rattle.hex.specs.Hex.{encode_lower}
@@ -16,7 +16,7 @@ use Rattle.fwd_script.specs.declared.schedule.Given.TheVariants as given
 use Rattle.fwd_script.specs.declared.schedule.PushWord.{PushWord}
 use Rattle.fwd_script.specs.declared.schedule.PushWord.TheVariants as push
 
--- a byte as it stands in a text, with its escape where it has one
+-- the text of a byte, its escape if it has one
 abbrev pub byte_text : ℕ → List ℕ
 byte_text byte =
     if byte == 10 then codes "\\n"
@@ -43,7 +43,7 @@ happening_text (Broken link) = codes "broken " ++ decimal link.0
 happening_text (InputEnd input) = codes "inputend " ++ decimal input.0
 happening_text Stop = codes "stop"
 happening_text Failed = codes "failed"
--- no line is of this happening
+-- no line has this loop event
 happening_text End = []
 
 abbrev pub planned_text : Planned → List ℕ
@@ -69,7 +69,7 @@ stored_text stored = codes "store " ++ stored.name ++ codes " " ++ octets_text s
 abbrev pub crash_text : Cut → List ℕ
 crash_text cut = codes "crash " ++ decimal cut.calls ++ codes " " ++ decimal cut.pick
 
--- the lines of a plan; a crash stands before the last
+-- the lines of a plan; a crash comes before the last
 abbrev pub plan_lines : Option Cut → List Planned → List (List ℕ)
 plan_lines None plan = map planned_text plan
 plan_lines (Some cut) plan = map planned_text (take (length plan - 1) plan) ++ crash_text cut ∷ map planned_text (drop (length plan - 1) plan)

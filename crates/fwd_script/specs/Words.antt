@@ -5,23 +5,23 @@ use Rattle.hex.specs.Hex.{decode_of}
 use Rattle.hex.specs.declared.error.FromHexError.{FromHexError}
 use Rattle.fwd_base.specs.Limits.{longest_piece}
 use Rattle.fwd_base.specs.Number as base
-use Rattle.fwd_script.specs.declared.refused.ScheduleKind.{ScheduleKind}
-use Rattle.fwd_script.specs.declared.refused.ScheduleKind.TheVariants.{UnknownWord, BadNumber, BadHex, Memory}
+use Rattle.fwd_script.specs.declared.refusal.ScheduleKind.{ScheduleKind}
+use Rattle.fwd_script.specs.declared.refusal.ScheduleKind.TheVariants.{UnknownWord, BadNumber, BadHex, Memory}
 
--- what stands before the first of these bytes, and what stands behind it; none where it isn't there
-abbrev pub parted : ℕ → List ℕ → List ℕ × Option (List ℕ)
-parted byte [] = ([], None)
-parted byte (x ∷ xs) = if x == byte then ([], Some xs) else (x ∷ (parted byte xs).0, (parted byte xs).1)
+-- the text before the first of these bytes, and the text after it; `None` if the byte doesn't occur
+abbrev pub split_at_byte : ℕ → List ℕ → List ℕ × Option (List ℕ)
+split_at_byte byte [] = ([], None)
+split_at_byte byte (x ∷ xs) = if x == byte then ([], Some xs) else (x ∷ (split_at_byte byte xs).0, (split_at_byte byte xs).1)
 
--- what is left of a line behind the words that were read; none where the line is over
+-- the rest of a line after the words that were read; `None` at the end of the line
 abbrev pub Left : Type 0
 Left = Option (List ℕ)
 
--- a reading of some words: what they mean, and what is left behind them; or the refusal
+-- a reader of words: their meaning and the rest of the line; or the refusal
 abbrev pub Reader : Type 0 → Type 0
 Reader X = Left → Result (X × Left) ScheduleKind
 
--- one reading, and behind it the one that its meaning gives
+-- one reader, and then the one for its meaning
 abbrev pub then_read : {X Y : Type 0} → (X → Reader Y) → Result (X × Left) ScheduleKind → Result (Y × Left) ScheduleKind
 then_read next (Ok read) = next read.0 read.1
 then_read next (Err kind) = Err kind
@@ -30,17 +30,17 @@ infixl 10 ◌>>=◌
 abbrev pub ◌>>=◌ : {X Y : Type 0} → Reader X → (X → Reader Y) → Reader Y
 (first >>= next) left = then_read next (first left)
 
--- the line is to be over here, and has this meaning
+-- the line must end here, and has this meaning
 abbrev pub over : {X : Type 0} → X → Reader X
 over meaning None = Ok (meaning, None)
 over meaning (Some rest) = Err UnknownWord
 
--- a word that stands up to the next space
+-- a word, up to the next space
 abbrev pub word : Reader (List ℕ)
 word None = Err UnknownWord
-word (Some rest) = Ok (parted 32 rest)
+word (Some rest) = Ok (split_at_byte 32 rest)
 
--- what a word means, or its refusal
+-- the meaning of a word, or its refusal
 abbrev pub judged : {X : Type 0} → ScheduleKind → Option X → Reader X
 judged kind None left = Err kind
 judged kind (Some meaning) left = Ok (meaning, left)
@@ -49,7 +49,7 @@ abbrev pub at_most : ℕ → Option ℕ → Option ℕ
 at_most most (Some number) = if nat_le number most then Some number else None
 at_most most None = None
 
--- a number that is at most so much
+-- a number that is at most this
 abbrev pub number_of : ℕ → List ℕ → Option ℕ
 number_of most digits = at_most most (base.number_of digits)
 
@@ -65,7 +65,7 @@ number = number_to 18446744073709551615
 abbrev pub id : Reader ℕ
 id = number_to 4294967295
 
--- the byte that an escape stands for
+-- the byte of an escape
 abbrev pub escaped : ℕ → Option ℕ
 escaped letter =
     if letter == 110 then Some 10
@@ -79,7 +79,7 @@ in_front (Some byte) (Some bytes) = Some (byte ∷ bytes)
 in_front (Some byte) None = None
 in_front None bytes = None
 
--- what a text with escapes stands for; none where a backslash begins no escape
+-- the bytes of a text with escapes; `None` if a backslash begins no escape
 abbrev pub unescaped : List ℕ → Option (List ℕ)
 unescaped [] = Some []
 unescaped (x ∷ []) = if x == 92 then None else Some (x ∷ [])
@@ -94,18 +94,18 @@ abbrev pub octets : Reader (List ℕ)
 octets None = Err UnknownWord
 octets (Some rest) =
     if starts_with nat_eq rest (codes "t:") then judged BadHex (unescaped (drop 2 rest)) None
-    else hex_word (parted 32 rest)
+    else hex_word (split_at_byte 32 rest)
   where
     hex_word : List ℕ × Left → Result (List ℕ × Left) ScheduleKind
     hex_word (digits, left) = if starts_with nat_eq digits (codes "x:") then judged BadHex (decoded (decode_of (drop 2 digits))) left else Err BadHex
 
--- BYTES of a piece: one at least, and at most the longest piece
+-- the BYTES of a read event: at least one, and at most the longest piece
 abbrev pub piece : Reader (List ℕ)
 piece = do
   bytes ← octets
   judged BadNumber (if nat_lt 0 (length bytes) && nat_le (length bytes) longest_piece then Some bytes else None)
 
--- what a reading gave, and where it stands behind it; `Memory` says nothing
+-- the meaning that was read, and the rest after it; `Memory` says nothing
 abbrev pub Reads : {X : Type 0} → Reader X → Left → Result X ScheduleKind → Left → Type 0
 Reads reader left (Ok meaning) behind = reader left ≡ Ok (meaning, behind)
 Reads reader left (Err kind) behind = kind ≢ Memory → reader left ≡ Err kind

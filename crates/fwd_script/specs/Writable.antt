@@ -1,4 +1,4 @@
--- The schedules that a text can say.
+-- The schedules that a text can express.
 use Rattle.std.specs.Prelude.{◌≡◌, ℕ, ◌^◌, ◌<◌, ◌≤◌, ◌==◌, false, List, [], ◌∷◌, ◌++◌, length, Some, None, All}
 use Rattle.std.specs.List.{list_any, sum_by}
 use Rattle.hex.specs.Hex.{IsBytes}
@@ -35,7 +35,7 @@ pub record IsName (name : List ℕ) : Type 0 where
   pub no_space : Lacks 32 name
   pub no_line_feed : Lacks 10 name
 
--- the sizes of a happening; `End` has no line
+-- the limits of a loop event; `End` has no line
 abbrev pub HappeningFits : Happening → Type 0
 HappeningFits (Tick now) = Is64 now
 HappeningFits (Joined input conn) = Is32 input.0 × Is64 conn.0
@@ -76,7 +76,7 @@ pub record LifeFits (life : Life) : Type 0 where
   pub file_fails : All Is64 life.file_fails
   pub store : All StoredFits life.store
 
--- the life ends in a crash, in the happening that is the last of its lines
+-- the run ends in a crash, in the loop event that is the last of its lines
 pub record Crashes (life : Life) : Type 0 where
   pub cut : Cut
   pub before : List Planned
@@ -86,24 +86,24 @@ pub record Crashes (life : Life) : Type 0 where
   pub calls : Is64 cut.calls
   pub pick : Is64 cut.pick
 
--- there is a last life, which doesn't crash; those before it do
-abbrev pub EndsRight : List Life → Type 0
-EndsRight [] = ⊥
-EndsRight (life ∷ []) = life.cut ≡ None
-EndsRight (life ∷ next ∷ lives) = Crashes life × EndsRight (next ∷ lives)
+-- there is a last run, without a crash; those before it crash
+abbrev pub HasValidEnds : List Life → Type 0
+HasValidEnds [] = ⊥
+HasValidEnds (life ∷ []) = life.cut ≡ None
+HasValidEnds (life ∷ next ∷ lives) = Crashes life × HasValidEnds (next ∷ lives)
 
--- only the first life finds files on the disk
+-- only the first run finds files on the disk
 abbrev pub StoresFirst : List Life → Type 0
 StoresFirst [] = Unit {0}
 StoresFirst (life ∷ lives) = All (λ later. later.store ≡ []) lives
 
--- how many clock readings the `ticks` lines of a life have
+-- how many clock readings the `ticks` lines of a run have
 abbrev pub ticks_in : Life → ℕ
 ticks_in life = sum_by ticks_of life.lines
 
 -- numbers, sizes, names and orders are those of the format
 pub record IsWritable (schedule : Schedule) : Type 0 where
   pub fits : All LifeFits schedule.lives
-  pub ends : EndsRight schedule.lives
+  pub ends : HasValidEnds schedule.lives
   pub stores : StoresFirst schedule.lives
   pub ticks : sum_by ticks_in schedule.lives ≤ 10000000

@@ -1,16 +1,16 @@
-//! Files in memory.
+//! Followed files in memory.
 
 ghost use Rattle.std.specs.Prelude.{◌≡◌, ℕ, ◌+◌, ◌≤◌, List, [], ◌∷◌, ◌++◌, if◌then◌else◌, length, drop, position, take, unwrap_or, IsTrue, IfOk, OnOk, OnErr, IsErrOf, Some};
 ghost use Rattle.std.specs.Option.{option_map, option_copied};
 ghost use Rattle.std.specs.Str.{bytes_eq};
-ghost use Rattle.fwd_program.specs.Told.{Grew, asking};
-ghost use Rattle.fwd_program.specs.Cause.{HasCause};
+ghost use Rattle.fwd_outside.specs.Log.{LogGrew, log_of_call};
+ghost use Rattle.fwd_outside.specs.Cause.{HasCause};
 ghost use Rattle.fwd_outside.specs.declared.errors.FileErr.TheVariants.{Failed};
 ghost use Rattle.fwd_outside.specs.Files as files;
-ghost use Rattle.fwd_outside.specs.Files.{FilesGiven, IsHonest, found, outcome};
+ghost use Rattle.fwd_outside.specs.Files.{FilesGiven, IsConsistentLog, found, outcome};
 ghost use Rattle.fwd_script.specs.declared.files.FilesNote.TheVariants as note;
-ghost use Rattle.fwd_script.specs.FilesPlayed.{IsPlayed};
-ghost use Rattle.fwd_script.specs.MemFiles.{Answered, Has, SameFiles, changed, entries_from, files_now, noted, path_of, readable, told_of};
+ghost use Rattle.fwd_script.specs.FilesAnswers.{IsPlayed};
+ghost use Rattle.fwd_script.specs.MemFiles.{Answered, HasContent, SameFiles, changed, entries_from, files_now, with_note, path_of, readable, told_of};
 
 use crate::FileChange;
 use fwd_base::{Bytes, Memory};
@@ -19,27 +19,27 @@ use std::alloc::Global;
 use std::collections::BTreeSet;
 use std::marker::Model;
 
-/// What was done to files in memory: a call with its answer, or a change.
+/// An entry of the record of files in memory: a call with its answer, or a setting.
 #[derive(Debug, Drop)]
 pub enum FilesNote {
-    /// A question for the length. No length where it failed.
+    /// A call for the length. `None` if it failed.
     Length {
         path: Bytes,
         length: Option<u64>,
     },
-    /// A read. No bytes where it failed.
+    /// A read. `None` if it failed.
     ReadAt {
         path: Bytes,
         at: u64,
         max: u64,
         bytes: Option<Bytes>,
     },
-    /// The file of this path got these bytes.
+    /// The file of this path gets these bytes.
     Preset {
         path: Bytes,
         bytes: Bytes,
     },
-    /// The call of that number, from 1, is to fail.
+    /// The call of this number fails. Calls are counted from 1.
     FailAt {
         call: u64,
     },
@@ -47,7 +47,7 @@ pub enum FilesNote {
     Change(FileChange),
 }
 
-/// Files in memory, which tell their calls. A file that isn't there can't be read.
+/// Files in memory that record their calls. A read of a missing file fails.
 #[derive(Debug, Drop)]
 pub struct MemFiles {
     alloc: Global,
@@ -60,9 +60,9 @@ pub struct MemFiles {
 }
 
 impl Model for MemFiles {
-    ghost use Rattle.fwd_script.specs.FilesHeld.{FilesHeld};
+    ghost use Rattle.fwd_script.specs.FilesState.{FilesState};
 
-    ghost Value = { FilesHeld };
+    ghost Value = { FilesState };
 
     ghost view = { λ m. record { given = m.given.items; notes = m.notes.items; faults = m.faults } };
 
@@ -72,7 +72,7 @@ impl Model for MemFiles {
 }
 
 impl MemFiles {
-    /// No file, and no faults.
+    /// Returns an empty set of files, without faults.
     pub fn new(alloc: Global) -> Self
         ensures { result ≡ record { given = []; notes = []; faults = 0 } }
     {
@@ -87,23 +87,23 @@ impl MemFiles {
         }
     }
 
-    /// Files that stood so at first give the answers that these gave.
+    /// Some files with the same initial content give the answers that these gave.
     pub fn is_honest(&self)
-        ensures { IsHonest self.now.given (entries_from self.now.given self.now.notes) }
+        ensures { IsConsistentLog self.now.given (entries_from self.now.given self.now.notes) }
     {
         let _ = &self.alloc;
     }
 
-    /// Each answer is the one that the files, the number of the call and the numbers that are to fail give.
+    /// Each answer is a function of the files, the number of the call and the numbers that are to fail.
     pub fn is_played(&self)
         ensures { IsPlayed self.now.given [] (entries_from self.now.given self.now.notes) }
     {
         let _ = &self.alloc;
     }
 
-    /// The file of that path gets these bytes. After `Err` nothing has changed.
+    /// Gives the file of a path these bytes. `Err` leaves the files unchanged.
     pub fn preset(&mut self, path: &[u8], bytes: &[u8]) -> Result<(), Memory>
-        ensures ok { OnOk result (self.new ≡ noted self.old (note.Preset path.now bytes.now)) }
+        ensures ok { OnOk result (self.new ≡ with_note self.old (note.Preset path.now bytes.now)) }
         ensures err { OnErr result (self.new ≡ self.old) }
     {
         let kept = FilesNote::Preset {
@@ -121,9 +121,9 @@ impl MemFiles {
         }
     }
 
-    /// The call of that number, from 1, fails. After `Err` nothing has changed.
+    /// Makes the call of this number fail. Calls are counted from 1. `Err` leaves the files unchanged.
     pub fn fail_at(&mut self, call: u64) -> Result<(), Memory>
-        ensures ok { OnOk result (self.new ≡ noted self.old (note.FailAt call)) }
+        ensures ok { OnOk result (self.new ≡ with_note self.old (note.FailAt call)) }
         ensures err { OnErr result (self.new ≡ self.old) }
     {
         self.notes.reserve(1)?;
@@ -132,14 +132,14 @@ impl MemFiles {
         Ok(())
     }
 
-    /// Makes the change. After `Err` nothing has changed.
+    /// Makes the change. `Err` leaves the files unchanged.
     pub fn apply(&mut self, change: &FileChange) -> Result<(), Memory>
-        ensures ok { OnOk result (self.new ≡ noted self.old (note.Change change.now)) }
+        ensures ok { OnOk result (self.new ≡ with_note self.old (note.Change change.now)) }
         ensures err { OnErr result (self.new ≡ self.old) }
     {
         let kept = FilesNote::Change(change.try_clone(self.alloc)?);
         self.notes.push(kept)?;
-        match make(self.alloc, &mut self.current, change) {
+        match apply_change(self.alloc, &mut self.current, change) {
             Ok(()) => Ok(()),
             Err(memory) => {
                 self.notes.pop();
@@ -148,7 +148,7 @@ impl MemFiles {
         }
     }
 
-    /// The same files, with no calls made, no faults and no calls that are to fail.
+    /// Returns the same files, without calls, faults and failures to come.
     pub fn renewed(&self, alloc: Global) -> Result<MemFiles, Memory>
         ensures same { IfOk result (λ files. SameFiles (files_now self.now.given self.now.notes) (files_now files.given files.notes)) }
         ensures notes { IfOk result (λ files. files.notes ≡ []) }
@@ -165,7 +165,7 @@ impl MemFiles {
         })
     }
 
-    /// The bytes that the next call reads from. None where it fails.
+    /// Returns the bytes that the next call reads from; `None` if it fails.
     fn readable(&self, path: &[u8]) -> Option<&[u8]>
         ensures { option_copied result ≡ readable self.now path.now }
     {
@@ -179,11 +179,11 @@ impl MemFiles {
 impl Files for MemFiles {
     ghost faults = { λ m. m.faults };
 
-    ghost told = { told_of };
+    ghost call_log = { told_of };
 
     fn length(&mut self, path: &[u8]) -> Result<u64, FileErr>
         ensures answer { Answered result (option_map length (readable self.old path.now)) (note.Length path.now) self.old self.new }
-        ensures told { Grew (told_of self.old) (told_of self.new) (asking (files.Length path.now) (outcome result)) }
+        ensures call_log { LogGrew (told_of self.old) (told_of self.new) (log_of_call (files.Length path.now) (outcome result)) }
         ensures cause { HasCause self.old.faults self.new.faults (IsErrOf result Failed) }
     {
         let answer = length_of(self.readable(path));
@@ -204,13 +204,13 @@ impl Files for MemFiles {
 
     fn read_at(&mut self, alloc: Global, path: &[u8], at: u64, max: u64) -> Result<Bytes, FileErr>
         ensures answer { Answered result (option_map (λ bytes. take max (drop at bytes)) (readable self.old path.now)) (note.ReadAt path.now at max) self.old self.new }
-        ensures told { Grew (told_of self.old) (told_of self.new) (asking (files.ReadAt path.now at max) (outcome result)) }
+        ensures call_log { LogGrew (told_of self.old) (told_of self.new) (log_of_call (files.ReadAt path.now at max) (outcome result)) }
         ensures cause { HasCause self.old.faults self.new.faults (IsErrOf result Failed) }
         ensures within { IfOk result (λ bytes. length bytes ≤ max) }
     {
         let answer = part_of(alloc, self.readable(path), at, max)?;
         let path = Bytes::from_slice(self.alloc, path)?;
-        let bytes = copied(self.alloc, &answer)?;
+        let bytes = clone_optional(self.alloc, &answer)?;
         self.notes.push(FilesNote::ReadAt {
             path,
             at,
@@ -228,7 +228,7 @@ impl Files for MemFiles {
     }
 }
 
-/// The same files.
+/// Returns a copy of the files.
 fn copy_of(alloc: Global, files: &[(Bytes, Bytes)]) -> Result<Vec<(Bytes, Bytes)>, Memory>
     ensures { IfOk result (λ copy. copy.items ≡ files.now) }
 {
@@ -239,14 +239,14 @@ fn copy_of(alloc: Global, files: &[(Bytes, Bytes)]) -> Result<Vec<(Bytes, Bytes)
     Ok(copy)
 }
 
-/// The place of a file.
+/// Returns the index of a file.
 fn place_of(files: &[(Bytes, Bytes)], path: &[u8]) -> Option<usize>
     ensures { result ≡ position (λ file. bytes_eq file.0 path.now) files.now }
 {
     files.iter().position(|file| file.0.as_slice() == path)
 }
 
-/// The bytes of a file. None where it isn't there.
+/// Returns the bytes of a file; `None` if there is none.
 fn content<'a>(files: &'a [(Bytes, Bytes)], path: &[u8]) -> Option<&'a [u8]>
     ensures { option_copied result ≡ found files.entry.now path.now }
 {
@@ -256,7 +256,7 @@ fn content<'a>(files: &'a [(Bytes, Bytes)], path: &[u8]) -> Option<&'a [u8]>
     }
 }
 
-/// How many bytes there are.
+/// Returns the number of the bytes.
 fn length_of(content: Option<&[u8]>) -> Option<u64>
     ensures { result ≡ option_map (λ bytes. length bytes) (option_copied content.entry) }
 {
@@ -266,7 +266,7 @@ fn length_of(content: Option<&[u8]>) -> Option<u64>
     }
 }
 
-/// Bytes from an offset on, at most so many.
+/// Returns the bytes from an offset, at most `max` of them.
 fn part_of(
     alloc: Global,
     content: Option<&[u8]>,
@@ -284,8 +284,8 @@ fn part_of(
     Ok(Some(Bytes::from_slice(alloc, &behind[..most])?))
 }
 
-/// The same bytes, where there are any.
-fn copied(alloc: Global, bytes: &Option<Bytes>) -> Result<Option<Bytes>, Memory>
+/// Returns a copy of the bytes, if there are any.
+fn clone_optional(alloc: Global, bytes: &Option<Bytes>) -> Result<Option<Bytes>, Memory>
     ensures { IfOk result (λ copy. copy ≡ bytes.now) }
 {
     match bytes {
@@ -294,14 +294,14 @@ fn copied(alloc: Global, bytes: &Option<Bytes>) -> Result<Option<Bytes>, Memory>
     }
 }
 
-/// The file of that path gets these bytes.
+/// Gives the file of a path these bytes.
 fn put(
     alloc: Global,
     files: &mut Vec<(Bytes, Bytes)>,
     path: &[u8],
     bytes: Bytes,
 ) -> Result<(), Memory>
-    ensures ok { OnOk result (Has path.now (Some bytes) files.old.items files.new.items) }
+    ensures ok { OnOk result (HasContent path.now (Some bytes) files.old.items files.new.items) }
     ensures err { OnErr result (files.new.items ≡ files.old.items) }
 {
     match place_of(files, path) {
@@ -312,8 +312,12 @@ fn put(
 }
 
 /// Makes the change.
-fn make(alloc: Global, files: &mut Vec<(Bytes, Bytes)>, change: &FileChange) -> Result<(), Memory>
-    ensures ok { OnOk result (Has (path_of change.now) (changed change.now (found files.old.items (path_of change.now))) files.old.items files.new.items) }
+fn apply_change(
+    alloc: Global,
+    files: &mut Vec<(Bytes, Bytes)>,
+    change: &FileChange,
+) -> Result<(), Memory>
+    ensures ok { OnOk result (HasContent (path_of change.now) (changed change.now (found files.old.items (path_of change.now))) files.old.items files.new.items) }
     ensures err { OnErr result (files.new.items ≡ files.old.items) }
 {
     match change {
@@ -330,14 +334,14 @@ fn make(alloc: Global, files: &mut Vec<(Bytes, Bytes)>, change: &FileChange) -> 
     }
 }
 
-/// The bytes come behind those of the file.
+/// Appends the bytes to those of the file.
 fn append(
     alloc: Global,
     files: &mut Vec<(Bytes, Bytes)>,
     path: &[u8],
     bytes: &[u8],
 ) -> Result<(), Memory>
-    ensures ok { OnOk result (Has path.now (Some (unwrap_or (found files.old.items path.now) [] ++ bytes.now)) files.old.items files.new.items) }
+    ensures ok { OnOk result (HasContent path.now (Some (unwrap_or (found files.old.items path.now) [] ++ bytes.now)) files.old.items files.new.items) }
     ensures err { OnErr result (files.new.items ≡ files.old.items) }
 {
     match place_of(files, path) {
@@ -350,9 +354,9 @@ fn append(
     Ok(())
 }
 
-/// The file keeps its first bytes, at most so many.
+/// Truncates the file of a path, if it is longer than `length`.
 fn cut(files: &mut Vec<(Bytes, Bytes)>, path: &[u8], length: u64)
-    ensures { Has path.now (option_map (take length) (found files.old.items path.now)) files.old.items files.new.items }
+    ensures { HasContent path.now (option_map (take length) (found files.old.items path.now)) files.old.items files.new.items }
 {
     if let Some(place) = place_of(files, path) {
         files[place].1.truncate(length as usize);

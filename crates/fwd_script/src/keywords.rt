@@ -1,4 +1,4 @@
-//! The first words of the lines.
+//! The keywords of a schedule, the first words of its lines.
 
 ghost use Rattle.std.specs.Prelude.{◌≡◌, Some};
 ghost use Rattle.std.specs.List.{find};
@@ -30,7 +30,7 @@ pub enum Keyword {
     Crash,
 }
 
-/// Each first word, once.
+/// All keywords.
 pub const ALL: [Keyword; 21] = [
     Keyword::Tick,
     Keyword::Ticks,
@@ -56,7 +56,7 @@ pub const ALL: [Keyword; 21] = [
 ];
 
 impl Keyword {
-    /// As it is written.
+    /// Returns the text of the keyword.
     pub fn name(self) -> &'static [u8]
         ensures { result.now ≡ name_of self }
     {
@@ -85,22 +85,22 @@ impl Keyword {
         }
     }
 
-    /// Whether a word is written so.
+    /// Returns whether the word is this keyword.
     fn is(self, word: &[u8]) -> bool
         ensures { result ≡ is_named word.now self }
     {
         self.name() == word
     }
 
-    /// The one that a word is.
+    /// Returns the keyword of a word.
     #[tactic(auto, unfolding(crate::specs::Keywords::keywords))]
     pub fn of(word: &[u8]) -> Option<Keyword>
         ensures { result ≡ keyword_of word.now }
     {
-        first_named(&ALL, word)
+        first_with_name(&ALL, word)
     }
 
-    /// Whether the line is of one happening.
+    /// Returns whether a line of this keyword has exactly one loop event.
     pub fn is_one_happening(self) -> bool
         ensures { result ≡ is_one_happening self }
     {
@@ -115,13 +115,23 @@ impl Keyword {
             | Keyword::Broken
             | Keyword::Stop
             | Keyword::Failed => true,
-            _ => false,
+            Keyword::Ticks
+            | Keyword::Append
+            | Keyword::Cut
+            | Keyword::Dial
+            | Keyword::Push
+            | Keyword::Reply
+            | Keyword::Word
+            | Keyword::Disk
+            | Keyword::File
+            | Keyword::Store
+            | Keyword::Crash => false,
         }
     }
 }
 
-/// The first keyword that a word is.
-fn first_named(keywords: &[Keyword], word: &[u8]) -> Option<Keyword>
+/// Returns the first keyword with this text.
+fn first_with_name(keywords: &[Keyword], word: &[u8]) -> Option<Keyword>
     ensures { result ≡ find (is_named word.now) keywords.now }
 {
     for keyword in keywords {

@@ -1,9 +1,9 @@
-//! What each line means.
+//! The meanings of lines.
 
 ghost use Rattle.std.specs.Prelude.{◌≡◌, ◌≢◌, IfErr, IfOk};
-ghost use Rattle.fwd_script.specs.declared.refused.ScheduleKind.TheVariants.{Memory};
+ghost use Rattle.fwd_script.specs.declared.refusal.ScheduleKind.TheVariants.{Memory};
 ghost use Rattle.fwd_script.specs.Words.{Reads, over};
-ghost use Rattle.fwd_script.specs.Table.{line_meaning, push_word, row, taken_or};
+ghost use Rattle.fwd_script.specs.Table.{line_meaning, push_word, row, ok_or_word};
 
 use crate::keywords::Keyword;
 use crate::words::{Words, part};
@@ -12,7 +12,7 @@ use fwd_base::{Bytes, ConnId, InputId, LinkId, OutputId};
 use fwd_outside::Happening;
 use std::alloc::Global;
 
-/// What a line means.
+/// The meaning of a line.
 #[derive(Debug, Drop)]
 pub enum LineMeaning {
     Plans(Planned),
@@ -66,13 +66,13 @@ fn dial(words: &mut Words) -> Result<LineMeaning, ScheduleKind>
     ensures { Reads (row Keyword.Dial 0) words.old result words.new }
 {
     let output = OutputId(words.id()?);
-    let taken = taken_or(words, b"refused")?;
+    let taken = ok_or_word(words, b"refused")?;
     words.over(LineMeaning::Answers(Given::Dial { output, taken }))
 }
 
-/// `ok`, or the word for the opposite.
-fn taken_or(words: &mut Words, not_taken: &[u8]) -> Result<bool, ScheduleKind>
-    ensures { Reads (taken_or not_taken.now) words.old result words.new }
+/// Reads `ok`, or the word for the opposite.
+fn ok_or_word(words: &mut Words, not_taken: &[u8]) -> Result<bool, ScheduleKind>
+    ensures { Reads (ok_or_word not_taken.now) words.old result words.new }
 {
     let word = words.word()?;
     if word == b"ok".as_slice() {
@@ -137,7 +137,7 @@ fn cut_line(alloc: Global, words: &mut Words) -> Result<LineMeaning, ScheduleKin
     words.over(LineMeaning::Plans(Planned::Changes(FileChange::Cut { path, length })))
 }
 
-/// `took N`, `again` or `broken`.
+/// Reads `took N`, `again` or `broken`.
 fn push_answer(words: &mut Words) -> Result<PushWord, ScheduleKind>
     ensures { Reads push_word words.old result words.new }
 {
@@ -164,7 +164,7 @@ fn push(words: &mut Words) -> Result<LineMeaning, ScheduleKind>
 fn reply(words: &mut Words) -> Result<LineMeaning, ScheduleKind>
     ensures { Reads (row Keyword.Reply 0) words.old result words.new }
 {
-    let taken = taken_or(words, b"broken")?;
+    let taken = ok_or_word(words, b"broken")?;
     words.over(LineMeaning::Answers(Given::Reply { taken }))
 }
 
@@ -205,7 +205,7 @@ fn crash(words: &mut Words) -> Result<LineMeaning, ScheduleKind>
     words.over(LineMeaning::Crashes(Cut { calls, pick }))
 }
 
-/// What the words behind a first word mean. `left` is how many clock readings may still come.
+/// Reads the words after a keyword. At most `left` clock readings may still come.
 fn read_row(
     alloc: Global,
     keyword: Keyword,
@@ -239,7 +239,7 @@ fn read_row(
     }
 }
 
-/// What a line means. `left` is how many clock readings may still come.
+/// Returns the meaning of a line. At most `left` clock readings may still come.
 pub fn line_meaning(alloc: Global, left: u64, line: &[u8]) -> Result<LineMeaning, ScheduleKind>
     ensures ok { IfOk result (λ meaning. line_meaning left line.now ≡ Ok meaning) }
     ensures err { IfErr result (λ kind. kind ≢ Memory → line_meaning left line.now ≡ Err kind) }

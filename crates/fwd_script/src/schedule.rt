@@ -1,41 +1,41 @@
 //! The types of a schedule.
 
 ghost use Rattle.std.specs.Prelude.{◌≡◌, IfOk};
-ghost use Rattle.fwd_script.specs.Schedule.{no_life};
+ghost use Rattle.fwd_script.specs.Schedule.{empty_life};
 
 use fwd_base::{Bytes, Items, Memory, OutputId};
 use fwd_outside::Happening;
 use std::alloc::Global;
 
-/// What happens in a run, and how the outside answers, life by life. There is at least one life. Every life but the
-/// last ends in a crash.
+/// The events and the answers of the platform, run by run. There is at least one run. Every run but the last
+/// ends in a crash.
 #[derive(Debug, Drop, PartialEq, Eq)]
 pub struct Schedule {
     pub lives: Lives,
 }
 
-/// The time from loading to a crash or to the end. Where it ends in a crash, the last of its lines is the happening that
-/// the crash comes in.
+/// The time from loading to a crash or to the end of the run. If it ends in a crash, the last of its lines
+/// is the loop event in which the crash comes.
 #[derive(Debug, Drop, PartialEq, Eq)]
 pub struct Life {
-    /// What comes from the outside, in order.
+    /// The loop events and the changes of files, in order.
     pub lines: Plan,
-    /// The answers that the outside gives, in order.
+    /// The answers of the platform, in order.
     pub answers: GivenList,
-    /// The numbers of the disk calls that fail, from 1.
+    /// The numbers of the disk calls that fail, counted from 1.
     pub disk_fails: Calls,
-    /// The numbers of the file calls that fail, from 1.
+    /// The numbers of the file calls that fail, counted from 1.
     pub file_fails: Calls,
-    /// The files on the disk before the first life.
+    /// The files on the disk before the first run.
     pub store: StoredList,
-    /// The crash that ends this life.
+    /// The crash that ends the run.
     pub cut: Option<Cut>,
 }
 
 impl Life {
-    /// A life without lines.
+    /// Returns a run without lines.
     pub fn new(alloc: Global) -> Self
-        ensures { result ≡ no_life }
+        ensures { result ≡ empty_life }
     {
         Life {
             lines: Items::new(alloc),
@@ -48,26 +48,27 @@ impl Life {
     }
 }
 
-/// A crash: the image of the disk after so many calls of the last happening, by the pick of that number.
+/// A crash: the disk keeps the post-crash state `pick` after `calls` calls of the last loop event.
 #[derive(Clone, Copy, Debug, PartialEq, Eq)]
 pub struct Cut {
     pub calls: u64,
     pub pick: u64,
 }
 
-/// A file on the disk before the first life.
+/// A file on the disk before the first run.
 #[derive(Debug, Drop, PartialEq, Eq)]
 pub struct Stored {
     pub name: Bytes,
     pub bytes: Bytes,
 }
 
-/// What comes from the outside.
+/// A planned line: loop events, or the change of a file.
 #[derive(Debug, Drop, PartialEq, Eq)]
 pub enum Planned {
-    /// One happening.
+    /// One loop event.
     Happens(Happening),
-    /// So many clock readings, from the first on by the step. A reading above 2^64 - 1 counts as this.
+    /// `count` clock readings, from `first` by `step`, in milliseconds. A reading above 2^64 - 1 counts as
+    /// that.
     Ticks { first: u64, step: u64, count: u64 },
     /// A change of a file.
     Changes(FileChange),
@@ -76,14 +77,14 @@ pub enum Planned {
 /// A change of a file in memory.
 #[derive(Debug, Drop, PartialEq, Eq)]
 pub enum FileChange {
-    /// The bytes come behind those that are there. A file that isn't there is made.
+    /// Appends the bytes to the file. It creates a missing file.
     Append { path: Bytes, bytes: Bytes },
-    /// The file keeps its first bytes, at most so many. One that isn't there isn't made.
+    /// Truncates the file to `length` bytes. It doesn't create a missing file.
     Cut { path: Bytes, length: u64 },
 }
 
 impl FileChange {
-    /// The same change, with bytes of its own.
+    /// Returns a copy of the change.
     pub fn try_clone(&self, alloc: Global) -> Result<FileChange, Memory>
         ensures { IfOk result (λ copy. copy ≡ self.now) }
     {
@@ -100,14 +101,14 @@ impl FileChange {
     }
 }
 
-/// An answer of the outside.
+/// An answer of the platform.
 #[derive(Clone, Copy, Debug, PartialEq, Eq)]
 pub enum Given {
     /// To a dial of the output: a link, or a refusal.
     Dial { output: OutputId, taken: bool },
     /// To a push to the output.
     Push { output: OutputId, push: PushWord },
-    /// To a reply: it is taken, or the connection breaks.
+    /// To a reply: it is written, or the connection breaks.
     Reply { taken: bool },
     /// A random word.
     Word(u64),
@@ -116,24 +117,24 @@ pub enum Given {
 /// An answer to a push.
 #[derive(Clone, Copy, Debug, PartialEq, Eq)]
 pub enum PushWord {
-    /// So many bytes are taken; more than the piece has take it all.
+    /// This many bytes were written. A number above the length of the push means all.
     Took(u64),
-    /// None is taken now.
+    /// No byte is written now.
     Again,
     /// The link breaks.
     Broken,
 }
 
-/// Lives, in order.
+/// Runs, in order.
 pub type Lives = Items<Life>;
 
-/// What comes from the outside, in order.
+/// Loop events and changes of files, in order.
 pub type Plan = Items<Planned>;
 
-/// Answers of the outside, in order.
+/// Answers of the platform, in order.
 pub type GivenList = Items<Given>;
 
-/// Numbers of calls, from 1.
+/// Numbers of calls, counted from 1.
 pub type Calls = Items<u64>;
 
 /// Files on the disk.

@@ -3,10 +3,10 @@
 ghost use Rattle.std.specs.Prelude.{◌≡◌, List, [], ◌∷◌, ◌++◌, OnOk, OnErr, IsErrOf};
 ghost use Rattle.std.specs.Ordering.{nat_cmp};
 ghost use Rattle.std.specs.BTreeSet.{insert_key};
-ghost use Rattle.fwd_program.specs.Told.{Grew};
-ghost use Rattle.fwd_program.specs.Cause.{HasCause};
+ghost use Rattle.fwd_outside.specs.Log.{LogGrew};
+ghost use Rattle.fwd_outside.specs.Cause.{HasCause};
 ghost use Rattle.fwd_outside.specs.declared.errors.SinkErr.TheVariants.{Failed};
-ghost use Rattle.fwd_outside.specs.Sink.{SinkEntry, Writes, written};
+ghost use Rattle.fwd_outside.specs.Sink.{SinkEntry, LogsWrite, written};
 ghost use Rattle.fwd_script.specs.MemSink.{Answered, entries_of, note_of, told_of};
 
 use fwd_base::{Bytes, Memory};
@@ -15,16 +15,16 @@ use std::alloc::Global;
 use std::collections::BTreeSet;
 use std::marker::Model;
 
-/// A write that was made of a sink in memory.
+/// A write to a sink in memory.
 #[derive(Debug, Drop)]
 pub struct SinkNote {
-    /// What was to be written.
+    /// The bytes of the write.
     pub piece: Bytes,
-    /// Whether all of it was written, or none.
+    /// Whether all of the bytes were written; if not, none were.
     pub written: bool,
 }
 
-/// A sink in memory, which tells the writes that were made of it.
+/// A sink in memory that records its writes.
 #[derive(Debug, Drop)]
 pub struct MemSink {
     alloc: Global,
@@ -37,9 +37,9 @@ pub struct MemSink {
 impl Model for MemSink {
     ghost use Rattle.std.specs.Prelude.{◌≡◌};
     ghost use Rattle.fwd_outside.specs.Sink.{written};
-    ghost use Rattle.fwd_script.specs.SinkHeld.{SinkHeld};
+    ghost use Rattle.fwd_script.specs.SinkState.{SinkState};
 
-    ghost Value = { SinkHeld };
+    ghost Value = { SinkState };
 
     ghost view = { λ s. record { notes = s.notes.items; fails = s.fails.keys; faults = s.faults } };
 
@@ -49,7 +49,7 @@ impl Model for MemSink {
 }
 
 impl MemSink {
-    /// Nothing written, and no faults.
+    /// Returns an empty sink without faults.
     pub fn new(alloc: Global) -> Self
         ensures { result ≡ record { notes = []; fails = []; faults = 0 } }
     {
@@ -62,14 +62,14 @@ impl MemSink {
         }
     }
 
-    /// All bytes written, in their order.
+    /// Returns all bytes written, in order.
     pub fn bytes(&self) -> &Bytes
         ensures { result.now ≡ written (entries_of self.entry.now.notes) }
     {
         &self.bytes
     }
 
-    /// The write of that number, from 1, fails. After `Err` nothing has changed.
+    /// Makes the write of this number fail. Writes are counted from 1. `Err` leaves the sink unchanged.
     pub fn fail_at(&mut self, call: u64) -> Result<(), Memory>
         ensures ok { OnOk result (self.new ≡ record self.old { fails = insert_key nat_cmp self.old.fails call }) }
         ensures err { OnErr result (self.new ≡ self.old) }
@@ -82,11 +82,11 @@ impl MemSink {
 impl Sink for MemSink {
     ghost faults = { λ s. s.faults };
 
-    ghost told = { told_of };
+    ghost call_log = { told_of };
 
     fn write(&mut self, bytes: &[u8]) -> Result<(), SinkErr>
         ensures answer { Answered result bytes.now self.old self.new }
-        ensures told { (entries : List SinkEntry) × Writes bytes.now result entries × Grew (told_of self.old) (told_of self.new) entries }
+        ensures call_log { (entries : List SinkEntry) × LogsWrite bytes.now result entries × LogGrew (told_of self.old) (told_of self.new) entries }
         ensures cause { HasCause self.old.faults self.new.faults (IsErrOf result Failed) }
     {
         let number = self.notes.len() as u64 + 1;

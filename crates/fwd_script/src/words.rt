@@ -4,8 +4,8 @@ ghost use Rattle.std.specs.Prelude.{◌≡◌, ◌≢◌, ◌≤◌, ◌==◌, L
 ghost use Rattle.std.specs.List.{position_or_len};
 ghost use Rattle.std.specs.Option.{option_copied};
 ghost use Rattle.hex.specs.Hex.{decode_of};
-ghost use Rattle.fwd_script.specs.declared.refused.ScheduleKind.TheVariants.{BadHex, Memory};
-ghost use Rattle.fwd_script.specs.Words.{Reads, decoded, escaped, id, number, number_of, number_to, octets, over, parted, piece, unescaped, word};
+ghost use Rattle.fwd_script.specs.declared.refusal.ScheduleKind.TheVariants.{BadHex, Memory};
+ghost use Rattle.fwd_script.specs.Words.{Reads, decoded, escaped, id, number, number_of, number_to, octets, over, split_at_byte, piece, unescaped, word};
 
 use crate::ScheduleKind;
 use fwd_base::limits::LONGEST_PIECE;
@@ -15,8 +15,8 @@ use memchr::memchr;
 use std::alloc::Global;
 use std::marker::Model;
 
-/// The place of the first such byte, or the length of the text where there is none. Pieces are long, so `memchr` looks at
-/// many bytes at a time.
+/// Returns the index of the first `wanted` byte, or the length of the text if there is none. Texts are long,
+/// so `memchr` compares many bytes at a time.
 fn place_of(text: &[u8], wanted: u8) -> usize
     ensures place { result ≡ position_or_len (λ byte. byte == wanted) text.now }
     ensures within { result ≤ length text.now }
@@ -24,10 +24,10 @@ fn place_of(text: &[u8], wanted: u8) -> usize
     memchr(wanted, text).unwrap_or(text.len())
 }
 
-/// What stands before the first of these bytes, and what stands behind it.
+/// Returns the text before the first `byte`, and the text after it.
 pub fn part(text: &[u8], byte: u8) -> (&[u8], Option<&[u8]>)
-    ensures before { result.0.now ≡ (parted byte text.entry.now).0 }
-    ensures behind { option_copied result.1 ≡ (parted byte text.entry.now).1 }
+    ensures before { result.0.now ≡ (split_at_byte byte text.entry.now).0 }
+    ensures behind { option_copied result.1 ≡ (split_at_byte byte text.entry.now).1 }
 {
     let place = place_of(text, byte);
     if place < text.len() {
@@ -37,7 +37,7 @@ pub fn part(text: &[u8], byte: u8) -> (&[u8], Option<&[u8]>)
     }
 }
 
-/// What is left of a line behind the words that were read.
+/// The rest of a line, after the words that were read.
 #[derive(Drop)]
 pub struct Words<'a> {
     rest: Option<&'a [u8]>,
@@ -59,7 +59,7 @@ impl<'a> Words<'a> {
         Words { rest }
     }
 
-    /// The next word.
+    /// Returns the next word.
     pub fn word(&mut self) -> Result<&'a [u8], ScheduleKind>
         ensures { MatchResult result (λ next. word self.old ≡ Ok (next.now, self.new)) (λ kind. word self.old ≡ Err kind) }
     {
@@ -73,7 +73,7 @@ impl<'a> Words<'a> {
         }
     }
 
-    /// No word is left.
+    /// Returns the meaning if no word is left, else a refusal.
     pub fn over<T: Drop>(&mut self, meaning: T) -> Result<T, ScheduleKind>
         ensures { Reads (over meaning) self.old result self.new }
     {
@@ -103,7 +103,7 @@ impl<'a> Words<'a> {
         Ok(number as u32)
     }
 
-    /// BYTES: `t:` and the rest of the line with escapes, or a word of `x:` and hex digits.
+    /// Reads BYTES: `t:` and the rest of the line with escapes, or a word of `x:` and hex digits.
     pub fn octets(&mut self, alloc: Global) -> Result<Bytes, ScheduleKind>
         ensures { Reads octets self.old result self.new }
     {
@@ -121,7 +121,7 @@ impl<'a> Words<'a> {
         decode(alloc, &digits[2..])
     }
 
-    /// BYTES of a piece: one at least, and at most `LONGEST_PIECE`.
+    /// Reads the BYTES of a read event: from 1 to `LONGEST_PIECE` bytes.
     pub fn piece(&mut self, alloc: Global) -> Result<Bytes, ScheduleKind>
         ensures { Reads piece self.old result self.new }
     {
@@ -134,7 +134,7 @@ impl<'a> Words<'a> {
     }
 }
 
-/// What hex digits stand for.
+/// Returns the bytes of hex digits.
 fn decode(alloc: Global, digits: &[u8]) -> Result<Bytes, ScheduleKind>
     ensures ok { IfOk result (λ bytes. decoded (decode_of digits.now) ≡ Some bytes) }
     ensures err { IfErr result (λ kind. kind ≢ Memory → (kind ≡ BadHex) × (decoded (decode_of digits.now) ≡ None)) }
@@ -146,7 +146,7 @@ fn decode(alloc: Global, digits: &[u8]) -> Result<Bytes, ScheduleKind>
     }
 }
 
-/// The byte that an escape stands for.
+/// Returns the byte of an escape.
 fn escaped_byte(letter: u8) -> Option<u8>
     ensures { result ≡ escaped letter }
 {
@@ -159,7 +159,7 @@ fn escaped_byte(letter: u8) -> Option<u8>
     }
 }
 
-/// What a text with escapes stands for. The bytes between escapes come in runs.
+/// Returns the bytes of a text with escapes. It copies the bytes between escapes in runs.
 fn unescape(alloc: Global, text: &[u8]) -> Result<Bytes, ScheduleKind>
     ensures ok { IfOk result (λ bytes. unescaped text.now ≡ Some bytes) }
     ensures err { IfErr result (λ kind. kind ≢ Memory → (kind ≡ BadHex) × (unescaped text.now ≡ None)) }
@@ -183,7 +183,7 @@ fn unescape(alloc: Global, text: &[u8]) -> Result<Bytes, ScheduleKind>
     }
 }
 
-/// The value of digits, where it is at most so much.
+/// Returns the value of decimal digits, if it is at most `most`.
 fn number_of(digits: &[u8], most: u64) -> Option<u64>
     ensures { result ≡ number_of most digits.now }
 {

@@ -1,11 +1,11 @@
--- What holds of whatever a reading reads.
+-- Properties of everything that a reading reads.
 use Rattle.std.proofs.Common.{◌≡◌, inl, inr, List, [], ◌∷◌, Option, Some, None, Result, Ok, Err, refl, sym, subst}
 use Rattle.std.specs.List.{AllByRecursion}
 use Rattle.fwd_base.specs.declared.pattern.Pattern.{Pattern}
-use Rattle.fwd_program.specs.Program.{Return, Ask}
-use Rattle.fwd_choices.specs.declared.kind.SettingKind.{SettingKind}
+use Rattle.fwd_outside.specs.Program.{Return, Ask}
+use Rattle.fwd_settings_schema.specs.declared.error_kind.SettingKind.{SettingKind}
 use Rattle.fwd_config.specs.declared.section.Place.{Place}
-use Rattle.fwd_settings.specs.Reading.{Reading, Checked, ◌>>=◌, known, at, each, Comes}
+use Rattle.fwd_settings.specs.Reading.{Reading, Checked, ◌>>=◌, known, at, each, IsResult}
 
 ok_is : {X : Type 0} {x y : X} → ◌≡◌ {A = Checked X} (Ok x) (Ok y) → x ≡ y
 ok_is is = cc
@@ -20,11 +20,11 @@ always_then P Q (Return (Ok x)) next here behind = behind x here
 always_then P Q (Return (Err refusal)) next here behind = tt
 always_then P Q (Ask text go) next here behind = λ answer. always_then P Q (go answer) next (here answer) behind
 
-pub always_comes : {X : Type 0} (P : X → Type 0) (reading : Reading X) (x : X) → Always P reading → Comes reading (Ok x) → P x
-always_comes P (Return (Ok y)) x here is = subst P (sym (ok_is is)) here
-always_comes P (Return (Err refusal)) x here is = absurd (cc is)
-always_comes P (Ask text go) x here (inl there) = always_comes P (go (Some there.0)) x (here (Some there.0)) there.2
-always_comes P (Ask text go) x here (inr none) = always_comes P (go None) x (here None) none.1
+pub always_result : {X : Type 0} (P : X → Type 0) (reading : Reading X) (x : X) → Always P reading → IsResult reading (Ok x) → P x
+always_result P (Return (Ok y)) x here is = subst P (sym (ok_is is)) here
+always_result P (Return (Err refusal)) x here is = absurd (cc is)
+always_result P (Ask text go) x here (inl there) = always_result P (go (Some there.0)) x (here (Some there.0)) there.2
+always_result P (Ask text go) x here (inr none) = always_result P (go None) x (here None) none.1
 
 pub always_known : {X : Type 0} (P : X → Type 0) (checked : Checked X) → ((x : X) → checked ≡ Ok x → P x) → Always P (known checked)
 always_known P (Ok x) holds = holds x refl
@@ -34,7 +34,7 @@ pub always_at : {X : Type 0} (P : X → Type 0) (place : Place) (r : Result X Se
 always_at P place (Ok x) holds = holds x refl
 always_at P place (Err kind) holds = tt
 
--- `R e x` holds of each thing and what is read for it
+-- `R e x` holds of each item and what is read for it
 abbrev pub Pairs : {E X : Type 0} → (E → X → Type 0) → List E → List X → Type 0
 Pairs R [] [] = Unit {0}
 Pairs R [] (x ∷ xs) = ⊥

@@ -1,7 +1,6 @@
 pub mod Readings
-pub mod Taking
-pub mod Gathering
-pub mod Saying
+pub mod SectionSteps
+pub mod EntryLemmas
 pub mod Always
 pub mod Table
-pub mod Sounding
+pub mod Requirements

@@ -1,31 +1,31 @@
--- What the table says of every key of a section or plugin, and so of what its entries say.
+-- What the table says of every key of a section or plugin, and so of its entries.
 use Rattle.std.proofs.Common.{◌≡◌, ℕ, ◌≤◌, Bool, true, false, cond, not, ◌&&◌, ◌||◌, nat_le, nat_lt, if◌then◌else◌, List, [], ◌∷◌, length, Option, Some, None, Result, Ok, Err, IsSome, refl, subst, arith, option_and_then}
 use Rattle.std.specs.List.{AllByRecursion, find, filter_map, last_or, list_all, list_any, cons_option}
 use Rattle.std.specs.Str.{bytes_eq, is_utf8}
 use Rattle.std.proofs.lemmas.Bool.Decides.{nat_tests}
 use Rattle.std.proofs.lemmas.Str.{IsUtf8-from_is_utf8}
 use Rattle.fwd_base.specs.Number.{number_of}
-use Rattle.fwd_program.specs.Program.{Return, Ask}
+use Rattle.fwd_outside.specs.Program.{Return, Ask}
 use Rattle.fwd_parser.specs.declared.parser.Parser.{Parser}
-use Rattle.fwd_choices.specs.declared.kind.SettingKind.{SettingKind}
-use Rattle.fwd_choices.specs.declared.kind.SettingKind.TheVariants.{BadNumber, BadChoice}
-use Rattle.fwd_choices.specs.Number.{positive_of, within}
-use Rattle.fwd_choices.specs.Text.{is_tag_text, is_plain_text, is_visible_text, is_uri_text}
+use Rattle.fwd_settings_schema.specs.declared.error_kind.SettingKind.{SettingKind}
+use Rattle.fwd_settings_schema.specs.declared.error_kind.SettingKind.TheVariants.{BadNumber, BadChoice}
+use Rattle.fwd_settings_schema.specs.Number.{positive_of, within}
+use Rattle.fwd_settings_schema.specs.Text.{is_tag_text, is_plain_text, is_visible_text, is_uri_text}
 use Rattle.fwd_config.specs.declared.section.Entry.{Entry}
-use Rattle.fwd_settings.specs.declared.keys.Key.{Key}
-use Rattle.fwd_settings.specs.declared.keys.Kind.{Kind}
-use Rattle.fwd_settings.specs.declared.keys.Kind.TheVariants as kind
-use Rattle.fwd_settings.specs.declared.keys.Plain.{Plain}
-use Rattle.fwd_settings.specs.declared.keys.Plain.TheVariants as plain
-use Rattle.fwd_settings.specs.declared.parts.Part.{Part}
-use Rattle.fwd_settings.specs.declared.said.Value.{Value}
-use Rattle.fwd_settings.specs.declared.said.Value.TheVariants as value
-use Rattle.fwd_settings.specs.declared.said.Said.{Said}
-use Rattle.fwd_settings.specs.Keys.{name_of, keys_of, kind_of, key_of, is_key_named}
-use Rattle.fwd_settings.specs.Said.{value_for, last_value}
+use Rattle.fwd_settings_schema.specs.declared.keys.Key.{Key}
+use Rattle.fwd_settings_schema.specs.declared.keys.Kind.{Kind}
+use Rattle.fwd_settings_schema.specs.declared.keys.Kind.TheVariants as kind
+use Rattle.fwd_settings_schema.specs.declared.keys.Plain.{Plain}
+use Rattle.fwd_settings_schema.specs.declared.keys.Plain.TheVariants as plain
+use Rattle.fwd_settings_schema.specs.declared.section_kind.Target.{Target}
+use Rattle.fwd_settings_schema.specs.declared.properties.Value.{Value}
+use Rattle.fwd_settings_schema.specs.declared.properties.Value.TheVariants as value
+use Rattle.fwd_settings_schema.specs.declared.properties.Property.{Property}
+use Rattle.fwd_settings_schema.specs.Keys.{name_of, keys_of, kind_of, key_of, is_key_named}
+use Rattle.fwd_settings_schema.specs.Property.{value_for, last_value}
 use Rattle.fwd_settings.specs.Reading.{Reading, known}
-use Rattle.fwd_settings.specs.Values.{or_else, when, value_of, value_said, key_said, entry_said}
-use Rattle.fwd_settings.specs.Sound.{IsTagText}
+use Rattle.fwd_settings.specs.Values.{or_else, when, value_of, property_value, key_property, entry_property}
+use Rattle.fwd_settings.specs.Requirements.{IsTagText}
 use Rattle.fwd_settings.proofs.Always.{Always, always_then, always_at}
 
 -- ---- values by their kind
@@ -134,33 +134,33 @@ plain_is plain.Condition text v is = tt
 plain_is (plain.Change word) text v is = tt
 plain_is plain.Wildcard text v is = tt
 
--- whatever is read, where nothing is asked of it
+-- any result, if nothing is required of it
 always_any : {X : Type 0} (reading : Reading X) → Always (λ _. Unit {0}) reading
 always_any (Return (Ok x)) = tt
 always_any (Return (Err refusal)) = tt
 always_any (Ask text go) = λ answer. always_any (go answer)
 
--- what an entry of a section or plugin says
-abbrev pub IsSaidBy : Part → Entry → Said → Type 0
-IsSaidBy p entry said = (key_of p entry.key ≡ Some said.key) × IsOfKind (kind_of said.key) said.value
+-- what is read for an entry of a section or plugin
+abbrev pub IsPropertyOf : Target → Entry → Property → Type 0
+IsPropertyOf p entry item = (key_of p entry.key ≡ Some item.key) × IsOfKind (kind_of item.key) item.value
 
-module _ (named : Entry → Reading Parser) where
-  always_value : (k : Kind) (entry : Entry) → Always (IsOfKind k) (value_said named k entry)
+module _ (by_name : Entry → Reading Parser) where
+  always_value : (k : Kind) (entry : Entry) → Always (IsOfKind k) (property_value by_name k entry)
   always_value (kind.Plain p) entry = always_at (IsOfPlain p) entry.place (value_of p entry.value) (plain_is p entry.value)
-  always_value kind.Pattern entry = always_any (value_said named kind.Pattern entry)
-  always_value (kind.Grep exclude) entry = always_any (value_said named (kind.Grep exclude) entry)
-  always_value kind.Parser entry = always_any (value_said named kind.Parser entry)
+  always_value kind.Pattern entry = always_any (property_value by_name kind.Pattern entry)
+  always_value (kind.Grep exclude) entry = always_any (property_value by_name (kind.Grep exclude) entry)
+  always_value kind.Parser entry = always_any (property_value by_name kind.Parser entry)
 
-  always_key : (p : Part) (entry : Entry) (o : Option Key) → key_of p entry.key ≡ o → Always (IsSaidBy p entry) (key_said named entry o)
+  always_key : (p : Target) (entry : Entry) (o : Option Key) → key_of p entry.key ≡ o → Always (IsPropertyOf p entry) (key_property by_name entry o)
   always_key p entry None is = tt
   always_key p entry (Some k) is =
-      always_then (IsOfKind (kind_of k)) (IsSaidBy p entry) (value_said named (kind_of k) entry) (λ v. known (Ok (record { key = k; value = v })))
+      always_then (IsOfKind (kind_of k)) (IsPropertyOf p entry) (property_value by_name (kind_of k) entry) (λ v. known (Ok (record { key = k; value = v })))
       (always_value (kind_of k) entry) (λ v of_kind. (is, of_kind))
 
-  pub always_said : (p : Part) (entry : Entry) → Always (IsSaidBy p entry) (entry_said named p entry)
-  always_said p entry = always_key p entry (key_of p entry.key) refl
+  pub always_property : (p : Target) (entry : Entry) → Always (IsPropertyOf p entry) (entry_property by_name p entry)
+  always_property p entry = always_key p entry (key_of p entry.key) refl
 
--- ---- the table, by computing
+-- ---- the table, by computation
 
 found_passes : {X : Type 0} (test found : X → Bool) (keys : List X) (k : X) → list_all test keys ≡ true → find found keys ≡ Some k → test k ≡ true
 found_passes test found [] k all is = absurd (cc is)
@@ -174,12 +174,12 @@ found_passes {X = X} test found (first ∷ keys) k all is = here (test first) (f
     here true false later so all is = later all is
     here false f later so all is = absurd (cc all)
 
--- every key of the part that is written as `named` has a kind that passes the test
+-- every key of the part with the same name as `by_name` has a kind that passes the test
 abbrev pub named_passes : Key → (Kind → Bool) → Key → Bool
-named_passes named test k = not (bytes_eq (name_of named) (name_of k)) || test (kind_of k)
+named_passes by_name test k = not (bytes_eq (name_of by_name) (name_of k)) || test (kind_of k)
 
-pub kind_passes : (named : Key) (test : Kind → Bool) (p : Part) → list_all (named_passes named test) (keys_of p) ≡ true → (k : Key) (name : List ℕ) → key_of p name ≡ Some k → bytes_eq (name_of named) (name_of k) ≡ true → test (kind_of k) ≡ true
-kind_passes named test p all k name is same = by_test (bytes_eq (name_of named) (name_of k)) same (found_passes (named_passes named test) (is_key_named name) (keys_of p) k all is)
+pub kind_passes : (by_name : Key) (test : Kind → Bool) (p : Target) → list_all (named_passes by_name test) (keys_of p) ≡ true → (k : Key) (name : List ℕ) → key_of p name ≡ Some k → bytes_eq (name_of by_name) (name_of k) ≡ true → test (kind_of k) ≡ true
+kind_passes by_name test p all k name is same = by_test (bytes_eq (name_of by_name) (name_of k)) same (found_passes (named_passes by_name test) (is_key_named name) (keys_of p) k all is)
   where
     by_test : (b : Bool) → b ≡ true → (not b || test (kind_of k)) ≡ true → test (kind_of k) ≡ true
     by_test true so passes = passes
@@ -191,30 +191,30 @@ abbrev pub Holds : {X : Type 0} → (X → Type 0) → Option X → Type 0
 Holds P None = Unit {0}
 Holds P (Some x) = P x
 
-module _ (named : Key) (P : Value → Type 0) where
-  last_from : (o : Option Value) → Holds P o → (said : List Said) → AllByRecursion (λ s. bytes_eq (name_of named) (name_of s.key) ≡ true → P s.value) said → Holds P (last_or o (filter_map (value_for named) said))
+module _ (by_name : Key) (P : Value → Type 0) where
+  last_from : (o : Option Value) → Holds P o → (properties : List Property) → AllByRecursion (λ s. bytes_eq (name_of by_name) (name_of s.key) ≡ true → P s.value) properties → Holds P (last_or o (filter_map (value_for by_name) properties))
   last_from o here [] all = here
-  last_from o here (s ∷ said) all = by_test (bytes_eq (name_of named) (name_of s.key)) (λ p. last_from (Some s.value) p said all.1) (last_from o here said all.1) refl
+  last_from o here (s ∷ properties) all = by_test (bytes_eq (name_of by_name) (name_of s.key)) (λ p. last_from (Some s.value) p properties all.1) (last_from o here properties all.1) refl
     where
       rest : List Value
-      rest = filter_map (value_for named) said
+      rest = filter_map (value_for by_name) properties
 
-      by_test : (b : Bool) → (P s.value → Holds P (last_or (Some s.value) rest)) → Holds P (last_or o rest) → bytes_eq (name_of named) (name_of s.key) ≡ b → Holds P (last_or o (cons_option (if b then Some s.value else None) rest))
+      by_test : (b : Bool) → (P s.value → Holds P (last_or (Some s.value) rest)) → Holds P (last_or o rest) → bytes_eq (name_of by_name) (name_of s.key) ≡ b → Holds P (last_or o (cons_option (if b then Some s.value else None) rest))
       by_test true this others so = this (all.0 so)
       by_test false this others so = others
 
-  pub last_holds : (said : List Said) → AllByRecursion (λ s. bytes_eq (name_of named) (name_of s.key) ≡ true → P s.value) said → Holds P (last_value named said)
-  last_holds said all = last_from None tt said all
+  pub last_holds : (properties : List Property) → AllByRecursion (λ s. bytes_eq (name_of by_name) (name_of s.key) ≡ true → P s.value) properties → Holds P (last_value by_name properties)
+  last_holds properties all = last_from None tt properties all
 
 last_stays : (o : Option Value) → IsSome o → (xs : List Value) → IsSome (last_or o xs)
 last_stays o some [] = some
 last_stays o some (x ∷ xs) = last_stays (Some x) refl xs
 
-pub last_there : (written : Key) (said : List Said) → list_any (λ s. bytes_eq (name_of written) (name_of s.key)) said ≡ true → (o : Option Value) → IsSome (last_or o (filter_map (value_for written) said))
+pub last_there : (written : Key) (properties : List Property) → list_any (λ s. bytes_eq (name_of written) (name_of s.key)) properties ≡ true → (o : Option Value) → IsSome (last_or o (filter_map (value_for written) properties))
 last_there written [] any o = absurd (cc any)
-last_there written (s ∷ said) any o = by_test (bytes_eq (name_of written) (name_of s.key)) (λ so. last_there written said so o) any
+last_there written (s ∷ properties) any o = by_test (bytes_eq (name_of written) (name_of s.key)) (λ so. last_there written properties so o) any
   where
-    by_test : (b : Bool) → (list_any (λ s. bytes_eq (name_of written) (name_of s.key)) said ≡ true → IsSome (last_or o (filter_map (value_for written) said)))
-        → (b || list_any (λ s. bytes_eq (name_of written) (name_of s.key)) said) ≡ true → IsSome (last_or o (cons_option (if b then Some s.value else None) (filter_map (value_for written) said)))
-    by_test true later so = last_stays (Some s.value) refl (filter_map (value_for written) said)
+    by_test : (b : Bool) → (list_any (λ s. bytes_eq (name_of written) (name_of s.key)) properties ≡ true → IsSome (last_or o (filter_map (value_for written) properties)))
+        → (b || list_any (λ s. bytes_eq (name_of written) (name_of s.key)) properties) ≡ true → IsSome (last_or o (cons_option (if b then Some s.value else None) (filter_map (value_for written) properties)))
+    by_test true later so = last_stays (Some s.value) refl (filter_map (value_for written) properties)
     by_test false later so = later so

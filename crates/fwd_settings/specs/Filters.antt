@@ -1,57 +1,57 @@
--- Filters, from what their sections say.
+-- Settings of filters, from the entries of their sections.
 use Rattle.std.specs.Prelude.{ℕ, ◌==◌, if◌then◌else◌, List, [], length, codes, Option, Some, None, Ok, Err, unwrap_or}
 use Rattle.std.specs.List.{filter_map}
-use Rattle.fwd_filters.specs.declared.steps.FilterKind.{FilterKind}
-use Rattle.fwd_filters.specs.declared.steps.FilterKind.TheVariants as filter
-use Rattle.fwd_filters.specs.declared.steps.FilterStep.{FilterStep}
-use Rattle.fwd_choices.specs.declared.kind.SettingKind.TheVariants.{Missing}
+use Rattle.fwd_filters.specs.declared.filter_step.FilterKind.{FilterKind}
+use Rattle.fwd_filters.specs.declared.filter_step.FilterKind.TheVariants as filter
+use Rattle.fwd_filters.specs.declared.filter_step.FilterStep.{FilterStep}
+use Rattle.fwd_settings_schema.specs.declared.error_kind.SettingKind.TheVariants.{Missing}
 use Rattle.fwd_config.specs.declared.section.Place.{Place}
-use Rattle.fwd_settings.specs.declared.plugins.FilterPlugin.{FilterPlugin}
-use Rattle.fwd_settings.specs.declared.plugins.FilterPlugin.TheVariants as plugin
-use Rattle.fwd_settings.specs.declared.keys.Key.{Key}
-use Rattle.fwd_settings.specs.declared.keys.Key.TheVariants as key
-use Rattle.fwd_settings.specs.declared.words.Word.{Word}
-use Rattle.fwd_settings.specs.declared.words.Word.TheVariants as word
-use Rattle.fwd_settings.specs.declared.said.Said.{Said}
-use Rattle.fwd_settings.specs.Said.{word_at, text_at, grep_in, condition_in, change_in, wildcard_in}
+use Rattle.fwd_settings_schema.specs.declared.plugins.FilterPlugin.{FilterPlugin}
+use Rattle.fwd_settings_schema.specs.declared.plugins.FilterPlugin.TheVariants as plugin
+use Rattle.fwd_settings_schema.specs.declared.keys.Key.{Key}
+use Rattle.fwd_settings_schema.specs.declared.keys.Key.TheVariants as key
+use Rattle.fwd_settings_schema.specs.declared.words.Word.{Word}
+use Rattle.fwd_settings_schema.specs.declared.words.Word.TheVariants as word
+use Rattle.fwd_settings_schema.specs.declared.properties.Property.{Property}
+use Rattle.fwd_settings_schema.specs.Property.{word_at, text_at, grep_in, condition_in, change_in, wildcard_in}
 use Rattle.fwd_settings.specs.Reading.{Checked, fault}
 
--- a prefix; none is empty
-abbrev pub prefix : Key → List Said → List ℕ
-prefix key said = unwrap_or (text_at key said) []
+-- a prefix, empty if it isn't given
+abbrev pub prefix : Key → List Property → List ℕ
+prefix key properties = unwrap_or (text_at key properties) []
 
--- nest wants a Wildcard and a key to nest under
-abbrev pub nest_by : Place → List Said → Option (List ℕ) → Checked FilterKind
-nest_by place said None = Err (fault Missing place)
-nest_by place said (Some under) =
-    if length (filter_map wildcard_in said) == 0 then Err (fault Missing place)
-    else Ok (filter.Nest (record { wildcards = filter_map wildcard_in said; under = under; remove_prefix = prefix key.RemovePrefix said; add_prefix = prefix key.AddPrefix said }))
+-- nest requires a Wildcard and a key to nest under
+abbrev pub nest_by : Place → List Property → Option (List ℕ) → Checked FilterKind
+nest_by place properties None = Err (fault Missing place)
+nest_by place properties (Some under) =
+    if length (filter_map wildcard_in properties) == 0 then Err (fault Missing place)
+    else Ok (filter.Nest (record { wildcards = filter_map wildcard_in properties; under = under; remove_prefix = prefix key.RemovePrefix properties; add_prefix = prefix key.AddPrefix properties }))
 
--- lift wants the key whose map is lifted
-abbrev pub lift_by : Place → List Said → Option (List ℕ) → Checked FilterKind
-lift_by place said None = Err (fault Missing place)
-lift_by place said (Some under) =
-    Ok (filter.Lift (record { under = under; remove_prefix = prefix key.RemovePrefix said; add_prefix = prefix key.AddPrefix said }))
+-- lift requires the key whose map is lifted
+abbrev pub lift_by : Place → List Property → Option (List ℕ) → Checked FilterKind
+lift_by place properties None = Err (fault Missing place)
+lift_by place properties (Some under) =
+    Ok (filter.Lift (record { under = under; remove_prefix = prefix key.RemovePrefix properties; add_prefix = prefix key.AddPrefix properties }))
 
 -- an Operation is required
-abbrev pub operation_by : Place → List Said → Option Word → Checked FilterKind
-operation_by place said (Some word.Nest) = nest_by place said (text_at key.NestUnder said)
-operation_by place said (Some word.Lift) = lift_by place said (text_at key.NestedUnder said)
-operation_by place said _ = Err (fault Missing place)
+abbrev pub operation_by : Place → List Property → Option Word → Checked FilterKind
+operation_by place properties (Some word.Nest) = nest_by place properties (text_at key.NestUnder properties)
+operation_by place properties (Some word.Lift) = lift_by place properties (text_at key.NestedUnder properties)
+operation_by place properties _ = Err (fault Missing place)
 
 -- every rule counts, in order
-abbrev pub filter_kind : FilterPlugin → Place → List Said → Checked FilterKind
-filter_kind plugin.Grep place said = Ok (filter.Grep (filter_map grep_in said))
-filter_kind plugin.Modify place said = Ok (filter.Modify (record { conditions = filter_map condition_in said; rules = filter_map change_in said }))
-filter_kind plugin.Nest place said = operation_by place said (word_at key.Operation said)
+abbrev pub filter_kind : FilterPlugin → Place → List Property → Checked FilterKind
+filter_kind plugin.Grep place properties = Ok (filter.Grep (filter_map grep_in properties))
+filter_kind plugin.Modify place properties = Ok (filter.Modify (record { conditions = filter_map condition_in properties; rules = filter_map change_in properties }))
+filter_kind plugin.Nest place properties = operation_by place properties (word_at key.Operation properties)
 
--- a filter or an output works on all tags where it has no Match
-abbrev pub glob_of : List Said → List ℕ
-glob_of said = unwrap_or (text_at key.Match said) (codes "*")
+-- a filter or an output without Match gets all tags
+abbrev pub glob_of : List Property → List ℕ
+glob_of properties = unwrap_or (text_at key.Match properties) (codes "*")
 
-abbrev pub filter_by : List Said → Checked FilterKind → Checked FilterStep
-filter_by said (Ok kind) = Ok (record { glob = glob_of said; kind = kind })
-filter_by said (Err refusal) = Err refusal
+abbrev pub filter_by : List Property → Checked FilterKind → Checked FilterStep
+filter_by properties (Ok kind) = Ok (record { glob = glob_of properties; kind = kind })
+filter_by properties (Err refusal) = Err refusal
 
-abbrev pub filter_from : FilterPlugin → Place → List Said → Checked FilterStep
-filter_from plugin place said = filter_by said (filter_kind plugin place said)
+abbrev pub filter_from : FilterPlugin → Place → List Property → Checked FilterStep
+filter_from plugin place properties = filter_by properties (filter_kind plugin place properties)

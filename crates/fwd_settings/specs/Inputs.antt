@@ -1,38 +1,38 @@
--- Inputs, from what their sections say.
+-- Settings of inputs, from the entries of their sections.
 use Rattle.std.specs.Prelude.{ℕ, Bool, true, false, ◌&&◌, not, if◌then◌else◌, List, ◌++◌, codes, count_by, decimal, Option, Some, None, Ok, Err, unwrap_or}
 use Rattle.std.specs.List.{list_any}
 use Rattle.std.specs.Str.{bytes_eq}
 use Rattle.fwd_parser.specs.declared.parser.Parser.{Parser}
 use Rattle.fwd_parser.specs.declared.parser.Shape.{Shape}
 use Rattle.fwd_parser.specs.declared.parser.Shape.TheVariants as shape
-use Rattle.fwd_choices.specs.Text.{parts_of}
-use Rattle.fwd_choices.specs.declared.kind.SettingKind.TheVariants.{Missing}
+use Rattle.fwd_settings_schema.specs.Text.{parts_of}
+use Rattle.fwd_settings_schema.specs.declared.error_kind.SettingKind.TheVariants.{Missing}
 use Rattle.fwd_config.specs.declared.section.Place.{Place}
 use Rattle.fwd_config.specs.declared.section.Entry.{Entry}
 use Rattle.fwd_config.specs.declared.section.Section.{Section}
-use Rattle.fwd_settings.specs.declared.chosen.InputKind.{InputKind}
-use Rattle.fwd_settings.specs.declared.chosen.InputKind.TheVariants as input
-use Rattle.fwd_settings.specs.declared.chosen.InputSet.{InputSet}
-use Rattle.fwd_settings.specs.declared.parts.Head.{Head}
-use Rattle.fwd_settings.specs.declared.parts.Head.TheVariants as head
-use Rattle.fwd_settings.specs.declared.parts.Part.TheVariants as part
-use Rattle.fwd_settings.specs.declared.plugins.InputPlugin.{InputPlugin}
-use Rattle.fwd_settings.specs.declared.plugins.InputPlugin.TheVariants as plugin
-use Rattle.fwd_settings.specs.declared.keys.Key.{Key}
-use Rattle.fwd_settings.specs.declared.keys.Key.TheVariants as key
-use Rattle.fwd_settings.specs.declared.words.Word.{Word}
-use Rattle.fwd_settings.specs.declared.words.Word.TheVariants as word
-use Rattle.fwd_settings.specs.declared.said.Said.{Said}
-use Rattle.fwd_settings.specs.Keys.{name_of, name_of_input, key_of, head_of}
-use Rattle.fwd_settings.specs.Said.{number_at, port_at, truth_at, word_at, text_at, last_in, parser_in}
+use Rattle.fwd_settings.specs.declared.settings_types.InputKind.{InputKind}
+use Rattle.fwd_settings.specs.declared.settings_types.InputKind.TheVariants as input
+use Rattle.fwd_settings.specs.declared.settings_types.InputSet.{InputSet}
+use Rattle.fwd_settings_schema.specs.declared.section_kind.SectionKind.{SectionKind}
+use Rattle.fwd_settings_schema.specs.declared.section_kind.SectionKind.TheVariants as head
+use Rattle.fwd_settings_schema.specs.declared.section_kind.Target.TheVariants as target
+use Rattle.fwd_settings_schema.specs.declared.plugins.InputPlugin.{InputPlugin}
+use Rattle.fwd_settings_schema.specs.declared.plugins.InputPlugin.TheVariants as plugin
+use Rattle.fwd_settings_schema.specs.declared.keys.Key.{Key}
+use Rattle.fwd_settings_schema.specs.declared.keys.Key.TheVariants as key
+use Rattle.fwd_settings_schema.specs.declared.words.Word.{Word}
+use Rattle.fwd_settings_schema.specs.declared.words.Word.TheVariants as word
+use Rattle.fwd_settings_schema.specs.declared.properties.Property.{Property}
+use Rattle.fwd_settings_schema.specs.Keys.{name_of, name_of_input, key_of, head_of}
+use Rattle.fwd_settings_schema.specs.Property.{number_at, port_at, truth_at, word_at, text_at, last_in, parser_in}
 use Rattle.fwd_settings.specs.Reading.{Checked, fault}
 use Rattle.fwd_settings.specs.Parsers.{timeless}
 
--- an instance is named by its plugin, a dot and its number
+-- the name of an instance: its plugin, a dot and its number
 abbrev pub instance : List ℕ → ℕ → List ℕ
 instance plugin number = plugin ++ codes "." ++ decimal number
 
--- the plugin that an input is of
+-- the plugin of an input
 abbrev pub input_plugin : InputKind → InputPlugin
 input_plugin (input.Tail paths from_head) = plugin.Tail
 input_plugin (input.Tcp host port) = plugin.Tcp
@@ -47,18 +47,18 @@ is_input_of plugin set = bytes_eq (name_of_input (input_plugin set.kind)) (name_
 abbrev pub input_name : List InputSet → InputPlugin → List ℕ
 input_name before plugin = instance (name_of_input plugin) (count_by (is_input_of plugin) before)
 
-abbrev pub tail_by : Place → List Said → Option (List ℕ) → Checked InputKind
-tail_by place said None = Err (fault Missing place)
-tail_by place said (Some paths) = Ok (input.Tail (parts_of (codes ",") paths) (unwrap_or (truth_at key.ReadFromHead said) false))
+abbrev pub tail_by : Place → List Property → Option (List ℕ) → Checked InputKind
+tail_by place properties None = Err (fault Missing place)
+tail_by place properties (Some paths) = Ok (input.Tail (parts_of (codes ",") paths) (unwrap_or (truth_at key.ReadFromHead properties) false))
 
--- a tail input wants its Path, which is parted at each comma
-abbrev pub input_kind : InputPlugin → Place → List Said → Checked InputKind
-input_kind plugin.Tail place said = tail_by place said (text_at key.Paths said)
-input_kind plugin.Tcp place said = Ok (input.Tcp (unwrap_or (text_at key.Listen said) (codes "0.0.0.0")) (unwrap_or (port_at key.Port said) 5170))
-input_kind plugin.Forward place said = Ok (input.Forward (unwrap_or (text_at key.Listen said) (codes "0.0.0.0")) (unwrap_or (port_at key.Port said) 24224))
-input_kind plugin.Stdin place said = Ok input.Stdin
+-- a tail input requires its Path, which is split at each comma
+abbrev pub input_kind : InputPlugin → Place → List Property → Checked InputKind
+input_kind plugin.Tail place properties = tail_by place properties (text_at key.Paths properties)
+input_kind plugin.Tcp place properties = Ok (input.Tcp (unwrap_or (text_at key.Listen properties) (codes "0.0.0.0")) (unwrap_or (port_at key.Port properties) 5170))
+input_kind plugin.Forward place properties = Ok (input.Forward (unwrap_or (text_at key.Listen properties) (codes "0.0.0.0")) (unwrap_or (port_at key.Port properties) 24224))
+input_kind plugin.Stdin place properties = Ok input.Stdin
 
--- without a Tag the instance's name is the tag, but for forward, whose messages bring theirs
+-- without a Tag the instance's name is the tag, except for forward, whose messages bring theirs
 abbrev pub tag_of : InputPlugin → List ℕ → Option (List ℕ) → Option (List ℕ)
 tag_of plugin.Tail name tag = Some (unwrap_or tag name)
 tag_of plugin.Tcp name tag = Some (unwrap_or tag name)
@@ -73,12 +73,12 @@ abbrev pub lines_shape : Option Word → Shape
 lines_shape (Some word.Plain) = shape.Plain
 lines_shape _ = shape.Json
 
--- a Parser of tail and stdin, by default none and JSON; tcp has its Format
-abbrev pub input_parser : InputPlugin → List Said → Parser
-input_parser plugin.Tail said = unwrap_or (last_in parser_in said) (timeless shape.Plain)
-input_parser plugin.Stdin said = unwrap_or (last_in parser_in said) (timeless shape.Json)
-input_parser plugin.Tcp said = timeless (lines_shape (word_at key.LineFormat said))
-input_parser plugin.Forward said = timeless shape.Plain
+-- the Parser of tail and stdin, by default none and JSON; the Format of tcp
+abbrev pub input_parser : InputPlugin → List Property → Parser
+input_parser plugin.Tail properties = unwrap_or (last_in parser_in properties) (timeless shape.Plain)
+input_parser plugin.Stdin properties = unwrap_or (last_in parser_in properties) (timeless shape.Json)
+input_parser plugin.Tcp properties = timeless (lines_shape (word_at key.LineFormat properties))
+input_parser plugin.Forward properties = timeless shape.Plain
 
 -- some SERVICE section has a storage.path
 abbrev pub names_path : Option Key → Bool
@@ -86,33 +86,33 @@ names_path None = false
 names_path (Some k) = bytes_eq (name_of key.StoragePath) (name_of k)
 
 abbrev pub is_path_entry : Entry → Bool
-is_path_entry entry = names_path (key_of part.Service entry.key)
+is_path_entry entry = names_path (key_of target.Service entry.key)
 
-abbrev pub is_service_head : Option Head → Bool
+abbrev pub is_service_head : Option SectionKind → Bool
 is_service_head (Some head.Service) = true
 is_service_head _ = false
 
 abbrev pub has_path : Section → Bool
 has_path section = is_service_head (head_of section.name) && list_any is_path_entry section.entries
 
-abbrev pub input_set : InputPlugin → List ℕ → List Said → InputKind → InputSet
-input_set plugin name said kind = record {
+abbrev pub input_set : InputPlugin → List ℕ → List Property → InputKind → InputSet
+input_set plugin name properties kind = record {
   name = name;
   kind = kind;
-  tag = tag_of plugin name (text_at key.Tag said);
-  stored = is_stored (word_at key.StorageType said);
-  mem_limit = number_at key.MemBufLimit said;
-  parser = input_parser plugin said;
+  tag = tag_of plugin name (text_at key.Tag properties);
+  stored = is_stored (word_at key.StorageType properties);
+  mem_limit = number_at key.MemBufLimit properties;
+  parser = input_parser plugin properties;
 }
 
--- an input whose chunks are files wants a storage.path
+-- an input with file-backed chunks requires a storage.path
 abbrev pub stored_in : Bool → Place → InputSet → Checked InputSet
 stored_in path place set = if set.stored && not path then Err (fault Missing place) else Ok set
 
-abbrev pub input_by : Bool → InputPlugin → Place → List ℕ → List Said → Checked InputKind → Checked InputSet
-input_by path plugin place name said (Ok kind) = stored_in path place (input_set plugin name said kind)
-input_by path plugin place name said (Err refusal) = Err refusal
+abbrev pub input_by : Bool → InputPlugin → Place → List ℕ → List Property → Checked InputKind → Checked InputSet
+input_by path plugin place name properties (Ok kind) = stored_in path place (input_set plugin name properties kind)
+input_by path plugin place name properties (Err refusal) = Err refusal
 
--- an input behind those before it
-abbrev pub input_from : Bool → InputPlugin → Place → List InputSet → List Said → Checked InputSet
-input_from path plugin place before said = input_by path plugin place (input_name before plugin) said (input_kind plugin place said)
+-- the settings of an input, given those of the inputs before it
+abbrev pub input_from : Bool → InputPlugin → Place → List InputSet → List Property → Checked InputSet
+input_from path plugin place before properties = input_by path plugin place (input_name before plugin) properties (input_kind plugin place properties)

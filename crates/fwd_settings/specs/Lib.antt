@@ -1,5 +1,3 @@
-pub mod Keys
-pub mod Said
 pub mod Reading
 pub mod Values
 pub mod Service
@@ -8,5 +6,5 @@ pub mod Inputs
 pub mod Filters
 pub mod Outputs
 pub mod Settings
-pub mod Sound
-pub mod Ends
+pub mod Requirements
+pub mod Endpoints

@@ -3,27 +3,27 @@ use Rattle.std.specs.Prelude.{ℕ, Bool, false, ◌&&◌, if◌then◌else◌, L
 use Rattle.fwd_base.specs.Number.{number_of}
 use Rattle.fwd_base.specs.Size.{size_of}
 use Rattle.fwd_parser.specs.declared.parser.Parser.{Parser}
-use Rattle.fwd_choices.specs.declared.kind.SettingKind.{SettingKind}
-use Rattle.fwd_choices.specs.declared.kind.SettingKind.TheVariants.{UnknownKey, BadNumber, BadSize, BadChoice}
-use Rattle.fwd_choices.specs.Number.{positive_of, port_of, flush_of, retries_of}
-use Rattle.fwd_choices.specs.Text.{truth_of, is_false_word, is_tag_text, is_plain_text, is_visible_text, is_uri_text}
-use Rattle.fwd_choices.specs.Types.{types_of}
-use Rattle.fwd_choices.specs.Rule.{key_and_rest_of, condition_of, change_of}
+use Rattle.fwd_settings_schema.specs.declared.error_kind.SettingKind.{SettingKind}
+use Rattle.fwd_settings_schema.specs.declared.error_kind.SettingKind.TheVariants.{UnknownKey, BadNumber, BadSize, BadChoice}
+use Rattle.fwd_settings_schema.specs.Number.{positive_of, port_of, flush_of, retries_of}
+use Rattle.fwd_settings_schema.specs.Text.{truth_of, is_false_word, is_tag_text, is_plain_text, is_visible_text, is_uri_text}
+use Rattle.fwd_settings_schema.specs.Types.{types_of}
+use Rattle.fwd_settings_schema.specs.Rule.{key_and_rest_of, condition_of, change_of}
 use Rattle.fwd_config.specs.declared.section.Place.{Place}
 use Rattle.fwd_config.specs.declared.section.Entry.{Entry}
-use Rattle.fwd_settings.specs.declared.keys.Key.{Key}
-use Rattle.fwd_settings.specs.declared.keys.Plain.{Plain}
-use Rattle.fwd_settings.specs.declared.keys.Plain.TheVariants as plain
-use Rattle.fwd_settings.specs.declared.keys.Kind.{Kind}
-use Rattle.fwd_settings.specs.declared.keys.Kind.TheVariants as kind
-use Rattle.fwd_settings.specs.declared.parts.Part.{Part}
-use Rattle.fwd_settings.specs.declared.said.Value.{Value}
-use Rattle.fwd_settings.specs.declared.said.Value.TheVariants as value
-use Rattle.fwd_settings.specs.declared.said.Said.{Said}
-use Rattle.fwd_settings.specs.Keys.{key_of, kind_of, word_of}
+use Rattle.fwd_settings_schema.specs.declared.keys.Key.{Key}
+use Rattle.fwd_settings_schema.specs.declared.keys.Plain.{Plain}
+use Rattle.fwd_settings_schema.specs.declared.keys.Plain.TheVariants as plain
+use Rattle.fwd_settings_schema.specs.declared.keys.Kind.{Kind}
+use Rattle.fwd_settings_schema.specs.declared.keys.Kind.TheVariants as kind
+use Rattle.fwd_settings_schema.specs.declared.section_kind.Target.{Target}
+use Rattle.fwd_settings_schema.specs.declared.properties.Value.{Value}
+use Rattle.fwd_settings_schema.specs.declared.properties.Value.TheVariants as value
+use Rattle.fwd_settings_schema.specs.declared.properties.Property.{Property}
+use Rattle.fwd_settings_schema.specs.Keys.{key_of, kind_of, word_of}
 use Rattle.fwd_settings.specs.Reading.{Reading, ◌>>=◌, known, fault, at, pattern, each}
 
--- what is read, or why not
+-- the value, or the error
 abbrev pub or_else : {X : Type 0} → SettingKind → (X → Value) → Option X → Result Value SettingKind
 or_else refusal make None = Err refusal
 or_else refusal make (Some x) = Ok (make x)
@@ -54,37 +54,37 @@ value_of plain.Condition text = or_else BadChoice value.Condition (condition_of 
 value_of (plain.Change word) text = or_else BadChoice value.Change (change_of word text)
 value_of plain.Wildcard text = Ok (value.Wildcard text)
 
-abbrev pub pattern_said : Entry → Reading Value
-pattern_said entry = do
+abbrev pub pattern_property : Entry → Reading Value
+pattern_property entry = do
   p ← pattern entry.value entry.place
   known (Ok (value.Pattern p))
 
--- a rule of grep: its key, and behind it the whole rest as a pattern
+-- a rule of grep: its key, and the whole rest as a pattern
 abbrev pub grep_of : Bool → Place → Option (List ℕ × List ℕ) → Reading Value
 grep_of exclude place None = known (Err (fault BadChoice place))
 grep_of exclude place (Some parts) = do
   p ← pattern parts.1 place
   known (Ok (value.Grep (record { exclude = exclude; key = parts.0; pattern = p })))
 
--- the value of an entry, where `named` reads the parser that an entry names
-abbrev pub value_said : (Entry → Reading Parser) → Kind → Entry → Reading Value
-value_said named (kind.Plain plain) entry = known (at entry.place (value_of plain entry.value))
-value_said named kind.Pattern entry = pattern_said entry
-value_said named (kind.Grep exclude) entry = grep_of exclude entry.place (key_and_rest_of entry.value)
-value_said named kind.Parser entry = do
-  p ← named entry
+-- the value of an entry; `by_name` reads the parser that an entry names
+abbrev pub property_value : (Entry → Reading Parser) → Kind → Entry → Reading Value
+property_value by_name (kind.Plain plain) entry = known (at entry.place (value_of plain entry.value))
+property_value by_name kind.Pattern entry = pattern_property entry
+property_value by_name (kind.Grep exclude) entry = grep_of exclude entry.place (key_and_rest_of entry.value)
+property_value by_name kind.Parser entry = do
+  p ← by_name entry
   known (Ok (value.Parser p))
 
-abbrev pub key_said : (Entry → Reading Parser) → Entry → Option Key → Reading Said
-key_said named entry None = known (Err (fault UnknownKey entry.place))
-key_said named entry (Some key) = do
-  v ← value_said named (kind_of key) entry
+abbrev pub key_property : (Entry → Reading Parser) → Entry → Option Key → Reading Property
+key_property by_name entry None = known (Err (fault UnknownKey entry.place))
+key_property by_name entry (Some key) = do
+  v ← property_value by_name (kind_of key) entry
   known (Ok (record { key = key; value = v }))
 
 -- an entry of a section or plugin
-abbrev pub entry_said : (Entry → Reading Parser) → Part → Entry → Reading Said
-entry_said named part entry = key_said named entry (key_of part entry.key)
+abbrev pub entry_property : (Entry → Reading Parser) → Target → Entry → Reading Property
+entry_property by_name target entry = key_property by_name entry (key_of target entry.key)
 
--- its entries, in order; the first that is refused refuses them all
-abbrev pub entries_said : (Entry → Reading Parser) → Part → List Entry → Reading (List Said)
-entries_said named part entries = each (entry_said named part) entries
+-- entries, in order; the first error is the result of them all
+abbrev pub entry_properties : (Entry → Reading Parser) → Target → List Entry → Reading (List Property)
+entry_properties by_name target entries = each (entry_property by_name target) entries

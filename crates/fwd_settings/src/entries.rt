@@ -1,25 +1,24 @@
-//! Entries are read by the table of keys.
+//! Reading of entries by the table of keys.
 
-ghost use Rattle.fwd_choices.specs.Rule.{key_and_rest_of};
-ghost use Rattle.fwd_settings.specs.Reading.{Gives, known, fault, at};
-ghost use Rattle.fwd_settings.specs.Values.{value_of, pattern_said, grep_of, value_said, entry_said, entries_said};
+ghost use Rattle.fwd_settings_schema.specs.Rule.{key_and_rest_of};
+ghost use Rattle.fwd_settings.specs.Reading.{ReturnsResult, known, fault, at};
+ghost use Rattle.fwd_settings.specs.Values.{value_of, pattern_property, grep_of, property_value, entry_property, entry_properties};
 ghost use Rattle.fwd_settings.specs.Parsers.{no_parser, parser_named};
 
 use crate::fault::{SettingFault, Stop};
-use crate::keys::{Key, Kind, Plain};
 use crate::parsers::parser_named;
-use crate::parts::Part;
-use crate::said::{Said, SaidList, Value};
 use crate::values::read_plain;
 use fwd_base::{Bytes, Pattern, PatternErr};
-use fwd_choices::{SettingKind, key_and_rest};
 use fwd_config::{Entry, Place, Section};
 use fwd_grep::GrepRule;
+use fwd_settings_schema::{
+    Key, Kind, Plain, Properties, Property, SettingKind, Target, Value, key_and_rest,
+};
 use std::alloc::Global;
 
-/// A refusal at a place.
+/// Returns the error of this kind, with a copy of the place.
 pub fn refuse<T>(alloc: Global, kind: SettingKind, place: &Place) -> Result<T, Stop>
-    ensures { Gives {X = T} (known (Err (fault kind place.now))) result }
+    ensures { ReturnsResult {X = T} (known (Err (fault kind place.now))) result }
 {
     match place.try_clone(alloc) {
         Ok(place) => Err(Stop::Refused(SettingFault { kind, place })),
@@ -27,9 +26,9 @@ pub fn refuse<T>(alloc: Global, kind: SettingKind, place: &Place) -> Result<T, S
     }
 }
 
-/// A value that is neither a pattern nor a parser.
-fn plain_value(alloc: Global, plain: Plain, entry: &Entry) -> Result<Value, Stop>
-    ensures { Gives (known (at entry.now.place (value_of plain entry.now.value))) result }
+/// Reads a value that is neither a pattern nor a parser.
+fn read_plain_value(alloc: Global, plain: Plain, entry: &Entry) -> Result<Value, Stop>
+    ensures { ReturnsResult (known (at entry.now.place (value_of plain entry.now.value))) result }
 {
     match read_plain(alloc, plain, entry.value.as_slice()) {
         Ok(value) => Ok(value),
@@ -38,9 +37,9 @@ fn plain_value(alloc: Global, plain: Plain, entry: &Entry) -> Result<Value, Stop
     }
 }
 
-/// A value that is a pattern.
-fn pattern_value(alloc: Global, entry: &Entry) -> Result<Value, Stop>
-    ensures { Gives (pattern_said entry.now) result }
+/// Reads a pattern.
+fn read_pattern(alloc: Global, entry: &Entry) -> Result<Value, Stop>
+    ensures { ReturnsResult (pattern_property entry.now) result }
 {
     match Pattern::new(alloc, entry.value.as_slice()) {
         Ok(pattern) => Ok(Value::Pattern(pattern)),
@@ -49,15 +48,15 @@ fn pattern_value(alloc: Global, entry: &Entry) -> Result<Value, Stop>
     }
 }
 
-/// A rule of `grep` of this key and pattern.
-fn grep_rule(
+/// Returns a rule of `grep` with this key and pattern.
+fn build_grep_rule(
     alloc: Global,
     exclude: bool,
     place: &Place,
     key: Bytes,
     text: &[u8],
 ) -> Result<Value, Stop>
-    ensures { Gives (grep_of exclude place.now (Some (key, text.now))) result }
+    ensures { ReturnsResult (grep_of exclude place.now (Some (key, text.now))) result }
 {
     match Pattern::new(alloc, text) {
         Ok(pattern) => Ok(Value::Grep(GrepRule {
@@ -70,36 +69,36 @@ fn grep_rule(
     }
 }
 
-/// A value that is a rule of `grep`.
-fn grep_value(alloc: Global, exclude: bool, entry: &Entry) -> Result<Value, Stop>
-    ensures { Gives (grep_of exclude entry.now.place (key_and_rest_of entry.now.value)) result }
+/// Reads a rule of `grep`.
+fn read_grep(alloc: Global, exclude: bool, entry: &Entry) -> Result<Value, Stop>
+    ensures { ReturnsResult (grep_of exclude entry.now.place (key_and_rest_of entry.now.value)) result }
 {
     match key_and_rest(alloc, entry.value.as_slice())? {
-        Some((key, text)) => grep_rule(alloc, exclude, &entry.place, key, text.as_slice()),
+        Some((key, text)) => build_grep_rule(alloc, exclude, &entry.place, key, text.as_slice()),
         None => refuse(alloc, SettingKind::BadChoice, &entry.place),
     }
 }
 
-/// A value of a PARSER section.
-fn parser_value(alloc: Global, kind: Kind, entry: &Entry) -> Result<Value, Stop>
-    ensures { Gives (value_said no_parser kind entry.now) result }
+/// Reads a value of a PARSER section.
+fn read_parser_value(alloc: Global, kind: Kind, entry: &Entry) -> Result<Value, Stop>
+    ensures { ReturnsResult (property_value no_parser kind entry.now) result }
 {
     match kind {
-        Kind::Plain(plain) => plain_value(alloc, plain, entry),
-        Kind::Pattern => pattern_value(alloc, entry),
-        Kind::Grep { exclude } => grep_value(alloc, exclude, entry),
+        Kind::Plain(plain) => read_plain_value(alloc, plain, entry),
+        Kind::Pattern => read_pattern(alloc, entry),
+        Kind::Grep { exclude } => read_grep(alloc, exclude, entry),
         Kind::Parser => refuse(alloc, SettingKind::BadChoice, &entry.place),
     }
 }
 
-/// A value of a section that isn't a PARSER.
+/// Reads a value of a section that isn't a PARSER.
 fn value(alloc: Global, all: &[Section], kind: Kind, entry: &Entry) -> Result<Value, Stop>
-    ensures { Gives (value_said (parser_named all.now) kind entry.now) result }
+    ensures { ReturnsResult (property_value (parser_named all.now) kind entry.now) result }
 {
     match kind {
-        Kind::Plain(plain) => plain_value(alloc, plain, entry),
-        Kind::Pattern => pattern_value(alloc, entry),
-        Kind::Grep { exclude } => grep_value(alloc, exclude, entry),
+        Kind::Plain(plain) => read_plain_value(alloc, plain, entry),
+        Kind::Pattern => read_pattern(alloc, entry),
+        Kind::Grep { exclude } => read_grep(alloc, exclude, entry),
         Kind::Parser => {
             let parser = parser_named(alloc, all, entry)?;
             Ok(Value::Parser(parser))
@@ -107,52 +106,57 @@ fn value(alloc: Global, all: &[Section], kind: Kind, entry: &Entry) -> Result<Va
     }
 }
 
-fn parser_entry(alloc: Global, entry: &Entry) -> Result<Said, Stop>
-    ensures { Gives (entry_said no_parser Part.Parser entry.now) result }
+fn read_parser_entry(alloc: Global, entry: &Entry) -> Result<Property, Stop>
+    ensures { ReturnsResult (entry_property no_parser Target.Parser entry.now) result }
 {
-    let Some(key) = Key::of(Part::Parser, entry.key.as_slice()) else {
+    let Some(key) = Key::of(Target::Parser, entry.key.as_slice()) else {
         return refuse(alloc, SettingKind::UnknownKey, &entry.place);
     };
-    let value = parser_value(alloc, key.kind(), entry)?;
-    Ok(Said { key, value })
+    let value = read_parser_value(alloc, key.kind(), entry)?;
+    Ok(Property { key, value })
 }
 
-fn read_entry(alloc: Global, all: &[Section], part: Part, entry: &Entry) -> Result<Said, Stop>
-    ensures { Gives (entry_said (parser_named all.now) part entry.now) result }
+fn read_entry(
+    alloc: Global,
+    all: &[Section],
+    target: Target,
+    entry: &Entry,
+) -> Result<Property, Stop>
+    ensures { ReturnsResult (entry_property (parser_named all.now) target entry.now) result }
 {
-    let Some(key) = Key::of(part, entry.key.as_slice()) else {
+    let Some(key) = Key::of(target, entry.key.as_slice()) else {
         return refuse(alloc, SettingKind::UnknownKey, &entry.place);
     };
     let value = value(alloc, all, key.kind(), entry)?;
-    Ok(Said { key, value })
+    Ok(Property { key, value })
 }
 
-/// What the entries of a PARSER section say.
-pub fn parser_entries(alloc: Global, entries: &[Entry]) -> Result<SaidList, Stop>
-    ensures { Gives (entries_said no_parser Part.Parser entries.now) result }
+/// Reads the entries of a PARSER section.
+pub fn read_parser_entries(alloc: Global, entries: &[Entry]) -> Result<Properties, Stop>
+    ensures { ReturnsResult (entry_properties no_parser Target.Parser entries.now) result }
 {
-    let mut said = SaidList::new(alloc);
+    let mut properties = Properties::new(alloc);
     for entry in entries {
-        let item = parser_entry(alloc, entry)?;
-        said.push(item)?;
+        let item = read_parser_entry(alloc, entry)?;
+        properties.push(item)?;
     }
-    Ok(said)
+    Ok(properties)
 }
 
-/// What the entries of another section say. An entry that names a parser gives the parser, whose section is checked
-/// there.
+/// Reads the entries of another section. An entry that names a parser gives the parser, whose section is
+/// checked there.
 pub fn read_entries(
     alloc: Global,
     all: &[Section],
-    part: Part,
+    target: Target,
     entries: &[Entry],
-) -> Result<SaidList, Stop>
-    ensures { Gives (entries_said (parser_named all.now) part entries.now) result }
+) -> Result<Properties, Stop>
+    ensures { ReturnsResult (entry_properties (parser_named all.now) target entries.now) result }
 {
-    let mut said = SaidList::new(alloc);
+    let mut properties = Properties::new(alloc);
     for entry in entries {
-        let item = read_entry(alloc, all, part, entry)?;
-        said.push(item)?;
+        let item = read_entry(alloc, all, target, entry)?;
+        properties.push(item)?;
     }
-    Ok(said)
+    Ok(properties)
 }

@@ -1,16 +1,17 @@
-//! Why the sections of a configuration are refused.
+//! Errors in the sections of a configuration.
 
 ghost use Rattle.std.specs.Prelude.{◌≡◌};
-ghost use Rattle.fwd_choices.specs.declared.kind.SettingKind.TheVariants as kinds;
+ghost use Rattle.fwd_settings_schema.specs.declared.error_kind.SettingKind.TheVariants as kinds;
 ghost use Rattle.fwd_settings.specs.declared.fault.Stop.TheVariants as stop;
 
 use fwd_base::{Bytes, Memory};
-use fwd_choices::SettingKind;
 use fwd_config::Place;
+use fwd_settings_schema::SettingKind;
 use std::alloc::Global;
 use thiserror::Error;
 
-/// What is wrong with the sections of a configuration, and where. For want of memory no place is given.
+/// What is wrong with the sections of a configuration, and where. If an allocation fails, the place is
+/// empty.
 #[derive(Debug, Drop, PartialEq, Eq, Error)]
 #[error("configuration refused: {kind}")]
 pub struct SettingFault {
@@ -18,7 +19,7 @@ pub struct SettingFault {
     pub place: Place,
 }
 
-/// Why a reading ends before its end.
+/// Why a reading stops early.
 #[derive(Drop)]
 pub enum Stop {
     Memory,
@@ -34,7 +35,7 @@ impl From<Memory> for Stop {
 }
 
 impl SettingFault {
-    /// Want of memory.
+    /// Returns the error of a failed allocation.
     pub fn out_of_memory(alloc: Global) -> Self
         ensures { result.kind ≡ kinds.Memory }
     {

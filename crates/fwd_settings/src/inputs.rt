@@ -1,34 +1,31 @@
-//! Inputs.
+//! Settings of inputs.
 
 ghost use Rattle.std.specs.Prelude.{◌≡◌, ◌<◌, ◌+◌, ◌++◌, ◌∷◌, ◌^◌, ℕ, List, IfOk, codes, decimal, length, count_by};
 ghost use Rattle.std.specs.Option.{option_copied};
 ghost use Rattle.std.specs.List.{list_any};
-ghost use Rattle.fwd_settings.specs.Keys.{head_of};
-ghost use Rattle.fwd_settings.specs.Reading.{Gives, known};
+ghost use Rattle.fwd_settings_schema.specs.Keys.{head_of};
+ghost use Rattle.fwd_settings.specs.Reading.{ReturnsResult, known};
 ghost use Rattle.fwd_settings.specs.Inputs.{instance, input_plugin, is_input_of, input_name, input_kind, tag_of, is_stored, lines_shape, input_parser, is_path_entry, is_service_head, has_path, input_from};
 ghost use Rattle.std.specs.Prelude.{unwrap_or};
 ghost use Rattle.fwd_settings.specs.Parsers.{timeless};
-ghost use Rattle.fwd_settings.specs.Said.{text_at, last_in, parser_in};
+ghost use Rattle.fwd_settings_schema.specs.Property.{text_at, last_in, parser_in};
 
 use crate::entries::refuse;
 use crate::fault::Stop;
-use crate::keys::Key;
 use crate::parsers::timeless;
-use crate::parts::{Head, Part};
-use crate::plugins::InputPlugin;
-use crate::said::{
-    Said, SaidList, last_parser, number_at, own_text, port_at, text_at, text_or, truth_at, word_at,
-};
-use crate::words::Word;
 use crate::{InputKind, InputSet};
 use fwd_base::{Bytes, Memory};
-use fwd_choices::{SettingKind, parts_at};
 use fwd_config::{Entry, Place, Section};
 use fwd_parser::{Parser, Shape};
+use fwd_settings_schema::{
+    FORWARD_PORT, InputPlugin, Key, Properties, Property, SectionKind, SettingKind, TCP_PORT,
+    Target, Word, last_parser, number_at, own_text, parts_at, port_at, text_at, text_or, truth_at,
+    word_at,
+};
 use itoa::Buffer;
 use std::alloc::Global;
 
-/// The name of an instance: its plugin, a dot and its number.
+/// Returns the name of an instance: its plugin, a dot and its number.
 pub fn instance(alloc: Global, plugin: &[u8], number: usize) -> Result<Bytes, Memory>
     ensures { IfOk result (λ name. name ≡ instance plugin.now number) }
 {
@@ -39,7 +36,7 @@ pub fn instance(alloc: Global, plugin: &[u8], number: usize) -> Result<Bytes, Me
     Ok(name)
 }
 
-/// The plugin that an input is of.
+/// Returns the plugin of an input.
 fn input_plugin(kind: &InputKind) -> InputPlugin
     ensures { result ≡ input_plugin kind.now }
 {
@@ -63,54 +60,54 @@ fn count_of(plugin: InputPlugin, before: &[InputSet]) -> usize
     before.iter().filter(|set| is_input_of(plugin, set)).count()
 }
 
-/// The kind of an input.
+/// Returns the plugin of an input with its own settings.
 fn input_kind(
     alloc: Global,
     plugin: InputPlugin,
     place: &Place,
-    said: &[Said],
+    properties: &[Property],
 ) -> Result<InputKind, Stop>
-    ensures { Gives (known (input_kind plugin place.now said.now)) result }
+    ensures { ReturnsResult (known (input_kind plugin place.now properties.now)) result }
 {
     match plugin {
-        InputPlugin::Tail => tail_kind(alloc, place, said),
+        InputPlugin::Tail => tail_kind(alloc, place, properties),
         InputPlugin::Tcp => Ok(InputKind::Tcp {
-            host: text_or(alloc, said, Key::Listen, b"0.0.0.0")?,
-            port: port_at(said, Key::Port).unwrap_or(5170),
+            host: text_or(alloc, properties, Key::Listen, b"0.0.0.0")?,
+            port: port_at(properties, Key::Port).unwrap_or(TCP_PORT),
         }),
         InputPlugin::Forward => Ok(InputKind::Forward {
-            host: text_or(alloc, said, Key::Listen, b"0.0.0.0")?,
-            port: port_at(said, Key::Port).unwrap_or(24224),
+            host: text_or(alloc, properties, Key::Listen, b"0.0.0.0")?,
+            port: port_at(properties, Key::Port).unwrap_or(FORWARD_PORT),
         }),
         InputPlugin::Stdin => Ok(InputKind::Stdin),
     }
 }
 
-fn tail_kind(alloc: Global, place: &Place, said: &[Said]) -> Result<InputKind, Stop>
-    ensures { Gives (known (input_kind InputPlugin.Tail place.now said.now)) result }
+fn tail_kind(alloc: Global, place: &Place, properties: &[Property]) -> Result<InputKind, Stop>
+    ensures { ReturnsResult (known (input_kind InputPlugin.Tail place.now properties.now)) result }
 {
-    match text_at(said, Key::Paths) {
+    match text_at(properties, Key::Paths) {
         Some(paths) => Ok(InputKind::Tail {
             paths: parts_at(alloc, b",", paths)?,
-            from_head: truth_at(said, Key::ReadFromHead).unwrap_or(false),
+            from_head: truth_at(properties, Key::ReadFromHead).unwrap_or(false),
         }),
         None => refuse(alloc, SettingKind::Missing, place),
     }
 }
 
-/// The tag of an input's events.
+/// Returns the tag of an input's events.
 fn tag_of(
     alloc: Global,
     plugin: InputPlugin,
     name: &[u8],
-    said: &[Said],
+    properties: &[Property],
 ) -> Result<Option<Bytes>, Memory>
-    ensures { IfOk result (λ tag. tag ≡ tag_of plugin name.now (text_at Key.Tag said.now)) }
+    ensures { IfOk result (λ tag. tag ≡ tag_of plugin name.now (text_at Key.Tag properties.now)) }
 {
     match plugin {
-        InputPlugin::Forward => own_text(alloc, said, Key::Tag),
+        InputPlugin::Forward => own_text(alloc, properties, Key::Tag),
         InputPlugin::Tail | InputPlugin::Tcp | InputPlugin::Stdin => {
-            Ok(Some(text_or(alloc, said, Key::Tag, name)?))
+            Ok(Some(text_or(alloc, properties, Key::Tag, name)?))
         }
     }
 }
@@ -118,10 +115,7 @@ fn tag_of(
 fn is_stored(word: Option<Word>) -> bool
     ensures { result ≡ is_stored word }
 {
-    match word {
-        Some(Word::Filesystem) => true,
-        _ => false,
-    }
+    matches!(word, Some(Word::Filesystem))
 }
 
 fn lines_shape(word: Option<Word>) -> Shape
@@ -133,22 +127,22 @@ fn lines_shape(word: Option<Word>) -> Shape
     }
 }
 
-/// The parser of an input.
-fn input_parser(plugin: InputPlugin, said: SaidList) -> Parser
-    ensures { result ≡ input_parser plugin said }
+/// Returns the parser of an input.
+fn input_parser(plugin: InputPlugin, properties: Properties) -> Parser
+    ensures { result ≡ input_parser plugin properties }
 {
     match plugin {
-        InputPlugin::Tail => parser_or(Shape::Plain, said),
-        InputPlugin::Stdin => parser_or(Shape::Json, said),
-        InputPlugin::Tcp => timeless(lines_shape(word_at(said.as_slice(), Key::LineFormat))),
+        InputPlugin::Tail => parser_or(Shape::Plain, properties),
+        InputPlugin::Stdin => parser_or(Shape::Json, properties),
+        InputPlugin::Tcp => timeless(lines_shape(word_at(properties.as_slice(), Key::LineFormat))),
         InputPlugin::Forward => timeless(Shape::Plain),
     }
 }
 
-fn parser_or(shape: Shape, said: SaidList) -> Parser
-    ensures { result ≡ unwrap_or (last_in parser_in said) (timeless shape) }
+fn parser_or(shape: Shape, properties: Properties) -> Parser
+    ensures { result ≡ unwrap_or (last_in parser_in properties) (timeless shape) }
 {
-    match last_parser(said) {
+    match last_parser(properties) {
         Some(parser) => parser,
         None => timeless(shape),
     }
@@ -157,7 +151,7 @@ fn parser_or(shape: Shape, said: SaidList) -> Parser
 fn is_path_entry(entry: &Entry) -> bool
     ensures { result ≡ is_path_entry entry.now }
 {
-    match Key::of(Part::Service, entry.key.as_slice()) {
+    match Key::of(Target::Service, entry.key.as_slice()) {
         Some(key) => Key::StoragePath.is_written_as(key),
         None => false,
     }
@@ -166,21 +160,16 @@ fn is_path_entry(entry: &Entry) -> bool
 fn any_path_entry(entries: &[Entry]) -> bool
     ensures { result ≡ list_any is_path_entry entries.now }
 {
-    for entry in entries {
-        if is_path_entry(entry) {
-            return true;
-        }
-    }
-    false
+    entries.iter().any(|entry| is_path_entry(entry))
 }
 
 fn is_service(section: &Section) -> bool
     ensures { result ≡ is_service_head (head_of section.now.name) }
 {
-    match Head::of(section.name.as_slice()) {
-        Some(Head::Service) => true,
-        _ => false,
-    }
+    matches!(
+        SectionKind::of(section.name.as_slice()),
+        Some(SectionKind::Service)
+    )
 }
 
 fn has_path(section: &Section) -> bool
@@ -189,38 +178,34 @@ fn has_path(section: &Section) -> bool
     is_service(section) && any_path_entry(section.entries.as_slice())
 }
 
-/// Whether some SERVICE section has a `storage.path`.
+/// Returns whether some SERVICE section has a `storage.path`.
 pub fn any_path(all: &[Section]) -> bool
     ensures { result ≡ list_any has_path all.now }
 {
-    for section in all {
-        if has_path(section) {
-            return true;
-        }
-    }
-    false
+    all.iter().any(|section| has_path(section))
 }
 
-/// An input behind those before it. `path` tells whether there is a storage path.
+/// Returns the settings of an input, given those of the inputs before it. `path` is whether there is a
+/// storage path.
 pub fn input_from(
     alloc: Global,
     path: bool,
     plugin: InputPlugin,
     place: &Place,
     before: &[InputSet],
-    said: SaidList,
+    properties: Properties,
 ) -> Result<InputSet, Stop>
-    ensures { Gives (known (input_from path plugin place.now before.now said)) result }
+    ensures { ReturnsResult (known (input_from path plugin place.now before.now properties)) result }
 {
-    let kind = input_kind(alloc, plugin, place, said.as_slice())?;
+    let kind = input_kind(alloc, plugin, place, properties.as_slice())?;
     let name = instance(alloc, plugin.name(), count_of(plugin, before))?;
-    let tag = tag_of(alloc, plugin, name.as_slice(), said.as_slice())?;
-    let stored = is_stored(word_at(said.as_slice(), Key::StorageType));
+    let tag = tag_of(alloc, plugin, name.as_slice(), properties.as_slice())?;
+    let stored = is_stored(word_at(properties.as_slice(), Key::StorageType));
     if stored && !path {
         return refuse(alloc, SettingKind::Missing, place);
     }
-    let mem_limit = number_at(said.as_slice(), Key::MemBufLimit);
-    let parser = input_parser(plugin, said);
+    let mem_limit = number_at(properties.as_slice(), Key::MemBufLimit);
+    let parser = input_parser(plugin, properties);
     Ok(InputSet {
         name,
         kind,

@@ -1,34 +1,29 @@
-//! What a configuration sets: its sections are checked, each key and value by the table of keys, and become typed
-//! settings, with a default for what isn't given.
+//! Checks the sections of a configuration, each key and value by the table of keys, and returns typed
+//! settings, with a default for each setting that isn't given.
 //!
-//! `settings` gives what the sections set, or their first refusal with its place, or want of memory (`meaning`);
-//! settings that are given are what an engine asks for (`sound`). `ends` gives what a loop connects by them. Whether a
-//! text is a pattern is the one thing that the definitions ask of outside.
+//! `settings` returns the settings of the sections, or their first error with its place, or out of memory
+//! (`meaning`). Returned settings meet what an engine requires (`sound`). `ends` returns the endpoints that
+//! a loop connects by them. The definitions leave one thing open: whether a text is a pattern.
 #![tactic(auto)]
 
-mod chosen;
-mod connected;
+mod endpoints;
 mod entries;
 mod fault;
 mod filters;
 mod inputs;
-mod keys;
 mod outputs;
 mod parsers;
-mod parts;
-mod plugins;
-mod said;
 mod sections;
 mod service;
+mod settings_types;
 mod values;
-mod words;
 
-pub use chosen::{
-    AllSettings, InputKind, InputSet, InputSets, OutputKind, OutputSet, OutputSets, Service,
-};
-pub use connected::ends;
+pub use endpoints::ends;
 pub use fault::SettingFault;
 pub use fwd_base::{Form, Retries};
-pub use fwd_choices::SettingKind;
 pub use fwd_outside::{Ends, InEnd, InEnds, OutEnd, OutEnds};
+pub use fwd_settings_schema::SettingKind;
 pub use sections::settings;
+pub use settings_types::{
+    AllSettings, InputKind, InputSet, InputSets, OutputKind, OutputSet, OutputSets, Service,
+};

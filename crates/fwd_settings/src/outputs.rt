@@ -1,19 +1,19 @@
-//! Outputs.
+//! Settings of outputs.
 
 ghost use Rattle.std.specs.Prelude.{◌≡◌, IfOk, count_by};
 ghost use Rattle.fwd_settings.specs.Outputs.{output_plugin, is_output_of, record_form, file_form, request_form, host_of, output_kind, output_from};
 
 use crate::filters::glob_of;
 use crate::inputs::instance;
-use crate::keys::Key;
-use crate::plugins::OutputPlugin;
-use crate::said::{Said, number_at, own_text, port_at, retries_at, text_or, truth_at, word_at};
-use crate::words::Word;
 use crate::{OutputKind, OutputSet};
 use fwd_base::{Bytes, Form, Memory, Retries};
+use fwd_settings_schema::{
+    FORWARD_PORT, HTTP_PORT, Key, OutputPlugin, Property, TCP_PORT, Word, number_at, own_text,
+    port_at, retries_at, text_or, truth_at, word_at,
+};
 use std::alloc::Global;
 
-/// The plugin that an output is of.
+/// Returns the plugin of an output.
 fn output_plugin(kind: &OutputKind) -> OutputPlugin
     ensures { result ≡ output_plugin kind.now }
 {
@@ -68,59 +68,63 @@ fn request_form(word: Option<Word>) -> Form
     }
 }
 
-fn host_of(alloc: Global, said: &[Said]) -> Result<Bytes, Memory>
-    ensures { IfOk result (λ host. host ≡ host_of said.now) }
+fn host_of(alloc: Global, properties: &[Property]) -> Result<Bytes, Memory>
+    ensures { IfOk result (λ host. host ≡ host_of properties.now) }
 {
-    text_or(alloc, said, Key::Host, b"127.0.0.1")
+    text_or(alloc, properties, Key::Host, b"127.0.0.1")
 }
 
-/// The kind of an output.
-fn output_kind(alloc: Global, plugin: OutputPlugin, said: &[Said]) -> Result<OutputKind, Memory>
-    ensures { IfOk result (λ kind. kind ≡ output_kind plugin said.now) }
+/// Returns the plugin of an output with its own settings.
+fn output_kind(
+    alloc: Global,
+    plugin: OutputPlugin,
+    properties: &[Property],
+) -> Result<OutputKind, Memory>
+    ensures { IfOk result (λ kind. kind ≡ output_kind plugin properties.now) }
 {
     match plugin {
         OutputPlugin::Stdout => Ok(OutputKind::Stdout {
-            form: record_form(word_at(said, Key::RecordFormat)),
+            form: record_form(word_at(properties, Key::RecordFormat)),
         }),
         OutputPlugin::File => Ok(OutputKind::File {
-            folder: text_or(alloc, said, Key::Folder, b".")?,
-            file: own_text(alloc, said, Key::File)?,
-            form: file_form(word_at(said, Key::FileFormat)),
+            folder: text_or(alloc, properties, Key::Folder, b".")?,
+            file: own_text(alloc, properties, Key::File)?,
+            form: file_form(word_at(properties, Key::FileFormat)),
         }),
         OutputPlugin::Tcp => Ok(OutputKind::Tcp {
-            host: host_of(alloc, said)?,
-            port: port_at(said, Key::Port).unwrap_or(5170),
-            form: record_form(word_at(said, Key::RecordFormat)),
+            host: host_of(alloc, properties)?,
+            port: port_at(properties, Key::Port).unwrap_or(TCP_PORT),
+            form: record_form(word_at(properties, Key::RecordFormat)),
         }),
         OutputPlugin::Forward => Ok(OutputKind::Forward {
-            host: host_of(alloc, said)?,
-            port: port_at(said, Key::Port).unwrap_or(24224),
-            ack: truth_at(said, Key::RequireAck).unwrap_or(false),
-            whole_time: truth_at(said, Key::TimeAsInteger).unwrap_or(false),
+            host: host_of(alloc, properties)?,
+            port: port_at(properties, Key::Port).unwrap_or(FORWARD_PORT),
+            ack: truth_at(properties, Key::RequireAck).unwrap_or(false),
+            whole_time: truth_at(properties, Key::TimeAsInteger).unwrap_or(false),
         }),
         OutputPlugin::Http => Ok(OutputKind::Http {
-            host: host_of(alloc, said)?,
-            port: port_at(said, Key::Port).unwrap_or(80),
-            uri: text_or(alloc, said, Key::Uri, b"/")?,
-            form: request_form(word_at(said, Key::RecordFormat)),
+            host: host_of(alloc, properties)?,
+            port: port_at(properties, Key::Port).unwrap_or(HTTP_PORT),
+            uri: text_or(alloc, properties, Key::Uri, b"/")?,
+            form: request_form(word_at(properties, Key::RecordFormat)),
         }),
     }
 }
 
-/// An output behind those before it.
+/// Returns the settings of an output, given those of the outputs before it.
 pub fn output_from(
     alloc: Global,
     plugin: OutputPlugin,
     before: &[OutputSet],
-    said: &[Said],
+    properties: &[Property],
 ) -> Result<OutputSet, Memory>
-    ensures { IfOk result (λ set. set ≡ output_from plugin before.now said.now) }
+    ensures { IfOk result (λ set. set ≡ output_from plugin before.now properties.now) }
 {
     Ok(OutputSet {
         name: instance(alloc, plugin.name(), count_of(plugin, before))?,
-        glob: glob_of(alloc, said)?,
-        kind: output_kind(alloc, plugin, said)?,
-        retries: retries_at(said, Key::RetryLimit).unwrap_or(Retries::Times(1)),
-        total_limit: number_at(said, Key::TotalLimit),
+        glob: glob_of(alloc, properties)?,
+        kind: output_kind(alloc, plugin, properties)?,
+        retries: retries_at(properties, Key::RetryLimit).unwrap_or(Retries::Times(1)),
+        total_limit: number_at(properties, Key::TotalLimit),
     })
 }

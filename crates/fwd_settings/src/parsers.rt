@@ -1,61 +1,60 @@
-//! Parsers, and the sections that describe them.
+//! Parsers, and the PARSER sections that describe them.
 
 ghost use Rattle.std.specs.Prelude.{◌≡◌, IfOk};
 ghost use Rattle.std.specs.Option.{option_copied};
 ghost use Rattle.std.specs.List.{find};
-ghost use Rattle.fwd_settings.specs.Reading.{Gives, known};
+ghost use Rattle.fwd_settings.specs.Reading.{ReturnsResult, known};
 ghost use Rattle.fwd_settings.specs.Parsers.{time_of, types_by, shape_by, parser_from, parser_of, is_name, name_entry, is_parser_head, has_name, is_parser_named, parser_named, timeless};
-ghost use Rattle.fwd_settings.specs.Keys.{head_of};
+ghost use Rattle.fwd_settings_schema.specs.Keys.{head_of};
 
-use crate::entries::{parser_entries, refuse};
+use crate::entries::{read_parser_entries, refuse};
 use crate::fault::Stop;
-use crate::keys::Key;
-use crate::parts::Head;
-use crate::said::{Said, SaidList, last_pattern, own_text, text_at, text_or, truth_at, word_at};
-use crate::words::Word;
 use fwd_base::Memory;
-use fwd_choices::{SettingKind, field_types, same_name};
 use fwd_config::{Entry, Place, Section};
 use fwd_parser::{FieldTypes, Parser, Shape, TimeRule};
+use fwd_settings_schema::{
+    Key, Properties, Property, SectionKind, SettingKind, Word, field_types, last_pattern, own_text,
+    same_name, text_at, text_or, truth_at, word_at,
+};
 use std::alloc::Global;
 
-/// A parser that reads no time.
+/// Returns a parser that reads no time.
 pub fn timeless(shape: Shape) -> Parser
     ensures { result ≡ timeless shape }
 {
     Parser { shape, time: None }
 }
 
-/// How the time is read, where a format is given.
-fn time_of(alloc: Global, said: &[Said]) -> Result<Option<TimeRule>, Memory>
-    ensures { IfOk result (λ time. time ≡ time_of said.now) }
+/// Returns how to read the time, if a format is given.
+fn time_of(alloc: Global, properties: &[Property]) -> Result<Option<TimeRule>, Memory>
+    ensures { IfOk result (λ time. time ≡ time_of properties.now) }
 {
-    let Some(format) = own_text(alloc, said, Key::TimeFormat)? else {
+    let Some(format) = own_text(alloc, properties, Key::TimeFormat)? else {
         return Ok(None);
     };
-    let key = text_or(alloc, said, Key::TimeKey, b"time")?;
-    let keep = truth_at(said, Key::TimeKeep).unwrap_or(false);
+    let key = text_or(alloc, properties, Key::TimeKey, b"time")?;
+    let keep = truth_at(properties, Key::TimeKeep).unwrap_or(false);
     Ok(Some(TimeRule { key, format, keep }))
 }
 
-/// What lines are read as.
+/// Returns what lines are read as.
 fn shape_of(
     alloc: Global,
     place: &Place,
     format: Option<Word>,
-    said: SaidList,
+    properties: Properties,
 ) -> Result<Shape, Stop>
-    ensures { Gives (known (shape_by place.now said format)) result }
+    ensures { ReturnsResult (known (shape_by place.now properties format)) result }
 {
     match format {
         None => refuse(alloc, SettingKind::Missing, place),
         Some(Word::Json) => Ok(Shape::Json),
-        Some(Word::Regex) => groups(alloc, place, said),
+        Some(Word::Regex) => groups(alloc, place, properties),
         Some(_) => Ok(Shape::Plain),
     }
 }
 
-/// The types of fields, of which there may be none.
+/// Returns the types of fields, none without a text.
 fn types_of(alloc: Global, text: Option<&[u8]>) -> Result<FieldTypes, Memory>
     ensures { IfOk result (λ types. types ≡ types_by (option_copied text.entry)) }
 {
@@ -68,12 +67,12 @@ fn types_of(alloc: Global, text: Option<&[u8]>) -> Result<FieldTypes, Memory>
     }
 }
 
-fn groups(alloc: Global, place: &Place, said: SaidList) -> Result<Shape, Stop>
-    ensures { Gives (known (shape_by place.now said (Some Word.Regex))) result }
+fn groups(alloc: Global, place: &Place, properties: Properties) -> Result<Shape, Stop>
+    ensures { ReturnsResult (known (shape_by place.now properties (Some Word.Regex))) result }
 {
-    let skip_empty = truth_at(said.as_slice(), Key::SkipEmptyValues).unwrap_or(true);
-    let types = types_of(alloc, text_at(said.as_slice(), Key::Types))?;
-    let Some(pattern) = last_pattern(said) else {
+    let skip_empty = truth_at(properties.as_slice(), Key::SkipEmptyValues).unwrap_or(true);
+    let types = types_of(alloc, text_at(properties.as_slice(), Key::Types))?;
+    let Some(pattern) = last_pattern(properties) else {
         return refuse(alloc, SettingKind::Missing, place);
     };
     Ok(Shape::Groups {
@@ -83,22 +82,22 @@ fn groups(alloc: Global, place: &Place, said: SaidList) -> Result<Shape, Stop>
     })
 }
 
-/// The parser that the entries of a section describe.
-fn parser_from(alloc: Global, place: &Place, said: SaidList) -> Result<Parser, Stop>
-    ensures { Gives (known (parser_from place.now said)) result }
+/// Returns the parser that the entries of a section describe.
+fn parser_from(alloc: Global, place: &Place, properties: Properties) -> Result<Parser, Stop>
+    ensures { ReturnsResult (known (parser_from place.now properties)) result }
 {
-    let time = time_of(alloc, said.as_slice())?;
-    let format = word_at(said.as_slice(), Key::ParserFormat);
-    let shape = shape_of(alloc, place, format, said)?;
+    let time = time_of(alloc, properties.as_slice())?;
+    let format = word_at(properties.as_slice(), Key::ParserFormat);
+    let shape = shape_of(alloc, place, format, properties)?;
     Ok(Parser { shape, time })
 }
 
-/// The parser that a section describes.
+/// Returns the parser that a section describes.
 fn parser_of(alloc: Global, section: &Section) -> Result<Parser, Stop>
-    ensures { Gives (parser_of section.now) result }
+    ensures { ReturnsResult (parser_of section.now) result }
 {
-    let said = parser_entries(alloc, section.entries.as_slice())?;
-    parser_from(alloc, &section.place, said)
+    let properties = read_parser_entries(alloc, section.entries.as_slice())?;
+    parser_from(alloc, &section.place, properties)
 }
 
 fn is_name(entry: &Entry) -> bool
@@ -107,7 +106,7 @@ fn is_name(entry: &Entry) -> bool
     same_name(b"name", entry.key.as_slice())
 }
 
-/// The Name of a section; of several the last counts.
+/// Returns the Name of a section. If there are several, the last counts.
 pub fn name_entry(entries: &[Entry]) -> Option<&Entry>
     ensures { option_copied result ≡ name_entry entries.now }
 {
@@ -123,10 +122,10 @@ pub fn name_entry(entries: &[Entry]) -> Option<&Entry>
 fn is_parser(section: &Section) -> bool
     ensures { result ≡ is_parser_head (head_of section.now.name) }
 {
-    match Head::of(section.name.as_slice()) {
-        Some(Head::Parser) => true,
-        _ => false,
-    }
+    matches!(
+        SectionKind::of(section.name.as_slice()),
+        Some(SectionKind::Parser)
+    )
 }
 
 fn has_name(entries: &[Entry], name: &[u8]) -> bool
@@ -144,21 +143,16 @@ fn is_parser_named(section: &Section, name: &[u8]) -> bool
     is_parser(section) && has_name(section.entries.as_slice(), name)
 }
 
-/// The first PARSER section of that name.
+/// Returns the first PARSER section with this name.
 fn find_parser<'a>(all: &'a [Section], name: &[u8]) -> Option<&'a Section>
     ensures { option_copied result ≡ find (is_parser_named name.now) all.now }
 {
-    for section in all {
-        if is_parser_named(section, name) {
-            return Some(section);
-        }
-    }
-    None
+    all.iter().find(|section| is_parser_named(section, name))
 }
 
-/// The parser that an entry names.
+/// Returns the parser that an entry names.
 pub fn parser_named(alloc: Global, all: &[Section], entry: &Entry) -> Result<Parser, Stop>
-    ensures { Gives (parser_named all.now entry.now) result }
+    ensures { ReturnsResult (parser_named all.now entry.now) result }
 {
     match find_parser(all, entry.value.as_slice()) {
         Some(section) => parser_of(alloc, section),

@@ -1,22 +1,19 @@
-//! How values are read.
+//! Reading of values that are neither patterns nor parsers.
 
 ghost use Rattle.std.specs.Prelude.{◌≡◌, ◌≢◌, IfOk, IfErr};
-ghost use Rattle.fwd_choices.specs.declared.kind.SettingKind.TheVariants.{Memory};
-ghost use Rattle.fwd_choices.specs.declared.kind.SettingKind.TheVariants.{BadNumber, BadChoice};
+ghost use Rattle.fwd_settings_schema.specs.declared.error_kind.SettingKind.TheVariants.{Memory};
+ghost use Rattle.fwd_settings_schema.specs.declared.error_kind.SettingKind.TheVariants.{BadNumber, BadChoice};
 ghost use Rattle.fwd_settings.specs.Values.{value_of, or_else, when};
-ghost use Rattle.fwd_settings.specs.declared.keys.Plain.TheVariants as plain;
+ghost use Rattle.fwd_settings_schema.specs.declared.keys.Plain.TheVariants as plain;
 
-use crate::keys::Plain;
-use crate::said::Value;
-use crate::words::{Menu, Word};
 use fwd_base::{Bytes, number, parse_size};
-use fwd_choices::{
-    ChangeWord, SettingKind, change, condition, field_types, flush_ms, is_false, is_plain, is_tag,
-    is_uri, is_visible, port, positive, retries, truth,
+use fwd_settings_schema::{
+    ChangeWord, Menu, Plain, SettingKind, Value, Word, change, condition, field_types, flush_ms,
+    is_false, is_plain, is_tag, is_uri, is_visible, port, positive, retries, truth,
 };
 use std::alloc::Global;
 
-/// A number, if there is one.
+/// Returns a number, if there is one.
 fn numeral(number: Option<u64>) -> Result<Value, SettingKind>
     ensures { result ≡ or_else BadNumber Value.Number number }
 {
@@ -81,7 +78,7 @@ fn read_word(menu: Menu, text: &[u8]) -> Result<Value, SettingKind>
     }
 }
 
-/// A copy of the text, if it may be taken.
+/// Returns a copy of the text, if the test passed.
 fn text_if(alloc: Global, takes: bool, text: &[u8]) -> Result<Value, SettingKind>
     ensures ok { IfOk result (λ value. or_else BadChoice Value.Text (when takes text.now) ≡ Ok value) }
     ensures err { IfErr result (λ kind. kind ≢ Memory → or_else BadChoice Value.Text (when takes text.now) ≡ Err kind) }
@@ -120,7 +117,7 @@ fn read_change(alloc: Global, word: ChangeWord, text: &[u8]) -> Result<Value, Se
     }
 }
 
-/// A value that is neither a pattern nor a parser.
+/// Reads a value that is neither a pattern nor a parser.
 pub fn read_plain(alloc: Global, plain: Plain, text: &[u8]) -> Result<Value, SettingKind>
     ensures ok { IfOk result (λ value. value_of plain text.now ≡ Ok value) }
     ensures err { IfErr result (λ kind. kind ≢ Memory → value_of plain text.now ≡ Err kind) }

@@ -1,12 +1,12 @@
-mod Making
+mod MadeCalls
 mod Results
-mod Rising
-mod Opening
-mod Holding
-mod Sound
-pub mod Moments
-mod Standing
-mod Own
-mod Others
+mod NumberOrder
+mod OpenEntries
+mod MapEntries
+mod Invariant
+pub mod CrashPoints
+mod RecoveredContent
+mod OwnFile
+mod OtherFiles
 mod Crashes
-mod Staying
+mod UntouchedFile

@@ -1,4 +1,4 @@
--- What follows of a result's value.
+-- Facts from a result's value.
 use Rattle.std.proofs.Common.{◌≡◌, Option, Some, None, IsSome, Result, Ok, Err, OnOk, OnErr, refl}
 
 pub on_ok : {T E : Type 0} {P Q : Type 0} (r : Result T E) → (P → Q) → OnOk r P → OnOk r Q

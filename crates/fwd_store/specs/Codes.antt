@@ -1,13 +1,13 @@
--- By which the values of a store are told apart.
+-- Codes that determine the values of a store.
 use Rattle.std.specs.Prelude.{◌≡◌, ◌⊎◌, ℕ, Bool, List, Option, refl}
 use Rattle.std.proofs.Common.{inl, inr}
 use Rattle.std.specs.FinMap as map
 use Rattle.std.specs.Coded.{Coded, code_by, coded×, coded⊎, coded_ℕ, coded_bool, coded_list, coded_option}
 use Rattle.fwd_chunk.specs.declared.append.ChunkHead.{ChunkHead}
-use Rattle.fwd_kept.specs.declared.kept.Kept.{Kept}
-use Rattle.fwd_kept.specs.declared.kept.Kept.TheVariants.{InFile, Adopted, InMemory}
-use Rattle.fwd_store.specs.Opened.{Opened}
-use Rattle.fwd_store.specs.Stored.{Held, HeldList, Stored}
+use Rattle.fwd_chunk.specs.declared.kept.Kept.{Kept}
+use Rattle.fwd_chunk.specs.declared.kept.Kept.TheVariants.{InFile, Adopted, InMemory}
+use Rattle.fwd_store.specs.OpenChunk.{Opened}
+use Rattle.fwd_store.specs.StoreState.{KeptMap, KeptMapWithRoom, Stored}
 
 -- a name, four numbers, names
 abbrev pub HeadParts : Type 0
@@ -40,14 +40,14 @@ back (InMemory content) = refl
 abbrev pub kept_code : Coded Kept
 kept_code = code_by Parts (coded⊎ head_code (coded⊎ head_code (coded_list coded_ℕ))) parts_of kept_of back
 
-abbrev pub held_list_code : Coded HeldList
-held_list_code = code_by (Held × ℕ) (coded× (map.code coded_ℕ kept_code) coded_ℕ) (λ h. (h.list, h.spare)) (λ p. record { list = p.0; spare = p.1 }) (λ _. refl)
+abbrev pub held_list_code : Coded KeptMapWithRoom
+held_list_code = code_by (KeptMap × ℕ) (coded× (map.code coded_ℕ kept_code) coded_ℕ) (λ h. (h.list, h.spare)) (λ p. record { list = p.0; spare = p.1 }) (λ _. refl)
 
 abbrev pub opened_code : Coded Opened
 opened_code = code_by (ℕ × (List ℕ × ℕ)) (coded× coded_ℕ (coded× (coded_list coded_ℕ) coded_ℕ)) (λ o. (o.input, (o.tag, o.chunk))) (λ p. record { input = p.0; tag = p.1.0; chunk = p.1.1 }) (λ _. refl)
 
 abbrev pub stored_code : Coded Stored
 stored_code =
-    code_by (Option (List ℕ) × (Bool × (ℕ × (Held × List Opened))))
+    code_by (Option (List ℕ) × (Bool × (ℕ × (KeptMap × List Opened))))
     (coded× (coded_option (coded_list coded_ℕ)) (coded× coded_bool (coded× coded_ℕ (coded× (map.code coded_ℕ kept_code) (coded_list opened_code)))))
     (λ s. (s.root, (s.full, (s.next, (s.chunks, s.opened))))) (λ p. record { root = p.0; full = p.1.0; next = p.1.1.0; chunks = p.1.1.1.0; opened = p.1.1.1.1 }) (λ _. refl)

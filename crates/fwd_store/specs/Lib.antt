@@ -1,7 +1,7 @@
-pub mod Opened
+pub mod OpenChunk
 pub mod Source
 pub mod SameSource
-pub mod Stored
+pub mod StoreState
 pub mod Codes
 pub mod Store
 pub mod Crash

@@ -1,34 +1,36 @@
-//! The chunks that a forwarder holds, and the batches that they take.
+//! The chunks that a forwarder holds, and the batches that it appends to them.
 //!
-//! A batch that was accepted is owed until it is delivered, so it stands in a chunk: in a file of the disk, where it
-//! outlives a crash, or in memory. Batches of one input and tag go into one chunk until it is shut; its file is placed with
-//! the first of them and appended to by the others.
+//! An accepted batch is pending until it is delivered. It is in a chunk: in a file on the disk, which
+//! survives a crash, or in memory. Batches of one input and tag go into one chunk until the chunk is closed.
+//! The first batch creates the chunk's file, and the others are appended to it.
 //!
-//! `accept`, `content`, `events`, `settle` and `drop_chunk` make exactly the calls of their definitions, and each
-//! answer gives the store after it. A batch above 16,777,216 bytes and a missing number are refused exactly there. A
-//! number whose placing failed isn't used again, and a chunk whose append failed takes no more batches. At every moment
-//! of an acceptance under full sync each image of the open chunk's file stands for the old content or for that and the
-//! batch, and a new file is whole or not there; after Ok the file stands for the batch too. During a removal a file is
-//! as before or not there. No acceptance and no removal changes what stands under another name, no reading changes
-//! anything, and names tell the numbers of chunks. `content` says `Damaged` exactly where what was read isn't whole
-//! events of the kept length.
+//! `accept`, `content`, `bytes`, `settle` and `drop_chunk` make exactly the calls of their definitions, and
+//! each contract gives the store after each answer. `accept` refuses a batch of more than 16,777,216 bytes
+//! and a missing number, and each refusal has exactly its reason. A number whose file creation failed isn't
+//! used again, and a chunk whose append failed takes no more batches.
+//!
+//! At every point of an `accept` under full sync, each post-crash state of the open chunk's file has the old
+//! content, or that and the batch, and a new file is complete or absent; after Ok the file has the batch.
+//! During a removal a file is unchanged or absent. Neither changes a file of another name, no read changes
+//! anything, and names determine the numbers of chunks. `content` returns `Damaged` exactly if the bytes
+//! that were read aren't whole events of the recorded length.
 #![tactic(auto)]
 
-mod answers;
-mod held;
-mod laws;
-mod opened;
+mod answer;
+mod chunk_map;
+mod open_chunks;
 mod store;
+mod theorems;
 
-pub use answers::{Accepted, StoreRefusal};
-pub use fwd_kept::{Kept, PartErr};
+pub use answer::{Accepted, StoreRefusal};
+#[doc(hidden)]
+pub use chunk_map::ChunkMap;
+pub use fwd_chunk::{Kept, PartErr};
 pub use fwd_outside::{ChunkId, Home, InputId, Memory};
 #[doc(hidden)]
-pub use held::Chunks;
-pub use laws::{
-    append_keeps_either, content_stays, first_batch_comes_whole, found_content_stands,
-    names_tell_numbers,
-};
-#[doc(hidden)]
-pub use opened::{OpenChunks, Source};
+pub use open_chunks::{OpenChunks, Source};
 pub use store::Store;
+pub use theorems::{
+    append_keeps_old_or_new, content_is_unchanged, first_batch_is_atomic, names_determine_numbers,
+    recovered_content_is_read,
+};

@@ -11,7 +11,7 @@ use Prim.Native.Nat.{◌^◌}
 use Rattle.fwd_table.specs.declared.route.Route.{Route}
 use Rattle.fwd_table.specs.Routes.{RiseFrom, idle_at, routes_below, mask_of, IsMaskOf}
 use Rattle.fwd_table.proofs.Masks.{mask-cons}
-use Rattle.fwd_table.proofs.Below.{routes_below-none, routes_below-more}
+use Rattle.fwd_table.proofs.MaskRoutes.{routes_below-none, routes_below-more}
 
 one_if : Bool → ℕ
 one_if b = cond b 1 0
@@ -129,7 +129,7 @@ list_any-cond : (k : ℕ) (b : Bool) (r : Route) → goes_to k (cond b (r ∷ []
 list_any-cond k true r = refl
 list_any-cond k false r = refl
 
--- whether there is a route to k, behind one put further
+-- whether there is a route to k after adding one more
 joined : (m mask k : ℕ) → goes_to k (routes_below (m + 1) mask) ≡ (goes_to k (routes_below m mask) || cond (eqb (bit_at mask m) 1) (eqb m k || false) false)
 joined m mask k =
     rw (routes_below-more m mask)

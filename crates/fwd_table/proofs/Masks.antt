@@ -13,7 +13,7 @@ use Rattle.std.proofs.lemmas.List.Sums.{sum_by_more, sum_by-append}
 use Prim.Native.Nat.{◌^◌}
 use Rattle.fwd_table.specs.declared.route.Route.{Route}
 use Rattle.fwd_table.specs.Routes.{RiseFrom, mask_of}
-use Rattle.fwd_table.proofs.Rising.{output_below}
+use Rattle.fwd_table.proofs.RouteOrder.{output_below}
 
 pub mask-cons : (r : Route) (rs : List Route) → mask_of (r ∷ rs) ≡ 2 ^ r.output.0 + mask_of rs
 mask-cons r rs = omega (arith, sum_by-append (λ (s : Route). 2 ^ s.output.0) (r ∷ []) rs)
@@ -51,7 +51,7 @@ or_adds mask k within below = same_from_bits (bit_or mask (1 * 2 ^ k % 2 ^ 64)) 
         let none : bit_at 1 (i - k) ≡ 0 = bit_at-pow_other 0 (i - k) (λ is. apart (omega (arith, is, more))) in
         bit_at_set_other w64 mask k within i apart ∙ bit_at_above mask k i below more ∙ sym (high ∙ none)
 
--- ---- the masks that loops make
+-- ---- masks built by loops
 
 mask_below : (rs : List Route) (i : ℕ) (d : Route) → RiseFrom 0 rs → i < length rs → mask_of (take i rs) < 2 ^ (get_or rs i d).output.0
 mask_below rs i d rise within = let before = mask_before 0 rs i d rise within in omega (arith, before)

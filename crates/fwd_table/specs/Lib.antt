@@ -1,7 +1,7 @@
-pub mod Answers
+pub mod Outcomes
 pub mod Routes
 pub mod Rows
 pub mod Changes
-pub mod Kept
+pub mod Usage
 pub mod Sums
-pub mod Places
+pub mod Slots

@@ -1,4 +1,4 @@
-//! Routes: the outputs that a chunk is owed to still.
+//! Routes: the outputs that a chunk is pending for.
 
 ghost use Rattle.std.specs.Prelude.{◌≡◌, ◌==◌, ◌≤◌, [], All, false, fold, filter, find, length, map, nat_le, not, OnOk, option_copied, option_map, vec_capacity, if◌then◌else◌};
 ghost use Rattle.std.specs.BTreeSet.{insert_key};
@@ -16,19 +16,19 @@ use std::collections::BTreeSet;
 use std::marker::Model;
 use std::mem;
 
-/// An output that a chunk is owed to still.
+/// An output that a chunk is pending for.
 #[derive(Clone, Copy, Debug, PartialEq, Eq)]
 pub struct Route {
     pub output: OutputId,
-    /// The clock reading in milliseconds from which on the chunk is to be handed to it.
+    /// The time in milliseconds from which a flush may start.
     pub due: u64,
-    /// How often that has failed.
+    /// How many flushes have failed.
     pub tries: u64,
-    /// Whether it is being handed to it.
+    /// Whether a flush is in flight.
     pub flying: bool,
 }
 
-/// What happens to a route that stays.
+/// A change of a route that stays pending.
 #[derive(Clone, Copy, Debug, PartialEq, Eq)]
 pub enum Change {
     Starts,
@@ -37,7 +37,7 @@ pub enum Change {
 }
 
 impl Change {
-    /// A clock reading in milliseconds before which no route is due by this change.
+    /// Returns a time in milliseconds before which the change makes no route due.
     pub fn due(self) -> u64
         ensures { result ≡ due_by self }
     {
@@ -50,7 +50,7 @@ impl Change {
 }
 
 impl Route {
-    /// A route that is due at a time and hasn't been tried.
+    /// Returns a route that is idle, due at a time and not tried yet.
     fn idle_at(output: OutputId, due: u64) -> Route
         ensures { result ≡ idle_at due output }
     {
@@ -83,7 +83,7 @@ impl Route {
         }
     }
 
-    /// The route, changed where it is the one to this output.
+    /// Returns the route, changed if it is the one to this output.
     fn changed_at(self, output: OutputId, change: Change) -> Route
         ensures { result ≡ (if is_to output self then changed change self else self) }
     {
@@ -105,7 +105,7 @@ impl Route {
     }
 }
 
-/// Puts the routes to the outputs below a number whose bits are set.
+/// Adds the routes to the outputs below `end` whose bits are set.
 fn put_routes(routes: &mut Vec<Route>, owed: u64, end: u32)
     requires within { end ≤ most_outputs }
     requires none { routes.old.items ≡ [] }
@@ -141,7 +141,7 @@ fn change_routes(routes: &mut [Route], output: OutputId, change: Change)
     }
 }
 
-/// A clock reading before which none of the idle routes is due: the first of their due times, where there is one.
+/// Returns the earliest due time of the idle routes, or a time before which none is due.
 fn soonest_of(routes: &[Route]) -> u64
     ensures { All (λ r. r.flying ≡ false → result ≤ r.due) routes.now }
 {
@@ -154,11 +154,11 @@ fn soonest_of(routes: &[Route]) -> u64
     soonest
 }
 
-/// The routes of a chunk, by rising output.
+/// The routes of a chunk, ordered by output.
 #[derive(Debug, Drop)]
 pub struct Routes {
     routes: Vec<Route>,
-    /// A clock reading in milliseconds before which none of the idle ones is due.
+    /// A time in milliseconds before which no idle route is due.
     soonest: u64,
 }
 
@@ -175,8 +175,8 @@ impl Model for Routes {
 }
 
 impl Routes {
-    /// The routes to the outputs whose bits are set, not due yet. They are put into the storage, which asks for room for
-    /// all outputs and takes no memory.
+    /// Returns the routes to the outputs whose bits are set, not due yet. They go into `storage`, which
+    /// needs room for all outputs; this allocates nothing.
     pub fn to(mut storage: Vec<Route>, owed: u64) -> Self
         requires { most_outputs ≤ vec_capacity storage }
         ensures value { result ≡ routes_to owed }
@@ -191,7 +191,7 @@ impl Routes {
         }
     }
 
-    /// Moves the routes to storage of just their number, and gives the storage that they had.
+    /// Moves the routes to a list of exactly their number, and returns the list that they had.
     pub fn tighten(&mut self, alloc: Global) -> Result<Vec<Route>, Memory>
         ensures { self.new ≡ self.old }
     {
@@ -213,14 +213,14 @@ impl Routes {
         self.routes.as_slice()
     }
 
-    /// Whether one of them is under way.
+    /// Returns whether a flush of one of them is in flight.
     pub fn any_flies(&self) -> bool
         ensures { result ≡ not (length (flying_of self.now) == 0) }
     {
         self.routes.iter().any(|route| route.flying)
     }
 
-    /// Whether the route to an output is under way, if it is owed.
+    /// Returns whether the flush to an output is in flight; `None` if the route isn't pending.
     pub fn is_flying(&self, output: OutputId) -> Option<bool>
         ensures { result ≡ option_map (λ r. r.flying) (find (is_to output) self.now) }
     {
@@ -230,7 +230,7 @@ impl Routes {
         }
     }
 
-    /// How often the route to an output has failed, 0 where it isn't owed.
+    /// Returns how many flushes to an output have failed; 0 if the route isn't pending.
     pub fn tries(&self, output: OutputId) -> u64
         ensures { result ≡ tries_to output self.now }
     {
@@ -248,7 +248,7 @@ impl Routes {
         self.soonest = soonest_of(&self.routes);
     }
 
-    /// Changes the route to an output, if it is owed.
+    /// Changes the route to an output, if it is pending.
     pub fn change(&mut self, output: OutputId, change: Change)
         ensures { self.new ≡ on_output output (changed change) self.old }
     {
@@ -256,7 +256,7 @@ impl Routes {
         self.soonest = soonest_of(&self.routes);
     }
 
-    /// Takes the route to an output away, if it is owed.
+    /// Removes the route to an output, if it is pending.
     pub fn remove(&mut self, output: OutputId)
         ensures { self.new ≡ without_output output self.old }
     {
@@ -264,7 +264,7 @@ impl Routes {
         self.soonest = soonest_of(&self.routes);
     }
 
-    /// The mask of the outputs.
+    /// Returns the mask of the outputs.
     pub fn owed(&self) -> u64
         ensures value { result ≡ mask_of self.now }
         ensures bits { IsMaskOf self.now result }
@@ -276,7 +276,7 @@ impl Routes {
         mask
     }
 
-    /// The mask of the outputs that the chunk is being handed to.
+    /// Returns the mask of the outputs with a flush in flight.
     pub fn flying(&self) -> u64
         ensures value { result ≡ mask_of (flying_of self.now) }
         ensures bits { IsMaskOf (flying_of self.now) result }
@@ -290,7 +290,8 @@ impl Routes {
         mask
     }
 
-    /// The first one of a timer and those of the idle routes that are due at `now` and come after the given one.
+    /// Returns the first of `first` and the timers of the idle routes that are due at `now` and come after
+    /// `after`.
     pub fn next(
         &self,
         chunk: ChunkId,
@@ -310,14 +311,14 @@ impl Routes {
         first
     }
 
-    /// A clock reading before which none of the idle routes is due.
+    /// Returns a time before which no idle route is due.
     pub fn soonest(&self) -> u64
         ensures { All (λ r. r.flying ≡ false → result ≤ r.due) self.now }
     {
         self.soonest
     }
 
-    /// Puts the timers of the idle routes that are due at `now` to others.
+    /// Adds the timers of the idle routes that are due at `now`.
     pub fn put_due(
         &self,
         chunk: ChunkId,

@@ -4,10 +4,10 @@ ghost use Rattle.std.specs.Prelude.{◌≡◌, Some, fold, filter, nat_le, OnOk}
 ghost use Rattle.std.specs.BTreeSet.{insert_key};
 ghost use Rattle.fwd_retry.specs.declared.timer.Timer.{Timer};
 ghost use Rattle.fwd_retry.specs.Timer.{by_time, earlier as earlier_of, is_next};
-ghost use Rattle.fwd_table.specs.Rows.{WaitsTill, seen_of, waiting, waits_for};
+ghost use Rattle.fwd_table.specs.Rows.{IsNotDueBefore, seen_of, timers_of_row, waits_for};
 ghost use Rattle.fwd_table.specs.Routes.{flying_of, IsMaskOf};
 ghost use Rattle.fwd_table.specs.Changes.{row_changed, row_due_by};
-ghost use Rattle.fwd_table.specs.Sums.{IsSound};
+ghost use Rattle.fwd_table.specs.Sums.{IsValidRow};
 
 use crate::route::{Change, Routes};
 use fwd_base::{Bytes, ChunkId, InputId, Memory, OutputId};
@@ -15,39 +15,39 @@ use fwd_outside::Home;
 use fwd_retry::Timer;
 use std::collections::BTreeSet;
 
-/// A chunk, and the outputs that it is owed to still.
+/// A chunk, and the outputs that it is pending for.
 #[derive(Debug, Drop)]
 pub struct Row {
     pub chunk: ChunkId,
-    /// The input that its events came from. A chunk that was found has none.
+    /// The input that its events came from; `None` for a recovered chunk.
     pub input: Option<InputId>,
     pub home: Home,
     pub tag: Bytes,
-    /// The length of its content, in bytes.
+    /// The size of its content in bytes.
     pub size: u64,
-    /// Whether it takes no more events.
+    /// Whether it is closed, and takes no more events.
     pub shut: bool,
     pub routes: Routes,
 }
 
-/// What a table shows of a row.
+/// The public view of a row.
 #[derive(Clone, Copy, Debug, PartialEq, Eq)]
 pub struct RowSeen {
     pub chunk: ChunkId,
-    /// The input that the chunk's events came from. A chunk that was found has none.
+    /// The input that the chunk's events came from; `None` for a recovered chunk.
     pub input: Option<InputId>,
     pub home: Home,
-    /// The length of its content, in bytes.
+    /// The size of its content in bytes.
     pub size: u64,
-    /// The outputs that it is owed to: bit `i` is set for output `i`.
+    /// The outputs that it is pending for: bit `i` is output `i`.
     pub owed: u64,
-    /// Those of them that it is being handed to.
+    /// The outputs with a flush of it in flight.
     pub flying: u64,
-    /// Whether it takes no more events.
+    /// Whether it is closed, and takes no more events.
     pub shut: bool,
 }
 
-/// What happens to a row that stays.
+/// A change of a row that stays.
 #[derive(Clone, Copy, Debug, PartialEq, Eq)]
 pub enum RowChange {
     Grows { size: u64 },
@@ -57,7 +57,7 @@ pub enum RowChange {
 }
 
 impl RowChange {
-    /// A clock reading in milliseconds before which no route is due by this change.
+    /// Returns a time in milliseconds before which the change makes no route due.
     pub fn due(self) -> u64
         ensures { result ≡ row_due_by self }
     {
@@ -72,7 +72,7 @@ impl RowChange {
 impl Row {
     pub fn apply(&mut self, change: RowChange)
         ensures row { self.new ≡ row_changed change self.old }
-        ensures sound { IsSound self.old → IsSound self.new }
+        ensures sound { IsValidRow self.old → IsValidRow self.new }
     {
         match change {
             RowChange::Grows { size } => self.size = size,
@@ -101,16 +101,17 @@ impl Row {
         }
     }
 
-    /// Whether the row is shut, and the route to an output is owed and not under way.
+    /// Returns whether the row is closed and its route to an output is pending and not in flight.
     pub fn waits_for(&self, output: OutputId) -> bool
         ensures { result ≡ waits_for output self.now }
     {
         self.shut && self.routes.is_flying(output) == Some(false)
     }
 
-    /// The first one of a timer and those of the row's idle routes that are due at `now` and come after the given one.
+    /// Returns the first of `first` and the timers of the row's idle routes that are due at `now` and come
+    /// after `after`.
     pub fn next(&self, now: u64, after: Option<Timer>, first: Option<Timer>) -> Option<Timer>
-        ensures { result ≡ fold (λ found timer. Some (earlier_of found timer)) first (filter (is_next now after) (waiting self.now)) }
+        ensures { result ≡ fold (λ found timer. Some (earlier_of found timer)) first (filter (is_next now after) (timers_of_row self.now)) }
     {
         if self.shut {
             self.routes.next(self.chunk, now, after, first)
@@ -119,9 +120,9 @@ impl Row {
         }
     }
 
-    /// A clock reading before which none of the row's idle routes is due.
+    /// Returns a time before which no idle route of the row is due.
     pub fn soonest(&self) -> u64
-        ensures { WaitsTill result self.now }
+        ensures { IsNotDueBefore result self.now }
     {
         if !self.shut {
             return u64::MAX;
@@ -129,9 +130,9 @@ impl Row {
         self.routes.soonest()
     }
 
-    /// Puts the timers of the row's idle routes that are due at `now` to others.
+    /// Adds the timers of the row's idle routes that are due at `now`.
     pub fn put_due(&self, now: u64, timers: &mut BTreeSet<Timer>) -> Result<(), Memory>
-        ensures { OnOk result (timers.new.keys ≡ fold (insert_key by_time) timers.old.keys (filter (λ (t : Timer). nat_le t.due now) (waiting self.now))) }
+        ensures { OnOk result (timers.new.keys ≡ fold (insert_key by_time) timers.old.keys (filter (λ (t : Timer). nat_le t.due now) (timers_of_row self.now))) }
     {
         if !self.shut {
             return Ok(());

@@ -1,7 +1,7 @@
-//! Sums over the rows of a table, kept as rows change.
+//! Totals over the rows of a table, maintained incrementally.
 
 ghost use Rattle.std.specs.Prelude.{◌≡◌, ◌+◌, ◌<◌, ◌==◌, ◌&&◌, ◌||◌, ℕ, [], not, length, slice_index, slice_index_or, if◌then◌else◌};
-ghost use Rattle.fwd_table.specs.Kept.{in_file, is_file, was_found, flies};
+ghost use Rattle.fwd_table.specs.Usage.{in_file, is_file, is_recovered_row, flies};
 ghost use Rattle.fwd_table.specs.Rows.{is_owed_row};
 ghost use Rattle.fwd_table.specs.Routes.{RiseFrom};
 ghost use Rattle.fwd_table.specs.Sums.{Counted, file_size, route_part, part_at, part, total, AreSums, CanShift, Shifts, IsTotal, held_size};
@@ -12,18 +12,18 @@ use fwd_base::limits::{MOST_INPUTS, MOST_OUTPUTS};
 use fwd_base::{InputId, OutputId};
 use fwd_outside::Home;
 
-/// What is summed over the routes to each output.
+/// A total over the routes of each output.
 #[derive(Clone, Copy, Debug, PartialEq, Eq)]
 pub enum ByOutput {
-    /// The chunks under way to it.
+    /// The number of chunks in flight.
     Flights,
-    /// The bytes of those of them that are in files.
+    /// The bytes of chunks in files that are in flight.
     FlyingBytes,
-    /// The bytes of closed chunks in files that wait for it.
+    /// The bytes of closed chunks in files that wait for the output.
     WaitingBytes,
 }
 
-/// Whether a part comes to a sum or goes from it.
+/// Whether a part is added to a total or subtracted from it.
 #[derive(Clone, Copy, Debug, PartialEq, Eq)]
 pub enum Way {
     In,
@@ -42,24 +42,25 @@ impl Way {
     }
 }
 
-/// Sums over the rows of a table. A row's part goes out before the row changes and comes in again behind it.
+/// The totals over the rows of a table. The part of a row is subtracted before the row changes, and added
+/// again after the change.
 #[derive(Debug, Drop)]
 pub struct Sums {
-    /// The chunks under way to each output.
+    /// The number of chunks in flight to each output.
     flights: [u128; MOST_OUTPUTS],
-    /// The bytes of those of them that are in files.
+    /// The bytes of chunks in files that are in flight to each output.
     flying: [u128; MOST_OUTPUTS],
     /// The bytes of closed chunks in files that wait for each output.
     waiting: [u128; MOST_OUTPUTS],
-    /// The bytes of memory that the chunks of each input fill.
+    /// The bytes of memory that the chunks of each input use.
     memory: [u128; MOST_INPUTS],
-    /// The chunks in files that are under way.
+    /// The number of chunks in files that are in flight.
     files_up: u128,
-    /// The bytes of found chunks that are under way.
+    /// The bytes of recovered chunks that are in flight.
     found_up: u128,
-    /// The rows that are owed to nobody.
+    /// The number of rows that are pending for no output.
     unowed: u128,
-    /// All rows.
+    /// The number of rows.
     rows: u128,
 }
 
@@ -72,14 +73,14 @@ fn is_file(home: Home) -> bool
     }
 }
 
-/// How many bytes of a file a row has.
+/// Returns the bytes that a row's chunk has in a file.
 fn file_size(row: &Row) -> u64
     ensures { result ≡ file_size row.now }
 {
     if is_file(row.home) { row.size } else { 0 }
 }
 
-/// What a route of a row adds to a sum of its output.
+/// Returns the part of a route in a total of its output.
 fn route_part(what: ByOutput, row: &Row, route: &Route) -> u64
     ensures { result ≡ route_part what row.now route.now }
 {
@@ -91,7 +92,7 @@ fn route_part(what: ByOutput, row: &Row, route: &Route) -> u64
     }
 }
 
-/// How many bytes of memory a row fills for its input.
+/// Returns the bytes of memory that a row's chunk uses for its input.
 fn held_size(row: &Row) -> u64
     ensures { result ≡ held_size row.now }
 {
@@ -103,14 +104,14 @@ fn held_size(row: &Row) -> u64
     }
 }
 
-/// Whether a row's chunk is in a file and under way.
+/// Returns 1 if a row's chunk is in a file and in flight, else 0.
 fn files_part(row: &Row) -> u64
     ensures { result ≡ part Counted.FilesUp 0 row.now }
 {
     u64::from(is_file(row.home) && row.routes.any_flies())
 }
 
-/// How many bytes of a found chunk are under way.
+/// Returns the bytes of a row's chunk if it is recovered and in flight, else 0.
 fn found_part(row: &Row) -> u64
     ensures { result ≡ part Counted.FoundUp 0 row.now }
 {
@@ -121,14 +122,14 @@ fn found_part(row: &Row) -> u64
     }
 }
 
-/// Whether a row is owed to nobody.
+/// Returns 1 if a row is pending for no output, else 0.
 fn unowed_part(row: &Row) -> u64
     ensures { result ≡ part Counted.Unowed 0 row.now }
 {
     u64::from(row.routes.is_empty())
 }
 
-/// The parts of a row's routes go in or out of the sums of their outputs.
+/// Adds the parts of a row's routes to the totals of their outputs, or subtracts them.
 fn shift_routes(sums: &mut [u128], what: ByOutput, row: &Row, way: Way)
     requires long { length sums.old ≡ 64 }
     requires can { (key : ℕ) → key < 64 → CanShift way (slice_index sums.old key) (part (Counted.Over what) key row.now) }
@@ -142,7 +143,7 @@ fn shift_routes(sums: &mut [u128], what: ByOutput, row: &Row, way: Way)
     }
 }
 
-/// A row's part goes in or out of the sum of its input. Inputs past the end aren't counted.
+/// Adds a row's part to the total of its input, or subtracts it. Inputs past the last one aren't counted.
 fn shift_memory(sums: &mut [u128], row: &Row, way: Way)
     requires long { length sums.old ≡ 64 }
     requires can { (key : ℕ) → key < 64 → CanShift way (slice_index sums.old key) (part Counted.Memory key row.now) }
@@ -158,7 +159,7 @@ fn shift_memory(sums: &mut [u128], row: &Row, way: Way)
 }
 
 impl Sums {
-    /// The sums over no rows.
+    /// Returns the totals over no rows.
     pub fn new() -> Sums
         ensures { AreSums result [] }
     {
@@ -174,7 +175,7 @@ impl Sums {
         }
     }
 
-    /// A row's parts go in or out.
+    /// Adds a row's parts, or subtracts them.
     pub fn shift(&mut self, row: &Row, way: Way)
         requires { (counted : Counted) (key : ℕ) → key < 64 → CanShift way (total counted key self.old) (part counted key row.now) }
         ensures { (counted : Counted) (key : ℕ) → key < 64 → Shifts way (total counted key self.old) (part counted key row.now) (total counted key self.new) }
@@ -189,28 +190,28 @@ impl Sums {
         self.rows = way.shifted(self.rows, 1);
     }
 
-    /// How many chunks are under way to an output.
+    /// Returns the number of chunks in flight to an output.
     pub fn flights(&self, output: OutputId) -> u128
         ensures { IsTotal (Counted.Over ByOutput.Flights) output.0 self.now result }
     {
         at(&self.flights, output)
     }
 
-    /// How many bytes of chunks in files are under way to an output.
+    /// Returns the bytes of chunks in files that are in flight to an output.
     pub fn flying(&self, output: OutputId) -> u128
         ensures { IsTotal (Counted.Over ByOutput.FlyingBytes) output.0 self.now result }
     {
         at(&self.flying, output)
     }
 
-    /// How many bytes of closed chunks in files wait for an output.
+    /// Returns the bytes of closed chunks in files that wait for an output.
     pub fn waiting(&self, output: OutputId) -> u128
         ensures { IsTotal (Counted.Over ByOutput.WaitingBytes) output.0 self.now result }
     {
         at(&self.waiting, output)
     }
 
-    /// How many bytes of memory the chunks of an input fill.
+    /// Returns the bytes of memory that the chunks of an input use.
     pub fn memory(&self, input: InputId) -> u128
         requires { input.0 < 64 }
         ensures { result ≡ total Counted.Memory input.0 self.now }
@@ -218,28 +219,28 @@ impl Sums {
         self.memory[input.0 as usize]
     }
 
-    /// How many chunks in files are under way.
+    /// Returns the number of chunks in files that are in flight.
     pub fn files_up(&self) -> u128
         ensures { result ≡ total Counted.FilesUp 0 self.now }
     {
         self.files_up
     }
 
-    /// How many bytes of found chunks are under way.
+    /// Returns the bytes of recovered chunks that are in flight.
     pub fn found_up(&self) -> u128
         ensures { result ≡ total Counted.FoundUp 0 self.now }
     {
         self.found_up
     }
 
-    /// Whether a row is owed to nobody.
+    /// Returns whether there is a row that is pending for no output.
     pub fn has_unowed(&self) -> bool
         ensures { result ≡ not (total Counted.Unowed 0 self.now == 0) }
     {
         self.unowed != 0
     }
 
-    /// How many rows there are.
+    /// Returns the number of rows.
     pub fn rows(&self) -> u128
         ensures { result ≡ total Counted.Rows 0 self.now }
     {
@@ -247,7 +248,7 @@ impl Sums {
     }
 }
 
-/// The sum of an output, 0 past the end.
+/// Returns the total of an output; 0 past the last one.
 fn at(sums: &[u128], output: OutputId) -> u128
     ensures { result ≡ slice_index_or sums.now output.0 0 }
 {

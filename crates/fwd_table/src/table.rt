@@ -5,20 +5,20 @@ ghost use Rattle.std.specs.Option.{option_map_or};
 ghost use Rattle.fwd_retry.specs.declared.timer.Timer.{Timer};
 ghost use Rattle.fwd_retry.specs.Timer.{first, in_time, is_next, IsFirst};
 ghost use Rattle.fwd_table.specs.declared.row.Row.{Row};
-ghost use Rattle.fwd_table.specs.Answers.{due_after, may_retry, is_tried_again, outcome_of, resolved};
+ghost use Rattle.fwd_table.specs.Outcomes.{due_after, may_retry, is_tried_again, outcome_of, resolved};
 ghost use Rattle.fwd_table.specs.Routes.{flying_of, mask_of, IsMaskOf};
 ghost use Rattle.fwd_table.specs.Changes.{row_changed};
-ghost use Rattle.fwd_table.specs.Kept.{size_of, flying_to, waiting_for, memory_of, files_up, found_up};
+ghost use Rattle.fwd_table.specs.Usage.{size_of, flying_to, waiting_for, memory_of, files_up, found_up};
 ghost use Rattle.fwd_base.specs.Limits.{most_inputs};
-ghost use Rattle.fwd_table.specs.Rows.{IsIdle, IsOwedToNobody, rows_at, has_row, is_row_of, is_idle_in, flights_to, owed_rows, row_at, routes_at, tries_of, owes_nothing, idle_timers_of, seen_of, opened, on_chunk, without_chunk, grown, shut_at, started_to, stayed_to, answered_by, resolved_to};
+ghost use Rattle.fwd_table.specs.Rows.{IsIdle, IsOwedToNobody, rows_at, has_row, is_row_of, is_route_idle, flights_to, owed_rows, row_at, routes_at, tries_of, owes_nothing, idle_timers_of, seen_of, opened, on_chunk, without_chunk, grown, shut_at, started_to, stayed_to, answered_by, resolved_to};
 
-use crate::answer::{due_after, may_retry, resolved, spent};
-use crate::place::{
-    Place, change_row, clear_row, close_gaps, drop_first_gaps, due_in, find_row, keep_owed_places,
-    make_storage, next_in, open_end, soonest_in, sums_of,
-};
+use crate::outcome::{due_after, may_retry, resolved, spent};
 use crate::route::{Change, Route, Routes};
 use crate::row::{Row, RowChange};
+use crate::slot::{
+    Slot, change_row, clear_row, close_gaps, drop_first_gaps, drop_unowed_places, due_in, find_row,
+    free_end, make_storage, next_in, soonest_due, sums_of,
+};
 use crate::sums::{Sums, Way};
 use crate::{Answer, Outcome, RowSeen};
 use fwd_base::limits::MOST_OUTPUTS;
@@ -30,16 +30,18 @@ use std::collections::VecDeque;
 use std::marker::Model;
 use std::mem;
 
-/// The chunks that are open or owed to an output, by rising number, each with the outputs that it is owed to still.
-/// Contracts see the rows, the places at which they stand, and for how many more there is room. All calls but `reserve`
-/// and `due` take no memory. A chunk's row is found by its number, or by halving. One that goes leaves its place empty, and
-/// empty places go together once they are the more, so rows that go in any order take a time linear in their number.
+/// The chunks that are open or pending, ordered by id, each with the outputs that it is pending for.
+/// Contracts see the rows, the slots that hold them, and how many more rows are reserved.
+///
+/// Only `reserve` and `due` allocate. A row is found by its id or by binary search. Removing a row leaves
+/// its slot empty. Empty slots are removed once they outnumber the rows, so removing rows in any order
+/// takes linear time.
 #[derive(Debug, Drop)]
 pub struct Table {
-    places: VecDeque<Place>,
-    /// Where the routes of the next row go.
+    places: VecDeque<Slot>,
+    /// The list for the routes of the next row.
     storage: Vec<Route>,
-    /// A clock reading in milliseconds before which no idle route is due.
+    /// A time in milliseconds before which no idle route is due.
     soonest: u64,
     sums: Sums,
     alloc: Global,
@@ -48,18 +50,18 @@ pub struct Table {
 impl Model for Table {
     ghost use Rattle.std.specs.Prelude.{◌-◌, vec_capacity};
     ghost use Rattle.std.specs.VecDeque.{deque_len, deque_capacity};
-    ghost use Rattle.fwd_table.specs.Places.{IsPlaced, seen_at, standing};
-    ghost use Rattle.fwd_table.specs.Rows.{TableSeen, spare_of};
+    ghost use Rattle.fwd_table.specs.Slots.{SlotsInvariant, slot_rows, rows_in};
+    ghost use Rattle.fwd_table.specs.Rows.{TableModel, spare_of};
 
-    ghost Value = { TableSeen };
+    ghost Value = { TableModel };
 
-    ghost view = { λ t. record { rows = standing t.places.items; places = seen_at t.places.items; spare = spare_of (vec_capacity t.storage) (deque_capacity t.places - deque_len t.places) } };
+    ghost view = { λ t. record { rows = rows_in t.places.items; places = slot_rows t.places.items; spare = spare_of (vec_capacity t.storage) (deque_capacity t.places - deque_len t.places) } };
 
-    ghost invariant = { λ t. IsPlaced t.soonest t.sums t.places.items };
+    ghost invariant = { λ t. SlotsInvariant t.soonest t.sums t.places.items };
 }
 
 impl Table {
-    /// A table without rows.
+    /// Returns an empty table.
     pub fn new(alloc: Global) -> Self
         ensures { result.rows ≡ [] }
     {
@@ -72,7 +74,7 @@ impl Table {
         }
     }
 
-    /// Makes room for one row and its routes. The rows stay.
+    /// Reserves one more row with its routes. The rows stay the same.
     pub fn reserve(&mut self) -> Result<(), Memory>
         ensures rows { self.new.rows ≡ self.old.rows }
         ensures room { OnOk result (1 ≤ self.new.spare) }
@@ -82,8 +84,8 @@ impl Table {
         make_storage(self.alloc, &mut self.places, &mut self.storage)
     }
 
-    /// Puts an open row at the end, owed to the outputs whose bits are set in `owed`. It asks for room that was
-    /// reserved, and for a number above those of all rows.
+    /// Adds an open row at the end, pending for the outputs whose bits are set in `owed`. Requires a
+    /// reserved row and an id above those of all rows.
     pub fn took(
         &mut self,
         chunk: ChunkId,
@@ -99,7 +101,7 @@ impl Table {
         ensures owed { IsMaskOf (opened chunk input home tag size owed).routes owed }
         ensures spare { self.old.spare ≤ self.new.spare + 1 }
     {
-        open_end(&mut self.places, chunk);
+        free_end(&mut self.places, chunk);
         let storage = mem::replace(&mut self.storage, Vec::new(self.alloc));
         let row = Row {
             chunk,
@@ -111,22 +113,22 @@ impl Table {
             routes: Routes::to(storage, owed),
         };
         self.sums.shift(&row, Way::In);
-        self.places.push_back_reserved(Place {
+        self.places.push_back_reserved(Slot {
             chunk,
             row: Some(row),
         });
     }
 
-    /// Whether a chunk has a row.
+    /// Returns whether a chunk has a row.
     pub fn has(&self, chunk: ChunkId) -> bool
         ensures { result ≡ has_row chunk self.now.rows }
     {
         find_row(&self.places, chunk).is_some()
     }
 
-    /// Whether a route is owed, of a shut row, and not under way.
+    /// Returns whether a route is pending, its row is closed, and no flush of it is in flight.
     pub fn is_idle(&self, chunk: ChunkId, output: OutputId) -> bool
-        ensures value { result ≡ is_idle_in chunk output self.now.rows }
+        ensures value { result ≡ is_route_idle chunk output self.now.rows }
         ensures means { IsTrue result ↔ IsIdle chunk output self.now.rows }
     {
         match find_row(&self.places, chunk) {
@@ -135,7 +137,7 @@ impl Table {
         }
     }
 
-    /// Whether a chunk has a row without routes.
+    /// Returns whether a chunk has a row without routes.
     pub fn is_owed_to_nobody(&self, chunk: ChunkId) -> bool
         ensures { IsTrue result ↔ IsOwedToNobody chunk self.now.rows }
     {
@@ -145,7 +147,7 @@ impl Table {
         }
     }
 
-    /// Gives the row of a chunk, if there is one, the size of the chunk's whole content, in bytes.
+    /// Sets the size of a chunk's whole content in bytes, if it has a row.
     pub fn grew(&mut self, chunk: ChunkId, size: u64)
         ensures rows { self.new.rows ≡ on_chunk chunk (grown size) self.old.rows }
         ensures spare { self.old.spare ≤ self.new.spare }
@@ -153,7 +155,7 @@ impl Table {
         self.change(chunk, RowChange::Grows { size });
     }
 
-    /// Shuts the row of a chunk, if there is one: its routes are due at `now`.
+    /// Closes the row of a chunk, if there is one: its routes are due at `now`.
     pub fn shut(&mut self, chunk: ChunkId, now: u64)
         ensures rows { self.new.rows ≡ on_chunk chunk (shut_at now) self.old.rows }
         ensures spare { self.old.spare ≤ self.new.spare }
@@ -161,8 +163,8 @@ impl Table {
         self.change(chunk, RowChange::Shuts { now });
     }
 
-    /// The first of the idle routes that are due at `now` and come after the given one, by due time, then chunk, then
-    /// output.
+    /// Returns the first of the idle routes that are due at `now` and come after `after`, ordered by due
+    /// time, then chunk, then output.
     pub fn next_due(&self, now: u64, after: Option<Timer>) -> Option<Timer>
         ensures value { result ≡ first (filter (is_next now after) (idle_timers_of self.now.rows)) }
         ensures first { let due = filter (is_next now after) (idle_timers_of self.now.rows) in MatchOption result (due ≡ []) (IsFirst due) }
@@ -170,21 +172,21 @@ impl Table {
         next_in(&self.places, now, after)
     }
 
-    /// The timers of the idle routes that are due at `now`, by due time, then chunk, then output. The rows stay. Where none
-    /// is due, most calls look at no row. The list takes memory.
+    /// Returns the timers of the idle routes that are due at `now`, ordered by due time, then chunk, then
+    /// output. The rows stay the same. If none is due, most calls look at no row. This allocates the list.
     pub fn due(&mut self, now: u64) -> Result<Vec<Timer>, Memory>
         ensures rows { self.new.rows ≡ self.old.rows }
         ensures spare { self.old.spare ≤ self.new.spare }
         ensures due { IfOk result (λ timers. timers.items ≡ in_time (filter (λ (t : Timer). nat_le t.due now) (idle_timers_of self.old.rows))) }
     {
-        self.look_again(now);
+        self.update_soonest(now);
         if now < self.soonest {
             return Ok(Vec::new(self.alloc));
         }
         due_in(self.alloc, &self.places, now)
     }
 
-    /// A route is being handed over from now on, if it is owed.
+    /// Records that a flush of a route starts, if the route is pending.
     pub fn started(&mut self, chunk: ChunkId, output: OutputId)
         ensures rows { self.new.rows ≡ on_chunk chunk (started_to output) self.old.rows }
         ensures spare { self.old.spare ≤ self.new.spare }
@@ -193,7 +195,8 @@ impl Table {
         self.change(chunk, RowChange::Changes { output, change });
     }
 
-    /// A route isn't being handed over any more, if it is owed. Its due time and tries stay.
+    /// Records that a flush of a route is over without an outcome, if the route is pending. Its due time
+    /// and tries stay.
     pub fn stayed(&mut self, chunk: ChunkId, output: OutputId)
         ensures rows { self.new.rows ≡ on_chunk chunk (stayed_to output) self.old.rows }
         ensures spare { self.old.spare ≤ self.new.spare }
@@ -202,22 +205,23 @@ impl Table {
         self.change(chunk, RowChange::Changes { output, change });
     }
 
-    /// How often a flush of a route has failed, 0 where it isn't owed. The count stops at its last value, 2^64 - 1.
+    /// Returns how many flushes of a route have failed; 0 if it isn't pending. The count saturates at 2^64
+    /// - 1.
     pub fn tries(&self, chunk: ChunkId, output: OutputId) -> u64
         ensures { result ≡ tries_of chunk output self.now.rows }
     {
         self.tries_so_far(chunk, output)
     }
 
-    /// Whether a route may be tried again where its flush fails now.
+    /// Returns whether a route may be retried if its flush fails now.
     pub fn may_retry(&self, chunk: ChunkId, output: OutputId, limit: Retries) -> bool
         ensures { result ≡ may_retry limit (tries_of chunk output self.now.rows) }
     {
         may_retry(limit, self.tries_so_far(chunk, output))
     }
 
-    /// The flush of a route has answered. Where it may be tried again, it is due `wait_s` seconds behind `now`; else it is
-    /// owed no more.
+    /// Records the outcome of a flush. If the route may be retried, it is due `wait_s` seconds after `now`;
+    /// else it is resolved.
     pub fn answered(
         &mut self,
         chunk: ChunkId,
@@ -239,7 +243,7 @@ impl Table {
         }
     }
 
-    /// A route is given up: it is owed no more.
+    /// Evicts a route: it is resolved.
     pub fn lose(&mut self, chunk: ChunkId, output: OutputId) -> Outcome
         ensures rows { self.new.rows ≡ on_chunk chunk (resolved_to output) self.old.rows }
         ensures outcome { result ≡ resolved (owes_nothing chunk self.new.rows) }
@@ -248,7 +252,8 @@ impl Table {
         resolved(self.resolve(chunk, output))
     }
 
-    /// The outputs that a chunk is owed to: bit `i` is set for output `i`. It is 0 where there is no such row.
+    /// Returns the outputs that a chunk is pending for: bit `i` is output `i`. It is 0 if there is no such
+    /// row.
     pub fn owed(&self, chunk: ChunkId) -> u64
         ensures value { result ≡ mask_of (routes_at chunk self.now.rows) }
         ensures bits { IsMaskOf (routes_at chunk self.now.rows) result }
@@ -259,7 +264,7 @@ impl Table {
         }
     }
 
-    /// Takes a row away. It asks for one that is owed to nobody.
+    /// Removes a row. Requires that it is pending for no output.
     pub fn forget(&mut self, chunk: ChunkId)
         requires { IsOwedToNobody chunk self.old.rows }
         ensures rows { self.new.rows ≡ without_chunk chunk self.old.rows }
@@ -271,7 +276,8 @@ impl Table {
         self.close_many_gaps();
     }
 
-    /// Takes away the rows that are owed to nobody. That of this chunk is tried first, and most calls look at no other.
+    /// Removes the rows that are pending for no output. It looks at the row of this chunk first; most calls
+    /// look at no other.
     pub fn keep_owed(&mut self, chunk: ChunkId)
         ensures rows { self.new.rows ≡ owed_rows self.old.rows }
         ensures spare { self.old.spare ≤ self.new.spare }
@@ -282,7 +288,7 @@ impl Table {
         self.sweep();
     }
 
-    /// The tag of a chunk that has a row; that of another is empty.
+    /// Returns the tag of a chunk; empty if the chunk has no row.
     pub fn tag_of(&self, chunk: ChunkId) -> &[u8]
         ensures { result.now ≡ option_map_or (λ (row : Row). row.tag) (row_at chunk self.now.rows) [] }
     {
@@ -292,29 +298,29 @@ impl Table {
         }
     }
 
-    /// How many chunks are under way to an output.
+    /// Returns the number of chunks in flight to an output.
     pub fn flights_to(&self, output: OutputId) -> u64
         ensures { result ≡ flights_to output self.now.rows }
     {
         self.sums.flights(output) as u64
     }
 
-    /// How many bytes of chunks in files are under way to an output.
+    /// Returns the bytes of chunks in files that are in flight to an output.
     pub fn flying_bytes(&self, output: OutputId) -> u128
         ensures { result ≡ size_of (flying_to output self.now.rows) }
     {
         self.sums.flying(output)
     }
 
-    /// How many bytes of closed chunks in files wait for an output.
+    /// Returns the bytes of closed chunks in files that wait for an output.
     pub fn waiting_bytes(&self, output: OutputId) -> u128
         ensures { result ≡ size_of (waiting_for output self.now.rows) }
     {
         self.sums.waiting(output)
     }
 
-    /// How many bytes of memory the chunks of an input fill that are open or owed to an output. It asks for one of the
-    /// inputs that there may be.
+    /// Returns the bytes of memory that the open and pending chunks of an input use. Requires an input
+    /// below `MOST_INPUTS`.
     pub fn memory_bytes(&self, input: InputId) -> u128
         requires { input.0 < most_inputs }
         ensures { result ≡ memory_of input.0 self.now.rows }
@@ -322,21 +328,22 @@ impl Table {
         self.sums.memory(input)
     }
 
-    /// How many chunks in files are under way, to whatever outputs.
+    /// Returns the number of chunks in files that are in flight, to whatever outputs.
     pub fn files_up(&self) -> u64
         ensures { result ≡ files_up self.now.rows }
     {
         self.sums.files_up() as u64
     }
 
-    /// How many bytes of found chunks are under way, to whatever outputs: each chunk counts once.
+    /// Returns the bytes of recovered chunks that are in flight, to whatever outputs. Each chunk counts
+    /// once.
     pub fn found_bytes(&self) -> u128
         ensures { result ≡ found_up self.now.rows }
     {
         self.sums.found_up()
     }
 
-    /// The row of a chunk, if there is one. No other row is of that chunk.
+    /// Returns the row of a chunk, if there is one. It is the only one of that chunk.
     pub fn find(&self, chunk: ChunkId) -> Option<RowSeen>
         ensures value { result ≡ option_map seen_of (row_at chunk self.now.rows) }
         ensures alone { filter (is_row_of chunk) self.now.rows ≡ option_to_list (row_at chunk self.now.rows) }
@@ -347,14 +354,14 @@ impl Table {
         Some(row.seen())
     }
 
-    /// The number of rows.
+    /// Returns the number of rows.
     pub fn len(&self) -> u64
         ensures { result ≡ length self.now.rows }
     {
         self.sums.rows() as u64
     }
 
-    /// The number of places at which rows stand, by rising chunk number. At some of them none stands any more.
+    /// Returns the number of slots, which are ordered by chunk id and may be empty.
     pub fn places(&self) -> u64
         ensures count { result ≡ length self.now.places }
         ensures rows { self.now.rows ≡ rows_at self.now.places }
@@ -362,7 +369,8 @@ impl Table {
         self.places.len() as u64
     }
 
-    /// The row at a place, from 0, if one stands there: no other row is of that chunk.
+    /// Returns the row of the slot at an index, from 0, if the slot isn't empty. It is the only one of that
+    /// chunk.
     pub fn row(&self, place: u64) -> Option<RowSeen>
         ensures value { result ≡ option_map seen_of (get_or self.now.places place None) }
         ensures only { IfSome result (λ seen. get_or self.now.places place None ≡ row_at seen.chunk self.now.rows) }
@@ -374,7 +382,7 @@ impl Table {
         Some(row.seen())
     }
 
-    /// The tag of the row at a place, from 0; empty where none stands there.
+    /// Returns the tag of the row of the slot at an index, from 0; empty if the slot is empty.
     pub fn tag(&self, place: u64) -> &[u8]
         ensures { result.now ≡ option_map_or (λ row. row.tag) (get_or self.now.places place None) [] }
     {
@@ -384,18 +392,18 @@ impl Table {
         }
     }
 
-    /// Takes away the rows that are owed to nobody, if there are such.
+    /// Removes the rows that are pending for no output, if there are any.
     fn sweep(&mut self)
         ensures rows { self.new.rows ≡ owed_rows self.old.rows }
         ensures spare { self.old.spare ≤ self.new.spare }
     {
         if self.sums.has_unowed() {
-            keep_owed_places(&mut self.places);
+            drop_unowed_places(&mut self.places);
             self.sums = sums_of(&self.places);
         }
     }
 
-    /// Takes away the places without a row, where they are more than those with one.
+    /// Removes the empty slots if they outnumber the rows.
     fn close_many_gaps(&mut self)
         ensures rows { self.new.rows ≡ self.old.rows }
         ensures spare { self.old.spare ≤ self.new.spare }
@@ -405,12 +413,12 @@ impl Table {
         }
     }
 
-    /// Finds anew from when on an idle route may be due, where one may be.
-    fn look_again(&mut self, now: u64)
+    /// Recomputes `soonest` if an idle route may be due at `now`.
+    fn update_soonest(&mut self, now: u64)
         ensures { self.new ≡ self.old }
     {
         if self.soonest <= now {
-            self.soonest = soonest_in(&self.places);
+            self.soonest = soonest_due(&self.places);
         }
     }
 
@@ -432,7 +440,7 @@ impl Table {
         }
     }
 
-    /// The flush of a route has failed.
+    /// Records that the flush of a route has failed.
     fn failed(&mut self, chunk: ChunkId, output: OutputId, limit: Retries, due: u64) -> Outcome
         ensures rows { let again = may_retry limit (tries_of chunk output self.old.rows) in
             self.new.rows ≡ on_chunk chunk (answered_by again output due) self.old.rows }
@@ -449,7 +457,7 @@ impl Table {
         }
     }
 
-    /// Takes a route away, and says whether its chunk is owed to nobody then.
+    /// Removes a route, and returns whether its chunk has no pending route left.
     fn resolve(&mut self, chunk: ChunkId, output: OutputId) -> bool
         ensures rows { self.new.rows ≡ on_chunk chunk (resolved_to output) self.old.rows }
         ensures last { result ≡ owes_nothing chunk self.new.rows }

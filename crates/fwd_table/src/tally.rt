@@ -1,52 +1,52 @@
-//! The counts that a run reports.
+//! The counters of the report.
 
 use fwd_base::Items;
 
-/// The counts of an input.
+/// The counters of an input.
 #[derive(Clone, Copy, Debug, PartialEq, Eq)]
 pub struct InputTally {
-    /// Batches that were accepted.
+    /// Accepted batches.
     pub batches: u64,
     /// The events of these batches.
     pub events: u64,
-    /// Batches and messages that were refused.
+    /// Refused batches and malformed messages.
     pub refused: u64,
 }
 
-/// The counts of an output.
+/// The counters of an output.
 #[derive(Clone, Copy, Debug, PartialEq, Eq)]
 pub struct OutputTally {
-    /// Flushes that answered OK.
+    /// Flushes that ended with OK.
     pub good: u64,
-    /// Flushes that answered RETRY, also where that spent the route.
+    /// Flushes that ended with RETRY, also those that exhausted the retries.
     pub retry: u64,
-    /// Flushes that answered ERROR.
+    /// Flushes that ended with ERROR.
     pub bad: u64,
-    /// Routes whose tries were spent.
+    /// Routes whose retries were exhausted.
     pub spent: u64,
-    /// Routes that were lost to a limit on storage.
+    /// Routes that the output's limit on storage evicted.
     pub lost: u64,
-    /// Bytes that were taken.
+    /// Bytes that links took.
     pub taken: u64,
 }
 
-/// The counts of inputs, in the order of the configuration.
+/// The counters of inputs, in the order of the configuration.
 pub type InputTallies = Items<InputTally>;
 
-/// The counts of outputs, in the order of the configuration.
+/// The counters of outputs, in the order of the configuration.
 pub type OutputTallies = Items<OutputTally>;
 
-/// All counts of a run.
+/// All counters of a run.
 #[derive(Debug, Drop, PartialEq, Eq)]
 pub struct Tally {
     pub inputs: InputTallies,
     pub outputs: OutputTallies,
-    /// Chunks that were found and are owed to an output.
+    /// Recovered chunks that are pending for an output.
     pub loaded: u64,
-    /// Chunks that were found and match no output.
+    /// Recovered chunks that match no output.
     pub unrouted: u64,
-    /// Files that were found and are no chunks.
+    /// Files in the storage folder that are left as they are.
     pub left: u64,
-    /// Calls on the outside that failed.
+    /// I/O calls that failed.
     pub faults: u64,
 }

@@ -1,5 +1,5 @@
-pub mod Topping
-pub mod Telling
-pub mod Found
-pub mod Promising
-pub mod Generating
+pub mod Calls
+pub mod Writing
+pub mod GivenFiles
+pub mod Delivery
+pub mod GeneratedLoad

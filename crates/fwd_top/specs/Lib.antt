@@ -1,8 +1,8 @@
 pub mod Words
 pub mod Status
-pub mod Asked
-pub mod Answered
-pub mod Judged
-pub mod Shown
-pub mod Promised
-pub mod Safe
+pub mod Cases
+pub mod Answers
+pub mod Results
+pub mod Views
+pub mod Delivery
+pub mod CrashConsistency

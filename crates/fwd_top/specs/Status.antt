@@ -1,12 +1,12 @@
--- The line and the number of each status.
+-- The line and the exit status of each status.
 use Rattle.std.specs.Prelude.{ℕ, List, [], ◌++◌, codes, decimal}
 use Rattle.fwd_config.specs.declared.section.Place.{Place}
 use Rattle.fwd_config.specs.declared.fault.ConfigKind.{ConfigKind}
 use Rattle.fwd_config.specs.declared.fault.ConfigKind.TheVariants as config_kind
-use Rattle.fwd_script.specs.declared.refused.ScheduleKind.{ScheduleKind}
-use Rattle.fwd_script.specs.declared.refused.ScheduleKind.TheVariants as schedule_kind
-use Rattle.fwd_choices.specs.declared.kind.SettingKind.{SettingKind}
-use Rattle.fwd_choices.specs.declared.kind.SettingKind.TheVariants as setting_kind
+use Rattle.fwd_script.specs.declared.refusal.ScheduleKind.{ScheduleKind}
+use Rattle.fwd_script.specs.declared.refusal.ScheduleKind.TheVariants as schedule_kind
+use Rattle.fwd_settings_schema.specs.declared.error_kind.SettingKind.{SettingKind}
+use Rattle.fwd_settings_schema.specs.declared.error_kind.SettingKind.TheVariants as setting_kind
 use Rattle.fwd_top.specs.declared.status.ConfigRefusal.{ConfigRefusal}
 use Rattle.fwd_top.specs.declared.status.ConfigRefusal.TheVariants.{Load, Setting}
 use Rattle.fwd_top.specs.declared.status.Status.{Status}
@@ -70,7 +70,7 @@ line_of status.TurnsSpent = codes "turns spent"
 line_of status.Memory = codes "out of memory"
 line_of status.LoopFault = codes "loop fault"
 
--- the number with which the program ends
+-- the exit status of the program
 abbrev pub number_of : Status → ℕ
 number_of status.Done = 0
 number_of status.Usage = 1

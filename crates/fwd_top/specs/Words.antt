@@ -3,7 +3,8 @@ use Rattle.std.specs.Prelude.{ℕ, ◌-◌, ◌^◌, Bool, false, ◌&&◌, ◌=
 use Rattle.std.specs.Str.{bytes_eq}
 use Rattle.fwd_base.specs.Number.{number_of}
 
--- what the words ask for: files and folders by path; how many readings a run takes before it is stopped, where that is given
+-- what the words ask for: files and folders by path; after how many clock ticks a run is stopped, if that
+-- is given
 pub data Command : Type 0 where
   Run : (config : List ℕ) → (ticks : Option ℕ) → Command
   Replay : (config schedule : List ℕ) → Command
@@ -15,7 +16,7 @@ abbrev pub is_value : List ℕ → Bool
 is_value [] = false
 is_value (b ∷ bs) = not (b == 45)
 
--- a number of at most so much, from 1 on, in digits without a zero in front
+-- a number from 1 to the limit, in digits without a leading zero
 abbrev pub at_most : ℕ → Option ℕ → Option ℕ
 at_most most None = None
 at_most most (Some number) = if nat_le number most then Some number else None
@@ -68,7 +69,7 @@ abbrev pub gen_of : List (List ℕ) → Option Command
 gen_of (name ∷ value ∷ []) = with_count (one_option (codes "-n") name value)
 gen_of _ = None
 
--- the words behind the name of a command
+-- the words after the name of a command
 abbrev pub command_by : List ℕ → List (List ℕ) → Option Command
 command_by name words =
     if bytes_eq name (codes "run") then run_of words

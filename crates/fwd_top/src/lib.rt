@@ -1,25 +1,26 @@
-//! The top call: `log_forwarder` does all that the program does, over the disk, the files, the loop and the sink that are handed
-//! in.
+//! The top call: `log_forwarder` does all that the program does, over the disk, the files, the loop and
+//! the sink that it is given.
 //!
-//! Its calls on the files are those that its asking names (the configuration's files, then the schedule of a replay);
-//! then those on all devices are, for `run`, those of the written run's life, for `list` those of loading on the disk,
-//! for `replay` and `gen` none. Each status comes exactly where the definitions have it. Where memory was wanting, what
-//! was asked are first calls of these, and the texts of earlier lives stand. Over files that tell and give what stands
-//! there, of which none failed, text and status are those of the bytes that stand there; for `gen` those of the two
-//! generated texts. Which settings sections have is a relation, as whether a text is a pattern is asked of outside.
-//! `docs/PROMISE.md` says its clauses `promise` and `crashes` in words.
+//! Its calls on the files are those of `asks` (the configuration's files, then the schedule of a replay).
+//! Then its calls on all devices are, for `run`, those of the reference model's run, for `list` those of
+//! loading on the disk, and for `replay` and `gen` none. The definitions say exactly when each status
+//! comes. If memory runs out, the calls are a prefix of these, and the texts of earlier runs are kept.
+//! Over files with a call log whose calls return the existing bytes and don't fail, text and status are
+//! those of these bytes; for `gen` those of the two generated texts. Which settings sections have is a
+//! relation, because the platform decides whether a text is a pattern. `docs/PROMISE.md` states the
+//! clauses `promise` and `crashes` in words.
 #![tactic(auto)]
 
-mod asking;
-mod crashes;
-mod promise;
+mod crash_consistency;
+mod guarantee;
+mod job;
 mod status;
 mod top;
 mod words;
 
-pub use fwd_choices::SettingKind;
 pub use fwd_config::{ConfigKind, Place};
 pub use fwd_script::ScheduleKind;
+pub use fwd_settings_schema::SettingKind;
 pub use status::{ConfigRefusal, Status, status_line};
 pub use top::log_forwarder;
 pub use words::{Command, read_words};

@@ -3,14 +3,14 @@
 ghost use Rattle.std.specs.Prelude.{◌≡◌, ◌++◌, decimal, IfOk, OnOk};
 ghost use Rattle.fwd_top.specs.Status.{config_kind_name, setting_kind_name, refusal_name, schedule_kind_name, place_text, config_line, schedule_line, line_of, number_of};
 
-use fwd_choices::SettingKind;
 use fwd_config::{ConfigKind, Place};
 use fwd_outside::{Bytes, Memory};
 use fwd_script::ScheduleKind;
+use fwd_settings_schema::SettingKind;
 use itoa::Buffer;
 use std::alloc::Global;
 
-/// Why a configuration is refused: its text, when it is loaded, or what it sets.
+/// Why a configuration is refused: its text, as it is loaded, or its settings.
 #[derive(Clone, Copy, Debug, PartialEq, Eq)]
 pub enum ConfigRefusal {
     Load(ConfigKind),
@@ -28,7 +28,7 @@ pub enum Status {
     ConfigRefused { kind: ConfigRefusal, place: Place },
     /// A file can't be read.
     FileFault,
-    /// A call on the disk failed while what stands there was loaded.
+    /// A call on the disk failed during loading.
     DiskFault,
     /// The schedule is refused, at this line.
     ScheduleRefused { kind: ScheduleKind, line: u64 },
@@ -36,14 +36,14 @@ pub enum Status {
     OutFault,
     /// All turns are taken and the run isn't over. The text so far was written to its end.
     TurnsSpent,
-    /// Memory was wanting.
+    /// Memory ran out.
     Memory,
-    /// The outside couldn't go on.
+    /// The platform failed.
     LoopFault,
 }
 
 impl Status {
-    /// The number with which the program ends.
+    /// Returns the exit status of the program.
     pub fn number(&self) -> u8
         ensures { result ≡ number_of self.now }
     {
@@ -160,7 +160,7 @@ fn push_schedule_refused(text: &mut Bytes, kind: ScheduleKind, line: u64) -> Res
 const USAGE: &[u8] =
     b"usage: fwd run -c FILE [-n TICKS] | replay -c FILE -s FILE | list -p FOLDER | gen -n COUNT";
 
-/// The line that says how the program ended, without a line feed. It is empty where all went well.
+/// Returns the line that says how the program ended, without a line feed. It is empty if all went well.
 pub fn status_line(alloc: Global, status: &Status) -> Result<Bytes, Memory>
     ensures { IfOk result (λ line. line ≡ line_of status.now) }
 {

@@ -1,35 +1,35 @@
 //! The top call: from words, environment and files, and the devices of a run, to a text and a status.
 
 ghost use Rattle.std.specs.Prelude.{◌≡◌, ◌≤◌, IsErrOf};
-ghost use Rattle.fwd_program.specs.Cause.{HasCause};
+ghost use Rattle.fwd_outside.specs.Cause.{HasCause};
 ghost use Rattle.fwd_config.specs.Variables.{environment};
-ghost use Rattle.fwd_parts.specs.Heard.{HasHeard};
-ghost use Rattle.fwd_top.specs.Answered.{Answers, ComesTo, IsDiskFault, IsListed, IsLoopFault, IsOfTheFiles, Outside, devices, of_reported, outside_of, spent, status_of};
-ghost use Rattle.fwd_replay.specs.declared.reported.Ending.TheVariants as ending;
-ghost use Rattle.fwd_replay.specs.declared.reported.Reported.{Reported};
-ghost use Rattle.fwd_top.specs.Asked.{Case};
-ghost use Rattle.fwd_top.specs.Promised.{Keeps};
-ghost use Rattle.fwd_top.specs.Safe.{StandsCrashes};
-ghost use Rattle.fwd_top.specs.Judged.{AreSound, HasDiskFailed, HasLoopFailed, Tells, Writes, given_by, of_job, settings_in};
+ghost use Rattle.fwd_engine_state.specs.LoopCounters.{EventsTaken};
+ghost use Rattle.fwd_top.specs.Answers.{Answers, Produces, IsDiskFault, IsListed, IsLoopFault, IsOfTheFiles, Platform, devices, of_reported, platform_of, spent, status_of};
+ghost use Rattle.fwd_replay.specs.declared.report.Ending.TheVariants as ending;
+ghost use Rattle.fwd_replay.specs.declared.report.Reported.{Reported};
+ghost use Rattle.fwd_top.specs.Cases.{Case};
+ghost use Rattle.fwd_top.specs.Delivery.{IsDelivered};
+ghost use Rattle.fwd_top.specs.CrashConsistency.{IsCrashConsistent};
+ghost use Rattle.fwd_top.specs.Results.{AreSound, HasDiskFailed, HasLoopFailed, WritesVerdict, Writes, given_by, of_job, settings_in};
 
-use crate::asking::{Job, read_job};
-use crate::crashes::what_comes_stands_crashes;
-use crate::promise::what_comes_keeps_the_promise;
+use crate::crash_consistency::outcomes_are_crash_consistent;
+use crate::guarantee::outcomes_are_delivered;
+use crate::job::{Job, read_job};
 use crate::status::Status;
-use fwd_listing::{ListErr, listing};
 use fwd_outside::{Bytes, Disk, Files, Loop, Sink, SinkErr};
 use fwd_replay::{Ending, Reported, Shown, replay, run_live};
+use fwd_report::{ListErr, listing};
 use std::alloc::Global;
 use std::thread::Threads;
 
-/// Lists the files of chunks under a folder.
-fn listed<D: Disk>(
+/// Lists the chunk files under a folder.
+fn list_folder<D: Disk>(
     rt: &(impl Threads + Sync),
     alloc: Global,
     folder: &[u8],
     disk: &mut D,
 ) -> Reported
-    ensures lists { IsListed folder.now (D.told disk.old) (D.told disk.new) result.text result.ending }
+    ensures lists { IsListed folder.now (D.call_log disk.old) (D.call_log disk.new) result.text result.ending }
     ensures cause { HasCause (D.faults disk.old) (D.faults disk.new) (result.ending ≡ ending.DiskFailed) }
 {
     match listing(rt, alloc, disk, folder) {
@@ -48,8 +48,9 @@ fn listed<D: Disk>(
     }
 }
 
-/// Does a job. A schedule is replayed without the devices, as a generated load is, and a folder is listed over the disk alone.
-fn done_by<D: Disk, F: Files, L: Loop>(
+/// Does a job. A schedule and a generated load are replayed without the devices, and a folder is listed
+/// over the disk alone.
+fn run_job<D: Disk, F: Files, L: Loop>(
     rt: &(impl Threads + Sync),
     alloc: Global,
     job: Job,
@@ -59,8 +60,8 @@ fn done_by<D: Disk, F: Files, L: Loop>(
     turns: u64,
 ) -> Reported
     requires { AreSound (settings_in job) }
-    ensures comes { ComesTo turns (of_job job) (outside_of (D.told disk.old) (F.told files.old) (L.told outside.old)) (outside_of (D.told disk.new) (F.told files.new) (L.told outside.new)) result }
-    ensures heard { HasHeard (given_by job turns result) (L.counts outside.old) (L.counts outside.new) }
+    ensures comes { Produces turns (of_job job) (platform_of (D.call_log disk.old) (F.call_log files.old) (L.call_log outside.old)) (platform_of (D.call_log disk.new) (F.call_log files.new) (L.call_log outside.new)) result }
+    ensures heard { EventsTaken (given_by job turns result) (L.counts outside.old) (L.counts outside.new) }
     ensures loop_cause { HasCause (L.faults outside.old) (L.faults outside.new) (HasLoopFailed job result) }
     ensures disk_cause { HasCause (D.faults disk.old) (D.faults disk.new) (HasDiskFailed job result) }
     ensures files_later { F.faults files.old ≤ F.faults files.new }
@@ -75,13 +76,13 @@ fn done_by<D: Disk, F: Files, L: Loop>(
         Job::Generate { settings, schedule } => {
             replay(rt, alloc, settings, &schedule.lives, turns, Shown::Report)
         }
-        Job::List { folder } => listed(rt, alloc, folder.as_slice(), disk),
+        Job::List { folder } => list_folder(rt, alloc, folder.as_slice(), disk),
     }
 }
 
-/// Writes a text to its end. One that is empty isn't written.
+/// Writes a text to its end. Skips an empty text.
 fn write<S: Sink>(out: &mut S, text: &Bytes) -> Result<(), Status>
-    ensures writes { Writes (S.told out.old) (S.told out.new) text.now result }
+    ensures writes { Writes (S.call_log out.old) (S.call_log out.new) text.now result }
     ensures cause { HasCause (S.faults out.old) (S.faults out.new) (IsErrOf result Status.OutFault) }
 {
     if text.is_empty() {
@@ -94,7 +95,7 @@ fn write<S: Sink>(out: &mut S, text: &Bytes) -> Result<(), Status>
     }
 }
 
-/// The status of what ended so.
+/// Returns the status of an ending.
 fn status_of(ending: Ending) -> Status
     ensures { result ≡ status_of ending }
 {
@@ -107,9 +108,9 @@ fn status_of(ending: Ending) -> Status
     }
 }
 
-/// Writes what came of a job, and says how the program ended.
-fn tell<S: Sink>(out: &mut S, reported: &Reported) -> Status
-    ensures tells { Tells (S.told out.old) (S.told out.new) (of_reported reported.now) result }
+/// Writes the text of a job, and returns how the program ended.
+fn write_outcome<S: Sink>(out: &mut S, reported: &Reported) -> Status
+    ensures tells { WritesVerdict (S.call_log out.old) (S.call_log out.new) (of_reported reported.now) result }
     ensures cause { HasCause (S.faults out.old) (S.faults out.new) (result ≡ Status.OutFault) }
 {
     match write(out, &reported.text) {
@@ -118,14 +119,15 @@ fn tell<S: Sink>(out: &mut S, reported: &Reported) -> Status
     }
 }
 
-/// Does all that the program does. The words `run -c FILE [-n TICKS]` name a configuration, which is read and run over the
-/// devices that are handed in: what stands on the disk is loaded, and then comes what the loop brings; where TICKS are given,
-/// it is stopped behind so many readings of the clock. The words `replay -c FILE -s FILE` name a schedule too, whose lives are
-/// run over a loop, a disk and files in memory. The text is written: the report of a run; of each life that is replayed what
-/// the links of standard outputs took, a line feed where that isn't empty and doesn't end in one, and the report, and between
-/// two lives the line of the crash. The words `list -p FOLDER` list the files of chunks under a folder of the disk, each with
-/// what stands in it. The words `gen -n COUNT` ask no device: a load of so many lines is generated and replayed, and its reports
-/// alone are written. At most so many happenings are taken.
+/// Does all that the program does. The words `run -c FILE [-n TICKS]` name a configuration, which is read
+/// and run over the given devices: the engine loads the disk, and then takes the events of the loop. With
+/// TICKS it is stopped after that many clock ticks. The words `replay -c FILE -s FILE` also name a
+/// schedule, whose runs are made over a loop, a disk and files in memory. The text is written: the report
+/// of a run; for each replayed run what the links of standard outputs took, a line feed if that isn't
+/// empty and doesn't end in one, and the report; and between two runs the line of the crash. The words
+/// `list -p FOLDER` list the chunk files under a folder of the disk, each with its content. The words
+/// `gen -n COUNT` use no device: a load of COUNT lines is generated and replayed, and its reports alone
+/// are written. At most `turns` events are taken.
 pub fn log_forwarder<D: Disk, F: Files, L: Loop, S: Sink>(
     rt: &(impl Threads + Sync),
     alloc: Global,
@@ -137,33 +139,34 @@ pub fn log_forwarder<D: Disk, F: Files, L: Loop, S: Sink>(
     out: &mut S,
     turns: u64,
 ) -> Status
-    // The calls on the files are those of the program's asking, and then those on all devices are those of the written run,
-    // or on the disk those of loading for a listing; what is written is its text.
-    ensures answers { Answers words.now (environment env.now) turns (devices (D.told disk.old) (F.told files.old) (L.told outside.old) (S.told out.old)) (devices (D.told disk.new) (F.told files.new) (L.told outside.new) (S.told out.new)) result }
-    ensures text { IsOfTheFiles words.now (environment env.now) turns (devices (D.told disk.old) (F.told files.old) (L.told outside.old) (S.told out.old)) (devices (D.told disk.new) (F.told files.new) (L.told outside.new) (S.told out.new)) result }
+    // The calls on the files are those of the program's asking, and then those on all devices are those
+    // of the reference model, or for a listing those of loading on the disk; the text is written.
+    ensures answers { Answers words.now (environment env.now) turns (devices (D.call_log disk.old) (F.call_log files.old) (L.call_log outside.old) (S.call_log out.old)) (devices (D.call_log disk.new) (F.call_log files.new) (L.call_log outside.new) (S.call_log out.new)) result }
+    ensures text { IsOfTheFiles words.now (environment env.now) turns (devices (D.call_log disk.old) (F.call_log files.old) (L.call_log outside.old) (S.call_log out.old)) (devices (D.call_log disk.new) (F.call_log files.new) (L.call_log outside.new) (S.call_log out.new)) result }
     ensures file_cause { HasCause (F.faults files.old) (F.faults files.new) (result ≡ Status.FileFault) }
-    // A run answers `DiskFault` or `LoopFault` only where a failure of its disk or its loop was counted, and `TurnsSpent`
-    // only where the loop gave so many happenings; a listing answers `DiskFault` only where a failure of the disk was.
+    // A run answers `DiskFault` or `LoopFault` only if a failure of its disk or its loop was counted, and
+    // `TurnsSpent` only if the loop returned that many events; a listing answers `DiskFault` only if a
+    // failure of the disk was counted.
     ensures disk_cause { HasCause (D.faults disk.old) (D.faults disk.new) (IsDiskFault words.now result) }
     ensures loop_cause { HasCause (L.faults outside.old) (L.faults outside.new) (IsLoopFault words.now result) }
-    ensures heard { HasHeard (spent words.now turns result) (L.counts outside.old) (L.counts outside.new) }
+    ensures heard { EventsTaken (spent words.now turns result) (L.counts outside.old) (L.counts outside.new) }
     ensures out_cause { HasCause (S.faults out.old) (S.faults out.new) (result ≡ Status.OutFault) }
-    // Each life of what comes of a case, as `answers` has it, keeps the promise: what came in complete is accepted, or refused
-    // and counted, or stood behind the drop of its connection; each chunk is, for each output that it is for, delivered whole,
-    // failed, spent, lost, recorded before, or still owed and in the report; over each link a beginning was handed over of
-    // what its flight was begun with.
-    ensures promise { (case : Case) (before behind : Outside) (reported : Reported) (comes : ComesTo turns case before behind reported) → Keeps turns case before behind reported comes }
-    // Where appends are synced, no crash between the lives of a schedule loses a chunk that is kept in a file and owed: the
-    // next life finds it, whole, and owes it to the same outputs. And at each moment of a run, inside each call on the disk,
-    // whatever a crash leaves has the file of each such chunk.
-    ensures crashes { (case : Case) (before behind : Outside) (reported : Reported) (comes : ComesTo turns case before behind reported) → StandsCrashes turns case before behind reported comes }
+    // Each run of the case in `answers` keeps the delivery guarantee. Complete input is accepted, or
+    // refused and counted, or followed the drop of its connection. Each chunk is, for each output that it
+    // matches, delivered in full, failed, out of retries, evicted, marked done before, or still pending
+    // and in the report. The bytes sent over each link are a prefix of the payload of its flush.
+    ensures promise { (case : Case) (before behind : Platform) (reported : Reported) (comes : Produces turns case before behind reported) → IsDelivered turns case before behind reported comes }
+    // If appends are fsynced, no crash between the runs of a schedule loses a pending file-backed chunk:
+    // the next run recovers it, whole, and pending for the same outputs. At each point of a run, even
+    // inside a call on the disk, whatever a crash leaves has the file of each such chunk.
+    ensures crashes { (case : Case) (before behind : Platform) (reported : Reported) (comes : Produces turns case before behind reported) → IsCrashConsistent turns case before behind reported comes }
 {
-    what_comes_keeps_the_promise();
-    what_comes_stands_crashes();
+    outcomes_are_delivered();
+    outcomes_are_crash_consistent();
     match read_job(alloc, words, env, files) {
         Ok(job) => {
-            let reported = done_by(rt, alloc, job, disk, files, outside, turns);
-            tell(out, &reported)
+            let reported = run_job(rt, alloc, job, disk, files, outside, turns);
+            write_outcome(out, &reported)
         }
         Err(status) => status,
     }

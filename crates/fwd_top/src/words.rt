@@ -2,28 +2,29 @@
 
 ghost use Rattle.std.specs.Prelude.{◌≡◌, map, string_bytes, option_map, Some};
 ghost use Rattle.fwd_top.specs.Words.{command_of, count_of, gen_of, is_value, list_of, one_option, replay_of, run_of, stopped_run_of, two_options, with_ticks};
-ghost use Rattle.fwd_top.specs.Shown.{command};
+ghost use Rattle.fwd_top.specs.Views.{command};
 
 use fwd_base::number;
 
 /// What the words of the command line ask for. Files and folders are named by their paths.
 #[derive(Clone, Copy, Debug, PartialEq, Eq)]
 pub enum Command<'a> {
-    /// A configuration is run until nothing more is to be done, or is stopped behind so many readings of the clock.
+    /// Runs a configuration until everything is done, or until it is stopped after the given number of
+    /// clock ticks.
     Run {
         config: &'a [u8],
         ticks: Option<u64>,
     },
-    /// A configuration is run over a written schedule.
+    /// Replays a schedule with a configuration.
     Replay {
         config: &'a [u8],
         schedule: &'a [u8],
     },
-    /// The chunks in a folder are listed.
+    /// Lists the chunks in a folder.
     List {
         folder: &'a [u8],
     },
-    /// A load of so many lines is generated and replayed.
+    /// Generates a load of `count` lines, and replays it.
     Generate {
         count: u64,
     },
@@ -32,14 +33,14 @@ pub enum Command<'a> {
 /// The most lines of a generated load.
 const MOST_LINES: u64 = 200_000;
 
-/// A value isn't empty and doesn't begin with `-`.
+/// Returns whether a word is a value: it isn't empty and doesn't begin with `-`.
 fn is_value(word: &[u8]) -> bool
     ensures { result ≡ is_value word.now }
 {
     !word.is_empty() && word[0] != b'-'
 }
 
-/// A number from 1 on and of at most so much, in digits without a zero in front.
+/// Parses a number from 1 to `most`, in digits without a leading zero.
 fn count(text: &[u8], most: u64) -> Option<u64>
     ensures { result ≡ count_of most text.now }
 {
@@ -52,7 +53,7 @@ fn count(text: &[u8], most: u64) -> Option<u64>
     }
 }
 
-/// The value of one option.
+/// Returns the value of one option.
 fn one_option<'a>(wanted: &[u8], name: &[u8], value: &'a [u8]) -> Option<&'a [u8]>
     ensures { option_map (λ found. found.now) result ≡ one_option wanted.now name.now value.now }
 {
@@ -63,7 +64,8 @@ fn one_option<'a>(wanted: &[u8], name: &[u8], value: &'a [u8]) -> Option<&'a [u8
     }
 }
 
-/// Two options with their values, in any order: the value of the first wanted one, and of the second.
+/// Returns the values of two options, which come in any order: of the first wanted one, and of the
+/// second.
 fn two_options<'a>(
     first: &[u8],
     second: &[u8],
@@ -98,7 +100,7 @@ fn with_ticks<'a>(config: &'a [u8], ticks: &[u8]) -> Option<Command<'a>>
     }
 }
 
-/// `-c FILE -n TICKS`
+/// Parses `-c FILE -n TICKS`.
 fn read_stopped_run(words: &[String]) -> Option<Command<'_>>
     ensures { option_map command result ≡ stopped_run_of (map string_bytes words.now) }
 {
@@ -118,7 +120,7 @@ fn read_stopped_run(words: &[String]) -> Option<Command<'_>>
     }
 }
 
-/// `-c FILE` or `-c FILE -n TICKS`
+/// Parses `-c FILE` or `-c FILE -n TICKS`.
 fn read_run(words: &[String]) -> Option<Command<'_>>
     ensures { option_map command result ≡ run_of (map string_bytes words.now) }
 {
@@ -134,7 +136,7 @@ fn read_run(words: &[String]) -> Option<Command<'_>>
     }
 }
 
-/// `-c FILE -s FILE`
+/// Parses `-c FILE -s FILE`.
 fn read_replay(words: &[String]) -> Option<Command<'_>>
     ensures { option_map command result ≡ replay_of (map string_bytes words.now) }
 {
@@ -154,7 +156,7 @@ fn read_replay(words: &[String]) -> Option<Command<'_>>
     }
 }
 
-/// `-p FOLDER`
+/// Parses `-p FOLDER`.
 fn read_list(words: &[String]) -> Option<Command<'_>>
     ensures { option_map command result ≡ list_of (map string_bytes words.now) }
 {
@@ -167,7 +169,7 @@ fn read_list(words: &[String]) -> Option<Command<'_>>
     }
 }
 
-/// `-n COUNT`
+/// Parses `-n COUNT`.
 fn read_gen(words: &[String]) -> Option<Command<'_>>
     ensures { option_map command result ≡ gen_of (map string_bytes words.now) }
 {
@@ -183,8 +185,8 @@ fn read_gen(words: &[String]) -> Option<Command<'_>>
     }
 }
 
-/// What the words ask for: `run -c FILE [-n TICKS]`, `replay -c FILE -s FILE`, `list -p FOLDER` or `gen -n COUNT`, where
-/// options come in any order. None where they are of no such form.
+/// Parses the command: `run -c FILE [-n TICKS]`, `replay -c FILE -s FILE`, `list -p FOLDER` or `gen -n
+/// COUNT`, with options in any order. Returns `None` for any other words.
 pub fn read_words(words: &[String]) -> Option<Command<'_>>
     ensures { option_map command result ≡ command_of (map string_bytes words.now) }
 {

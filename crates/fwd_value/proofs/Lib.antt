@@ -1,2 +1,4 @@
+pub mod MappedLists
+pub mod FirstMatch
 pub mod Edits
 pub mod Nesting

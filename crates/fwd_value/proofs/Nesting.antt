@@ -1,4 +1,4 @@
--- How deep values are nested, seen from one of them.
+-- The nesting of lists, from that of their members.
 use Rattle.std.proofs.Common.{◌≡◌, ℕ, zero, suc, ◌+◌, ◌≤◌, ◌<◌, List, [], ◌∷◌, map, length, take, get_or, ap, add-one, arith}
 use Rattle.fwd_value.specs.Val.{vals_of, entries_of}
 use Rattle.fwd_value.specs.View.{val_of, pair_of}

@@ -1,7 +1,8 @@
+pub mod Keys
 pub mod Val
 pub mod View
 pub mod Limits
 pub mod Edits
 pub mod Weight
-pub mod Coding
-pub mod Falls
+pub mod ValueCode
+pub mod WeightOrder

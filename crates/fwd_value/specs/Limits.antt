@@ -1,8 +1,9 @@
--- How deep a value is nested, how long its parts are, and which numbers it has.
+-- The nesting of a value, the lengths of its parts, and the range of its numbers.
 use Rattle.std.specs.Prelude.{ℕ, suc, ◌<◌, ◌^◌, max, ℤ, pos, negsuc, length}
 use Rattle.fwd_value.specs.Val.{Val, nil, truth, whole, text, bin, float32, float64, ext, list, mapping, Vals, no_vals, val, Entries, no_entries, entry}
 
--- A list or map is nested one deeper than its deepest member; an empty one is nested 1, and any other value 0.
+-- The nesting of a list or map is one more than that of its deepest member; that of an empty one is 1, and
+-- that of any other value 0.
 abbrev mutual
   pub nesting : Val → ℕ
   nesting nil = 0
@@ -16,7 +17,7 @@ abbrev mutual
   nesting (list vs) = suc (nestings vs)
   nesting (mapping es) = suc (entry_nestings es)
 
-  -- the nesting of the deepest value, 0 where there is none
+  -- the nesting of the deepest value, or 0 if there is none
   pub nestings : Vals → ℕ
   nestings no_vals = 0
   nestings (val v vs) = max (nesting v) (nestings vs)
@@ -25,17 +26,17 @@ abbrev mutual
   entry_nestings no_entries = 0
   entry_nestings (entry k v es) = max (nesting k) (max (nesting v) (entry_nestings es))
 
--- how many values a list has
-abbrev pub how_many : Vals → ℕ
-how_many no_vals = 0
-how_many (val v vs) = suc (how_many vs)
+-- the number of values in a list
+abbrev pub value_count : Vals → ℕ
+value_count no_vals = 0
+value_count (val v vs) = suc (value_count vs)
 
--- how many pairs a map has
-abbrev pub how_many_entries : Entries → ℕ
-how_many_entries no_entries = 0
-how_many_entries (entry k v es) = suc (how_many_entries es)
+-- the number of pairs in a map
+abbrev pub entry_count : Entries → ℕ
+entry_count no_entries = 0
+entry_count (entry k v es) = suc (entry_count es)
 
--- each length in the value is below 2^32
+-- every length in the value is below 2^32
 abbrev mutual
   pub LengthsFit : Val → Type 0
   LengthsFit nil = Unit {0}
@@ -46,8 +47,8 @@ abbrev mutual
   LengthsFit (float32 n) = Unit {0}
   LengthsFit (float64 n) = Unit {0}
   LengthsFit (ext t s) = length s < 2 ^ 32
-  LengthsFit (list vs) = (how_many vs < 2 ^ 32) × AllLengthsFit vs
-  LengthsFit (mapping es) = (how_many_entries es < 2 ^ 32) × EntryLengthsFit es
+  LengthsFit (list vs) = (value_count vs < 2 ^ 32) × AllLengthsFit vs
+  LengthsFit (mapping es) = (entry_count es < 2 ^ 32) × EntryLengthsFit es
 
   pub AllLengthsFit : Vals → Type 0
   AllLengthsFit no_vals = Unit {0}
@@ -67,7 +68,7 @@ abbrev pub IsExtType : ℤ → Type 0
 IsExtType (pos n) = n < 2 ^ 7
 IsExtType (negsuc n) = n < 2 ^ 7
 
--- the whole numbers, floats and types in the value are those that a value may have
+-- all whole numbers, floats and extension types in the value are in range
 abbrev mutual
   pub IsInRange : Val → Type 0
   IsInRange nil = Unit {0}

@@ -1,4 +1,4 @@
--- What a value is, apart from how the code holds it.
+-- The mathematical values that contracts speak of.
 use Rattle.std.specs.Prelude.{ℕ, ℤ, Bool, List, [], ◌∷◌}
 
 mutual
@@ -8,10 +8,10 @@ mutual
     whole : ℤ → Val
     text : List ℕ → Val
     bin : List ℕ → Val
-    -- a float is carried as its bits
+    -- a float is its bits
     float32 : ℕ → Val
     float64 : ℕ → Val
-    -- a type of the application's own, and its bytes
+    -- an extension: its type, and its bytes
     ext : ℤ → List ℕ → Val
     list : Vals → Val
     mapping : Entries → Val
@@ -21,7 +21,7 @@ mutual
     no_vals : Vals
     val : Val → Vals → Vals
 
-  -- the keys and values of a map, in order; a key may stand there twice
+  -- the keys and values of a map, in order; a key may occur more than once
   pub data Entries : Type 0 where
     no_entries : Entries
     entry : Val → Val → Entries → Entries

@@ -1,4 +1,4 @@
--- The value that a `Value` stands for.
+-- The mathematical value of a `Value`.
 use Rattle.std.specs.Prelude.{pos}
 use Rattle.fwd_value.specs.Val.{Val, nil, truth, whole, text, bin, float32, float64, ext, list, mapping, vals_of, entries_of}
 use Rattle.fwd_value.specs.declared.value.Value.{Value}
@@ -17,6 +17,6 @@ val_of (held.Ext t s) = ext t s
 val_of (held.List vs) = list (vals_of vs)
 val_of (held.Map es) = mapping (entries_of es)
 
--- the key and the value that a pair stands for
+-- the mathematical key and value of a pair
 abbrev pub pair_of : Value × Value → Val × Val
 pair_of p = (val_of p.0, val_of p.1)

@@ -1,8 +1,7 @@
--- The weight of a value: what lies inside it weighs less. Walks over a value end by it.
+-- The weight of a value, which is greater than that of its parts. It is the measure by which recursion ends.
 use Rattle.std.specs.Prelude.{ℕ, suc, ◌+◌}
 use Rattle.fwd_value.specs.Val.{Val, nil, truth, whole, text, bin, float32, float64, ext, list, mapping, Vals, no_vals, val, Entries, no_entries, entry}
 
--- a number that is greater than those of the parts
 abbrev mutual
   pub weight : Val → ℕ
   weight nil = 1

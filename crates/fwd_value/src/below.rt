@@ -1,10 +1,10 @@
-//! Numbers below 0.
+//! The negative whole numbers of a value: `Value::Uint` has the others, so each number has one form.
 
 ghost use Rattle.std.specs.Prelude.{◌≡◌, IfSome, IfNone, ℤ, pos, ◌≤ℤ◌, ◌<ℤ◌};
 
 use std::marker::Model;
 
-/// A number below 0. Contracts see it as a number.
+/// A negative number. Contracts see it as an integer.
 #[derive(Clone, Copy, Debug, PartialEq, Eq)]
 pub struct Below {
     n: i64,
@@ -23,7 +23,7 @@ impl Model for Below {
 }
 
 impl Below {
-    /// The number, where it is below 0.
+    /// Returns the number if it is negative.
     pub fn of(n: i64) -> Option<Below>
         ensures below { IfSome result (λ b. (b ≡ n) × (n <ℤ pos 0)) }
         ensures not_below { IfNone result (pos 0 ≤ℤ n) }

@@ -1,4 +1,4 @@
-//! Values, and lists of values and of pairs of values.
+//! The value type, and its lists of values and of key-value pairs.
 
 ghost use Rattle.std.specs.Prelude.{◌≡◌, ◌↔◌, ℕ, ◌<◌, ◌≤◌, ◌^◌, List, [], ◌∷◌, ◌++◌, length, map, set, insert, remove, slice_get, option_map, option_to_list, IsTrue, IfNone, IfOk, OnOk, OnErr};
 ghost use Rattle.std.specs.Slice.Iter.{iter_rest, iter_steps};
@@ -7,7 +7,7 @@ ghost use Rattle.fwd_value.specs.Val.{Val, vals_of, entries_of};
 ghost use Rattle.fwd_value.specs.Limits.{nesting, nestings, entry_nestings};
 ghost use Rattle.fwd_value.specs.declared.value.Value.{Value};
 ghost use Rattle.fwd_value.specs.View.{val_of, pair_of};
-ghost use Rattle.fwd_value.specs.Edits.{PutsKey, PutsValue};
+ghost use Rattle.fwd_value.specs.Edits.{ReplacesKey, ReplacesValue};
 
 use crate::Below;
 use fwd_base::{Bytes, Memory, crosses};
@@ -15,36 +15,36 @@ use std::alloc::Global;
 use std::marker::Model;
 use std::slice;
 
-/// A value of MessagePack. A float is carried as its bits, unread.
+/// A value of MessagePack. A float is stored as its bits.
 #[derive(Debug, Drop)]
 #[cycle(value)]
 pub enum Value {
     Nil,
     Truth(bool),
-    /// A whole number of 0 or more.
+    /// A whole number from 0 on.
     Uint(u64),
-    /// A whole number below 0.
+    /// A negative whole number.
     Neg(Below),
-    /// Text is bytes; they need not be UTF-8.
+    /// A text. Its bytes need not be UTF-8.
     Text(Bytes),
     Bin(Bytes),
     Float32(u32),
     Float64(u64),
-    /// A type of the application's own, and its bytes.
+    /// An extension: its type, and its bytes.
     Ext(i8, Bytes),
     List(Values),
     Map(Pairs),
 }
 
-/// Values, in order. Contracts see the list of what they stand for.
+/// A list of values. Contracts see the list of their mathematical values.
 #[derive(Debug, Drop)]
 #[cycle(value)]
 pub struct Values {
     items: Vec<Value>,
 }
 
-/// The pairs of a map, key and value, in order. A key may stand there twice. Contracts see the list of what they stand
-/// for.
+/// The key-value pairs of a map, in order. A key may occur more than once. Contracts see the list of their
+/// mathematical values.
 #[derive(Debug, Drop)]
 #[cycle(value)]
 pub struct Pairs {
@@ -56,7 +56,7 @@ impl Model for Values {
     ghost use Rattle.std.specs.Coded.{coded_list};
     ghost use Rattle.fwd_value.specs.Val.{Val, vals_of};
     ghost use Rattle.fwd_value.specs.Weight.{weights};
-    ghost use Rattle.fwd_value.specs.Coding.{val_code};
+    ghost use Rattle.fwd_value.specs.ValueCode.{val_code};
 
     ghost Value = { List Val };
 
@@ -69,9 +69,9 @@ impl Model for Values {
     ghost size = { λ vs. weights (vals_of vs) };
 
     ghost use Rattle.std.proofs.Common.{arith};
-    ghost use Rattle.fwd_value.specs.Falls.{vals_fall};
+    ghost use Rattle.fwd_value.specs.WeightOrder.{deep_below_weights};
 
-    ghost size_decreases = { λ a h. omega (arith, vals_fall a.items.items) };
+    ghost size_decreases = { λ a h. omega (arith, deep_below_weights a.items.items) };
 }
 
 impl Model for Pairs {
@@ -79,7 +79,7 @@ impl Model for Pairs {
     ghost use Rattle.std.specs.Coded.{coded_list, coded×};
     ghost use Rattle.fwd_value.specs.Val.{Val, entries_of};
     ghost use Rattle.fwd_value.specs.Weight.{entry_weights};
-    ghost use Rattle.fwd_value.specs.Coding.{val_code};
+    ghost use Rattle.fwd_value.specs.ValueCode.{val_code};
 
     ghost Value = { List (Val × Val) };
 
@@ -92,13 +92,14 @@ impl Model for Pairs {
     ghost size = { λ es. entry_weights (entries_of es) };
 
     ghost use Rattle.std.proofs.Common.{arith};
-    ghost use Rattle.fwd_value.specs.Falls.{pairs_below};
+    ghost use Rattle.fwd_value.specs.WeightOrder.{pairs_below};
 
     ghost size_decreases = { λ a h. pairs_below a.items.items };
 }
 
 impl Value {
-    /// Whether lists and maps are nested so deep at most in this value. The walk goes no deeper than that.
+    /// Returns whether lists and maps are nested at most `depth` deep in this value. The recursion goes no
+    /// deeper.
     #[cycle(nests_within)]
     pub fn nests_within(&self, depth: u64) -> bool
         ensures { IsTrue result ↔ (nesting (val_of self.now) ≤ depth) }
@@ -110,7 +111,7 @@ impl Value {
         }
     }
 
-    /// A copy of this value.
+    /// Returns a copy. Fails only if memory is out.
     #[cycle(try_clone)]
     pub fn try_clone(&self, alloc: Global) -> Result<Value, Memory>
         ensures { IfOk result (λ copy. val_of copy ≡ val_of self.now) }
@@ -165,7 +166,7 @@ impl Values {
         self.items.is_empty()
     }
 
-    /// The value at a place, from 0.
+    /// Returns the value at an index, if there is one.
     pub fn get(&self, index: usize) -> Option<&Value>
         ensures { option_map (λ v. val_of v.now) result ≡ slice_get self.now index }
     {
@@ -184,7 +185,7 @@ impl Values {
         self.items.iter()
     }
 
-    /// Puts a value at the end. After `Err` the list is as before.
+    /// Appends a value. After `Err` the list is unchanged.
     pub fn push(&mut self, value: Value) -> Result<(), Memory>
         ensures ok { OnOk result (self.new ≡ self.old ++ val_of value ∷ []) }
         ensures err { OnErr result (self.new ≡ self.old) }
@@ -193,7 +194,7 @@ impl Values {
         Ok(())
     }
 
-    /// Makes room for so many values more. The list stays as it is.
+    /// Reserves capacity for `more` further values. The list is unchanged.
     pub fn reserve(&mut self, more: usize) -> Result<(), Memory>
         ensures { self.new ≡ self.old }
     {
@@ -201,7 +202,7 @@ impl Values {
         Ok(())
     }
 
-    /// Puts a value in the place of another.
+    /// Replaces the value at an index.
     pub fn set(&mut self, index: usize, value: Value)
         requires { index < length self.old }
         ensures { self.new ≡ set self.old index (val_of value) }
@@ -209,7 +210,7 @@ impl Values {
         self.items[index] = value;
     }
 
-    /// Puts a value at a place; those from there on move up. After `Err` the list is as before.
+    /// Inserts a value at an index, and shifts those from there on. After `Err` the list is unchanged.
     pub fn insert(&mut self, index: usize, value: Value) -> Result<(), Memory>
         requires { index ≤ length self.old }
         ensures ok { OnOk result (self.new ≡ insert self.old index (val_of value)) }
@@ -219,7 +220,7 @@ impl Values {
         Ok(())
     }
 
-    /// Takes out the value at a place; those behind it move down.
+    /// Removes and returns the value at an index, and shifts those after it.
     pub fn remove(&mut self, index: usize) -> Value
         requires { index < length self.old }
         ensures left { self.new ≡ remove self.old index }
@@ -228,7 +229,7 @@ impl Values {
         self.items.remove(index)
     }
 
-    /// Takes out the last value.
+    /// Removes and returns the last value, if there is one.
     pub fn pop(&mut self) -> Option<Value>
         ensures taken { self.old ≡ self.new ++ option_to_list (option_map val_of result) }
         ensures none { IfNone result (self.old ≡ []) }
@@ -236,7 +237,7 @@ impl Values {
         self.items.pop()
     }
 
-    /// Whether lists and maps are nested so deep at most in each of these values.
+    /// Returns whether lists and maps are nested at most `depth` deep in each value.
     #[cycle(nests_within)]
     pub fn nest_within(&self, depth: u64) -> bool
         ensures { IsTrue result ↔ (nestings (vals_of self.now) ≤ depth) }
@@ -249,7 +250,7 @@ impl Values {
         true
     }
 
-    /// A copy of these values.
+    /// Returns a copy. Fails only if memory is out.
     #[cycle(try_clone)]
     pub fn try_clone(&self, alloc: Global) -> Result<Values, Memory>
         ensures { IfOk result (λ copy. copy ≡ self.now) }
@@ -296,7 +297,7 @@ impl Pairs {
         self.items.is_empty()
     }
 
-    /// The pair at a place, from 0.
+    /// Returns the pair at an index, if there is one.
     pub fn get(&self, index: usize) -> Option<&(Value, Value)>
         ensures { option_map (λ p. pair_of p.now) result ≡ slice_get self.now index }
     {
@@ -315,7 +316,7 @@ impl Pairs {
         self.items.iter()
     }
 
-    /// Puts a pair at the end. After `Err` the pairs are as before.
+    /// Appends a pair. After `Err` the pairs are unchanged.
     pub fn push(&mut self, pair: (Value, Value)) -> Result<(), Memory>
         ensures ok { OnOk result (self.new ≡ self.old ++ pair_of pair ∷ []) }
         ensures err { OnErr result (self.new ≡ self.old) }
@@ -324,7 +325,7 @@ impl Pairs {
         Ok(())
     }
 
-    /// Makes room for so many pairs more. The pairs stay as they are.
+    /// Reserves capacity for `more` further pairs. The pairs are unchanged.
     pub fn reserve(&mut self, more: usize) -> Result<(), Memory>
         ensures { self.new ≡ self.old }
     {
@@ -332,23 +333,23 @@ impl Pairs {
         Ok(())
     }
 
-    /// Puts a value in the place of that of a pair; the key stays.
+    /// Replaces the value of the pair at an index, and keeps its key.
     pub fn set_value(&mut self, index: usize, value: Value)
         requires { index < length self.old }
-        ensures { PutsValue self.old index (val_of value) self.new }
+        ensures { ReplacesValue self.old index (val_of value) self.new }
     {
         self.items[index].1 = value;
     }
 
-    /// Puts a key in the place of that of a pair; the value stays.
+    /// Replaces the key of the pair at an index, and keeps its value.
     pub fn set_key(&mut self, index: usize, key: Value)
         requires { index < length self.old }
-        ensures { PutsKey self.old index (val_of key) self.new }
+        ensures { ReplacesKey self.old index (val_of key) self.new }
     {
         self.items[index].0 = key;
     }
 
-    /// Puts a pair at a place; those from there on move up. After `Err` the pairs are as before.
+    /// Inserts a pair at an index, and shifts those from there on. After `Err` the pairs are unchanged.
     pub fn insert(&mut self, index: usize, pair: (Value, Value)) -> Result<(), Memory>
         requires { index ≤ length self.old }
         ensures ok { OnOk result (self.new ≡ insert self.old index (pair_of pair)) }
@@ -358,7 +359,7 @@ impl Pairs {
         Ok(())
     }
 
-    /// Takes out the pair at a place; those behind it move down.
+    /// Removes and returns the pair at an index, and shifts those after it.
     pub fn remove(&mut self, index: usize) -> (Value, Value)
         requires { index < length self.old }
         ensures left { self.new ≡ remove self.old index }
@@ -367,7 +368,7 @@ impl Pairs {
         self.items.remove(index)
     }
 
-    /// Takes out the last pair.
+    /// Removes and returns the last pair, if there is one.
     pub fn pop(&mut self) -> Option<(Value, Value)>
         ensures taken { self.old ≡ self.new ++ option_to_list (option_map pair_of result) }
         ensures none { IfNone result (self.old ≡ []) }
@@ -375,7 +376,7 @@ impl Pairs {
         self.items.pop()
     }
 
-    /// Whether lists and maps are nested so deep at most in each key and each value.
+    /// Returns whether lists and maps are nested at most `depth` deep in each key and each value.
     #[cycle(nests_within)]
     pub fn nest_within(&self, depth: u64) -> bool
         ensures { IsTrue result ↔ (entry_nestings (entries_of self.now) ≤ depth) }
@@ -388,7 +389,7 @@ impl Pairs {
         true
     }
 
-    /// A copy of these pairs.
+    /// Returns a copy. Fails only if memory is out.
     #[cycle(try_clone)]
     pub fn try_clone(&self, alloc: Global) -> Result<Pairs, Memory>
         ensures { IfOk result (λ copy. copy ≡ self.now) }
@@ -427,8 +428,8 @@ impl<'a> IntoIterator for &'a Pairs {
     }
 }
 
-/// Threads may share values and hand them over.
-pub fn values_cross(value: &Value, values: &Values, pairs: &Pairs) {
+/// Shows that `Value`, `Values` and `Pairs` are `Send` and `Sync`.
+pub fn values_are_send_sync(value: &Value, values: &Values, pairs: &Pairs) {
     crosses(value);
     crosses(values);
     crosses(pairs);

@@ -1,10 +1,10 @@
-pub mod Verdicts
-pub mod Seen
+pub mod OneVerdict
+pub mod OneAnswer
 pub mod Members
 pub mod Stops
-pub mod Unpacked
-pub mod Spelled
-pub mod Answering
+pub mod EventLists
+pub mod EncodedParts
+pub mod ReadAnswer
 pub mod Packed
-pub mod Worked
-pub mod Fitting
+pub mod Computed
+pub mod Encodable

@@ -1,19 +1,19 @@
--- Events that are worked out by reading are those that the bytes are.
+-- Events computed by reading are those that the bytes encode.
 use Rattle.std.proofs.Common.{◌≡◌, ◌↔◌, ℕ, zero, suc, ◌≤◌, ◌<◌, List, [], ◌∷◌, length, Option, Some, None, Ok, Err, refl, sym, ap, subst, ◌∙◌, arith}
 use Rattle.std.proofs.lemmas.List.{length-append}
 use Rattle.fwd_value.specs.Val.{Val}
-use Rattle.fwd_msgpack.specs.Spelling.{Spells}
-use Rattle.fwd_msgpack.specs.Reading.{Read, value_at}
+use Rattle.fwd_msgpack.specs.Encodings.{Encodes}
+use Rattle.fwd_msgpack.specs.Decoder.{Read, value_at}
 use Rattle.fwd_msgpack.proofs.Grammar.{reads}
 use Rattle.fwd_event.specs.declared.event.Event.{Event}
 use Rattle.fwd_event.specs.Event.{event_of, AreEvents}
 use Rattle.fwd_wire.specs.Message.{in_front}
-use Rattle.fwd_wire.specs.Reading.{next_event, events_by, packed_events}
+use Rattle.fwd_wire.specs.Decode.{next_event, events_by, packed_events}
 
 same_events : (es fs : List Event) → ◌≡◌ {A = Option (List Event)} (Some es) (Some fs) → es ≡ fs
 same_events es fs e = cc
 
--- an event in front of others
+-- an event before others
 pub fronted : (o : Option Event) (p : Option (List Event)) (es : List Event) → in_front o p ≡ Some es → (e : Event) × (fs : List Event) × (o ≡ Some e) × (p ≡ Some fs) × (es ≡ e ∷ fs)
 fronted (Some e) (Some fs) es h = (e, fs, refl, refl, sym (same_events (e ∷ fs) es h))
 fronted (Some e) None es h = absurd cc
@@ -32,7 +32,7 @@ events_are n [] es h = subst (λ (fs : List Event). AreEvents fs []) (same_event
 events_are zero (c ∷ b) es h = absurd cc
 events_are (suc n) (c ∷ b) es h = next_are (events_by n) (events_are n) (c ∷ b) es (value_at 64 (c ∷ b)) refl h
 
-some_byte : (v : Val) (front : List ℕ) → Spells v front → 0 < length front
+some_byte : (v : Val) (front : List ℕ) → Encodes v front → 0 < length front
 some_byte v [] s = absurd s
 some_byte v (c ∷ front) s = omega arith
 

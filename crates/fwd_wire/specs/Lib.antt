@@ -1,7 +1,7 @@
 pub mod Message
 pub mod Answer
 pub mod Stream
-pub mod Reading
-pub mod Written
+pub mod Decode
+pub mod Encode
 pub mod Fits
-pub mod Held
+pub mod Representation

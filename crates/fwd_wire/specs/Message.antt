@@ -3,31 +3,32 @@ use Rattle.std.specs.Prelude.{◌≡◌, ℕ, Bool, true, false, ◌&&◌, nat_l
 use Rattle.std.specs.Str.{is_utf8}
 use Rattle.fwd_base.specs.Limits.{longest_tag}
 use Rattle.fwd_value.specs.Val.{Val, nil, text, bin, list, mapping, Vals, no_vals, val}
-use Rattle.fwd_body.specs.Keys.{Body, is_text, key}
+use Rattle.fwd_value.specs.Keys.{Record, is_text, key}
 use Rattle.fwd_event.specs.declared.event.Event.{Event}
 use Rattle.fwd_event.specs.Event.{pairs_of, event_of, AreEvents}
 
--- what a message says: nothing, or that these events have this tag, and which chunk is to be acknowledged
-pub data Said : Type 0 where
-  nothing : Said
-  batch : List ℕ → List Event → Option Val → Said
+-- what a message says: nothing, or events with a tag, and the chunk to acknowledge
+pub data MessageContent : Type 0 where
+  nothing : MessageContent
+  batch : List ℕ → List Event → Option Val → MessageContent
 
--- what is made of a value
+-- the result for a value
 pub data Verdict : Type 0 where
-  says : Said → Verdict
+  says : MessageContent → Verdict
   compressed : Verdict
   no_message : Verdict
 
--- what a message carries: the time and the record of one event, events in a list, or the bytes of events
+-- the events of a message: the time and the record of one event, events in a list, or the bytes of events
 pub data Carried : Type 0 where
   one : Val → Val → Carried
   many : Vals → Carried
   packed : List ℕ → Carried
 
--- the parts of a value as a message: nil has none; a tag, what is carried and an option; or it is no message
+-- the parts of a value as a message: nil has none; a tag, carried events and an option; or it isn't a
+-- message
 pub data Parts : Type 0 where
   empty : Parts
-  tagged : List ℕ → Carried → Body → Parts
+  tagged : List ℕ → Carried → Record → Parts
   unfit : Parts
 
 -- "Grammar", tag: a text of 1 to 1,024 bytes; a bin is taken too
@@ -40,7 +41,7 @@ tag_of (bin b) = if is_tag b then Some b else None
 tag_of _ = None
 
 -- "Option": a map; nil stands for an empty one
-abbrev pub option_of : Val → Option Body
+abbrev pub option_of : Val → Option Record
 option_of nil = Some []
 option_of (mapping es) = Some (pairs_of es)
 option_of _ = None
@@ -57,7 +58,7 @@ abbrev pub text_word : List ℕ
 text_word = codes "text"
 
 -- the value of the first pair of a key
-abbrev pub option_value : Body → List ℕ → Option Val
+abbrev pub option_value : Record → List ℕ → Option Val
 option_value o k = option_map (λ p. p.1) (key o k)
 
 -- "CompressedPackedForward Mode": entries are compressed unless the option says `text` or nothing
@@ -65,26 +66,26 @@ abbrev pub is_plain_word : Option Val → Bool
 is_plain_word None = true
 is_plain_word (Some v) = is_text text_word v
 
-abbrev pub is_plain : Body → Bool
+abbrev pub is_plain : Record → Bool
 is_plain o = is_plain_word (option_value o compressed_key)
 
--- a tag, something carried and an option
-abbrev pub tagged_by : Option (List ℕ) → Option Body → Carried → Parts
+-- a tag, carried events and an option
+abbrev pub tagged_by : Option (List ℕ) → Option Record → Carried → Parts
 tagged_by (Some t) (Some o) c = tagged t c o
 tagged_by _ _ c = unfit
 
--- an option may stand last
+-- an option may come last
 abbrev pub with_option : Val → Carried → Vals → Parts
 with_option tag c no_vals = tagged_by (tag_of tag) (Some []) c
 with_option tag c (val o no_vals) = tagged_by (tag_of tag) (option_of o) c
 with_option tag c os = unfit
 
--- "Message Mode": behind the time stands a record
+-- "Message Mode": after the time comes a record
 abbrev pub with_time : Val → Val → Vals → Parts
 with_time tag time (val body vs) = with_option tag (one time body) vs
 with_time tag time no_vals = unfit
 
--- the second member tells the mode
+-- the second member decides the mode
 abbrev pub in_mode : Val → Val → Vals → Parts
 -- "Forward Mode"
 in_mode tag (list es) vs = with_option tag (many es) vs
@@ -114,13 +115,13 @@ Carries (many vs) es = events_of vs ≡ Some es
 -- "PackedForward Mode": entries one after another
 Carries (packed b) es = AreEvents es b
 
--- a batch of the events that are carried, or no message where what is carried isn't events
+-- a batch of the carried events, or no message if they aren't events
 abbrev pub CarriedSays : List ℕ → Option Val → Carried → Verdict → Type 0
 CarriedSays tag chunk c (says (batch t es k)) = (t ≡ tag) × (k ≡ chunk) × Carries c es
 CarriedSays tag chunk c no_message = (es : List Event) → Carries c es → ⊥
 CarriedSays tag chunk c _ = ⊥
 
--- what is compressed is refused before its entries are looked at
+-- compressed entries are refused before they are read
 abbrev pub PlainSays : Bool → List ℕ → Option Val → Carried → Verdict → Type 0
 PlainSays true tag chunk c v = CarriedSays tag chunk c v
 PlainSays false tag chunk c v = v ≡ compressed

@@ -1,16 +1,16 @@
-//! What acknowledges a message.
+//! Acknowledgements of messages.
 
 ghost use Rattle.std.specs.Prelude.{◌≡◌, ◌≤◌, IfOk};
 ghost use Rattle.fwd_value.specs.View.{val_of};
 ghost use Rattle.fwd_value.specs.Limits.{nesting, LengthsFit};
 ghost use Rattle.fwd_msgpack.specs.Canonical.{canonical};
-ghost use Rattle.fwd_wire.specs.Written.{ack_val};
+ghost use Rattle.fwd_wire.specs.Encode.{ack_val};
 
 use fwd_base::{Bytes, Memory};
 use fwd_msgpack::{Value, encode};
 use std::alloc::Global;
 
-/// The map `{"ack": chunk}`.
+/// Returns the encoded map `{"ack": chunk}`.
 pub fn ack_bytes(alloc: Global, chunk: &Value) -> Result<Bytes, Memory>
     requires nested { nesting (val_of chunk.now) ≤ 63 }
     requires lengths { LengthsFit (val_of chunk.now) }

@@ -4,19 +4,19 @@ ghost use Rattle.fwd_wire.specs.declared.errors.WireErr.TheVariants as wire_err;
 use fwd_base::Memory;
 use thiserror::Error;
 
-/// Why bytes give no message. A place is counted in bytes from their start.
+/// Why bytes don't begin a message. Positions count bytes from the start.
 #[derive(Clone, Copy, Debug, PartialEq, Eq, Error)]
 pub enum WireErr {
-    /// They end within a value, and are fewer than a message may have.
+    /// The bytes end inside a value, and are fewer than a message may have.
     #[error("the bytes end within a message")]
     Short,
-    /// No value stands there, or one that is no message.
+    /// There is no value, or one that isn't a message.
     #[error("no message stands at {at}")]
     NotAMessage { at: u64 },
-    /// A message whose entries are compressed.
+    /// The entries of the message are compressed.
     #[error("the message is compressed")]
     Compressed,
-    /// As many bytes as a message may have end within a value.
+    /// As many bytes as a message may have end inside a value.
     #[error("the message is too long")]
     TooLong,
     #[error("out of memory")]

@@ -3,7 +3,7 @@ use thiserror::Error;
 /// Why a connection gives no more messages.
 #[derive(Clone, Copy, Debug, PartialEq, Eq, Error)]
 pub enum ConnFault {
-    /// What comes next is no message.
+    /// The next value isn't a message.
     #[error("no message comes")]
     NotAMessage,
     /// The next message is compressed.

@@ -4,23 +4,24 @@ ghost use Rattle.std.specs.Prelude.{◌≡◌, Some, option_map, IfOk};
 ghost use Rattle.fwd_value.specs.Val.{text, list, vals_of};
 ghost use Rattle.fwd_value.specs.View.{val_of};
 ghost use Rattle.fwd_wire.specs.Message.{is_tag, tag_of, option_of, is_plain, option_value, chunk_key, text_word, tagged_by, with_option, with_time, in_mode, parts_of, CarriedSays, PlainSays, PartsSay, MessageSays};
-ghost use Rattle.fwd_wire.specs.Held.{carried_of, bytes_read, CarriesOnly, Meets};
+ghost use Rattle.fwd_wire.specs.Representation.{carried_of, bytes_read, CarriesExactly, GivesVerdict};
 ghost use Rattle.fwd_wire.specs.declared.message.Message.TheVariants.{Batch as batch_of};
-ghost use Rattle.fwd_body.specs.Keys.{is_text};
+ghost use Rattle.fwd_value.specs.Keys.{is_text};
 
-use crate::carried::{listed, single, unpacked};
+use crate::events::{events_of_values, single, unpack_events};
 use crate::{Message, WireErr};
 use fwd_base::limits::LONGEST_TAG;
 use fwd_base::{Bytes, Memory, is_utf8};
-use fwd_body::{is_text, place_of, value_of};
 use fwd_event::Events;
 use fwd_msgpack::{Pairs, Value, Values};
+use fwd_value::{index_of, is_text, value_of};
 use std::alloc::Global;
 
-/// A whole value that is no message.
+/// The error of a whole value that isn't a message.
 const NO_MESSAGE: WireErr = WireErr::NotAMessage { at: 0 };
 
-/// What a message carries: the time and the record of one event, events in a list, or the bytes of events.
+/// The events of a message, not yet read: the time and the record of one event, events in a list, or the
+/// bytes of events.
 #[derive(Drop)]
 pub enum Carried {
     One(Value, Value),
@@ -28,32 +29,32 @@ pub enum Carried {
     Packed(Bytes),
 }
 
-/// The events that are carried, if what is carried is events.
+/// Returns the carried events, if they are events.
 fn events_in(alloc: Global, carried: Carried) -> Result<Option<Events>, Memory>
-    ensures { IfOk result (λ events. CarriesOnly (carried_of carried) events) }
+    ensures { IfOk result (λ events. CarriesExactly (carried_of carried) events) }
 {
     match carried {
         Carried::One(time, body) => single(alloc, time, body),
-        Carried::Many(values) => listed(alloc, values),
-        Carried::Packed(bytes) => unpacked(alloc, bytes.as_slice()),
+        Carried::Many(values) => events_of_values(alloc, values),
+        Carried::Packed(bytes) => unpack_events(alloc, bytes.as_slice()),
     }
 }
 
-/// Whether bytes may be a tag: a text of 1 to 1,024 bytes.
+/// Returns whether bytes may be a tag: a text of 1 to 1,024 bytes.
 fn is_tag(bytes: &[u8]) -> bool
     ensures { result ≡ is_tag bytes.now }
 {
     0 < bytes.len() && bytes.len() <= LONGEST_TAG && is_utf8(bytes)
 }
 
-/// The bytes, if they may be a tag.
+/// Returns the bytes, if they may be a tag.
 fn checked_tag(bytes: &[u8]) -> Option<&[u8]>
     ensures { bytes_read result ≡ tag_of (text bytes.now) }
 {
     if is_tag(bytes) { Some(bytes) } else { None }
 }
 
-/// The tag that a value is.
+/// Returns the tag that a value is.
 fn tag_of(value: &Value) -> Option<&[u8]>
     ensures { bytes_read result ≡ tag_of (val_of value.now) }
 {
@@ -64,7 +65,7 @@ fn tag_of(value: &Value) -> Option<&[u8]>
     }
 }
 
-/// Whether the option says that the entries aren't compressed.
+/// Returns whether the option says that the entries aren't compressed.
 fn is_plain(alloc: Global, option: &Pairs) -> Result<bool, Memory>
     ensures { IfOk result (λ plain. plain ≡ is_plain option.now) }
 {
@@ -75,7 +76,7 @@ fn is_plain(alloc: Global, option: &Pairs) -> Result<bool, Memory>
     }
 }
 
-/// Whether a value is the text `text`.
+/// Returns whether a value is the text `text`.
 fn is_word(alloc: Global, value: &Value) -> Result<bool, Memory>
     ensures { IfOk result (λ is. is ≡ is_text text_word (val_of value.now)) }
 {
@@ -83,12 +84,12 @@ fn is_word(alloc: Global, value: &Value) -> Result<bool, Memory>
     Ok(is_text(value, &word))
 }
 
-/// The chunk that the option wants acknowledged.
+/// Returns the chunk that the option asks to acknowledge.
 fn chunk_of(alloc: Global, mut option: Pairs) -> Result<Option<Value>, Memory>
     ensures { IfOk result (λ chunk. option_map val_of chunk ≡ option_value option chunk_key) }
 {
     let key = Bytes::from_slice(alloc, b"chunk")?;
-    match place_of(&option, &key) {
+    match index_of(&option, &key) {
         Some(place) => {
             let (_, chunk) = option.remove(place);
             Ok(Some(chunk))
@@ -97,7 +98,7 @@ fn chunk_of(alloc: Global, mut option: Pairs) -> Result<Option<Value>, Memory>
     }
 }
 
-/// The batch of these events.
+/// Returns the batch of these events.
 fn batch(alloc: Global, tag: &[u8], events: Events, chunk: Option<Value>) -> Result<Message, Memory>
     ensures { IfOk result (λ message. message ≡ batch_of tag.now events chunk) }
 {
@@ -108,14 +109,14 @@ fn batch(alloc: Global, tag: &[u8], events: Events, chunk: Option<Value>) -> Res
     })
 }
 
-/// The batch of what is carried.
+/// Returns the batch of the carried events.
 fn carried_batch(
     alloc: Global,
     tag: &[u8],
     carried: Carried,
     chunk: Option<Value>,
 ) -> Result<Message, WireErr>
-    ensures { Meets (CarriedSays tag.now (option_map val_of chunk) (carried_of carried)) result }
+    ensures { GivesVerdict (CarriedSays tag.now (option_map val_of chunk) (carried_of carried)) result }
 {
     match events_in(alloc, carried)? {
         Some(events) => Ok(batch(alloc, tag, events, chunk)?),
@@ -123,14 +124,14 @@ fn carried_batch(
     }
 }
 
-/// The batch of what is carried, if it isn't compressed.
+/// Returns the batch of the carried events, unless they are compressed.
 fn plain_batch(
     alloc: Global,
     tag: &[u8],
     carried: Carried,
     option: Pairs,
 ) -> Result<Message, WireErr>
-    ensures { Meets (PlainSays (is_plain option) tag.now (option_value option chunk_key) (carried_of carried)) result }
+    ensures { GivesVerdict (PlainSays (is_plain option) tag.now (option_value option chunk_key) (carried_of carried)) result }
 {
     if !is_plain(alloc, &option)? {
         return Err(WireErr::Compressed);
@@ -139,9 +140,9 @@ fn plain_batch(
     carried_batch(alloc, tag, carried, chunk)
 }
 
-/// What a tag, something carried and an option say.
+/// Returns the message of a tag, carried events and an option.
 fn tagged(alloc: Global, tag: &Value, carried: Carried, option: Pairs) -> Result<Message, WireErr>
-    ensures { Meets (PartsSay (tagged_by (tag_of (val_of tag.now)) (Some option) (carried_of carried))) result }
+    ensures { GivesVerdict (PartsSay (tagged_by (tag_of (val_of tag.now)) (Some option) (carried_of carried))) result }
 {
     let Some(tag) = tag_of(tag) else {
         return Err(NO_MESSAGE);
@@ -149,10 +150,15 @@ fn tagged(alloc: Global, tag: &Value, carried: Carried, option: Pairs) -> Result
     plain_batch(alloc, tag, carried, option)
 }
 
-/// What a tag, something carried and a value as their option say.
-#[tactic(auto, using(fwd_event::proofs::Parts::pairs_back))]
-fn optioned(alloc: Global, tag: &Value, carried: Carried, option: Value) -> Result<Message, WireErr>
-    ensures { Meets (PartsSay (tagged_by (tag_of (val_of tag.now)) (option_of (val_of option)) (carried_of carried))) result }
+/// Returns the message of a tag, carried events and a value that must be their option.
+#[tactic(auto, using(fwd_event::proofs::EventParts::pairs_back))]
+fn message_with_option(
+    alloc: Global,
+    tag: &Value,
+    carried: Carried,
+    option: Value,
+) -> Result<Message, WireErr>
+    ensures { GivesVerdict (PartsSay (tagged_by (tag_of (val_of tag.now)) (option_of (val_of option)) (carried_of carried))) result }
 {
     match option {
         Value::Nil => tagged(alloc, tag, carried, Pairs::new(alloc)),
@@ -161,32 +167,32 @@ fn optioned(alloc: Global, tag: &Value, carried: Carried, option: Value) -> Resu
     }
 }
 
-/// What a tag, something carried and at most one option behind it say.
+/// Returns the message of a tag, carried events and at most one option after them.
 fn with_option(
     alloc: Global,
     tag: &Value,
     carried: Carried,
     mut behind: Values,
 ) -> Result<Message, WireErr>
-    ensures { Meets (PartsSay (with_option (val_of tag.now) (carried_of carried) (vals_of behind))) result }
+    ensures { GivesVerdict (PartsSay (with_option (val_of tag.now) (carried_of carried) (vals_of behind))) result }
 {
     if 1 < behind.len() {
         return Err(NO_MESSAGE);
     }
     match behind.pop() {
-        Some(option) => optioned(alloc, tag, carried, option),
+        Some(option) => message_with_option(alloc, tag, carried, option),
         None => tagged(alloc, tag, carried, Pairs::new(alloc)),
     }
 }
 
-/// What a tag and a time say, with a record and at most one option behind them.
+/// Returns the message of a tag and a time, with a record and at most one option after them.
 fn with_time(
     alloc: Global,
     tag: &Value,
     time: Value,
     mut behind: Values,
 ) -> Result<Message, WireErr>
-    ensures { Meets (PartsSay (with_time (val_of tag.now) (val_of time) (vals_of behind))) result }
+    ensures { GivesVerdict (PartsSay (with_time (val_of tag.now) (val_of time) (vals_of behind))) result }
 {
     if behind.is_empty() {
         return Err(NO_MESSAGE);
@@ -195,9 +201,9 @@ fn with_time(
     with_option(alloc, tag, Carried::One(time, body), behind)
 }
 
-/// What a tag, a second member, which tells the mode, and what stands behind them say.
+/// Returns the message of a tag, a second member, which decides the mode, and the members after them.
 fn in_mode(alloc: Global, tag: &Value, second: Value, behind: Values) -> Result<Message, WireErr>
-    ensures { Meets (PartsSay (in_mode (val_of tag.now) (val_of second) (vals_of behind))) result }
+    ensures { GivesVerdict (PartsSay (in_mode (val_of tag.now) (val_of second) (vals_of behind))) result }
 {
     match second {
         Value::List(entries) => with_option(alloc, tag, Carried::Many(entries), behind),
@@ -207,9 +213,9 @@ fn in_mode(alloc: Global, tag: &Value, second: Value, behind: Values) -> Result<
     }
 }
 
-/// What the values of a list say.
+/// Returns the message of the members of a list.
 fn members(alloc: Global, mut values: Values) -> Result<Message, WireErr>
-    ensures { Meets (PartsSay (parts_of (list (vals_of values)))) result }
+    ensures { GivesVerdict (PartsSay (parts_of (list (vals_of values)))) result }
 {
     if values.len() < 2 {
         return Err(NO_MESSAGE);
@@ -219,9 +225,9 @@ fn members(alloc: Global, mut values: Values) -> Result<Message, WireErr>
     in_mode(alloc, &tag, second, values)
 }
 
-/// What a value says as a message. The value is taken apart: what it carries isn't copied.
+/// Returns the message that a value is. Consumes the value: the carried events aren't copied.
 pub fn message_of(alloc: Global, value: Value) -> Result<Message, WireErr>
-    ensures { Meets (MessageSays (val_of value)) result }
+    ensures { GivesVerdict (MessageSays (val_of value)) result }
 {
     match value {
         Value::Nil => Ok(Message::Nothing),

@@ -1,7 +1,7 @@
 use Rattle.std.proofs.Common.{◌≡◌, ℕ, List, Option, Some, subst, refl}
 use Rattle.fwd_route.proofs.matches.Goals as goal
 use Rattle.fwd_route.specs.declared.Back.{Back}
-use Rattle.fwd_route.proofs.Scanning.{Scan, MayGoOn, at_the_end, scan_starts, scan_star, scan_end, scan_byte, scan_back, scan_over, scan_fails, star_smaller, back_smaller}
+use Rattle.fwd_route.proofs.ScanInvariant.{Scan, MayResume, at_the_end, scan_starts, scan_star, scan_end, scan_byte, scan_back, scan_over, scan_fails, star_smaller, back_smaller}
 
 pub steps-init : goal.steps-init
 steps-init c = scan_starts _ _
@@ -13,7 +13,7 @@ pub returns-then-is_plain : goal.returns-then-is_plain
 returns-then-is_plain c =
     let plain = c.is_plain.ensures.0 c.if-is_plain.true in
     let same = scan_end _ _ _ _ _ _ c.steps.invariant c.in-Star.ensures plain in
-    (λ yes. same.1 (c.is_end.ensures.0 yes), λ matched. c.is_end.ensures.1 (same.0 matched))
+    (λ yes. same.1 (c.is_suffix.ensures.0 yes), λ matched. c.is_suffix.ensures.1 (same.0 matched))
 
 pub steps-smaller-in-Star : goal.steps-smaller-in-Star
 steps-smaller-in-Star c = star_smaller _ _ _ _ _ _ c.steps.invariant c.in-Star.ensures
@@ -29,7 +29,7 @@ returns-in_default c = (
   λ is. absurd (cc (is)),
   λ matched. absurd (
       scan_fails _ _ _ _ _ c.steps.invariant c.in-Other.ensures
-      (λ later. subst MayGoOn c.in_default.is later) matched),
+      (λ later. subst MayResume c.in_default.is later) matched),
 )
 
 pub returns-in_default-split_first : goal.returns-in_default-split_first

@@ -1,5 +1,5 @@
 use Rattle.std.proofs.Common.{◌+◌, ◌*◌, length}
-use Rattle.fwd_route.proofs.Scanning.{Scan, left}
+use Rattle.fwd_route.proofs.ScanInvariant.{Scan, left}
 use Rattle.fwd_route.proofs.matches.Given as goal
 
 abbrev pub invariant-steps : goal.invariant-steps

@@ -1,8 +1,8 @@
--- A tag that doesn't begin with the wanted byte isn't matched.
+-- A tag that doesn't begin with the byte of the glob doesn't match.
 use Rattle.std.proofs.Common.{length, ap, arith}
 use Rattle.fwd_route.proofs.next_step.Goals as goal
 use Rattle.fwd_route.proofs.next_step.Goals.{in_default-split_first-via-in-Some-split_first+else-byte-wanted, in_default-split_first-via-in_default-split_first}
-use Rattle.fwd_route.proofs.Fitting.{other_byte}
+use Rattle.fwd_route.proofs.ByteMatching.{other_byte}
 
 pub returns-in_default-split_first : goal.returns-in_default-split_first
 returns-in_default-split_first c = elim c.in_default-split_first.branch [

@@ -1,7 +1,7 @@
 use Rattle.std.proofs.Common.{◌≡◌, ◌++◌, ◌∙◌, List, ℕ, All, get_or, sym, subst, arith}
 use Rattle.fwd_outside.specs.Disk.{IsFileName}
 use Rattle.fwd_backlog.specs.Listing.{chunks_in}
-use Rattle.fwd_backlog.proofs.Named.{none_named, more_named}
+use Rattle.fwd_backlog.proofs.ListableNames.{none_named, more_named}
 use Rattle.fwd_backlog.proofs.Folders.{root_listed, root_stopped, folder_listed, folder_stopped, folder_unkept}
 use Rattle.fwd_backlog.proofs.listing.list_files.Goals as goal
 

@@ -5,7 +5,7 @@ use Rattle.regex.specs.Names.{names_of}
 use Rattle.regex.specs.Bytes.{match_haystack, match_span}
 use Rattle.regex.specs.Writes.{group_of}
 use Rattle.fwd_base.specs.Pattern.{captures_from, named_capture, captured}
-use Rattle.fwd_base.proofs.Names.{drop-map-step}
+use Rattle.fwd_base.proofs.MappedLists.{drop-map-step}
 use Rattle.fwd_base.proofs.search.named.Goals as goal
 
 pub loop-n-preserved : goal.loop-n-preserved

@@ -1,5 +1,5 @@
 use Rattle.std.proofs.Common.{◌≡◌, ◌+◌, drop}
-use Rattle.fwd_chunk.specs.Settle.{named_length}
+use Rattle.fwd_chunk.specs.Outcome.{named_length}
 use Rattle.fwd_chunk.proofs.outcome.named_length.Given as goal
 
 abbrev pub invariant-loop-name : goal.invariant-loop-name

@@ -1,5 +1,5 @@
 use Rattle.std.proofs.Common.{◌≡◌, ◌+◌, drop}
-use Rattle.fwd_chunk.specs.Settle.{named_length, bytes_from}
+use Rattle.fwd_chunk.specs.Outcome.{named_length, bytes_from}
 use Rattle.fwd_chunk.proofs.outcome.outcome_place.Given as goal
 
 abbrev pub invariant-loop-name : goal.invariant-loop-name

@@ -1,5 +1,5 @@
 use Rattle.std.proofs.Common.{◌-◌, vec_len, arith}
-use Rattle.fwd_config.proofs.Growing.{with_entry_at}
+use Rattle.fwd_config.proofs.Append.{with_entry_at}
 use Rattle.fwd_config.proofs.outline.add_entry.Goals as goal
 
 pub returns-in_ok-push : goal.returns-in_ok-push

@@ -2,7 +2,7 @@ use Rattle.std.proofs.Common.{◌≡◌, ◌+◌, ◌-◌, ◌≤◌, not, eqb, 
 use Rattle.std.specs.List.{suffix_len}
 use Rattle.fwd_config.proofs.outline.folder.Given as goal
 
--- the bytes behind `end` are no slashes
+-- the bytes after `end` aren't slashes
 abbrev pub invariant-loop-end : goal.invariant-loop-end
 invariant-loop-end l =
     (l.end ≤ length l.path) × (suffix_len (λ byte. not (eqb byte 47)) (take l.end l.path) + (length l.path - l.end) ≡ suffix_len (λ byte. not (eqb byte 47)) l.path)

@@ -1,13 +1,13 @@
 use Rattle.std.proofs.Common.{ℕ, List, [], ◌∷◌, ◌++◌, Global, sym, ◌∙◌, ap}
 use Rattle.std.specs.Prelude.{Vec}
 use Rattle.std.proofs.lemmas.List.{append-nil, append_assoc}
-use Rattle.fwd_image.specs.File.{content}
+use Rattle.fwd_outside.specs.File.{content}
 use Rattle.fwd_disk_mem.specs.declared.image.ImageFile.{ImageFile}
 use Rattle.fwd_disk_mem.specs.declared.told.Told.{Told}
-use Rattle.fwd_disk_mem.specs.Seen.{Seen}
+use Rattle.fwd_disk_mem.specs.DiskState.{Seen}
 use Rattle.fwd_disk_mem.specs.Told.{files_of}
 use Rattle.fwd_disk_mem.specs.Images.{preset_of, presets_of}
-use Rattle.fwd_disk_mem.proofs.Crashed.{presets_of-push, are_presets, images_read}
+use Rattle.fwd_disk_mem.proofs.CrashDisk.{presets_of-push, are_presets, images_read}
 use Rattle.fwd_disk_mem.proofs.crash.disk_of.Goals as goal
 
 pub loop-name-init : goal.loop-name-init

@@ -1,5 +1,5 @@
 use Rattle.std.proofs.Common.{arith}
-use Rattle.fwd_disk_mem.proofs.Imaging.{mixed_next}
+use Rattle.fwd_disk_mem.proofs.ImageSteps.{mixed_next}
 use Rattle.fwd_disk_mem.proofs.image.mixed_bytes.Goals as goal
 
 pub loop-i-preserved : goal.loop-i-preserved

@@ -1,5 +1,5 @@
 use Rattle.std.proofs.Common.{inl, refl, sym, ◌∙◌}
-use Rattle.fwd_disk_mem.proofs.Listed.{adds_none, not_text}
+use Rattle.fwd_disk_mem.proofs.FolderNames.{adds_none, not_text}
 use Rattle.fwd_disk_mem.proofs.listing.add_name.Goals as goal
 
 pub returns-in-None : goal.returns-in-None

@@ -1,8 +1,8 @@
 use Rattle.std.proofs.Common.{ℕ, List, [], ◌∷◌, ◌++◌, map, sym, ◌∙◌, ap, subst}
 use Rattle.std.proofs.lemmas.List.{append-nil, append_assoc}
-use Rattle.fwd_disk_mem.specs.Table.{MemFile, file_of}
+use Rattle.fwd_disk_mem.specs.FileTable.{MemFile, file_of}
 use Rattle.fwd_disk_mem.specs.Listing.{AreNames, Adds}
-use Rattle.fwd_disk_mem.proofs.Listed.{names-push, names_nil}
+use Rattle.fwd_disk_mem.proofs.FolderNames.{names-push, names_nil}
 use Rattle.fwd_disk_mem.proofs.listing.all_names.Goals as goal
 
 pub loop-name-init : goal.loop-name-init

@@ -1,5 +1,5 @@
 use Rattle.std.proofs.Common.{◌≡◌, ◌++◌, List, map}
-use Rattle.fwd_disk_mem.specs.Table.{MemFile, file_of}
+use Rattle.fwd_disk_mem.specs.FileTable.{MemFile, file_of}
 use Rattle.fwd_disk_mem.specs.Listing.{AreNames}
 use Rattle.fwd_disk_mem.proofs.listing.all_names.Given as goal
 

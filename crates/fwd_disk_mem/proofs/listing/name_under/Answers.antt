@@ -3,7 +3,7 @@ use Rattle.std.specs.Str.{bytes_eq}
 use Rattle.std.proofs.lemmas.Slice.Eq.{bytes_eq-Decides}
 use Rattle.std.proofs.lemmas.List.{take_all}
 use Rattle.fwd_disk_mem.specs.Listing.{IsUpToSlash}
-use Rattle.fwd_disk_mem.proofs.Listed.{begins, is_under, not_false}
+use Rattle.fwd_disk_mem.proofs.FolderNames.{begins, is_under, not_false}
 use Rattle.fwd_disk_mem.proofs.listing.name_under.Goals as goal
 
 pub returns-then-ne : goal.returns-then-ne

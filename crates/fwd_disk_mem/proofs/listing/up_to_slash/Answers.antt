@@ -1,6 +1,6 @@
 use Rattle.std.proofs.Common.{ℕ, List, Contains, subst, arith}
 use Rattle.std.proofs.lemmas.List.{take_all}
-use Rattle.fwd_disk_mem.proofs.Listed.{up_to, whole_plain}
+use Rattle.fwd_disk_mem.proofs.FolderNames.{up_to, whole_plain}
 use Rattle.fwd_disk_mem.proofs.listing.up_to_slash.Goals as goal
 
 pub returns-then-bytes-i-eq47 : goal.returns-then-bytes-i-eq47

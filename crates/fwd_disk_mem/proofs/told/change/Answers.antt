@@ -1,4 +1,4 @@
-use Rattle.fwd_disk_mem.proofs.Changing.{wrote_changes}
+use Rattle.fwd_disk_mem.proofs.WriteChange.{wrote_changes}
 use Rattle.fwd_disk_mem.proofs.told.change.Goals as goal
 
 pub returns-then-ok-clause-ok : goal.returns-then-ok-clause-ok

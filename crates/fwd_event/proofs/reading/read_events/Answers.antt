@@ -1,7 +1,7 @@
 use Rattle.std.proofs.Common.{Ok, Err, inr, arith}
 use Rattle.std.proofs.lemmas.List.{length-drop}
 use Rattle.std.proofs.lemmas.Result.{err_from_is_err_and}
-use Rattle.fwd_event.proofs.Lists.{one_more}
+use Rattle.fwd_event.proofs.EventLists.{one_more}
 use Rattle.fwd_event.proofs.Answers.{exactly, stopped, read_all}
 use Rattle.fwd_event.proofs.reading.read_events.Goals as goal
 

@@ -1,6 +1,6 @@
 use Rattle.std.proofs.Common.{arith}
 use Rattle.std.proofs.lemmas.List.{length-drop}
-use Rattle.fwd_event.proofs.Lists.{one_more}
+use Rattle.fwd_event.proofs.EventLists.{one_more}
 use Rattle.fwd_event.proofs.Answers.{kept_whole}
 use Rattle.fwd_event.proofs.reading.whole_prefix.Goals as goal
 
@@ -13,4 +13,4 @@ loop-at-preserved c =
     }
 
 pub returns-in-Err : goal.returns-in-Err
-returns-in-Err c = kept_whole c.kept.result c.in-Err.error c.loop-at.events c.loop-at.at c.args.bytes.now c.loop-at.invariant.are c.loop-at-test.true c.in-Err.ensures c.kept.ensures
+returns-in-Err c = kept_whole c.events_unless_memory.result c.in-Err.error c.loop-at.events c.loop-at.at c.args.bytes.now c.loop-at.invariant.are c.loop-at-test.true c.in-Err.ensures c.events_unless_memory.ensures

@@ -2,8 +2,8 @@ use Rattle.std.proofs.Common.{List, ℕ, ◌∷◌, ◌++◌, append_assoc, sym,
 use Rattle.std.specs.Int.{w32, to_be_bytes}
 use Rattle.fwd_value.specs.Val.{mapping, entries_of}
 use Rattle.fwd_msgpack.specs.Canonical.{canonical}
-use Rattle.fwd_msgpack.proofs.Writing.{on_ok}
-use Rattle.fwd_event.proofs.Written.{event_bytes, written_is}
+use Rattle.fwd_msgpack.proofs.EncodeLoops.{on_ok}
+use Rattle.fwd_event.proofs.EventEncodings.{event_bytes, written_is}
 use Rattle.fwd_event.proofs.writing.write_parts.Goals as goal
 
 pub returns-clause-ok : goal.returns-clause-ok

@@ -1,8 +1,8 @@
 use Rattle.std.proofs.Common.{◌≡◌, ◌+◌, ◌∙◌, sym, ap, [], ◌∷◌, ◌++◌, take}
 use Rattle.std.proofs.lemmas.List.{take_more}
 use Rattle.fwd_route.specs.Glob.{Glob}
-use Rattle.fwd_filters.specs.declared.steps.FilterStep.{FilterStep}
-use Rattle.fwd_filters.proofs.Matching.{matching-kept}
+use Rattle.fwd_filters.specs.declared.filter_step.FilterStep.{FilterStep}
+use Rattle.fwd_filters.proofs.Matches.{matching-kept}
 use Rattle.fwd_filters.proofs.chain.are_idle.Goals as goal
 
 pub loop-step-preserved : goal.loop-step-preserved

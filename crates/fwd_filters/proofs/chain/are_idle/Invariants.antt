@@ -1,5 +1,5 @@
 use Rattle.std.proofs.Common.{[], take}
-use Rattle.fwd_filters.specs.Filtered.{AreMatching}
+use Rattle.fwd_filters.specs.FilterRelation.{AreMatching}
 use Rattle.fwd_filters.proofs.chain.are_idle.Given as goal
 
 abbrev pub invariant-loop-step : goal.invariant-loop-step

@@ -1,5 +1,5 @@
 use Rattle.std.proofs.Common.{◌∙◌, ℕ, ap, take}
-use Rattle.fwd_in_forward.proofs.Looking.{front_in_two}
+use Rattle.fwd_in_forward.proofs.ScanResult.{front_in_two}
 use Rattle.fwd_in_forward.proofs.conn.piece_of.Goals as goal
 
 pub returns-clause-joins : goal.returns-clause-joins

@@ -3,8 +3,8 @@ use Rattle.std.proofs.lemmas.List.{take_all}
 use Rattle.serde_json.specs.View.{view, members_view}
 use Rattle.serde_json.proofs.Views.{view-Object}
 use Rattle.fwd_value.specs.Val.{vals_of, entries_of, mapping}
-use Rattle.fwd_json.specs.Reading.{value_of}
-use Rattle.fwd_json.proofs.Objects.{entries_of-pairs_of, vals_of-map}
+use Rattle.fwd_json.specs.LinePairs.{value_of}
+use Rattle.fwd_json.proofs.ObjectPairs.{entries_of-pairs_of, vals_of-map}
 use Rattle.fwd_json.proofs.reading.+convert.Goals as goal
 
 pub items_values-returns : goal.items_values-returns

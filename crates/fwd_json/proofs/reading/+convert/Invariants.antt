@@ -1,6 +1,6 @@
 use Rattle.std.proofs.Common.{◌≡◌, ◌++◌, map, take}
 use Rattle.serde_json.specs.View.{view, members_view}
-use Rattle.fwd_json.specs.Reading.{value_of, pairs_of}
+use Rattle.fwd_json.specs.LinePairs.{value_of, pairs_of}
 use Rattle.fwd_json.proofs.reading.+convert.Given as goal
 
 abbrev pub invariant-items_values-loop-item : goal.invariant-items_values-loop-item

@@ -2,7 +2,7 @@ use Rattle.std.proofs.Common.{◌≡◌, ◌≢◌, Ok, Err, IfOk, IfErr, sym, a
 use Rattle.serde_json.specs.View.{view}
 use Rattle.serde_json.specs.Errors.{IsMemory}
 use Rattle.fwd_json.specs.declared.reading.JsonErr.TheVariants.{Memory}
-use Rattle.fwd_json.proofs.Objects.{pairs_in-read, pairs_in-refused}
+use Rattle.fwd_json.proofs.ObjectPairs.{pairs_in-read, pairs_in-refused}
 use Rattle.fwd_json.proofs.reading.pairs_of_json.Goals as goal
 
 pub returns-in-Ok-clause-pairs : goal.returns-in-Ok-clause-pairs
@@ -17,5 +17,5 @@ returns-in-Ok-clause-refused c =
 
 pub returns-in-Err-clause-refused : goal.returns-in-Err-clause-refused
 returns-in-Err-clause-refused c = λ not_memory.
-    let other : IsMemory c.in-Err.error → ⊥ = λ memory. not_memory (c.refusal.ensures.memory memory) in
-    pairs_in-refused c.args.line.now (c.in-Err.ensures.err other) ∙ ap Err (sym (c.refusal.ensures.text other))
+    let other : IsMemory c.in-Err.error → ⊥ = λ memory. not_memory (c.error_of.ensures.memory memory) in
+    pairs_in-refused c.args.line.now (c.in-Err.ensures.err other) ∙ ap Err (sym (c.error_of.ensures.text other))

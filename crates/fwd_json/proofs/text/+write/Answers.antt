@@ -2,7 +2,7 @@ use Rattle.std.proofs.Common.{List, ℕ, ◌++◌, ◌∷◌, [], map, take, ap,
 use Rattle.fwd_value.specs.Val.{vals_of, entries_of}
 use Rattle.fwd_value.specs.View.{val_of, pair_of}
 use Rattle.fwd_json.specs.Text.{json, pair_text, more_values, more_pairs}
-use Rattle.fwd_json.proofs.Writing.{values_more, pairs_more, value_weighs_less, pair_weighs_less}
+use Rattle.fwd_json.proofs.TextLoops.{values_more, pairs_more, value_weighs_less, pair_weighs_less}
 use Rattle.fwd_json.proofs.text.+write.Goals as goal
 
 pub write_more_values-write_value-requires : goal.write_more_values-write_value-requires

@@ -1,5 +1,5 @@
 use Rattle.std.proofs.Common.{arith}
-use Rattle.fwd_json.proofs.Writing.{plain_more}
+use Rattle.fwd_json.proofs.TextLoops.{plain_more}
 use Rattle.fwd_json.proofs.text.plain_run.Goals as goal
 
 pub loop-run-preserved : goal.loop-run-preserved

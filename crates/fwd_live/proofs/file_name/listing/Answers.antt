@@ -4,7 +4,7 @@ use Rattle.std.specs.Str.{bytes_eq}
 use Rattle.std.proofs.lemmas.List.Filters.{dedup_is}
 use Rattle.std.proofs.lemmas.Result.{IfOk-weaker}
 use Rattle.fwd_outside.specs.Disk.{IsListing}
-use Rattle.fwd_live.proofs.Listed.{sorted_names, same_names}
+use Rattle.fwd_live.proofs.Listings.{sorted_names, same_names}
 use Rattle.fwd_live.proofs.file_name.listing.Goals as goal
 
 pub returns-clause-sorted : goal.returns-clause-sorted

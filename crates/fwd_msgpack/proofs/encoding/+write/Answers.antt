@@ -2,10 +2,10 @@ use Rattle.std.proofs.Common.{◌≡◌, ◌++◌, ℕ, refl, List, map, take, a
 use Rattle.std.proofs.lemmas.Result.{err_from_is_err_and}
 use Rattle.fwd_value.specs.Val.{Val, vals_of, entries_of}
 use Rattle.fwd_value.specs.View.{val_of, pair_of}
-use Rattle.fwd_value.specs.Limits.{how_many, how_many_entries}
+use Rattle.fwd_value.specs.Limits.{value_count, entry_count}
 use Rattle.fwd_msgpack.specs.Canonical.{list_head, map_head, canonical, canonical_all, canonical_entries}
-use Rattle.fwd_msgpack.proofs.Keeping.{keeps_behind}
-use Rattle.fwd_msgpack.proofs.Writing.{how_many_is, how_many_entries_is, on_ok, value_in, pair_in, values_more, pairs_more, values_in_range, pairs_in_range}
+use Rattle.fwd_msgpack.proofs.KeptFront.{keeps_behind}
+use Rattle.fwd_msgpack.proofs.EncodeLoops.{how_many_is, how_many_entries_is, on_ok, value_in, pair_in, values_more, pairs_more, values_in_range, pairs_in_range}
 use Rattle.fwd_msgpack.proofs.encoding.+write.Goals as goal
 
 pub write_value-put_list_head-requires : goal.write_value-put_list_head-requires
@@ -21,14 +21,14 @@ write_value-put_map_head-requires t c =
 pub write_value-returns-in_ok-put_list_head-in-List-clause-ok : goal.write_value-returns-in_ok-put_list_head-in-List-clause-ok
 write_value-returns-in_ok-put_list_head-in-List-clause-ok t c = on_ok c.write_values.result _ _ (λ said.
     let one : c.write_values.new.out ≡ c.put_list_head.new.out ++ canonical_all (vals_of c.in-List.values) = said ∙ ap (λ (vs : List Val). c.put_list_head.new.out ++ canonical_all (vals_of vs)) c.as_slice-in-List.ensures in
-    let n : c.len.result ≡ how_many (vals_of c.in-List.values) = c.len.ensures ∙ sym (how_many_is c.in-List.values) in
-    rw c.in-List.is (one ∙ ap (λ (o : List ℕ). o ++ canonical_all (vals_of c.in-List.values)) (c.in_ok-put_list_head-in-List.ensures.ok ∙ ap (λ (m : ℕ). c.args.out.now ++ list_head m) n) ∙ append_assoc c.args.out.now (list_head (how_many (vals_of c.in-List.values))) (canonical_all (vals_of c.in-List.values)))) c.write_values.ensures.ok
+    let n : c.len.result ≡ value_count (vals_of c.in-List.values) = c.len.ensures ∙ sym (how_many_is c.in-List.values) in
+    rw c.in-List.is (one ∙ ap (λ (o : List ℕ). o ++ canonical_all (vals_of c.in-List.values)) (c.in_ok-put_list_head-in-List.ensures.ok ∙ ap (λ (m : ℕ). c.args.out.now ++ list_head m) n) ∙ append_assoc c.args.out.now (list_head (value_count (vals_of c.in-List.values))) (canonical_all (vals_of c.in-List.values)))) c.write_values.ensures.ok
 
 pub write_value-returns-in_ok-put_map_head-in-Map-clause-ok : goal.write_value-returns-in_ok-put_map_head-in-Map-clause-ok
 write_value-returns-in_ok-put_map_head-in-Map-clause-ok t c = on_ok c.write_pairs.result _ _ (λ said.
     let one : c.write_pairs.new.out ≡ c.put_map_head.new.out ++ canonical_entries (entries_of c.in-Map.pairs) = said ∙ ap (λ (es : List (Val × Val)). c.put_map_head.new.out ++ canonical_entries (entries_of es)) c.as_slice-in-Map.ensures in
-    let n : c.len-in-Map.result ≡ how_many_entries (entries_of c.in-Map.pairs) = c.len-in-Map.ensures ∙ sym (how_many_entries_is c.in-Map.pairs) in
-    rw c.in-Map.is (one ∙ ap (λ (o : List ℕ). o ++ canonical_entries (entries_of c.in-Map.pairs)) (c.in_ok-put_map_head-in-Map.ensures.ok ∙ ap (λ (m : ℕ). c.args.out.now ++ map_head m) n) ∙ append_assoc c.args.out.now (map_head (how_many_entries (entries_of c.in-Map.pairs))) (canonical_entries (entries_of c.in-Map.pairs)))) c.write_pairs.ensures.ok
+    let n : c.len-in-Map.result ≡ entry_count (entries_of c.in-Map.pairs) = c.len-in-Map.ensures ∙ sym (how_many_entries_is c.in-Map.pairs) in
+    rw c.in-Map.is (one ∙ ap (λ (o : List ℕ). o ++ canonical_entries (entries_of c.in-Map.pairs)) (c.in_ok-put_map_head-in-Map.ensures.ok ∙ ap (λ (m : ℕ). c.args.out.now ++ map_head m) n) ∙ append_assoc c.args.out.now (map_head (entry_count (entries_of c.in-Map.pairs))) (canonical_entries (entries_of c.in-Map.pairs)))) c.write_pairs.ensures.ok
 
 pub write_values-write_value-requires : goal.write_values-write_value-requires
 write_values-write_value-requires t c =

@@ -1,31 +1,31 @@
 use Rattle.std.proofs.Common.{◌≡◌, ◌∙◌, ◌<◌, ◌^◌, add-one, sym, arith}
 use Rattle.fwd_value.specs.Val.{vals_of, entries_of}
-use Rattle.fwd_value.specs.Limits.{how_many, how_many_entries}
-use Rattle.fwd_msgpack.proofs.Writing.{how_many_is, how_many_entries_is, value_in, pair_in, value_weighs_less, pair_weighs_less, values_lengths_more, pairs_lengths_more}
+use Rattle.fwd_value.specs.Limits.{value_count, entry_count}
+use Rattle.fwd_msgpack.proofs.EncodeLoops.{how_many_is, how_many_entries_is, value_in, pair_in, value_weighs_less, pair_weighs_less, values_lengths_more, pairs_lengths_more}
 use Rattle.fwd_msgpack.proofs.lengths.+lengths.Goals as goal
 use Rattle.fwd_msgpack.proofs.lengths.+lengths.Goals.{entry_lengths_fit-then-not-lengths_fit-via-then-not-lengths_fit, entry_lengths_fit-then-not-lengths_fit-via-else-not-lengths_fit+then-not-lengths_fit-2}
 
-pub lengths_fit-returns-then-has_form : goal.lengths_fit-returns-then-has_form
-lengths_fit-returns-then-has_form t c =
-    let n : how_many (vals_of c.in-List.values) ≡ c.len-in-List.result = how_many_is c.in-List.values ∙ sym c.len-in-List.ensures in
-    let lt : c.len-in-List.result < 2 ^ 32 = c.has_form-in-List.ensures.0 c.if-has_form.true in
+pub lengths_fit-returns-then-has_length_form : goal.lengths_fit-returns-then-has_length_form
+lengths_fit-returns-then-has_length_form t c =
+    let n : value_count (vals_of c.in-List.values) ≡ c.len-in-List.result = how_many_is c.in-List.values ∙ sym c.len-in-List.ensures in
+    let lt : c.len-in-List.result < 2 ^ 32 = c.has_length_form-in-List.ensures.0 c.if-has_length_form.true in
     rw c.in-List.is (λ h. (omega (arith, n, lt), rw c.as_slice.ensures at (c.all_lengths_fit.ensures.0 h)), λ h. c.all_lengths_fit.ensures.1 (rw c.as_slice.ensures h.1))
 
-pub lengths_fit-returns-else-has_form : goal.lengths_fit-returns-else-has_form
-lengths_fit-returns-else-has_form t c =
-    let n : how_many (vals_of c.in-List.values) ≡ c.len-in-List.result = how_many_is c.in-List.values ∙ sym c.len-in-List.ensures in
-    rw c.in-List.is (λ h. absurd cc, λ h. c.has_form-in-List.ensures.1 (omega (arith, h.0, n)))
+pub lengths_fit-returns-else-has_length_form : goal.lengths_fit-returns-else-has_length_form
+lengths_fit-returns-else-has_length_form t c =
+    let n : value_count (vals_of c.in-List.values) ≡ c.len-in-List.result = how_many_is c.in-List.values ∙ sym c.len-in-List.ensures in
+    rw c.in-List.is (λ h. absurd cc, λ h. c.has_length_form-in-List.ensures.1 (omega (arith, h.0, n)))
 
-pub lengths_fit-returns-then-has_form-2 : goal.lengths_fit-returns-then-has_form-2
-lengths_fit-returns-then-has_form-2 t c =
-    let n : how_many_entries (entries_of c.in-Map.pairs) ≡ c.len-in-Map.result = how_many_entries_is c.in-Map.pairs ∙ sym c.len-in-Map.ensures in
-    let lt : c.len-in-Map.result < 2 ^ 32 = c.has_form-in-Map.ensures.0 c.if-has_form-2.true in
-    rw c.in-Map.is (λ h. (omega (arith, n, lt), rw c.as_slice-then-has_form-2.ensures at (c.entry_lengths_fit.ensures.0 h)), λ h. c.entry_lengths_fit.ensures.1 (rw c.as_slice-then-has_form-2.ensures h.1))
+pub lengths_fit-returns-then-has_length_form-2 : goal.lengths_fit-returns-then-has_length_form-2
+lengths_fit-returns-then-has_length_form-2 t c =
+    let n : entry_count (entries_of c.in-Map.pairs) ≡ c.len-in-Map.result = how_many_entries_is c.in-Map.pairs ∙ sym c.len-in-Map.ensures in
+    let lt : c.len-in-Map.result < 2 ^ 32 = c.has_length_form-in-Map.ensures.0 c.if-has_length_form-2.true in
+    rw c.in-Map.is (λ h. (omega (arith, n, lt), rw c.as_slice-then-has_length_form-2.ensures at (c.entry_lengths_fit.ensures.0 h)), λ h. c.entry_lengths_fit.ensures.1 (rw c.as_slice-then-has_length_form-2.ensures h.1))
 
-pub lengths_fit-returns-else-has_form-2 : goal.lengths_fit-returns-else-has_form-2
-lengths_fit-returns-else-has_form-2 t c =
-    let n : how_many_entries (entries_of c.in-Map.pairs) ≡ c.len-in-Map.result = how_many_entries_is c.in-Map.pairs ∙ sym c.len-in-Map.ensures in
-    rw c.in-Map.is (λ h. absurd cc, λ h. c.has_form-in-Map.ensures.1 (omega (arith, h.0, n)))
+pub lengths_fit-returns-else-has_length_form-2 : goal.lengths_fit-returns-else-has_length_form-2
+lengths_fit-returns-else-has_length_form-2 t c =
+    let n : entry_count (entries_of c.in-Map.pairs) ≡ c.len-in-Map.result = how_many_entries_is c.in-Map.pairs ∙ sym c.len-in-Map.ensures in
+    rw c.in-Map.is (λ h. absurd cc, λ h. c.has_length_form-in-Map.ensures.1 (omega (arith, h.0, n)))
 
 pub all_lengths_fit-lengths_fit-requires : goal.all_lengths_fit-lengths_fit-requires
 all_lengths_fit-lengths_fit-requires t c =

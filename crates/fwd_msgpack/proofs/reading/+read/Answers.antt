@@ -2,8 +2,8 @@ use Rattle.std.proofs.Common.{rules, ◌≡◌, ◌++◌, ◌∷◌, [], map, ar
 use Rattle.std.proofs.lemmas.Result.{err_from_is_err_and}
 use Rattle.std.proofs.lemmas.List.{map_push}
 use Rattle.fwd_value.specs.View.{val_of, pair_of}
-use Rattle.fwd_msgpack.specs.Reading.{count_at, many_at, entries_at, value_at}
-use Rattle.fwd_msgpack.proofs.Loop.{list_none, map_none, list_in, map_in, goes_on, ends, is_done, pair_goes_on, key_ends, value_ends, pairs_done}
+use Rattle.fwd_msgpack.specs.Decoder.{count_at, many_at, entries_at, value_at}
+use Rattle.fwd_msgpack.proofs.DecodeLoops.{list_none, map_none, list_in, map_in, goes_on, ends, is_done, pair_goes_on, key_ends, value_ends, pairs_done}
 use Rattle.fwd_msgpack.proofs.reading.+read.Goals as goal
 
 pub list_of-returns-then-depth-eq0 : goal.list_of-returns-then-depth-eq0

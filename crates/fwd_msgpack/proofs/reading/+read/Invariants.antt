@@ -1,7 +1,7 @@
 use Rattle.std.proofs.Common.{◌≡◌, ◌+◌, ◌-◌, ◌*◌, map}
 use Rattle.fwd_value.specs.View.{val_of, pair_of}
-use Rattle.fwd_msgpack.specs.Reading.{many_at, entries_at, value_at}
-use Rattle.fwd_msgpack.proofs.Loop.{with_front}
+use Rattle.fwd_msgpack.specs.Decoder.{many_at, entries_at, value_at}
+use Rattle.fwd_msgpack.proofs.DecodeLoops.{with_front}
 use Rattle.fwd_msgpack.proofs.reading.+read.Given as goal
 
 abbrev pub decreases-value_of : goal.decreases-value_of

@@ -1,5 +1,5 @@
 use Rattle.std.proofs.Common.{rules}
-use Rattle.fwd_out_http.proofs.Parsed.{parsed_stands}
+use Rattle.fwd_out_http.proofs.ParserResults.{parsed_stands}
 use Rattle.fwd_out_http.proofs.reply.head_of.Goals as goal
 
 pub returns-in-Ok-Complete-clause-found : goal.returns-in-Ok-Complete-clause-found

@@ -1,6 +1,6 @@
 use Rattle.std.proofs.Common.{true, false, Some, None, ◌∙◌, refl, arith}
 use Rattle.std.proofs.lemmas.Bool.Decides.{nat_tests}
-use Rattle.fwd_out_http.proofs.Parsed.{judged_as}
+use Rattle.fwd_out_http.proofs.ParserResults.{judged_as}
 use Rattle.fwd_out_http.proofs.reply.judged.Goals as goal
 
 pub returns-in-Some : goal.returns-in-Some

@@ -1,5 +1,5 @@
 use Rattle.std.proofs.Common.{sym, ◌∙◌}
-use Rattle.fwd_out_http.proofs.Parsed.{interim_sliced, head_counts, no_status}
+use Rattle.fwd_out_http.proofs.ParserResults.{interim_sliced, head_counts, no_status}
 use Rattle.fwd_out_http.proofs.reply.status_in.Goals as goal
 
 pub heads-preserved : goal.heads-preserved

@@ -1,7 +1,7 @@
 use Rattle.std.proofs.Common.{ℕ, List, ◌++◌, codes, ap, ◌∙◌}
 use Rattle.std.specs.Prelude.{decimal}
 use Rattle.fwd_out_http.specs.Request.{content_type, field, request_line, server}
-use Rattle.fwd_out_http.proofs.Written.{head_grows}
+use Rattle.fwd_out_http.proofs.HeadGrowth.{head_grows}
 use Rattle.fwd_out_http.proofs.request.head.Goals as goal
 
 pub returns : goal.returns

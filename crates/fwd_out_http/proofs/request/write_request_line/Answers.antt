@@ -1,6 +1,6 @@
 use Rattle.std.proofs.Common.{◌≡◌, ℕ, List, subst, codes}
 use Rattle.std.specs.Prelude.{OnOk}
-use Rattle.fwd_out_http.proofs.Written.{line_grows}
+use Rattle.fwd_out_http.proofs.HeadGrowth.{line_grows}
 use Rattle.fwd_out_http.proofs.request.write_request_line.Goals as goal
 
 pub returns : goal.returns

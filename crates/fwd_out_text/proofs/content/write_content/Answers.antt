@@ -1,6 +1,6 @@
 use Rattle.std.proofs.Common.{arith}
 use Rattle.std.proofs.lemmas.List.{length-drop}
-use Rattle.fwd_out_text.proofs.Fronts.{none_are, one_written}
+use Rattle.fwd_out_text.proofs.FirstEvents.{none_are, one_written}
 use Rattle.fwd_out_text.proofs.content.write_content.Goals as goal
 
 pub loop-at-preserved : goal.loop-at-preserved

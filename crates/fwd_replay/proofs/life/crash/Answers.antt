@@ -1,4 +1,4 @@
-use Rattle.fwd_replay.proofs.Beginning.{on_ok}
+use Rattle.fwd_replay.proofs.RunStart.{on_ok}
 use Rattle.fwd_replay.proofs.life.crash.Goals as goal
 
 pub returns : goal.returns

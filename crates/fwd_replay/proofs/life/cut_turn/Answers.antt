@@ -1,7 +1,7 @@
 use Rattle.std.proofs.Common.{sym, ◌∙◌}
-use Rattle.fwd_replay.specs.Stage.{memory}
-use Rattle.fwd_replay.proofs.Beginning.{on_ok}
-use Rattle.fwd_replay.proofs.Leaving.{Taken, taken_of, turn_cut}
+use Rattle.fwd_replay.specs.RunState.{memory}
+use Rattle.fwd_replay.proofs.RunStart.{on_ok}
+use Rattle.fwd_replay.proofs.Handover.{Taken, taken_of, turn_cut}
 use Rattle.fwd_replay.proofs.life.cut_turn.Goals as goal
 
 pub returns : goal.returns
@@ -9,7 +9,7 @@ returns g c s begins planned ready =
     let old = memory c.args.going.now.script c.args.disk.now c.args.files.now in
     let new = memory c.take.new.going.script c.take.new.disk c.take.new.files in
     let after = c.take.new.going.engine in
-    let taken : Taken old new s ready.history after = taken_of old new s ready.history after c.take.result (sym c.is_wanting.ensures ∙ c.if-is_wanting.false) (c.take.ensures.turns s ready.history ready.at) in
+    let taken : Taken old new s ready.history after = taken_of old new s ready.history after c.take.result (sym c.is_out_of_memory.ensures ∙ c.if-is_out_of_memory.false) (c.take.ensures.turns s ready.history ready.at) in
     on_ok c.crash.result
     (λ crashed.
     turn_cut s begins planned c.args.going.now c.args.disk.now c.args.files.now c.args.cut ready c.take.new.going c.take.new.disk c.take.new.files taken c.take.ensures.files c.args.most c.told_len-since.result c.crash.new.disk c.crash.new.files

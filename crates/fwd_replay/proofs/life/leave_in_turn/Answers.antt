@@ -1,5 +1,5 @@
 use Rattle.std.proofs.Common.{◌∙◌}
-use Rattle.fwd_replay.proofs.Showing.{text_is}
+use Rattle.fwd_replay.proofs.ShownText.{text_is}
 use Rattle.fwd_replay.proofs.life.leave_in_turn.Goals as goal
 
 pub returns : goal.returns

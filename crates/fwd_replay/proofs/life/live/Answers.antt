@@ -1,7 +1,7 @@
 use Rattle.std.proofs.Common.{ℕ, IfOk, subst}
-use Rattle.fwd_replay.specs.Stage.{CameTo, Ended}
-use Rattle.fwd_replay.specs.declared.turning.TurnsEnd.{TurnsEnd}
-use Rattle.fwd_replay.proofs.Leaving.{named_of}
+use Rattle.fwd_replay.specs.RunState.{EndsAs, Ended}
+use Rattle.fwd_replay.specs.declared.turns.TurnsEnd.{TurnsEnd}
+use Rattle.fwd_replay.proofs.Handover.{named_of}
 use Rattle.fwd_replay.proofs.life.live.Goals as goal
 
 pub leave_over-requires : goal.leave_over-requires
@@ -57,5 +57,5 @@ returns-in-LoopFailed g c s begins named under =
 pub returns-in-TurnsSpent : goal.returns-in-TurnsSpent
 returns-in-TurnsSpent g c s begins named under =
     let spent = subst (λ (e : TurnsEnd). Ended s begins c.args.life.now c.args.most c.take_turns.new.going c.take_turns.new.disk c.take_turns.new.files e) c.in-TurnsSpent.is (c.in_ok-end.ensures.ended s begins under) in
-    subst (λ (n : ℕ). IfOk c.end_spent.result (CameTo c.args.named.now.shown s n begins c.args.life.now c.take_turns.new.going c.take_turns.new.disk c.take_turns.new.files)) spent.1
+    subst (λ (n : ℕ). IfOk c.end_spent.result (EndsAs c.args.named.now.shown s n begins c.args.life.now c.take_turns.new.going c.take_turns.new.disk c.take_turns.new.files)) spent.1
     (c.end_spent.ensures s begins c.args.life.now c.take_turns.new.files named spent.0)

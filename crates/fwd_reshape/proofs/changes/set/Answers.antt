@@ -2,8 +2,8 @@ use Rattle.std.proofs.Common.{◌≡◌, ◌∙◌, ap, [], ◌∷◌, ◌++◌,
 use Rattle.std.specs.Prelude.{position}
 use Rattle.fwd_value.specs.Val.{Val}
 use Rattle.fwd_value.specs.View.{val_of}
-use Rattle.fwd_body.specs.Keys.{has_key}
-use Rattle.fwd_body.proofs.Places.{none_found, found}
+use Rattle.fwd_value.specs.Keys.{has_key}
+use Rattle.fwd_value.proofs.FirstMatch.{none_found, found}
 use Rattle.fwd_reshape.proofs.Places.{first_changed-at}
 use Rattle.fwd_reshape.proofs.changes.set.Goals as goal
 

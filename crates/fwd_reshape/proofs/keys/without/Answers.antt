@@ -2,8 +2,8 @@ use Rattle.std.proofs.Common.{◌≡◌, ◌∙◌, sym, ap, Bool, not, map, fil
 use Rattle.std.proofs.lemmas.Fn.{filter_same}
 use Rattle.fwd_value.specs.Val.{Val}
 use Rattle.fwd_value.specs.View.{pair_of}
-use Rattle.fwd_body.specs.Keys.{has_key}
-use Rattle.fwd_body.proofs.Views.{filter-map}
+use Rattle.fwd_value.specs.Keys.{has_key}
+use Rattle.fwd_value.proofs.MappedLists.{filter-map}
 use Rattle.fwd_reshape.proofs.keys.without.Goals as goal
 
 pub returns : goal.returns

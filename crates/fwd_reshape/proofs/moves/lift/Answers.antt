@@ -1,10 +1,10 @@
 use Rattle.std.proofs.Common.{◌≡◌, ◌∙◌, sym, leb, ◌&&◌, true, false, None, Some}
 use Rattle.std.specs.Prelude.{position}
 use Rattle.std.proofs.lemmas.Result.{IfOk-weaker}
-use Rattle.fwd_body.specs.Keys.{has_key}
+use Rattle.fwd_value.specs.Keys.{has_key}
 use Rattle.fwd_reshape.proofs.Depths.{deep}
 use Rattle.fwd_reshape.proofs.Places.{insert-gone}
-use Rattle.fwd_reshape.proofs.Lifting.{lifted-none, lifted-fits, lifted-deep, lifted-other}
+use Rattle.fwd_reshape.proofs.LiftLemmas.{lifted-none, lifted-fits, lifted-deep, lifted-other}
 use Rattle.fwd_reshape.proofs.moves.lift.Goals as goal
 
 pub returns-in_default : goal.returns-in_default

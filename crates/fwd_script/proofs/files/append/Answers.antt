@@ -1,4 +1,4 @@
-use Rattle.fwd_script.proofs.Placing.{has_appended, has_made}
+use Rattle.fwd_script.proofs.FilePaths.{has_appended, has_made}
 use Rattle.fwd_script.proofs.files.append.Goals as goal
 
 pub returns-in_ok-extend_from_slice-in-Some-clause-ok : goal.returns-in_ok-extend_from_slice-in-Some-clause-ok

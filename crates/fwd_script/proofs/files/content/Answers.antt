@@ -1,5 +1,5 @@
 use Rattle.std.proofs.Common.{sym}
-use Rattle.fwd_script.proofs.Placing.{found_entry, not_found}
+use Rattle.fwd_script.proofs.FilePaths.{found_entry, not_found}
 use Rattle.fwd_script.proofs.files.content.Goals as goal
 
 pub returns-in-Some : goal.returns-in-Some

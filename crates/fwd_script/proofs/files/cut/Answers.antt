@@ -1,4 +1,4 @@
-use Rattle.fwd_script.proofs.Placing.{has_cut, has_nothing}
+use Rattle.fwd_script.proofs.FilePaths.{has_cut, has_nothing}
 use Rattle.fwd_script.proofs.files.cut.Goals as goal
 
 pub returns-in-Some : goal.returns-in-Some

@@ -1,5 +1,5 @@
 use Rattle.std.proofs.Common.{refl}
-use Rattle.fwd_script.proofs.Placing.{has_put, has_pushed}
+use Rattle.fwd_script.proofs.FilePaths.{has_put, has_pushed}
 use Rattle.fwd_script.proofs.files.put.Goals as goal
 
 pub returns-in-Some-clause-ok : goal.returns-in-Some-clause-ok

@@ -1,5 +1,5 @@
 use Rattle.std.proofs.Common.{ℕ, List, ◌+◌, Option, Some, ◌∙◌, ap, sym, arith}
-use Rattle.fwd_script.proofs.Parting.{parted_here, parted_nowhere, rest_from}
+use Rattle.fwd_script.proofs.ByteSplit.{parted_here, parted_nowhere, rest_from}
 use Rattle.fwd_script.proofs.words.part.Goals as goal
 
 pub returns-then-place-text-clause-before : goal.returns-then-place-text-clause-before

@@ -1,5 +1,5 @@
 use Rattle.std.proofs.Common.{◌∙◌}
-use Rattle.fwd_script.proofs.Searching.{place_found}
+use Rattle.fwd_script.proofs.ByteSearch.{place_found}
 use Rattle.fwd_script.proofs.words.place_of.Goals as goal
 
 pub returns-clause-place : goal.returns-clause-place

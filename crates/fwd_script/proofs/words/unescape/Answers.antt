@@ -1,5 +1,5 @@
 use Rattle.std.proofs.Common.{◌+◌, drop, refl, sym}
-use Rattle.fwd_script.proofs.Escaping.{reads_run, escape_behind, all_read, cut_off, no_escape, reads_escape}
+use Rattle.fwd_script.proofs.Escapes.{reads_run, escape_behind, all_read, cut_off, no_escape, reads_escape}
 use Rattle.fwd_script.proofs.words.unescape.Goals as goal
 
 pub returns-then-is_empty-clause-ok : goal.returns-then-is_empty-clause-ok

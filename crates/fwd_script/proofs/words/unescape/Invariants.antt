@@ -1,6 +1,6 @@
 use Rattle.std.proofs.Common.{◌≡◌, length}
 use Rattle.fwd_script.specs.Words.{unescaped}
-use Rattle.fwd_script.proofs.Escaping.{behind}
+use Rattle.fwd_script.proofs.Escapes.{behind}
 use Rattle.fwd_script.proofs.words.unescape.Given as goal
 
 abbrev pub invariant-escapes : goal.invariant-escapes

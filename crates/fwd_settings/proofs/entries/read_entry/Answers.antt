@@ -1,22 +1,22 @@
 use Rattle.std.proofs.Common.{sym, ap, ◌∙◌}
 use Rattle.fwd_settings.specs.Parsers.{parser_named}
-use Rattle.fwd_settings.specs.Keys.{key_of}
-use Rattle.fwd_settings.specs.Values.{entry_said}
+use Rattle.fwd_settings_schema.specs.Keys.{key_of}
+use Rattle.fwd_settings.specs.Values.{entry_property}
 use Rattle.fwd_settings.proofs.Readings.{stopped}
-use Rattle.fwd_settings.proofs.Saying.{unknown_key, key_value, key_refused}
+use Rattle.fwd_settings.proofs.EntryLemmas.{unknown_key, key_value, key_refused}
 use Rattle.fwd_settings.proofs.entries.read_entry.Goals as goal
 
 pub returns-in_default : goal.returns-in_default
 returns-in_default c =
-    unknown_key (parser_named c.args.all.now) c.args.part c.args.entry.now c.refuse.result (ap (key_of c.args.part) (sym c.as_slice.ensures) ∙ sym c.in_default.ensures) c.refuse.ensures
+    unknown_key (parser_named c.args.all.now) c.args.target c.args.entry.now c.refuse.result (ap (key_of c.args.target) (sym c.as_slice.ensures) ∙ sym c.in_default.ensures) c.refuse.ensures
 
 pub returns-in_err-value : goal.returns-in_err-value
 returns-in_err-value c =
-    let key = ap (key_of c.args.part) (sym c.as_slice.ensures) ∙ sym c.in-Some.ensures in
-    stopped (entry_said (parser_named c.args.all.now) c.args.part c.args.entry.now) c.in_err-value.field-0.0 c.from_residual.result c.from_residual.ensures.1
-    (key_refused (parser_named c.args.all.now) c.args.part c.args.entry.now c.in-Some.key key c.kind.result c.in_err-value.field-0.0 c.kind.ensures c.in_err-value.ensures)
+    let key = ap (key_of c.args.target) (sym c.as_slice.ensures) ∙ sym c.in-Some.ensures in
+    stopped (entry_property (parser_named c.args.all.now) c.args.target c.args.entry.now) c.in_err-value.field-0.0 c.from_residual.result c.from_residual.ensures.1
+    (key_refused (parser_named c.args.all.now) c.args.target c.args.entry.now c.in-Some.key key c.kind.result c.in_err-value.field-0.0 c.kind.ensures c.in_err-value.ensures)
 
 pub returns : goal.returns
 returns c =
-    let key = ap (key_of c.args.part) (sym c.as_slice.ensures) ∙ sym c.in-Some.ensures in
-    key_value (parser_named c.args.all.now) c.args.part c.args.entry.now c.in-Some.key key c.kind.result c.in_ok-value.value c.kind.ensures c.in_ok-value.ensures
+    let key = ap (key_of c.args.target) (sym c.as_slice.ensures) ∙ sym c.in-Some.ensures in
+    key_value (parser_named c.args.all.now) c.args.target c.args.entry.now c.in-Some.key key c.kind.result c.in_ok-value.value c.kind.ensures c.in_ok-value.ensures

@@ -1,14 +1,14 @@
-use Rattle.fwd_settings.specs.Values.{value_said}
+use Rattle.fwd_settings.specs.Values.{property_value}
 use Rattle.fwd_settings.specs.Parsers.{parser_named}
 use Rattle.fwd_settings.proofs.Readings.{stopped}
-use Rattle.fwd_settings.proofs.Saying.{parser_value, parser_refused}
+use Rattle.fwd_settings.proofs.EntryLemmas.{read_parser_value, parser_refused}
 use Rattle.fwd_settings.proofs.entries.value.Goals as goal
 
 pub returns-in_err-parser-in-Parser : goal.returns-in_err-parser-in-Parser
 returns-in_err-parser-in-Parser c =
-    stopped (value_said (parser_named c.args.all.now) c.args.kind c.args.entry.now) c.in_err-parser-in-Parser.field-0.0 c.from_residual.result c.from_residual.ensures.1
+    stopped (property_value (parser_named c.args.all.now) c.args.kind c.args.entry.now) c.in_err-parser-in-Parser.field-0.0 c.from_residual.result c.from_residual.ensures.1
     (parser_refused c.args.all.now c.args.entry.now c.args.kind c.in-Parser.is c.in_err-parser-in-Parser.field-0.0 c.in_err-parser-in-Parser.ensures)
 
 pub returns-in_ok-parser-in-Parser : goal.returns-in_ok-parser-in-Parser
 returns-in_ok-parser-in-Parser c =
-    parser_value c.args.all.now c.args.entry.now c.args.kind c.in-Parser.is c.in_ok-parser-in-Parser.parser c.in_ok-parser-in-Parser.ensures
+    read_parser_value c.args.all.now c.args.entry.now c.args.kind c.in-Parser.is c.in_ok-parser-in-Parser.parser c.in_ok-parser-in-Parser.ensures

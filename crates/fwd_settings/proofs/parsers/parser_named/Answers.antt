@@ -1,5 +1,5 @@
 use Rattle.std.proofs.Common.{sym}
-use Rattle.fwd_settings.proofs.Saying.{parser_found, parser_unknown}
+use Rattle.fwd_settings.proofs.EntryLemmas.{parser_found, parser_unknown}
 use Rattle.fwd_settings.proofs.parsers.parser_named.Goals as goal
 
 pub returns-in-Some : goal.returns-in-Some

@@ -1,6 +1,6 @@
 use Rattle.std.proofs.Common.{sym, ◌∙◌, length, ap, arith}
 use Rattle.std.proofs.lemmas.Nat.Bits.{shr_and_one}
-use Rattle.fwd_table.proofs.Below.{routes_below-none, put_set, put_clear}
+use Rattle.fwd_table.proofs.MaskRoutes.{routes_below-none, put_set, put_clear}
 use Rattle.fwd_table.proofs.route.put_routes.Goals as goal
 use Rattle.fwd_table.proofs.route.put_routes.Goals.{then-owed-output-eq1, else-owed-output-eq1}
 

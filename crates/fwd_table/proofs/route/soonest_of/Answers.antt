@@ -4,7 +4,7 @@ use Rattle.std.proofs.lemmas.Bool.{both_ways}
 use Rattle.std.proofs.lemmas.List.{take_all}
 use Rattle.std.proofs.lemmas.List.Elements.{All-nil}
 use Rattle.fwd_table.specs.Routes.{idle_at}
-use Rattle.fwd_table.proofs.Waits.{Till, till_more}
+use Rattle.fwd_table.proofs.DueTimes.{Till, till_more}
 use Rattle.fwd_table.proofs.route.soonest_of.Goals as goal
 use Rattle.fwd_table.proofs.route.soonest_of.Goals.{then-not-route, else-not-route}
 

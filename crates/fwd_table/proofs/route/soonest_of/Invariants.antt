@@ -1,6 +1,6 @@
 use Rattle.std.proofs.Common.{take}
 use Rattle.std.specs.Prelude.{All}
-use Rattle.fwd_table.proofs.Waits.{Till}
+use Rattle.fwd_table.proofs.DueTimes.{Till}
 use Rattle.fwd_table.proofs.route.soonest_of.Given as goal
 
 abbrev pub invariant-loop-route : goal.invariant-loop-route

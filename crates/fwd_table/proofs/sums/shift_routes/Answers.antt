@@ -1,7 +1,7 @@
 use Rattle.std.proofs.Common.{false, ◌∙◌, arith}
 use Rattle.std.proofs.lemmas.List.{length-set}
 use Rattle.fwd_table.specs.declared.route.Route.{Route}
-use Rattle.fwd_table.proofs.Summing.{low_at, shift_can, shift_on, shifts_none}
+use Rattle.fwd_table.proofs.RowSums.{low_at, shift_can, shift_on, shifts_none}
 use Rattle.fwd_table.proofs.sums.shift_routes.Goals as goal
 
 abbrev nowhere : Route

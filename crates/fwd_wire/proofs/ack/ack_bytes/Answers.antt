@@ -1,7 +1,7 @@
 use Rattle.std.proofs.Common.{◌++◌, List, ℕ, sym, ap, ◌∙◌}
 use Rattle.fwd_value.specs.View.{val_of}
 use Rattle.fwd_msgpack.specs.Canonical.{canonical}
-use Rattle.fwd_wire.proofs.Spelled.{ack_parts}
+use Rattle.fwd_wire.proofs.EncodedParts.{ack_parts}
 use Rattle.fwd_wire.proofs.ack.ack_bytes.Goals as goal
 
 pub returns : goal.returns

@@ -1,6 +1,6 @@
 use Rattle.std.proofs.Common.{refl, arith}
 use Rattle.fwd_value.specs.View.{val_of}
-use Rattle.fwd_wire.specs.Held.{carried_of}
+use Rattle.fwd_wire.specs.Representation.{carried_of}
 use Rattle.fwd_wire.proofs.Members.{many_options}
 use Rattle.fwd_wire.proofs.parts.with_option.Goals as goal
 

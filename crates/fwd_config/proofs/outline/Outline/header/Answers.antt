@@ -1,7 +1,7 @@
 use Rattle.std.proofs.Common.{refl, [], ◌∷◌, sym, ap, ◌∙◌}
 use Rattle.fwd_config.specs.Variables.{Values}
 use Rattle.fwd_config.specs.Text.{Header, place}
-use Rattle.fwd_config.proofs.Growing.{values_by_header, sections_by_header}
+use Rattle.fwd_config.proofs.Append.{values_by_header, sections_by_header}
 use Rattle.fwd_config.proofs.outline.Outline.header.Goals as goal
 
 pub returns-clause-meaning : goal.returns-clause-meaning

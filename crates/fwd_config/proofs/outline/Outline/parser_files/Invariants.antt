@@ -1,5 +1,5 @@
 use Rattle.std.proofs.Common.{◌≡◌, take}
-use Rattle.fwd_config.specs.Reading.{parser_files}
+use Rattle.fwd_config.specs.Sections.{parser_files}
 use Rattle.fwd_config.proofs.outline.Outline.parser_files.Given as goal
 
 abbrev pub invariant-loop-section : goal.invariant-loop-section

@@ -2,8 +2,8 @@ use Rattle.std.proofs.Common.{List, ℕ, [], ◌∷◌, sym, ap, ◌∙◌, cond
 use Rattle.std.specs.Str.{bytes_eq}
 use Rattle.fwd_config.specs.Variables.{Values}
 use Rattle.fwd_config.specs.Text.{Variable}
-use Rattle.fwd_config.proofs.Growing.{values_by_variable, sections_by_variable}
-use Rattle.fwd_config.proofs.Judging.{setting_means}
+use Rattle.fwd_config.proofs.Append.{values_by_variable, sections_by_variable}
+use Rattle.fwd_config.proofs.Meanings.{setting_means}
 use Rattle.fwd_config.proofs.outline.Outline.set.Goals as goal
 
 pub returns-clause-meaning : goal.returns-clause-meaning

@@ -1,6 +1,6 @@
 use Rattle.std.proofs.Common.{◌≡◌, ℕ, ◌≤◌, List, length, drop}
 use Rattle.fwd_config.specs.Variables.{environment}
-use Rattle.fwd_config.specs.Shown.{value_of}
+use Rattle.fwd_config.specs.Representation.{value_of}
 use Rattle.fwd_config.proofs.variables.Variables.new.Given as goal
 
 abbrev pub invariant-loop-left : goal.invariant-loop-left

@@ -1,6 +1,6 @@
 use Rattle.std.proofs.Common.{List, ℕ, Option, Some, [], unwrap_or, ap, ◌∙◌}
 use Rattle.std.specs.Str.{bytes_eq}
-use Rattle.fwd_config.proofs.Keyed.{vec_key_updates, value_by_test}
+use Rattle.fwd_config.proofs.ByteMaps.{vec_key_updates, value_by_test}
 use Rattle.fwd_config.proofs.variables.Variables.set.Goals as goal
 
 pub returns : goal.returns

@@ -1,6 +1,6 @@
 use Rattle.std.proofs.Common.{None, ◌∙◌, ap, map}
-use Rattle.fwd_settings.specs.declared.chosen.AllSettings.{AllSettings}
-use Rattle.fwd_settings.specs.declared.chosen.InputSet.{InputSet}
+use Rattle.fwd_settings.specs.declared.settings_types.AllSettings.{AllSettings}
+use Rattle.fwd_settings.specs.declared.settings_types.InputSet.{InputSet}
 use Rattle.fwd_engine.proofs.engine.Engine.paused.Goals as goal
 
 pub returns : goal.returns

@@ -1,7 +1,7 @@
-use Rattle.fwd_program.proofs.Grown.{grew_none}
-use Rattle.fwd_flush.specs.Flight.{delivery}
-use Rattle.fwd_flush.proofs.Coming.{returned, stayed}
-use Rattle.fwd_flush.proofs.Written.{backs_writing, backs_awaiting, backs_not, stage_of, stage_not, poll_of, heard_waits}
+use Rattle.fwd_outside.proofs.LogGrowth.{grew_none}
+use Rattle.fwd_flush.specs.FlushProgram.{delivery}
+use Rattle.fwd_flush.proofs.Steps.{returned, stayed}
+use Rattle.fwd_flush.proofs.Programs.{backs_writing, backs_awaiting, backs_not, stage_of, stage_not, poll_of, heard_waits}
 use Rattle.fwd_flush.proofs.flush.Flush.back.Goals as goal
 
 pub returns-in_err-hear-in-Writing-clause-calls : goal.returns-in_err-hear-in-Writing-clause-calls
@@ -16,7 +16,7 @@ returns-in_ok-hear-in-Writing-clause-calls g c =
 pub returns-in-AwaitingAck-clause-calls : goal.returns-in-AwaitingAck-clause-calls
 returns-in-AwaitingAck-clause-calls g c =
     let is = backs_awaiting (delivery g.P.ReplyReader.wanted g.P.ReplyReader.judged c.args.self.now) c.args.self.now.progress c.args.bytes.now c.in-AwaitingAck.link (stage_of _ _ c.self.view_is _ c.in-AwaitingAck.is) in
-    rw is c.hear_and_confirm.ensures.calls
+    rw is c.keep_and_judge.ensures.calls
 
 pub returns-in_default-clause-calls : goal.returns-in_default-clause-calls
 returns-in_default-clause-calls g c =

@@ -1,6 +1,6 @@
 use Rattle.std.proofs.Common.{sym}
-use Rattle.fwd_flush.proofs.Coming.{returned}
-use Rattle.fwd_flush.proofs.Written.{breaks_at, breaks_not, poll_of}
+use Rattle.fwd_flush.proofs.Steps.{returned}
+use Rattle.fwd_flush.proofs.Programs.{breaks_at, breaks_not, poll_of}
 use Rattle.fwd_flush.proofs.flush.Flush.broken.Goals as goal
 
 pub returns-in-Some-clause-calls : goal.returns-in-Some-clause-calls

@@ -1,7 +1,7 @@
 use Rattle.std.proofs.Common.{refl}
-use Rattle.fwd_program.proofs.Grown.{grew_none}
-use Rattle.fwd_flush.specs.Flight.{delivery}
-use Rattle.fwd_flush.proofs.Coming.{stayed, returned, silent, replies, wanted_by, judged_by}
+use Rattle.fwd_outside.proofs.LogGrowth.{grew_none}
+use Rattle.fwd_flush.specs.FlushProgram.{delivery}
+use Rattle.fwd_flush.proofs.Steps.{stayed, returned, silent, replies, wanted_by, judged_by}
 use Rattle.fwd_flush.proofs.flush.Flush.confirm.Goals as goal
 
 pub returns-then-not-wanted-clause-calls : goal.returns-then-not-wanted-clause-calls

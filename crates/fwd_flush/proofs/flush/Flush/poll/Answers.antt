@@ -1,6 +1,6 @@
-use Rattle.fwd_flush.specs.Flight.{delivery}
-use Rattle.fwd_flush.proofs.Coming.{returned}
-use Rattle.fwd_flush.proofs.Written.{polls_at, polls_not, stage_of, stage_not, poll_of}
+use Rattle.fwd_flush.specs.FlushProgram.{delivery}
+use Rattle.fwd_flush.proofs.Steps.{returned}
+use Rattle.fwd_flush.proofs.Programs.{polls_at, polls_not, stage_of, stage_not, poll_of}
 use Rattle.fwd_flush.proofs.flush.Flush.poll.Goals as goal
 
 pub returns-in-Writing-clause-calls : goal.returns-in-Writing-clause-calls

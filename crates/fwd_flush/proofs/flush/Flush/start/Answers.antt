@@ -1,7 +1,7 @@
 use Rattle.std.proofs.Common.{refl}
-use Rattle.fwd_flush.specs.Flight.{delivery}
-use Rattle.fwd_flush.proofs.Coming.{returned, unmoved}
-use Rattle.fwd_flush.proofs.Written.{starts_not, poll_of, dial_refused, dial_taken, dialed_counts, undialed_counts, started}
+use Rattle.fwd_flush.specs.FlushProgram.{delivery}
+use Rattle.fwd_flush.proofs.Steps.{returned, advanced_by_none}
+use Rattle.fwd_flush.proofs.Programs.{starts_not, poll_of, dial_refused, dial_taken, dialed_counts, undialed_counts, started}
 use Rattle.fwd_flush.proofs.flush.Flush.start.Goals as goal
 
 pub returns-in_default-clause-calls : goal.returns-in_default-clause-calls
@@ -15,7 +15,7 @@ returns-in_default-clause-counts g c = undialed_counts _ _ _ _ refl (λ is. absu
 
 pub returns-in-Link-clause-calls : goal.returns-in-Link-clause-calls
 returns-in-Link-clause-calls g c =
-    dial_taken g.P.ReplyReader.wanted g.P.ReplyReader.judged _ _ c.self.view_is c.args.tag.now c.in-Opening.is _ _ c.in-Link.link _ c.write.new.self.progress c.write.result c.in-Link.ensures.told (c.write.ensures.calls refl)
+    dial_taken g.P.ReplyReader.wanted g.P.ReplyReader.judged _ _ c.self.view_is c.args.tag.now c.in-Opening.is _ _ c.in-Link.link _ c.write.new.self.progress c.write.result c.in-Link.ensures.call_log (c.write.ensures.calls refl)
 
 pub returns-in-Link-clause-counts : goal.returns-in-Link-clause-counts
 returns-in-Link-clause-counts g c =
@@ -23,7 +23,7 @@ returns-in-Link-clause-counts g c =
 
 pub returns-in-Refused-clause-calls : goal.returns-in-Refused-clause-calls
 returns-in-Refused-clause-calls g c =
-    dial_refused g.P.ReplyReader.wanted g.P.ReplyReader.judged _ _ c.self.view_is c.args.tag.now c.in-Opening.is _ _ c.in-Refused.ensures.told
+    dial_refused g.P.ReplyReader.wanted g.P.ReplyReader.judged _ _ c.self.view_is c.args.tag.now c.in-Opening.is _ _ c.in-Refused.ensures.call_log
 
 pub returns-in-Memory-clause-calls : goal.returns-in-Memory-clause-calls
-returns-in-Memory-clause-calls g c = (_, unmoved _ _ c.in-Memory.ensures.told)
+returns-in-Memory-clause-calls g c = (_, advanced_by_none _ _ c.in-Memory.ensures.call_log)

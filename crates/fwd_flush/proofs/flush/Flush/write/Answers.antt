@@ -1,4 +1,4 @@
-use Rattle.fwd_flush.proofs.Written.{write_stopped, write_taken, write_fails}
+use Rattle.fwd_flush.proofs.Programs.{write_stopped, write_taken, write_fails}
 use Rattle.fwd_flush.proofs.flush.Flush.write.Goals as goal
 
 pub returns-in_err-push_rest-clause-calls : goal.returns-in_err-push_rest-clause-calls

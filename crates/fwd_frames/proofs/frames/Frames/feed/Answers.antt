@@ -1,7 +1,7 @@
 use Rattle.std.proofs.Common.{◌≡◌, ℕ, List, ◌+◌, [], ◌++◌, sym, ap, ◌∙◌}
 use Rattle.std.proofs.lemmas.List.{append-nil, take_rest}
-use Rattle.fwd_frames.specs.Lines.{kept, kept_of, lines, rest}
-use Rattle.fwd_frames.proofs.Parting.{lines-pushed, rest-found, lines-append, rest-append, behind-append}
+use Rattle.fwd_frames.specs.Lines.{kept, state_of_rest, lines, rest}
+use Rattle.fwd_frames.proofs.StreamSplit.{lines-pushed, rest-found, lines-append, rest-append, behind-append}
 use Rattle.fwd_frames.proofs.frames.Frames.feed.Goals as goal
 
 pub returns-in_default-clause-lines : goal.returns-in_default-clause-lines
@@ -15,7 +15,7 @@ returns-in_default-clause-behind c = λ stream is.
 
 pub returns-in_default-clause-kept : goal.returns-in_default-clause-kept
 returns-in_default-clause-kept c = λ stream is.
-    c.in_ok-keep.ensures.ok (rest stream) is ∙ ap kept_of (sym (rest-append stream c.args.piece.now c.in_default.ensures))
+    c.in_ok-keep.ensures.ok (rest stream) is ∙ ap state_of_rest (sym (rest-append stream c.args.piece.now c.in_default.ensures))
 
 given : (c : goal.After-drop-self-inside) (stream : List ℕ) → c.args.self.now ≡ kept stream → lines stream ++ c.push_lines.new.lines ≡ lines (stream ++ c.args.piece.now)
 given c stream is =
@@ -32,4 +32,4 @@ returns-clause-behind c = λ stream is. behind-append (lines stream) _ _ (given 
 pub returns-clause-kept : goal.returns-clause-kept
 returns-clause-kept c = λ stream is.
     c.behind.view_is ∙ c.in_ok-keep-2.ensures.ok [] c.new-behind.ensures
-    ∙ ap kept_of ((rw (take_rest c.args.piece.now (c.in-Some.end + 1)) at c.in_ok-left.ensures.rest) ∙ sym (rest-found stream c.args.piece.now c.in-Some.end c.in-Some.ensures))
+    ∙ ap state_of_rest ((rw (take_rest c.args.piece.now (c.in-Some.end + 1)) at c.in_ok-left.ensures.rest) ∙ sym (rest-found stream c.args.piece.now c.in-Some.end c.in-Some.ensures))

@@ -1,7 +1,7 @@
 use Rattle.std.proofs.Common.{[], ◌∷◌, sym, refl, arith}
 use Rattle.std.proofs.lemmas.List.{append-nil}
 use Rattle.fwd_frames.specs.Lines.{rest}
-use Rattle.fwd_frames.proofs.Parting.{lines-pushed}
+use Rattle.fwd_frames.proofs.StreamSplit.{lines-pushed}
 use Rattle.fwd_frames.proofs.frames.Frames.finish.Goals as goal
 
 pub returns-clause-as_ended : goal.returns-clause-as_ended

@@ -1,4 +1,4 @@
--- `new` makes a value of no bytes, at the empty list.
+-- `new` makes a value without size, at the empty list.
 use Rattle.std.proofs.Common.{◌≡◌, [], ◌∷◌, refl}
 use mir.Syntax.{a_type}
 use mir.Val.{Val}
@@ -17,7 +17,7 @@ use denote.Param.{param, layouts}
 use denote.Triple.Entry.{alive}
 use denote.Triple.Walked.{Stays, walk_of}
 use Rattle.std.proofs.raw_atomic.Walks.{proved_at, leaves}
-use Rattle.fwd_live.proofs.Made.{token, Data, made}
+use Rattle.fwd_live.proofs.LogValues.{token, Data, made}
 use Rattle.fwd_live.specs.contracts.calls.Calls.new.{ended, clauses}
 use Rattle.fwd_live.specs.contracts.calls.Calls.new.Key.{name as #self}
 use Rattle.fwd_live.proofs.calls.Calls.new.Statement.{statement}

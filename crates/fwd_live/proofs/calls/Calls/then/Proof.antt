@@ -1,4 +1,4 @@
--- `then` makes a value of no bytes, at one entry more.
+-- `then` makes a value without size, at one more entry.
 use Rattle.std.proofs.Common.{◌≡◌, List, [], ◌∷◌, ◌++◌, refl, sym, subst}
 use mir.Syntax.{a_type}
 use mir.Val.{Val, vptr}
@@ -20,7 +20,7 @@ use denote.Param.{param, layouts}
 use denote.Triple.Entry.{alive}
 use denote.Triple.Walked.{Stays, stay_dropped, walk_of, Goes-dropped}
 use Rattle.std.proofs.raw_atomic.Walks.{proved_at, leaves}
-use Rattle.fwd_live.proofs.Made.{token, Data, made}
+use Rattle.fwd_live.proofs.LogValues.{token, Data, made}
 use Rattle.fwd_live.specs.contracts.calls.Calls as calls
 use Rattle.fwd_live.specs.contracts.calls.Calls.then.{ended, clauses}
 use Rattle.fwd_live.specs.contracts.calls.Calls.then.Key.{name as #self}

@@ -1,4 +1,4 @@
-use Rattle.fwd_program.specs.Program.{entry}
+use Rattle.fwd_outside.specs.Program.{entry}
 use Rattle.fwd_outside.specs.Disk.{Sync}
 use Rattle.fwd_live.proofs.folder_disk.FolderDiskDisk.sync.Given as goal
 

@@ -1,4 +1,4 @@
-use Rattle.fwd_program.specs.Program.{entry}
+use Rattle.fwd_outside.specs.Program.{entry}
 use Rattle.fwd_outside.specs.Files.{Length}
 use Rattle.fwd_live.proofs.folder_files.FolderFilesFiles.length.Given as goal
 

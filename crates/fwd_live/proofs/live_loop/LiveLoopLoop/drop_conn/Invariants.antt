@@ -1,4 +1,4 @@
-use Rattle.fwd_program.specs.Program.{entry}
+use Rattle.fwd_outside.specs.Program.{entry}
 use Rattle.fwd_outside.specs.Loop.{DropConn}
 use Rattle.fwd_live.proofs.live_loop.LiveLoopLoop.drop_conn.Given as goal
 

@@ -1,6 +1,6 @@
-use Rattle.fwd_program.specs.Program.{entry}
+use Rattle.fwd_outside.specs.Program.{entry}
 use Rattle.fwd_outside.specs.Loop.{Push}
-use Rattle.fwd_live.proofs.Handed.{answered}
+use Rattle.fwd_live.proofs.PushAnswers.{answered}
 use Rattle.fwd_live.proofs.live_loop.LiveLoopLoop.push.Given as goal
 
 abbrev pub ghost-then : goal.ghost-then

@@ -1,4 +1,4 @@
-use Rattle.fwd_program.specs.Program.{entry}
+use Rattle.fwd_outside.specs.Program.{entry}
 use Rattle.fwd_outside.specs.Loop.{Wait}
 use Rattle.fwd_live.proofs.live_loop.LiveLoopLoop.wait.Given as goal
 

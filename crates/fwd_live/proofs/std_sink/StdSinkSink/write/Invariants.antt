@@ -1,4 +1,4 @@
-use Rattle.fwd_program.specs.Program.{entry}
+use Rattle.fwd_outside.specs.Program.{entry}
 use Rattle.fwd_outside.specs.Sink.{Write}
 use Rattle.fwd_live.specs.SinkCode.{answered}
 use Rattle.fwd_live.proofs.std_sink.StdSinkSink.write.Given as goal

@@ -1,5 +1,5 @@
 use Rattle.std.proofs.Common.{arith}
-use Rattle.fwd_script.proofs.Keeping.{number_kept}
+use Rattle.fwd_script.proofs.FilesInvariant.{number_kept}
 use Rattle.fwd_script.proofs.files.MemFiles.fail_at.Goals as goal
 
 pub invariant_of-self-2 : goal.invariant_of-self-2

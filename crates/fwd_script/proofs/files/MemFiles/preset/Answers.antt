@@ -1,4 +1,4 @@
-use Rattle.fwd_script.proofs.Keeping.{preset_kept}
+use Rattle.fwd_script.proofs.FilesInvariant.{preset_kept}
 use Rattle.fwd_script.proofs.files.MemFiles.preset.Goals as goal
 
 pub invariant_of-self-in-Ok : goal.invariant_of-self-in-Ok

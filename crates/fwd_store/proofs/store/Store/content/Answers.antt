@@ -1,7 +1,7 @@
 use Rattle.std.specs.FinMap as map
-use Rattle.fwd_kept.specs.Content.{IsContentOf}
+use Rattle.fwd_chunk.specs.Content.{IsContentOf}
 use Rattle.fwd_store.proofs.Results.{some_of}
-use Rattle.fwd_kept.proofs.Contents.{nothing_moves, given_as_it_stands}
+use Rattle.fwd_chunk.proofs.ContentAnswers.{nothing_moves, given_as_it_stands}
 use Rattle.fwd_store.proofs.store.Store.content.Goals as goal
 
 pub returns-clause-stands : goal.returns-clause-stands

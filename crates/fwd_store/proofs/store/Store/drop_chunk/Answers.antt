@@ -1,5 +1,5 @@
 use Rattle.std.specs.FinMap as map
-use Rattle.fwd_store.proofs.Sound.{sound_dropped}
+use Rattle.fwd_store.proofs.Invariant.{sound_dropped}
 use Rattle.fwd_store.proofs.Crashes.{dropping, dropped_is_gone}
 use Rattle.fwd_store.proofs.store.Store.drop_chunk.Goals as goal
 

@@ -1,4 +1,4 @@
-use Rattle.fwd_store.proofs.Sound.{sound_new}
+use Rattle.fwd_store.proofs.Invariant.{sound_new}
 use Rattle.fwd_store.proofs.store.Store.new.Goals as goal
 
 pub invariant_of-result : goal.invariant_of-result

@@ -1,4 +1,4 @@
-use Rattle.fwd_store.proofs.Sound.{sound_sealed}
+use Rattle.fwd_store.proofs.Invariant.{sound_sealed}
 use Rattle.fwd_store.proofs.store.Store.shut.Goals as goal
 
 pub invariant_of-self : goal.invariant_of-self

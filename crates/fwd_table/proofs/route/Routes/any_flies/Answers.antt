@@ -4,7 +4,7 @@ use Rattle.std.specs.Slice.Iter.{iter_rest}
 use Rattle.std.proofs.lemmas.Iterator.{YieldsList-from_slice}
 use Rattle.std.proofs.lemmas.Iterator.Search.{any_from_yields_List}
 use Rattle.fwd_table.specs.declared.route.Route.{Route}
-use Rattle.fwd_table.proofs.Summing.{any_flying}
+use Rattle.fwd_table.proofs.RowSums.{any_flying}
 use Rattle.fwd_table.proofs.route.Routes.any_flies.Goals as goal
 
 pub returns : goal.returns

@@ -2,8 +2,8 @@ use Rattle.std.proofs.Common.{refl, sym, subst, arith}
 use Rattle.std.specs.Prelude.{All}
 use Rattle.std.proofs.lemmas.List.{with_items_is}
 use Rattle.fwd_table.specs.Routes.{RiseFrom}
-use Rattle.fwd_table.proofs.Rising.{rise-map}
-use Rattle.fwd_table.proofs.Waits.{Till}
+use Rattle.fwd_table.proofs.RouteOrder.{rise-map}
+use Rattle.fwd_table.proofs.DueTimes.{Till}
 use Rattle.fwd_table.proofs.route.Routes.begin.Goals as goal
 
 pub invariant_of-self : goal.invariant_of-self

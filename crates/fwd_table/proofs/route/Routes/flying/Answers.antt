@@ -2,7 +2,7 @@ use Rattle.std.proofs.Common.{◌≡◌, sym, subst, arith}
 use Rattle.std.proofs.lemmas.Grind.{common_steps}
 use Rattle.fwd_table.specs.declared.route.Route.{Route}
 use Rattle.fwd_table.specs.Routes.{RiseFrom, mask_of, flying_of, IsMaskOf}
-use Rattle.fwd_table.proofs.Rising.{output_below, rise-filter}
+use Rattle.fwd_table.proofs.RouteOrder.{output_below, rise-filter}
 use Rattle.fwd_table.proofs.Bits.{mask_has_bits}
 use Rattle.fwd_table.proofs.Masks.{kept_more, left_more}
 use Rattle.fwd_table.proofs.route.Routes.flying.Goals as goal

@@ -1,7 +1,7 @@
 use Rattle.std.proofs.Common.{◌≡◌, sym, subst, arith}
 use Rattle.std.proofs.lemmas.Grind.{common_steps}
 use Rattle.fwd_table.specs.Routes.{RiseFrom, mask_of, IsMaskOf}
-use Rattle.fwd_table.proofs.Rising.{output_below}
+use Rattle.fwd_table.proofs.RouteOrder.{output_below}
 use Rattle.fwd_table.proofs.Bits.{mask_has_bits}
 use Rattle.fwd_table.proofs.Masks.{mask_more}
 use Rattle.fwd_table.proofs.route.Routes.owed.Goals as goal

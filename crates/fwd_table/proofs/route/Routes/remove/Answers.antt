@@ -2,8 +2,8 @@ use Rattle.std.proofs.Common.{◌≡◌, not, subst, rules}
 use Rattle.std.specs.Prelude.{All}
 use Rattle.std.proofs.lemmas.Fn.{filter_same}
 use Rattle.fwd_table.specs.Routes.{is_to, without_output}
-use Rattle.fwd_table.proofs.Rising.{rise-filter}
-use Rattle.fwd_table.proofs.Waits.{Till}
+use Rattle.fwd_table.proofs.RouteOrder.{rise-filter}
+use Rattle.fwd_table.proofs.DueTimes.{Till}
 use Rattle.fwd_table.proofs.route.Routes.remove.Goals as goal
 
 pub invariant_of-self : goal.invariant_of-self

@@ -1,8 +1,8 @@
 use Rattle.std.proofs.Common.{◌∙◌, lit≤, subst}
 use Rattle.std.specs.Prelude.{All}
-use Rattle.fwd_table.proofs.Below.{rise-routes_below}
+use Rattle.fwd_table.proofs.MaskRoutes.{rise-routes_below}
 use Rattle.fwd_table.proofs.Bits.{mask_of_routes_below}
-use Rattle.fwd_table.proofs.Waits.{Till}
+use Rattle.fwd_table.proofs.DueTimes.{Till}
 use Rattle.fwd_table.proofs.route.Routes.to.Goals as goal
 
 pub invariant_of-result : goal.invariant_of-result

@@ -1,6 +1,6 @@
 use Rattle.std.proofs.Common.{arith}
 use Rattle.fwd_table.specs.declared.row.RowChange.TheVariants.{Shuts, Changes, Resolves}
-use Rattle.fwd_table.proofs.Summing.{change_sound}
+use Rattle.fwd_table.proofs.RowSums.{change_sound}
 use Rattle.fwd_table.proofs.row.Row.apply.Goals as goal
 
 pub returns-in-Shuts-clause-sound : goal.returns-in-Shuts-clause-sound

@@ -1,4 +1,4 @@
-use Rattle.fwd_table.proofs.Summing.{none_summed}
+use Rattle.fwd_table.proofs.RowSums.{none_summed}
 use Rattle.fwd_table.proofs.sums.Sums.new.Goals as goal
 
 pub returns : goal.returns

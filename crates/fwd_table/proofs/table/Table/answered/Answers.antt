@@ -1,5 +1,5 @@
 use Rattle.std.proofs.Common.{inl, inr, ◌∙◌, ap}
-use Rattle.fwd_table.specs.Answers.{resolved}
+use Rattle.fwd_table.specs.Outcomes.{resolved}
 use Rattle.fwd_table.proofs.table.Table.answered.Goals as goal
 
 pub returns-in-Good : goal.returns-in-Good

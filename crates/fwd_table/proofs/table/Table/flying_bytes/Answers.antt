@@ -1,6 +1,6 @@
-use Rattle.fwd_table.specs.Places.{standing}
-use Rattle.fwd_table.proofs.Kept.{flying_are}
+use Rattle.fwd_table.specs.Slots.{rows_in}
+use Rattle.fwd_table.proofs.Usage.{flying_are}
 use Rattle.fwd_table.proofs.table.Table.flying_bytes.Goals as goal
 
 pub returns : goal.returns
-returns c = rw (← c.self.view_is) (flying_are c.args.output c.self.inside.sums (standing c.self.inside.places.items) c.flying.result c.flying.ensures c.self.invariant.kept.summed c.self.invariant.kept.sound)
+returns c = rw (← c.self.view_is) (flying_are c.args.output c.self.inside.sums (rows_in c.self.inside.places.items) c.flying.result c.flying.ensures c.self.invariant.kept.summed c.self.invariant.kept.sound)

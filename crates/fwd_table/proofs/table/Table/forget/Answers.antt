@@ -2,13 +2,13 @@ use Rattle.std.proofs.Common.{◌≡◌, ◌<◌, not, ◌∙◌}
 use Rattle.std.proofs.lemmas.List.Elements.{All-filter}
 use Rattle.std.proofs.lemmas.List.Kept.{AllPairs-filter}
 use Rattle.fwd_table.specs.declared.row.Row.{Row}
-use Rattle.fwd_table.specs.Places.{standing}
-use Rattle.fwd_table.specs.Rows.{WaitsTill, IsOwedToNobody, is_row_of, without_chunk}
-use Rattle.fwd_table.specs.Sums.{IsSound}
-use Rattle.fwd_table.proofs.Kept.{owed_without}
+use Rattle.fwd_table.specs.Slots.{rows_in}
+use Rattle.fwd_table.specs.Rows.{IsNotDueBefore, IsOwedToNobody, is_row_of, without_chunk}
+use Rattle.fwd_table.specs.Sums.{IsValidRow}
+use Rattle.fwd_table.proofs.Usage.{owed_without}
 use Rattle.fwd_table.proofs.table.Table.forget.Goals as goal
 
-gone : (c : goal.After-drop_first_gaps) → standing c.drop_first_gaps.new.places.items ≡ without_chunk c.args.chunk (standing c.self.inside.places.items)
+gone : (c : goal.After-drop_first_gaps) → rows_in c.drop_first_gaps.new.places.items ≡ without_chunk c.args.chunk (rows_in c.self.inside.places.items)
 gone c = c.drop_first_gaps.ensures.rows ∙ c.clear_row.ensures.rows
 
 pub invariant_of-self : goal.invariant_of-self
@@ -19,14 +19,14 @@ invariant_of-self c =
       own = c.drop_first_gaps.ensures.own c.clear_row.ensures.own;
       kept = record {
         rise = rw (gone c) (AllPairs-filter (λ (row behind : Row). row.chunk.0 < behind.chunk.0) other _ c.self.invariant.kept.rise);
-        sound = rw (gone c) (All-filter other IsSound _ c.self.invariant.kept.sound);
-        wait = rw (gone c) (All-filter other (WaitsTill c.self.inside.soonest) _ c.self.invariant.kept.wait);
+        sound = rw (gone c) (All-filter other IsValidRow _ c.self.invariant.kept.sound);
+        wait = rw (gone c) (All-filter other (IsNotDueBefore c.self.inside.soonest) _ c.self.invariant.kept.wait);
         summed = rw c.drop_first_gaps.ensures.rows c.clear_row.ensures.sums;
       };
     }
 
 pub returns-clause-owed : goal.returns-clause-owed
 returns-clause-owed c =
-    let rows : c.close_many_gaps.new.self.rows ≡ without_chunk c.args.chunk (standing c.self.inside.places.items) = c.close_many_gaps.ensures.rows ∙ c.drop_first_gaps.ensures.rows ∙ c.clear_row.ensures.rows in
-    let asked : IsOwedToNobody c.args.chunk (standing c.self.inside.places.items) = rw (← c.self.view_is) at c.requires in
-    rw (rows, ← c.self.view_is) (owed_without c.args.chunk (standing c.self.inside.places.items) c.self.invariant.kept.rise asked)
+    let rows : c.close_many_gaps.new.self.rows ≡ without_chunk c.args.chunk (rows_in c.self.inside.places.items) = c.close_many_gaps.ensures.rows ∙ c.drop_first_gaps.ensures.rows ∙ c.clear_row.ensures.rows in
+    let asked : IsOwedToNobody c.args.chunk (rows_in c.self.inside.places.items) = rw (← c.self.view_is) at c.requires in
+    rw (rows, ← c.self.view_is) (owed_without c.args.chunk (rows_in c.self.inside.places.items) c.self.invariant.kept.rise asked)

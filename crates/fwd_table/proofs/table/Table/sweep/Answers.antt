@@ -4,31 +4,31 @@ use Rattle.std.proofs.lemmas.Bool.{eqb-true, not-false}
 use Rattle.std.proofs.lemmas.List.Elements.{All-filter}
 use Rattle.std.proofs.lemmas.List.Kept.{AllPairs-filter}
 use Rattle.fwd_table.specs.declared.row.Row.{Row}
-use Rattle.fwd_table.specs.Places.{standing}
-use Rattle.fwd_table.specs.Rows.{WaitsTill, is_owed_row}
-use Rattle.fwd_table.specs.Sums.{IsSound, Unowed}
-use Rattle.fwd_table.proofs.Kept.{none_unowed}
+use Rattle.fwd_table.specs.Slots.{rows_in}
+use Rattle.fwd_table.specs.Rows.{IsNotDueBefore, is_owed_row}
+use Rattle.fwd_table.specs.Sums.{IsValidRow, Unowed}
+use Rattle.fwd_table.proofs.Usage.{none_unowed}
 use Rattle.fwd_table.proofs.table.Table.sweep.Goals as goal
 
 pub sums_of-self-inside-requires-clause-sound : goal.sums_of-self-inside-requires-clause-sound
-sums_of-self-inside-requires-clause-sound c = rw c.keep_owed_places.ensures.rows (All-filter is_owed_row IsSound (standing c.self.inside.places.items) c.self.invariant.kept.sound)
+sums_of-self-inside-requires-clause-sound c = rw c.drop_unowed_places.ensures.rows (All-filter is_owed_row IsValidRow (rows_in c.self.inside.places.items) c.self.invariant.kept.sound)
 
 pub invariant_of-self : goal.invariant_of-self
 invariant_of-self c = record {
-  numbers = c.keep_owed_places.ensures.numbers c.self.invariant.numbers;
-  own = c.keep_owed_places.ensures.own c.self.invariant.own;
+  numbers = c.drop_unowed_places.ensures.numbers c.self.invariant.numbers;
+  own = c.drop_unowed_places.ensures.own c.self.invariant.own;
   kept = record {
-    rise = rw c.keep_owed_places.ensures.rows (AllPairs-filter (λ (row behind : Row). row.chunk.0 < behind.chunk.0) is_owed_row _ c.self.invariant.kept.rise);
-    sound = rw c.keep_owed_places.ensures.rows (All-filter is_owed_row IsSound _ c.self.invariant.kept.sound);
-    wait = rw c.keep_owed_places.ensures.rows (All-filter is_owed_row (WaitsTill c.self.inside.soonest) _ c.self.invariant.kept.wait);
+    rise = rw c.drop_unowed_places.ensures.rows (AllPairs-filter (λ (row behind : Row). row.chunk.0 < behind.chunk.0) is_owed_row _ c.self.invariant.kept.rise);
+    sound = rw c.drop_unowed_places.ensures.rows (All-filter is_owed_row IsValidRow _ c.self.invariant.kept.sound);
+    wait = rw c.drop_unowed_places.ensures.rows (All-filter is_owed_row (IsNotDueBefore c.self.inside.soonest) _ c.self.invariant.kept.wait);
     summed = c.sums_of-self-inside.ensures;
   };
 }
 
 pub returns-then-has_unowed-clause-rows : goal.returns-then-has_unowed-clause-rows
-returns-then-has_unowed-clause-rows c = rw (← c.self.view_is) c.keep_owed_places.ensures.rows
+returns-then-has_unowed-clause-rows c = rw (← c.self.view_is) c.drop_unowed_places.ensures.rows
 
 pub returns-else-has_unowed-clause-rows : goal.returns-else-has_unowed-clause-rows
 returns-else-has_unowed-clause-rows c =
     let none : c.self.inside.sums.unowed ≡ 0 = eqb-true c.self.inside.sums.unowed 0 (not-false (c.self.inside.sums.unowed == 0) (sym c.has_unowed.ensures ∙ c.if-has_unowed.false)) in
-    rw (← c.self.view_is) (sym (none_unowed (standing c.self.inside.places.items) (sym (c.self.invariant.kept.summed Unowed 0 (omega arith)) ∙ none)))
+    rw (← c.self.view_is) (sym (none_unowed (rows_in c.self.inside.places.items) (sym (c.self.invariant.kept.summed Unowed 0 (omega arith)) ∙ none)))

@@ -1,5 +1,0 @@
-use Rattle.fwd_backlog.proofs.Once.{sorted_differ}
-use Rattle.fwd_backlog.proofs.laws.found_paths_differ.Goals as goal
-
-pub returns : goal.returns
-returns c = λ root found are. sorted_differ root found (λ k d lt. (are.each k d lt).stream) are.sorted

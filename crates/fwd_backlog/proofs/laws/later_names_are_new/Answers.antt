@@ -1,5 +1,0 @@
-use Rattle.fwd_backlog.proofs.Free.{later_is_new}
-use Rattle.fwd_backlog.proofs.laws.later_names_are_new.Goals as goal
-
-pub returns : goal.returns
-returns c = later_is_new

@@ -1,5 +1,0 @@
-use Rattle.fwd_backlog.proofs.Free.{number_is_free}
-use Rattle.fwd_backlog.proofs.laws.later_numbers_are_free.Goals as goal
-
-pub returns : goal.returns
-returns c = number_is_free

@@ -1,0 +1,8 @@
+-- Dropping from a mapped list, one item at a time.
+use Rattle.std.proofs.Common.{◌≡◌, ℕ, ◌+◌, ◌<◌, ◌∙◌, sym, ap, List, ◌∷◌, length, drop, get_or, map}
+use Rattle.std.proofs.lemmas.List.{drop_more, drop-map}
+
+pub drop-map-step : {X Y : Type 0} (f : X → Y) (xs : List X) (i : ℕ) (x : X) → i < length xs → x ≡ get_or xs i x → drop i (map f xs) ≡ f x ∷ drop (i + 1) (map f xs)
+drop-map-step f xs i x within is =
+    drop-map f i xs ∙ ap (map f) (drop_more xs i x within) ∙ ap (λ y. f y ∷ map f (drop (i + 1) xs)) (sym is)
+    ∙ ap (λ ys. f x ∷ ys) (sym (drop-map f (i + 1) xs))

@@ -1,4 +1,0 @@
-pub mod Number
-pub mod Text
-pub mod Types
-pub mod Rule

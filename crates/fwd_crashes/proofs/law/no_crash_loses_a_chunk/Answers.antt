@@ -1,5 +1,0 @@
-use Rattle.fwd_crashes.proofs.Finding.{none_lost}
-use Rattle.fwd_crashes.proofs.law.no_crash_loses_a_chunk.Goals as goal
-
-pub returns : goal.returns
-returns c shown s turns lives reported settings full is = none_lost s settings full shown turns lives reported is

@@ -1,0 +1,113 @@
+-- The turns of a run, one after another.
+use Rattle.std.proofs.Common.{arith, ◌≡◌, ℕ, suc, ◌+◌, ◌-◌, ◌<◌, ◌≤◌, inl, inr, Bool, true, false, Option, Result, Ok, Err, refl, sym, subst}
+use Rattle.fwd_outside.specs.Program.{Return, bind}
+use Rattle.fwd_outside.specs.declared.happening.Happening.{Happening}
+use Rattle.fwd_outside.specs.declared.happening.Happening.TheVariants as happening
+use Rattle.fwd_settings.specs.declared.settings_types.AllSettings.{AllSettings}
+use Rattle.fwd_model.specs.Fact.{History}
+use Rattle.fwd_model.specs.Trace.{Action}
+use Rattle.fwd_model.specs.CallLogs.{CallLogs, Leads, Completes, IsBegun}
+use Rattle.fwd_model.proofs.Actions.{goes_on as leads_on, stays, leads_inside, begun_bind, begun_trans}
+use Rattle.fwd_model.specs.StepActions.{step}
+use Rattle.fwd_model.specs.Run.{RunResult, lived, Over, LoopFailed, TurnsSpent, goes_on, steps_on, is_last_tick, unless_last, brought, run, is_over}
+use Rattle.fwd_engine.specs.EngineSteps.{IsAt, Steps, waits, is_failed, as_turn}
+use Rattle.fwd_engine.specs.declared.engine.Engine.{Engine}
+use Rattle.fwd_engine.specs.declared.engine.EngineStop.{EngineStop}
+use Rattle.fwd_engine.specs.declared.engine.EngineStop.TheVariants as stop
+use Rattle.fwd_engine.specs.declared.engine.Turn.{Turn}
+use Rattle.fwd_engine.specs.declared.engine.Turn.TheVariants as turn
+use Rattle.fwd_engine.specs.RunOutcome.{RunContinues, RunOutcome}
+use Rattle.fwd_engine.specs.declared.run_loop.RunEnd.{RunEnd}
+
+brought_is : (s : AllSettings) (ticks : Option ℕ) (next : History → Action RunResult) (h : History) (x : Happening) → is_failed x ≡ false → brought s ticks next h x ≡ bind (step s x h) (goes_on s (unless_last s ticks next x) x)
+brought_is s ticks next h happening.Failed is = absurd (cc is)
+brought_is s ticks next h happens is = refl
+
+failed_is : (s : AllSettings) (ticks : Option ℕ) (next : History → Action RunResult) (h : History) (x : Happening) → is_failed x ≡ true → brought s ticks next h x ≡ Return (lived h LoopFailed)
+failed_is s ticks next h happening.Failed is = refl
+failed_is s ticks next h happens is = absurd (cc is)
+
+over_is : (b : Bool) → turn.Over ≡ as_turn b → b ≡ true
+over_is true is = refl
+over_is false is = absurd (cc is)
+
+more_is : (b : Bool) → turn.More ≡ as_turn b → b ≡ false
+more_is true is = absurd (cc is)
+more_is false is = refl
+
+-- an event, and what follows it
+module _ (a b : CallLogs) (s : AllSettings) (ticks : Option ℕ) (h : History) (next : History → Action RunResult) (after : Engine) (x : Happening) where
+  stepped_on : (which : Turn) (steps : Steps a b s h x after (Ok which)) → Leads a b (brought s ticks next h x) (goes_on s (unless_last s ticks next x) x steps.1.history)
+  stepped_on which steps =
+      subst (λ (p : Action RunResult). Leads a b p (goes_on s (unless_last s ticks next x) x steps.1.history)) (sym (brought_is s ticks next h x steps.0)) (leads_inside (goes_on s (unless_last s ticks next x) x) steps.1.did)
+
+  pub took_more : (steps : Steps a b s h x after (Ok turn.More)) → Leads a b (brought s ticks next h x) (unless_last s ticks next x steps.1.history)
+  took_more steps =
+      let is : is_over s x steps.1.history ≡ false = more_is (is_over s x steps.1.history) steps.1.over in
+      subst (λ (p : Action RunResult). Leads a b (brought s ticks next h x) p) (rw is refl) (stepped_on turn.More steps)
+
+  pub took_over : Steps a b s h x after (Ok turn.Over) → RunContinues a b s (brought s ticks next h x) next after (Ok turn.Over)
+  took_over steps =
+      let is : is_over s x steps.1.history ≡ true = over_is (is_over s x steps.1.history) steps.1.over in
+      (steps.1.history, steps.1.at, subst (λ (p : Action RunResult). Leads a b (brought s ticks next h x) p) (rw is refl) (stepped_on turn.Over steps))
+
+  pub took_so : (stopped : EngineStop) → Steps a b s h x after (Err stopped) → RunContinues a b s (brought s ticks next h x) next after (Err stopped)
+  took_so stop.LoopFault steps =
+      let at : Leads a a (brought s ticks next h x) (Return (lived h LoopFailed)) = subst (λ (p : Action RunResult). Leads a a p (Return (lived h LoopFailed))) (sym (failed_is s ticks next h x steps.0)) (stays a (Return (lived h LoopFailed))) in
+      (h, subst (λ (w : CallLogs). Leads a w (brought s ticks next h x) (Return (lived h LoopFailed))) (sym steps.1) at)
+  took_so stop.Memory steps =
+      subst (λ (p : Action RunResult). IsBegun a b p) (sym (brought_is s ticks next h x steps.0)) (begun_bind (goes_on s (unless_last s ticks next x) x) steps.1)
+
+-- a wait, and what follows its event
+pub waited_on : (a b : CallLogs) (s : AllSettings) (ticks : Option ℕ) (h : History) (n : ℕ) (x : Happening) → Completes a b (waits s h) x → Leads a b (run s ticks (suc n) h) (brought s ticks (run s ticks n) h x)
+unfolding run
+waited_on a b s ticks h n x did = leads_inside (brought s ticks (run s ticks n) h) did
+
+pub unwaited : (a b : CallLogs) (s : AllSettings) (ticks : Option ℕ) (h : History) (n : ℕ) → IsBegun a b (waits s h) → IsBegun a b (run s ticks (suc n) h)
+unfolding run
+unwaited a b s ticks h n began = begun_bind (brought s ticks (run s ticks n) h) began
+
+-- the step of `Stop`, and what follows it
+module _ (a b : CallLogs) (s : AllSettings) (h : History) (next : History → Action RunResult) (after : Engine) where
+  stopped_on : (which : Turn) (steps : Steps a b s h happening.Stop after (Ok which)) → Leads a b (steps_on s next happening.Stop h) (goes_on s next happening.Stop steps.1.history)
+  stopped_on which steps = leads_inside (goes_on s next happening.Stop) steps.1.did
+
+  pub stop_goes : (result : Result Turn EngineStop) → Steps a b s h happening.Stop after result → RunContinues a b s (steps_on s next happening.Stop h) next after result
+  stop_goes (Ok turn.More) steps =
+      let is : is_over s happening.Stop steps.1.history ≡ false = more_is (is_over s happening.Stop steps.1.history) steps.1.over in
+      (steps.1.history, steps.1.at, subst (λ (p : Action RunResult). Leads a b (steps_on s next happening.Stop h) p) (rw is refl) (stopped_on turn.More steps))
+  stop_goes (Ok turn.Over) steps =
+      let is : is_over s happening.Stop steps.1.history ≡ true = over_is (is_over s happening.Stop steps.1.history) steps.1.over in
+      (steps.1.history, steps.1.at, subst (λ (p : Action RunResult). Leads a b (steps_on s next happening.Stop h) p) (rw is refl) (stopped_on turn.Over steps))
+  stop_goes (Err stop.LoopFault) steps = absurd (cc steps.0)
+  stop_goes (Err stop.Memory) steps = begun_bind (goes_on s next happening.Stop) steps.1
+
+  pub stops_last : (ticks : Option ℕ) (x : Happening) (result : Result Turn EngineStop) → is_last_tick s ticks x h ≡ true → Steps a b s h happening.Stop after result → RunContinues a b s (unless_last s ticks next x h) next after result
+  stops_last ticks x result is steps = rw is (stop_goes result steps)
+
+pub goes_unstopped : (a : CallLogs) (s : AllSettings) (h : History) (next : History → Action RunResult) (after : Engine) (ticks : Option ℕ) (x : Happening) → is_last_tick s ticks x h ≡ false → IsAt after s h
+    → RunContinues a a s (unless_last s ticks next x h) next after (Ok turn.More)
+goes_unstopped a s h next after ticks x is at = rw is (h, at, stays a (next h))
+
+-- calls, and then a part of a run that continues from their result
+pub goes_after : (a b c : CallLogs) (s : AllSettings) (p q : Action RunResult) (next : History → Action RunResult) (after : Engine) (result : Result Turn EngineStop) → Leads a b p q → RunContinues b c s q next after result → RunContinues a c s p next after result
+goes_after a b c s p q next after (Ok turn.More) f g = (g.0, g.1, leads_on f g.2)
+goes_after a b c s p q next after (Ok turn.Over) f g = (g.0, g.1, leads_on f g.2)
+goes_after a b c s p q next after (Err stop.LoopFault) f g = (g.0, leads_on f g.1)
+goes_after a b c s p q next after (Err stop.Memory) f g = begun_trans f g
+
+-- one turn less is left
+pub left : (most counter : ℕ) → counter < most → most - counter ≡ suc (most - (counter + 1))
+left most counter more = grind arith
+
+pub none_left : (most counter : ℕ) → most ≤ counter → most - counter ≡ 0
+none_left most counter none = grind arith
+
+pub spent : (s : AllSettings) (ticks : Option ℕ) (h : History) → run s ticks 0 h ≡ Return (lived h TurnsSpent)
+unfolding run
+spent s ticks h = refl
+
+-- calls, and then a run that continues from their result
+pub runs_after : {E : Type 0} (a b c : CallLogs) (s : AllSettings) (p q : Action RunResult) (after : Engine) (result : Result RunEnd E) → Leads a b p q → RunOutcome b c s q after result → RunOutcome a c s p after result
+runs_after a b c s p q after (Ok end) f g = record { history = g.history; did = leads_on f g.did; at = g.at }
+runs_after a b c s p q after (Err e) f g = begun_trans f g

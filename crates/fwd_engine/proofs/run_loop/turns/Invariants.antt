@@ -1,0 +1,17 @@
+use Rattle.std.proofs.Common.{◌-◌, ◌≤◌}
+use Rattle.fwd_settings.specs.declared.settings_types.AllSettings.{AllSettings}
+use Rattle.fwd_model.specs.Fact.{History}
+use Rattle.fwd_model.specs.CallLogs.{CallLogs, Leads}
+use Rattle.fwd_model.specs.Run.{run}
+use Rattle.fwd_engine_state.specs.LoopCounters.{EventsTaken}
+use Rattle.fwd_engine_state.specs.RefinesAction.{with_all}
+use Rattle.fwd_engine.specs.EngineSteps.{IsAt}
+use Rattle.fwd_engine.proofs.run_loop.turns.Given as goal
+
+-- This many events came, and the engine is at a point of the run with the remaining turns left.
+abbrev pub invariant-loop : goal.invariant-loop
+invariant-loop g l =
+    EventsTaken l.counter (g.L.Loop.counts l.fn.outside) (g.L.Loop.counts l.outside) × (g.L.Loop.faults l.fn.outside ≤ g.L.Loop.faults l.outside)
+    × (g.D.Disk.faults l.fn.disk ≤ g.D.Disk.faults l.disk) × (g.F.Files.faults l.fn.files ≤ g.F.Files.faults l.files)
+    × ((others : CallLogs) (s : AllSettings) (h : History) → IsAt l.fn.engine s h → (now : History) × IsAt l.engine s now
+    × Leads (with_all (g.L.Loop.call_log l.fn.outside) (g.D.Disk.call_log l.fn.disk) (g.F.Files.call_log l.fn.files) others) (with_all (g.L.Loop.call_log l.outside) (g.D.Disk.call_log l.disk) (g.F.Files.call_log l.files) others) (run s l.ticks l.most h) (run s l.ticks (l.most - l.counter) now))

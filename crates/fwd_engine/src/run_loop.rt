@@ -1,0 +1,171 @@
+ghost use Rattle.std.specs.Prelude.{◌≡◌, ◌≤◌, ℕ, suc, Some, Ok, Err};
+ghost use Rattle.fwd_outside.specs.Cause.{HasCause};
+ghost use Rattle.fwd_outside.specs.declared.happening.Happening.{Happening};
+ghost use Rattle.fwd_outside.specs.declared.happening.Happening.TheVariants as happens;
+ghost use Rattle.fwd_settings.specs.declared.settings_types.AllSettings.{AllSettings};
+ghost use Rattle.fwd_model.specs.Fact.{History};
+ghost use Rattle.fwd_model.specs.Trace.{Action};
+ghost use Rattle.fwd_model.specs.CallLogs.{CallLogs};
+ghost use Rattle.fwd_model.specs.Run as written;
+ghost use Rattle.fwd_model.specs.Run.{RunResult, is_tick};
+ghost use Rattle.fwd_engine_state.specs.RefinesAction.{with_all};
+ghost use Rattle.fwd_engine_state.specs.LoopCounters.{EventsTaken, NoEventTaken};
+ghost use Rattle.fwd_engine.specs.EngineSteps.{IsAt, EngineAnswers, events_in_turn};
+ghost use Rattle.fwd_engine.specs.declared.engine.EngineStop.TheVariants as stop;
+ghost use Rattle.fwd_engine.specs.RunOutcome.{RunContinues, RunOutcome, heard_in};
+ghost use Rattle.fwd_engine.specs.declared.run_loop.RunEnd.TheVariants as run_end;
+
+use crate::{Engine, EngineStop, Turn, is_clock_tick};
+use fwd_base::Memory;
+use fwd_outside::{Begun, Disk, Ends, Files, Happening, Loop};
+use std::thread::Threads;
+
+/// How a run ended.
+#[derive(Clone, Copy, Debug, PartialEq, Eq)]
+pub enum RunEnd {
+    /// Nothing is left to do.
+    Over,
+    /// The loop failed.
+    LoopFailed,
+    /// All turns are taken.
+    TurnsSpent,
+}
+
+/// Whether the event was the last of `ticks` ticks, if that number is given, and the run isn't stopped yet.
+fn is_last_reading(engine: &Engine, ticks: Option<u64>, reads: bool) -> bool
+    ensures { (brought : Happening) → is_tick brought ≡ reads → EngineAnswers engine.now (λ s h. result ≡ written.is_last_tick s ticks brought h) }
+{
+    match ticks {
+        Some(ticks) => reads && (engine.ticks() == ticks && engine.stopped().is_none()),
+        None => false,
+    }
+}
+
+/// Stops the run if the event was the last tick.
+fn unless_last<L: Loop, D: Disk, F: Files>(
+    rt: &(impl Threads + Sync),
+    engine: &mut Engine,
+    ticks: Option<u64>,
+    reads: bool,
+    disk: &mut D,
+    files: &mut F,
+    outside: &mut L,
+) -> Result<Turn, EngineStop>
+    ensures goes { (others : CallLogs) (s : AllSettings) (h : History) (next : History → Action RunResult) (brought : Happening) → is_tick brought ≡ reads → IsAt engine.old s h
+        → RunContinues (with_all (L.call_log outside.old) (D.call_log disk.old) (F.call_log files.old) others) (with_all (L.call_log outside.new) (D.call_log disk.new) (F.call_log files.new) others) s (written.unless_last s ticks next brought h) next engine.new result }
+    ensures unheard { NoEventTaken (L.counts outside.old) (L.counts outside.new) }
+    ensures later { L.faults outside.old ≤ L.faults outside.new }
+    ensures unfailed { result ≡ Err stop.LoopFault → ⊥ }
+    ensures disk_later { D.faults disk.old ≤ D.faults disk.new }
+    ensures files_later { F.faults files.old ≤ F.faults files.new }
+{
+    if is_last_reading(engine, ticks, reads) {
+        engine.step(rt, Happening::Stop, disk, files, outside)
+    } else {
+        Ok(Turn::More)
+    }
+}
+
+/// Handles an event, and stops the run if it was the last tick.
+fn take<L: Loop, D: Disk, F: Files>(
+    rt: &(impl Threads + Sync),
+    engine: &mut Engine,
+    ticks: Option<u64>,
+    happening: Happening,
+    disk: &mut D,
+    files: &mut F,
+    outside: &mut L,
+) -> Result<Turn, EngineStop>
+    ensures goes { (others : CallLogs) (s : AllSettings) (h : History) (next : History → Action RunResult) → IsAt engine.old s h
+        → RunContinues (with_all (L.call_log outside.old) (D.call_log disk.old) (F.call_log files.old) others) (with_all (L.call_log outside.new) (D.call_log disk.new) (F.call_log files.new) others) s (written.brought s ticks next h happening) next engine.new result }
+    ensures unheard { NoEventTaken (L.counts outside.old) (L.counts outside.new) }
+    ensures later { L.faults outside.old ≤ L.faults outside.new }
+    ensures failed { result ≡ Err stop.LoopFault → happening ≡ happens.Failed }
+    ensures disk_later { D.faults disk.old ≤ D.faults disk.new }
+    ensures files_later { F.faults files.old ≤ F.faults files.new }
+{
+    let reads = is_clock_tick(&happening);
+    match engine.step(rt, happening, disk, files, outside) {
+        Ok(Turn::More) => unless_last(rt, engine, ticks, reads, disk, files, outside),
+        Ok(Turn::Over) => Ok(Turn::Over),
+        Err(fault) => Err(fault),
+    }
+}
+
+/// Takes one turn: waits for an event and handles it.
+fn turn<L: Loop, D: Disk, F: Files>(
+    rt: &(impl Threads + Sync),
+    engine: &mut Engine,
+    ticks: Option<u64>,
+    disk: &mut D,
+    files: &mut F,
+    outside: &mut L,
+) -> Result<Turn, EngineStop>
+    ensures goes { (others : CallLogs) (s : AllSettings) (h : History) (more : ℕ) → IsAt engine.old s h
+        → RunContinues (with_all (L.call_log outside.old) (D.call_log disk.old) (F.call_log files.old) others) (with_all (L.call_log outside.new) (D.call_log disk.new) (F.call_log files.new) others) s (written.run s ticks (suc more) h) (written.run s ticks more) engine.new result }
+    ensures heard { EventsTaken (events_in_turn result) (L.counts outside.old) (L.counts outside.new) }
+    ensures cause { HasCause (L.faults outside.old) (L.faults outside.new) (result ≡ Err stop.LoopFault) }
+    ensures disk_later { D.faults disk.old ≤ D.faults disk.new }
+    ensures files_later { F.faults files.old ≤ F.faults files.new }
+{
+    match engine.wait(outside) {
+        Ok(happening) => take(rt, engine, ticks, happening, disk, files, outside),
+        Err(_) => Err(EngineStop::Memory),
+    }
+}
+
+/// Takes at most `most` turns, until the run is over.
+fn turns<L: Loop, D: Disk, F: Files>(
+    rt: &(impl Threads + Sync),
+    engine: &mut Engine,
+    ticks: Option<u64>,
+    disk: &mut D,
+    files: &mut F,
+    outside: &mut L,
+    most: u64,
+) -> Result<RunEnd, Memory>
+    ensures runs { (others : CallLogs) (s : AllSettings) (h : History) → IsAt engine.old s h
+        → RunOutcome (with_all (L.call_log outside.old) (D.call_log disk.old) (F.call_log files.old) others) (with_all (L.call_log outside.new) (D.call_log disk.new) (F.call_log files.new) others) s (written.run s ticks most h) engine.new result }
+    ensures heard { EventsTaken (heard_in most result) (L.counts outside.old) (L.counts outside.new) }
+    ensures cause { HasCause (L.faults outside.old) (L.faults outside.new) (result ≡ Ok run_end.LoopFailed) }
+    ensures disk_later { D.faults disk.old ≤ D.faults disk.new }
+    ensures files_later { F.faults files.old ≤ F.faults files.new }
+{
+    for _ in 0..most {
+        match turn(rt, engine, ticks, disk, files, outside) {
+            Ok(Turn::More) => {}
+            Ok(Turn::Over) => return Ok(RunEnd::Over),
+            Err(EngineStop::LoopFault) => return Ok(RunEnd::LoopFailed),
+            Err(EngineStop::Memory) => return Err(Memory),
+        }
+    }
+    Ok(RunEnd::TurnsSpent)
+}
+
+/// Runs an engine that has begun: starts the loop with its endpoints, and takes at most `most` turns, each
+/// of which waits for one event. If `ticks` is given, the run is stopped after that many ticks. The calls
+/// are those of the reference model's run after its loading. Returns `LoopFailed` only if a failure of the
+/// loop was counted, and `TurnsSpent` only if the loop gave `most` events. The only error is `Memory`.
+pub fn run<L: Loop, D: Disk, F: Files>(
+    rt: &(impl Threads + Sync),
+    engine: &mut Engine,
+    ends: &Ends,
+    ticks: Option<u64>,
+    disk: &mut D,
+    files: &mut F,
+    outside: &mut L,
+    most: u64,
+) -> Result<RunEnd, Memory>
+    ensures runs { (others : CallLogs) (s : AllSettings) (h : History) → IsAt engine.old s h
+        → RunOutcome (with_all (L.call_log outside.old) (D.call_log disk.old) (F.call_log files.old) others) (with_all (L.call_log outside.new) (D.call_log disk.new) (F.call_log files.new) others) s (written.after_recovery s ends.now ticks most (Some h)) engine.new result }
+    ensures heard { EventsTaken (heard_in most result) (L.counts outside.old) (L.counts outside.new) }
+    ensures cause { HasCause (L.faults outside.old) (L.faults outside.new) (result ≡ Ok run_end.LoopFailed) }
+    ensures disk_later { D.faults disk.old ≤ D.faults disk.new }
+    ensures files_later { F.faults files.old ≤ F.faults files.new }
+{
+    match outside.start(ends) {
+        Begun::Ready => turns(rt, engine, ticks, disk, files, outside, most),
+        Begun::Failed => Ok(RunEnd::LoopFailed),
+        Begun::Memory => Err(Memory),
+    }
+}

@@ -1,0 +1,9 @@
+pub mod ResolutionLemmas
+pub mod ActionResults
+pub mod ResolutionFrame
+pub mod EvictionIndependence
+pub mod IdleOutputs
+pub mod ClosedChunks
+pub mod Scans
+pub mod EncodingLemmas
+pub mod StoreOutcome

@@ -1,0 +1,31 @@
+ghost use Rattle.std.specs.Prelude.{◌≡◌, true, IfOk, IfSome, Some, None, if◌then◌else◌};
+ghost use Rattle.fwd_event.specs.Event.{AreEvents};
+ghost use Rattle.fwd_theorem_depth.specs.Shallow.{are_shallow};
+ghost use Rattle.fwd_model.specs.Chunks.{is_storable, encoded};
+
+use fwd_base::limits::LARGEST_BATCH;
+use fwd_base::{Bytes, Memory};
+use fwd_event::{Events, can_write, write_event};
+use fwd_theorem_depth::spelled_length_decides;
+use std::alloc::Global;
+
+/// Returns the encodings of the events of a batch, one after another, or `None` if they are too large to be
+/// stored.
+pub fn encoding(alloc: Global, events: &Events) -> Result<Option<Bytes>, Memory>
+    requires shallow { are_shallow events.now ≡ true }
+    ensures spelled { IfOk result (λ bytes. bytes ≡ (if is_storable events.now then Some (encoded events.now) else None)) }
+    ensures are { IfOk result (λ bytes. IfSome bytes (λ b. AreEvents events.now b)) }
+{
+    spelled_length_decides();
+    let mut bytes = Bytes::new(alloc);
+    for event in events.as_slice() {
+        if !can_write(event) {
+            return Ok(None);
+        }
+        write_event(event, &mut bytes)?;
+        if bytes.len() as u64 > LARGEST_BATCH {
+            return Ok(None);
+        }
+    }
+    Ok(Some(bytes))
+}

@@ -1,0 +1,183 @@
+ghost use Rattle.std.specs.Prelude.{◌≡◌, ◌≤◌, ◌<◌, ◌∷◌, true, false, length, Option, None, Some, IsTrue, IsSome};
+ghost use Rattle.fwd_base.specs.Limits.{longest_tag};
+ghost use Rattle.fwd_outside.specs.declared.home.Home.TheVariants as home_of;
+ghost use Rattle.fwd_store.specs.Store.{has_room, chunk_for};
+ghost use Rattle.fwd_model.specs.Fact.{History, Route, Batch, Accepted as Taken};
+ghost use Rattle.fwd_model.specs.Settings.{outputs_for};
+ghost use Rattle.fwd_model.specs.Chunks.{next, is_closed, size as size_of, open_chunk};
+ghost use Rattle.fwd_model.specs.Notes.{is_empty};
+ghost use Rattle.fwd_model.specs.CloseActions.{closes_if_full};
+ghost use Rattle.fwd_model.specs.Acceptance.{stores};
+ghost use Rattle.fwd_model.specs.Refines.{Refines};
+ghost use Rattle.fwd_model.specs.CallLogs.{CallLogs};
+ghost use Rattle.fwd_engine_state.specs.StateRepresents.{StateRepresents};
+ghost use Rattle.fwd_engine_state.specs.PartsRepresent.{PartsRepresent, PartsRepresentIdle};
+ghost use Rattle.fwd_engine_state.specs.RefinesAction.{with_disk, RefinesAccepting};
+ghost use Rattle.fwd_engine_chunks.specs.BatchOutcome.{IsEncoded, AcceptsAs, StoreIsAhead, place_of, behind, SizesMatch, StoreHasTaken, goes_on, failed_history, WasOpen, refuses_after_fault};
+
+use crate::shut;
+use fwd_base::limits::FULL_CHUNK;
+use fwd_base::{ChunkId, InputId, Memory};
+use fwd_engine_settings::{RunSettings, lemma_output_names_fit};
+use fwd_engine_state::{Parts, Place, State};
+use fwd_event::Events;
+use fwd_outside::{Disk, Home};
+use fwd_store::{Accepted, Store, StoreRefusal};
+
+/// Closes a chunk of `bytes` bytes if it is full.
+fn close_if_full<D: Disk>(
+    run: &RunSettings,
+    parts: &mut Parts,
+    disk: &mut D,
+    chunk: ChunkId,
+    bytes: u64,
+) -> Result<(), Memory>
+    ensures acts { (others : CallLogs) (h : History) → PartsRepresent run.now parts.old h None (Some chunk.0) → is_closed h chunk.0 ≡ false → chunk.0 < next h → bytes ≡ size_of h chunk.0
+        → Refines (λ _ now. PartsRepresentIdle run.now parts.new now) (with_disk (D.call_log disk.old) others) (with_disk (D.call_log disk.new) others) (closes_if_full run.now chunk.0 h) result }
+    ensures later { D.faults disk.old ≤ D.faults disk.new }
+{
+    if bytes >= FULL_CHUNK {
+        shut(run, parts, disk, chunk)
+    } else {
+        Ok(())
+    }
+}
+
+/// Records in the state a batch that the store accepted.
+fn note(
+    run: &RunSettings,
+    state: &mut State,
+    input: InputId,
+    place: Place,
+    events: &Events,
+    accepted: Accepted,
+)
+    requires room { 1 ≤ state.old.chunks.spare }
+    requires owed { is_empty (outputs_for run.now place.tag) ≡ false }
+    ensures { (b : Batch) (h : History) (out : Option Route) → b.input ≡ input.0 → b.tag ≡ place.tag → b.events ≡ events.now
+        → StateRepresents run.now state.old h out → SizesMatch run.now h b accepted.chunk.0 accepted.size accepted.fresh
+        → StateRepresents run.now state.new (Taken b (place_of accepted) ∷ h) out }
+{
+    if accepted.fresh {
+        let home = run.home(input);
+        let owed = run.owed(place.tag.as_slice());
+        state.begin_chunk(
+            place,
+            accepted.chunk,
+            input,
+            home,
+            accepted.size,
+            events.len(),
+            owed,
+        );
+    } else {
+        state.grow_chunk(accepted.chunk, input, events.len(), accepted.size);
+    }
+}
+
+/// Records a batch that the store accepted, and closes the chunk if it is full.
+fn take<D: Disk>(
+    run: &RunSettings,
+    parts: &mut Parts,
+    disk: &mut D,
+    input: InputId,
+    place: Place,
+    events: &Events,
+    accepted: Accepted,
+) -> Result<bool, Memory>
+    requires room { 1 ≤ parts.old.state.chunks.spare }
+    requires owed { is_empty (outputs_for run.now place.tag) ≡ false }
+    ensures acts { (others : CallLogs) (h : History) (b : Batch) → b.input ≡ input.0 → b.tag ≡ place.tag → b.events ≡ events.now
+        → StoreIsAhead run.now parts.old h (behind b h accepted) → StoreHasTaken run.now h b accepted
+        → AcceptsAs run.now parts.new (with_disk (D.call_log disk.old) others) (with_disk (D.call_log disk.new) others) (goes_on run.now b h accepted) result }
+    ensures later { D.faults disk.old ≤ D.faults disk.new }
+{
+    note(run, &mut parts.state, input, place, events, accepted);
+    close_if_full(run, parts, disk, accepted.chunk, accepted.size)?;
+    Ok(true)
+}
+
+/// Refuses a batch after a failed disk call, and closes the open chunk that it was appended to, if there is
+/// one.
+fn refuse_after_fault<D: Disk>(
+    run: &RunSettings,
+    parts: &mut Parts,
+    disk: &mut D,
+    input: InputId,
+    sealed: Option<ChunkId>,
+) -> Result<bool, Memory>
+    ensures acts { (others : CallLogs) (h : History) (b : Batch) → b.input ≡ input.0 → StoreIsAhead run.now parts.old h (failed_history b h sealed) → WasOpen h sealed
+        → AcceptsAs run.now parts.new (with_disk (D.call_log disk.old) others) (with_disk (D.call_log disk.new) others) (refuses_after_fault run.now b h sealed) result }
+    ensures later { D.faults disk.old ≤ D.faults disk.new }
+{
+    parts.state.count_fault();
+    parts.state.count_refused(input);
+    if let Some(chunk) = sealed {
+        shut(run, parts, disk, chunk)?;
+    }
+    Ok(false)
+}
+
+/// Whether the store can accept a batch: it has a folder if one is needed, and the open chunk has room.
+/// This is true of each store that represents a history.
+fn can_accept(store: &Store, input: InputId, tag: &[u8], home: Home) -> bool
+    ensures root { result ≡ true → home ≡ home_of.Disk → IsSome store.now.root }
+    ensures room { result ≡ true → IsTrue (has_room store.now (chunk_for store.now input.0 tag.now)) }
+{
+    let has_folder = match home {
+        Home::Disk => store.has_root(),
+        Home::Ram => true,
+    };
+    has_folder && store.has_room(input, tag)
+}
+
+/// Puts a batch that matches an output into the open chunk of its input and tag, or into a new one.
+pub fn store<D: Disk>(
+    run: &RunSettings,
+    parts: &mut Parts,
+    disk: &mut D,
+    input: InputId,
+    tag: &[u8],
+    events: &Events,
+    bytes: &[u8],
+) -> Result<bool, Memory>
+    requires tag { length tag.now ≤ longest_tag }
+    requires owed { is_empty (outputs_for run.now tag.now) ≡ false }
+    requires spelled { IsEncoded events.now bytes.now }
+    ensures acts { RefinesAccepting run.now (with_disk (D.call_log disk.old)) (with_disk (D.call_log disk.new)) parts.old parts.new
+        (λ h. stores run.now (record { input = input.0; tag = tag.now; events = events.now }) (open_chunk h input.0 tag.now) h) result }
+    ensures later { D.faults disk.old ≤ D.faults disk.new }
+{
+    lemma_output_names_fit();
+    run.lemma_settings_are_sound();
+    parts.store.is_sound();
+    let home = run.home(input);
+    if !can_accept(&parts.store, input, tag, home) {
+        return Err(Memory);
+    }
+    let alloc = parts.state.alloc();
+    let names = run.names(alloc, tag)?;
+    let place = parts.state.reserve(tag)?;
+    match parts.store.accept(
+        alloc,
+        disk,
+        input,
+        run.stream(input),
+        tag,
+        home,
+        bytes,
+        &names,
+    ) {
+        Ok(accepted) => take(run, parts, disk, input, place, events, accepted),
+        Err(StoreRefusal::DiskFailed { sealed }) => refuse_after_fault(
+            run, parts, disk, input, sealed,
+        ),
+        Err(StoreRefusal::NoNumber) => {
+            parts.state.count_refused(input);
+            Ok(false)
+        }
+        // Unreachable: the bytes are at most `LARGEST_BATCH`.
+        Err(StoreRefusal::BatchTooLarge) => Ok(false),
+        Err(StoreRefusal::Memory) => Err(Memory),
+    }
+}

@@ -1,0 +1,3 @@
+pub mod AttemptStates
+pub mod LinkEvents
+pub mod ContentReads

@@ -1,0 +1,128 @@
+//! Starts due routes, and handles events of connections.
+
+ghost use Rattle.std.specs.Prelude.{◌≤◌};
+ghost use Rattle.fwd_model.specs.FlushActions.{turn, walk, at_room, at_reply, at_break};
+ghost use Rattle.fwd_engine_state.specs.Views.{route_of};
+ghost use Rattle.fwd_engine_state.specs.RefinesAction.{with_both, RefinesAction};
+ghost use Rattle.fwd_engine_state.specs.LoopCounters.{NoEventTaken};
+
+use crate::outcome::record_progress;
+use crate::start::begin;
+use fwd_base::{LinkId, Memory};
+use fwd_engine_settings::RunSettings;
+use fwd_engine_state::{InFlightLimits, Parts, RouteId};
+use fwd_outside::{Disk, Loop};
+use fwd_payload::Content;
+
+/// Starts a flush of a route if it may start.
+fn turn<L: Loop, D: Disk>(
+    run: &RunSettings,
+    parts: &mut Parts,
+    outside: &mut L,
+    disk: &mut D,
+    route: RouteId,
+    content: &mut Content,
+) -> Result<(), Memory>
+    ensures acts { RefinesAction run.now (with_both (L.call_log outside.old) (D.call_log disk.old)) (with_both (L.call_log outside.new) (D.call_log disk.new)) parts.old parts.new (λ h. turn run.now (route_of route) h) result }
+    ensures unheard { NoEventTaken (L.counts outside.old) (L.counts outside.new) }
+    ensures later { L.faults outside.old ≤ L.faults outside.new }
+    ensures disk_later { D.faults disk.old ≤ D.faults disk.new }
+{
+    let limits = InFlightLimits {
+        max_up: run.max_up(),
+        backlog_limit: run.backlog_limit(),
+    };
+    if parts
+        .state
+        .may_start(route, run.places(route.output), limits)
+    {
+        begin(run, parts, outside, disk, route, content)
+    } else {
+        Ok(())
+    }
+}
+
+/// Starts the routes that are idle and due, each if it may still start when its turn comes. Routes of one
+/// chunk with equal due times follow one another and share their encoded text.
+pub fn walk<L: Loop, D: Disk>(
+    run: &RunSettings,
+    parts: &mut Parts,
+    outside: &mut L,
+    disk: &mut D,
+) -> Result<(), Memory>
+    ensures acts { RefinesAction run.now (with_both (L.call_log outside.old) (D.call_log disk.old)) (with_both (L.call_log outside.new) (D.call_log disk.new)) parts.old parts.new (λ h. walk run.now h) result }
+    ensures unheard { NoEventTaken (L.counts outside.old) (L.counts outside.new) }
+    ensures later { L.faults outside.old ≤ L.faults outside.new }
+    ensures disk_later { D.faults disk.old ≤ D.faults disk.new }
+{
+    let routes = parts.state.due_routes()?;
+    let mut content = Content::new(parts.state.alloc());
+    for route in &routes {
+        turn(run, parts, outside, disk, *route, &mut content)?;
+    }
+    Ok(())
+}
+
+/// Handles a connection that can take more bytes: its flush attempt continues.
+pub fn room<L: Loop, D: Disk>(
+    run: &RunSettings,
+    parts: &mut Parts,
+    outside: &mut L,
+    disk: &mut D,
+    link: LinkId,
+) -> Result<(), Memory>
+    ensures acts { RefinesAction run.now (with_both (L.call_log outside.old) (D.call_log disk.old)) (with_both (L.call_log outside.new) (D.call_log disk.new)) parts.old parts.new (λ h. at_room run.now link.0 h) result }
+    ensures unheard { NoEventTaken (L.counts outside.old) (L.counts outside.new) }
+    ensures later { L.faults outside.old ≤ L.faults outside.new }
+    ensures disk_later { D.faults disk.old ≤ D.faults disk.new }
+{
+    let Some(mut flight) = parts.state.take(link) else {
+        return Ok(());
+    };
+    let before = flight.flush.taken();
+    let poll = flight.flush.poll(parts.state.alloc(), outside)?;
+    record_progress(run, parts, outside, disk, flight, before, poll)
+}
+
+/// Handles bytes that came back over a connection.
+pub fn back<L: Loop, D: Disk>(
+    run: &RunSettings,
+    parts: &mut Parts,
+    outside: &mut L,
+    disk: &mut D,
+    link: LinkId,
+    bytes: &[u8],
+) -> Result<(), Memory>
+    ensures acts { RefinesAction run.now (with_both (L.call_log outside.old) (D.call_log disk.old)) (with_both (L.call_log outside.new) (D.call_log disk.new)) parts.old parts.new (λ h. at_reply run.now link.0 bytes.now h) result }
+    ensures unheard { NoEventTaken (L.counts outside.old) (L.counts outside.new) }
+    ensures later { L.faults outside.old ≤ L.faults outside.new }
+    ensures disk_later { D.faults disk.old ≤ D.faults disk.new }
+{
+    let Some(mut flight) = parts.state.take(link) else {
+        return Ok(());
+    };
+    let before = flight.flush.taken();
+    let poll = flight.flush.back(parts.state.alloc(), outside, bytes)?;
+    record_progress(run, parts, outside, disk, flight, before, poll)
+}
+
+/// Handles a broken connection.
+pub fn broken<L: Loop, D: Disk>(
+    run: &RunSettings,
+    parts: &mut Parts,
+    outside: &mut L,
+    disk: &mut D,
+    link: LinkId,
+) -> Result<(), Memory>
+    ensures acts { RefinesAction run.now (with_both (L.call_log outside.old) (D.call_log disk.old)) (with_both (L.call_log outside.new) (D.call_log disk.new)) parts.old parts.new (λ h. at_break run.now link.0 h) result }
+    ensures unheard { NoEventTaken (L.counts outside.old) (L.counts outside.new) }
+    ensures later { L.faults outside.old ≤ L.faults outside.new }
+    ensures disk_later { D.faults disk.old ≤ D.faults disk.new }
+{
+    let Some(mut flight) = parts.state.take(link) else {
+        return Ok(());
+    };
+    let before = flight.flush.taken();
+    let poll = flight.flush.broken(outside)?;
+    record_progress(run, parts, outside, disk, flight, before, poll)
+}

@@ -1,0 +1,2 @@
+pub mod EndOfInput
+pub mod Continuation

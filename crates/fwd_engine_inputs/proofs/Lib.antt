@@ -1,0 +1,5 @@
+pub mod FileLists
+pub mod FileSteps
+pub mod UnreadFiles
+pub mod StreamMessages
+pub mod StreamSteps

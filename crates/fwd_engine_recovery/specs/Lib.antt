@@ -1,0 +1,3 @@
+pub mod LoadedAs
+pub mod Adoption
+pub mod FollowedPaths

@@ -1,0 +1,3 @@
+mod GlobMatch
+mod RouteMask
+mod OutputNames

@@ -1,0 +1,7 @@
+use Rattle.std.proofs.Common.{refl}
+use Rattle.fwd_table.specs.Rows.{grown}
+use Rattle.fwd_engine_state.proofs.RowBounds.{at_most_on_chunk}
+use Rattle.fwd_engine_state.proofs.chunks.Chunks.grow.Goals as goal
+
+pub invariant_of-self : goal.invariant_of-self
+invariant_of-self c = rw c.grew.ensures.rows (at_most_on_chunk _ c.args.chunk (grown c.args.size) (λ row. refl) _ c.self.invariant)

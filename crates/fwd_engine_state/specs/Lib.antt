@@ -1,0 +1,10 @@
+pub mod StoreRepresents
+pub mod HistoryInvariant
+pub mod PartsRepresent
+pub mod RefinesAction
+pub mod LoopCounters
+pub mod CountChanges
+pub mod Views
+pub mod StateRepresents
+pub mod Capacity
+pub mod Evictions

@@ -1,0 +1,132 @@
+ghost use Rattle.std.specs.Prelude.{◌≡◌, ◌<◌, ◌≤◌, [], ◌∷◌, ◌++◌, filter, nat_le, IfOk, OnOk};
+ghost use Rattle.fwd_retry.specs.declared.timer.Timer.{Timer};
+ghost use Rattle.fwd_retry.specs.Timer.{in_time};
+ghost use Rattle.fwd_table.specs.Outcomes.{due_after};
+ghost use Rattle.fwd_table.specs.Rows.{opened, on_chunk, grown, shut_at, started_to, retried_to, resolved_to, owed_rows, idle_timers_of};
+
+use fwd_base::{Bytes, ChunkId, InputId, Memory, OutputId, Retries};
+use fwd_outside::Home;
+use fwd_retry::Timer;
+use fwd_table::{Answer, Table};
+use std::alloc::Global;
+use std::marker::Model;
+
+/// The chunks that are open or pending, each with the outputs that it is pending for. A new chunk gets a
+/// number above all numbers so far.
+#[derive(Debug, Drop)]
+pub struct Chunks {
+    table: Table,
+    /// The greatest chunk number so far, 0 if there was none.
+    top: u64,
+}
+
+impl Model for Chunks {
+    ghost use Rattle.std.specs.Prelude.{◌≤◌, All};
+    ghost use Rattle.fwd_engine_state.specs.Views.{ChunksSeen};
+
+    ghost Value = { ChunksSeen };
+
+    ghost view = { λ c. record { rows = c.table.rows; top = c.top; spare = c.table.spare } };
+
+    ghost invariant = { λ c. All (λ row. row.chunk.0 ≤ c.top) c.table.rows };
+}
+
+impl Chunks {
+    pub fn new(alloc: Global) -> Self
+        ensures { (result.rows ≡ []) × (result.top ≡ 0) }
+    {
+        Chunks {
+            table: Table::new(alloc),
+            top: 0,
+        }
+    }
+
+    /// Reserves memory for one more chunk.
+    pub fn reserve(&mut self) -> Result<(), Memory>
+        ensures rows { self.new.rows ≡ self.old.rows }
+        ensures top { self.new.top ≡ self.old.top }
+        ensures room { OnOk result (1 ≤ self.new.spare) }
+    {
+        self.table.reserve()
+    }
+
+    /// Adds an open chunk that is pending for the outputs whose bits are set. Does nothing unless its
+    /// number is above all numbers so far.
+    pub fn insert(
+        &mut self,
+        chunk: ChunkId,
+        input: Option<InputId>,
+        home: Home,
+        tag: Bytes,
+        size: u64,
+        owed: u64,
+    )
+        requires room { 1 ≤ self.old.spare }
+        ensures rows { self.old.top < chunk.0 → self.new.rows ≡ self.old.rows ++ opened chunk input home tag size owed ∷ [] }
+        ensures top { self.old.top < chunk.0 → self.new.top ≡ chunk.0 }
+    {
+        if self.top < chunk.0 {
+            self.top = chunk.0;
+            self.table.took(chunk, input, home, tag, size, owed);
+        }
+    }
+
+    /// Sets the size of a chunk's content in bytes.
+    pub fn grow(&mut self, chunk: ChunkId, size: u64)
+        ensures rows { self.new.rows ≡ on_chunk chunk (grown size) self.old.rows }
+        ensures top { self.new.top ≡ self.old.top }
+    {
+        self.table.grew(chunk, size);
+    }
+
+    /// Closes a chunk: its routes are due at `now`.
+    pub fn shut(&mut self, chunk: ChunkId, now: u64)
+        ensures rows { self.new.rows ≡ on_chunk chunk (shut_at now) self.old.rows }
+        ensures top { self.new.top ≡ self.old.top }
+    {
+        self.table.shut(chunk, now);
+    }
+
+    /// Marks a route as in flight.
+    pub fn start(&mut self, chunk: ChunkId, output: OutputId)
+        ensures rows { self.new.rows ≡ on_chunk chunk (started_to output) self.old.rows }
+        ensures top { self.new.top ≡ self.old.top }
+    {
+        self.table.started(chunk, output);
+    }
+
+    /// Counts a failed try of a route, which is due again `wait_s` seconds after `now`.
+    pub fn retry(&mut self, chunk: ChunkId, output: OutputId, wait_s: u64, now: u64)
+        ensures rows { self.new.rows ≡ on_chunk chunk (retried_to output (due_after now wait_s)) self.old.rows }
+        ensures top { self.new.top ≡ self.old.top }
+    {
+        let again = Retries::Unlimited;
+        self.table
+            .answered(chunk, output, Answer::Retry, again, wait_s, now);
+    }
+
+    /// Removes a pending route, and its chunk if no other output is pending.
+    pub fn resolve(&mut self, chunk: ChunkId, output: OutputId)
+        ensures rows { self.new.rows ≡ owed_rows (on_chunk chunk (resolved_to output) self.old.rows) }
+        ensures top { self.new.top ≡ self.old.top }
+    {
+        self.table.lose(chunk, output);
+        self.table.keep_owed(chunk);
+    }
+
+    /// Returns the timers of the idle routes that are due at `now`, by due time, then chunk, then output.
+    /// The chunks stay as they are.
+    pub fn due(&mut self, now: u64) -> Result<Vec<Timer>, Memory>
+        ensures rows { self.new.rows ≡ self.old.rows }
+        ensures top { self.new.top ≡ self.old.top }
+        ensures due { IfOk result (λ timers. timers.items ≡ in_time (filter (λ (t : Timer). nat_le t.due now) (idle_timers_of self.old.rows))) }
+    {
+        self.table.due(now)
+    }
+
+    pub fn table(&self) -> &Table
+        ensures { result.now.rows ≡ self.now.rows }
+    {
+        &self.table
+    }
+}

@@ -1,4 +1,0 @@
-pub mod Outputs
-pub mod Standing
-pub mod Stands
-pub mod Seen

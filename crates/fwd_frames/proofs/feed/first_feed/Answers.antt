@@ -1,5 +1,0 @@
-use Rattle.fwd_frames.proofs.Finding.{IsFirstFeed-found}
-use Rattle.fwd_frames.proofs.feed.first_feed.Goals as goal
-
-pub returns : goal.returns
-returns c = IsFirstFeed-found c.args.bytes.now c.memchr.result c.memchr.ensures

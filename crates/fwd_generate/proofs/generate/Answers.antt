@@ -1,6 +1,0 @@
-use Rattle.fwd_generate.specs.Load.{config_text}
-use Rattle.fwd_generate.proofs.generate.Goals as goal
-
-pub returns : goal.returns
-unfolding config_text
-returns c = (c.in_ok-from_slice.ensures, c.in_ok-schedule.ensures)

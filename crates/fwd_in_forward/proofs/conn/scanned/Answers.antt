@@ -1,5 +1,0 @@
-use Rattle.std.proofs.Common.{[]}
-use Rattle.fwd_in_forward.proofs.conn.scanned.Goals as goal
-
-pub returns-in-More : goal.returns-in-More
-returns-in-More c = (c.in-More.ensures.fed [] c.in_ok-scan.ensures tt, c.requires)

@@ -1,3 +1,0 @@
-pub mod Name
-pub mod Kept
-pub mod Content

@@ -1,0 +1,78 @@
+//! A clock that never goes back.
+
+ghost use Rattle.std.specs.Prelude.{◌≡◌, ◌≤◌, IfOk};
+
+use std::io::{self, ErrorKind};
+use std::time::{Duration, Instant, SystemTime, UNIX_EPOCH};
+
+/// The system clock, made monotonic: if the system's time is set back, this clock goes on from its last
+/// reading.
+#[derive(Drop)]
+pub struct Clock {
+    /// The last reading of the system clock that wasn't set back, and when that was.
+    sure: u64,
+    since: Instant,
+    /// The last reading.
+    last: u64,
+    /// The monotonic time of creation, and the milliseconds passed since then at the last query.
+    begun: Instant,
+    passed: u64,
+}
+
+fn millis_of(time: Duration) -> u64 {
+    time.as_millis().min(u64::MAX as u128) as u64
+}
+
+/// Returns the system time in milliseconds.
+fn read_machine(rt: &HostRuntime) -> io::Result<u64> {
+    match SystemTime::now(rt)?.duration_since(UNIX_EPOCH) {
+        Ok(time) => Ok(millis_of(time)),
+        Err(_) => Err(io::Error::from(ErrorKind::InvalidData)),
+    }
+}
+
+impl Clock {
+    pub fn new(rt: &HostRuntime) -> io::Result<Clock> {
+        let begun = Instant::now(rt)?;
+        Ok(Clock {
+            sure: 0,
+            since: begun,
+            last: 0,
+            begun,
+            passed: 0,
+        })
+    }
+
+    /// Returns the milliseconds since creation, by the monotonic clock. If that can't be read, returns the
+    /// last value.
+    pub fn passed(&mut self, rt: &HostRuntime) -> u64
+        ensures rises { self.old.passed ≤ result }
+        ensures kept { self.new.passed ≡ result }
+        ensures last { self.new.last ≡ self.old.last }
+        ensures sure { self.new.sure ≡ self.old.sure }
+    {
+        if let Ok(instant) = Instant::now(rt) {
+            let passed = millis_of(instant.duration_since(self.begun));
+            self.passed = self.passed.max(passed);
+        }
+        self.passed
+    }
+
+    /// Returns the time in milliseconds.
+    pub fn read(&mut self, rt: &HostRuntime) -> io::Result<u64>
+        ensures rises { IfOk result (λ now. self.old.last ≤ now) }
+        ensures kept { IfOk result (λ now. self.new.last ≡ now) }
+        ensures passed { self.new.passed ≡ self.old.passed }
+    {
+        let reading = read_machine(rt)?;
+        let instant = Instant::now(rt)?;
+        let passed = millis_of(instant.duration_since(self.since));
+        let steady = self.sure.saturating_add(passed);
+        if steady <= reading {
+            self.sure = reading;
+            self.since = instant;
+        }
+        self.last = self.last.max(reading.max(steady));
+        Ok(self.last)
+    }
+}

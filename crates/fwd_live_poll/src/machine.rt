@@ -1,0 +1,369 @@
+//! The system's part of an event loop: sockets, standard input, files and the poll.
+
+ghost use Rattle.std.specs.Prelude.{◌≡◌, true, IfOk, IfSome};
+ghost use Rattle.fwd_outside.specs.Loop.{MayOccur};
+ghost use Rattle.fwd_live_poll.specs.Handed.{TakesAtMost};
+
+use crate::clock::Clock;
+use crate::descriptors::most_conns;
+use crate::input::{Feed, Input, listen};
+use crate::link::{Handed, Link, Peer};
+use crate::names::{addresses_of, file_of_tag, memory_error, path_in, text};
+use crate::patience::Patience;
+use crate::signals::asked_to_stop;
+use crate::source::Source;
+use crate::sources::Sources;
+use fwd_outside::{ConnId, Ends, Happening, InEnd, InputId, LinkId, Memory, OutEnd, OutputId};
+use mio::net::TcpStream;
+use mio::unix::SourceFd;
+use mio::{Events, Interest, Poll};
+use std::alloc::Global;
+use std::fs::{File, OpenOptions};
+use std::io::{self, ErrorKind};
+use std::net::SocketAddr;
+use std::os::fd::AsRawFd;
+use std::random::RandomSource;
+use std::time::Duration;
+
+/// How many sources are looked at before the next poll.
+const MOST_LOOKS: u32 = 32;
+
+/// The largest number of events of one poll.
+const EVENTS: usize = 256;
+
+/// The largest age of the last tick, in milliseconds, at which another event is returned.
+const MOST_TICK_AGE: u64 = 10;
+
+/// The least number of milliseconds between two checks for signals.
+const SIGNAL_CHECK_INTERVAL: u64 = 200;
+
+/// The system's part of an event loop.
+#[derive(Drop)]
+pub struct Machine {
+    rt: HostRuntime,
+    poll: Poll,
+    events: Events,
+    outputs: Vec<OutEnd>,
+    sources: Sources,
+    looks: u32,
+    clock: Clock,
+    /// The time of the last tick.
+    last_tick: u64,
+    /// Whether no event was returned since then.
+    is_after_tick: bool,
+    /// How many other events come before the next tick.
+    turns: u32,
+    /// The time of the next check for signals, by the monotonic clock.
+    next_signal_check: u64,
+    /// Whether a signal was found that asks the program to stop. `Stop` is returned once.
+    is_stopping: bool,
+}
+
+impl Machine {
+    /// Returns a machine with nothing open. A link breaks if its peer is silent for longer than this
+    /// patience.
+    pub fn new(rt: HostRuntime, patience: Patience) -> io::Result<Machine> {
+        let alloc = rt.alloc();
+        Ok(Machine {
+            rt,
+            poll: Poll::new(&rt)?,
+            events: Events::with_capacity(alloc, EVENTS)?,
+            outputs: Vec::new(alloc),
+            sources: Sources::new(rt, patience).map_err(memory_error)?,
+            looks: 0,
+            clock: Clock::new(&rt)?,
+            last_tick: 0,
+            is_after_tick: false,
+            turns: 0,
+            next_signal_check: 0,
+            is_stopping: false,
+        })
+    }
+
+    /// Returns the port of an input's listener.
+    pub fn port(&self, input: InputId) -> Option<u16> {
+        match self.sources.inputs.get(input.0 as usize) {
+            Some(Input { feed, queued: _ }) => match feed {
+                Feed::Listening(listener) => Some(listener.local_addr().ok()?.port()),
+                Feed::Stdin { watched: _ } => None,
+                Feed::Quiet => None,
+            },
+            None => None,
+        }
+    }
+
+    /// Returns how many errors came since the last call that no answer reported.
+    pub fn take_misses(&mut self) -> u64 {
+        self.sources.take_misses()
+    }
+
+    /// Opens the listeners of the inputs, and keeps the endpoints of the outputs.
+    pub fn start(&mut self, ends: &Ends) -> io::Result<()> {
+        for end in ends.outputs.as_slice() {
+            let copy = copy_of_output(self.rt.alloc(), end).map_err(memory_error)?;
+            self.outputs.push(copy)?;
+        }
+        for end in ends.inputs.as_slice() {
+            self.add_input(end)?;
+        }
+        self.sources.most_conns = most_conns(&self.rt, ends.inputs.len(), ends.outputs.len());
+        Ok(())
+    }
+
+    fn add_input(&mut self, end: &InEnd) -> io::Result<()> {
+        let Ok(place) = u32::try_from(self.sources.inputs.len()) else {
+            return Err(io::Error::from(ErrorKind::InvalidInput));
+        };
+        let input = InputId(place);
+        let token = Source::Input(input).token();
+        let registry = self.poll.registry();
+        let (feed, queued) = match end {
+            InEnd::Listen { host, port } => {
+                let listener = listen(&self.rt, registry, token, host.as_slice(), *port)?;
+                (Feed::Listening(listener), false)
+            }
+            InEnd::Stdin => {
+                let fd = self.rt.stdin().as_raw_fd();
+                let asked = registry.register(&mut SourceFd(&fd), token, Interest::READABLE);
+                let watched = asked.is_ok();
+                (Feed::Stdin { watched }, !watched)
+            }
+            InEnd::Quiet => (Feed::Quiet, false),
+        };
+        self.sources
+            .add_input(input, feed, queued)
+            .map_err(memory_error)
+    }
+
+    /// Returns whether the next event has to be a tick.
+    fn is_tick_due(&self, now: u64, until: u64) -> bool {
+        until <= self.last_tick
+            || (self.turns == 0
+                && (until <= now
+                    || (!self.sources.is_idle()
+                        && MOST_TICK_AGE <= now.saturating_sub(self.last_tick))))
+    }
+
+    /// Notes a tick. If it is the second in a row, handling ticks is slow, and other sources come first for
+    /// a while.
+    fn note_tick(&mut self, now: u64) {
+        if self.is_after_tick {
+            self.turns = MOST_LOOKS;
+        }
+        self.is_after_tick = true;
+        self.last_tick = now;
+    }
+
+    /// Checks for signals, if a check is due. Returns whether it finds, for the first time, that one asks the
+    /// program to stop.
+    fn finds_stop(&mut self, passed: u64) -> bool {
+        if self.is_stopping || passed < self.next_signal_check {
+            return false;
+        }
+        self.next_signal_check = passed.saturating_add(SIGNAL_CHECK_INTERVAL);
+        self.is_stopping = asked_to_stop(&self.rt);
+        self.is_stopping
+    }
+
+    /// Polls for at most `most` milliseconds, and doesn't block if a source is left to be looked at.
+    /// Returns false if the poll fails.
+    fn ask(&mut self, most: u64) -> Result<bool, Memory> {
+        let millis = if self.sources.is_idle() { most } else { 0 };
+        let timeout = Duration::from_millis(millis);
+        match self.poll.poll(&mut self.events, Some(timeout)) {
+            Ok(()) => {}
+            Err(error) if error.kind() == ErrorKind::Interrupted => return Ok(true),
+            Err(_) => return Ok(false),
+        }
+        for event in self.events.iter() {
+            self.sources.mark(event)?;
+        }
+        self.looks = 0;
+        Ok(true)
+    }
+
+    /// Looks at sources until one has an event, but not at too many.
+    fn look(&mut self, alloc: Global, paused: u64) -> Result<Option<Happening>, Memory>
+        ensures { IfOk result (λ found. IfSome found (MayOccur true paused)) }
+    {
+        for _ in self.looks..MOST_LOOKS {
+            if self.sources.is_idle() {
+                return Ok(None);
+            }
+            self.looks = self.looks.saturating_add(1);
+            let found = self.sources.look(alloc, self.poll.registry(), paused)?;
+            if found.is_some() {
+                return Ok(found);
+            }
+        }
+        Ok(None)
+    }
+
+    /// Waits for the next event of the loop. When a signal asks the program to stop, returns `Stop` in place of
+    /// a tick, once; the next call returns the tick.
+    pub fn wait(&mut self, alloc: Global, until: u64, paused: u64) -> Result<Happening, Memory>
+        ensures { IfOk result (MayOccur true paused) }
+    {
+        self.sources.pause(paused)?;
+        for _ in 0..u64::MAX {
+            let Ok(now) = self.clock.read(&self.rt) else {
+                return Ok(Happening::Failed);
+            };
+            self.sources.set_now(now)?;
+            let passed = self.clock.passed(&self.rt);
+            self.sources.set_passed(passed)?;
+            if self.is_tick_due(now, until) {
+                if self.finds_stop(passed) {
+                    return Ok(Happening::Stop);
+                }
+                self.note_tick(now);
+                return Ok(Happening::Tick { now });
+            }
+            if 0 < self.turns && self.sources.is_idle() && !self.ask(0)? {
+                return Ok(Happening::Failed);
+            }
+            if let Some(found) = self.look(alloc, paused)? {
+                self.is_after_tick = false;
+                self.turns = self.turns.saturating_sub(1);
+                return Ok(found);
+            }
+            self.turns = 0;
+            let next = until.min(self.sources.retry_at());
+            let most = next.saturating_sub(now);
+            let walk = self.sources.scan_at().saturating_sub(passed);
+            if !self.ask(most.min(walk))? {
+                return Ok(Happening::Failed);
+            }
+        }
+        Ok(Happening::Failed)
+    }
+
+    fn connect(&mut self, output: OutputId, address: SocketAddr, link: LinkId) -> io::Result<Link> {
+        let mut stream = TcpStream::connect(&self.rt, address)?;
+        let both = Interest::READABLE | Interest::WRITABLE;
+        let token = Source::Link(link).token();
+        self.poll.registry().register(&mut stream, token, both)?;
+        let passed = self.clock.passed(&self.rt);
+        self.sources.note_dial(passed);
+        Ok(Link::Connected(Peer::new(output, stream, passed)))
+    }
+
+    /// Dials a peer, at its next address if the last one was never reached.
+    fn dial_peer(
+        &mut self,
+        output: OutputId,
+        addresses: &[SocketAddr],
+        link: LinkId,
+    ) -> io::Result<Link> {
+        let turn = self.sources.unanswered(output);
+        let place = turn.checked_rem(addresses.len() as u64).unwrap_or(0);
+        let Some(address) = addresses.get(place as usize) else {
+            return Err(io::Error::from(ErrorKind::AddrNotAvailable));
+        };
+        match self.connect(output, *address, link) {
+            Ok(link) => Ok(link),
+            Err(error) => {
+                self.sources.note_unanswered(output).map_err(memory_error)?;
+                Err(error)
+            }
+        }
+    }
+
+    fn open(&mut self, output: OutputId, tag: &[u8], link: LinkId) -> io::Result<Link> {
+        match self.outputs.get(output.0 as usize) {
+            None => Err(io::Error::from(ErrorKind::NotFound)),
+            Some(OutEnd::Stdout) => Ok(Link::Stdout),
+            Some(OutEnd::Folder { path, file }) => {
+                let name = match file {
+                    Some(name) => Some(name.as_slice()),
+                    None => None,
+                };
+                let opened = open_to_append(&self.rt, path.as_slice(), name, tag)?;
+                Ok(Link::Appended(opened))
+            }
+            Some(OutEnd::Peer { host, port }) => {
+                let addresses = addresses_of(&self.rt, host.as_slice(), *port)?;
+                self.dial_peer(output, &addresses, link)
+            }
+        }
+    }
+
+    /// Opens the link of this number.
+    pub fn dial(&mut self, link: LinkId, output: OutputId, tag: &[u8]) -> io::Result<()> {
+        let opened = self.open(output, tag, link)?;
+        self.sources.links.insert(link.0, opened)?;
+        Ok(())
+    }
+
+    /// Pushes bytes to a link. A link that was broken for its silence, or for what it sent, takes nothing.
+    pub fn push(&mut self, link: LinkId, bytes: &[u8]) -> Handed
+        ensures { TakesAtMost bytes.now result }
+    {
+        let passed = self.clock.passed(&self.rt);
+        match self.sources.links.get_mut(&link.0) {
+            Some(link) => link.push(&self.rt, bytes, passed),
+            None => Handed::Broken,
+        }
+    }
+
+    /// Closes a link.
+    pub fn close(&mut self, link: LinkId) {
+        self.sources.links.remove(&link.0);
+    }
+
+    /// Sends a reply over a connection: the whole reply, or it fails.
+    pub fn reply(&mut self, conn: ConnId, bytes: &[u8]) -> io::Result<()> {
+        match self.sources.conns.get_mut(&conn.0) {
+            Some(conn) => conn.reply(bytes),
+            None => Err(io::Error::from(ErrorKind::NotConnected)),
+        }
+    }
+
+    /// Drops a connection.
+    pub fn drop_conn(&mut self, conn: ConnId) {
+        self.sources.leave(conn);
+    }
+
+    /// Returns a random word.
+    pub fn word(&self) -> io::Result<u64> {
+        let mut bytes = [0; 8];
+        self.rt.fill_bytes(&mut bytes)?;
+        Ok(u64::from_le_bytes(bytes))
+    }
+}
+
+/// Opens a file of a folder for appending; without a name, the tag gives the name.
+fn open_to_append(
+    rt: &HostRuntime,
+    folder: &[u8],
+    name: Option<&[u8]>,
+    tag: &[u8],
+) -> io::Result<File> {
+    let path = match name {
+        Some(name) => path_in(rt.alloc(), text(folder)?, text(name)?)?,
+        None => {
+            let name = file_of_tag(rt.alloc(), tag)?;
+            path_in(rt.alloc(), text(folder)?, name.as_str())?
+        }
+    };
+    let mut how = OpenOptions::new();
+    how.append(true).create(true);
+    how.open(rt, path.as_str())
+}
+
+fn copy_of_output(alloc: Global, end: &OutEnd) -> Result<OutEnd, Memory> {
+    Ok(match end {
+        OutEnd::Stdout => OutEnd::Stdout,
+        OutEnd::Folder { path, file } => OutEnd::Folder {
+            path: path.try_clone(alloc)?,
+            file: match file {
+                Some(name) => Some(name.try_clone(alloc)?),
+                None => None,
+            },
+        },
+        OutEnd::Peer { host, port } => OutEnd::Peer {
+            host: host.try_clone(alloc)?,
+            port: *port,
+        },
+    })
+}

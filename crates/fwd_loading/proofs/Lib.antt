@@ -1,8 +1,0 @@
-mod Masks
-mod Seeing
-mod Renaming
-mod Readying
-mod Behind
-mod Metadata
-pub mod Calling
-mod Following

@@ -1,9 +1,0 @@
-use Rattle.std.proofs.Common.{not}
-use Rattle.std.specs.List.{list_any}
-use Rattle.std.specs.Str.{bytes_eq}
-use Rattle.fwd_written.specs.Setup.{output_name}
-use Rattle.fwd_loading.proofs.Masks.{Left}
-use Rattle.fwd_loading.proofs.owing.left_without.Given as goal
-
-abbrev pub invariant-loop-output : goal.invariant-loop-output
-invariant-loop-output l = Left (λ output. not (list_any (λ other. bytes_eq other (output_name l.run output)) l.done)) l.owed l.output l.left

@@ -1,4 +1,0 @@
-use Rattle.fwd_machine.proofs.sources.Sources.look.Goals as goal
-
-pub returns-in-Some-Link : goal.returns-in-Some-Link
-returns-in-Some-Link c = c.look_at_link.ensures c.args.paused

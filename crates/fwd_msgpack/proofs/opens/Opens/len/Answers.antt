@@ -1,6 +1,0 @@
-use Rattle.std.proofs.Common.{sym}
-use Rattle.fwd_msgpack.proofs.Depth.{length_first}
-use Rattle.fwd_msgpack.proofs.opens.Opens.len.Goals as goal
-
-pub returns : goal.returns
-returns c = rw (← c.self.view_is) (sym (length_first c.self.inside.counts.items c.self.inside.depth))

@@ -1,5 +1,0 @@
-pub mod Completing
-pub mod Ordering
-pub mod Accepting
-pub mod Living
-pub mod Placing

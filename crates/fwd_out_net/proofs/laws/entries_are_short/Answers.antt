@@ -1,5 +1,0 @@
-use Rattle.fwd_out_net.proofs.Sizes.{entries_short}
-use Rattle.fwd_out_net.proofs.laws.entries_are_short.Goals as goal
-
-pub returns : goal.returns
-returns c = entries_short

@@ -1,0 +1,54 @@
+-- Encoded values at the start of bytes, and the rest after them.
+use Rattle.std.specs.Prelude.{◌≡◌, ℕ, ◌-◌, ◌≤◌, List, ◌∷◌, ◌++◌, length, Some}
+use Rattle.fwd_base.specs.Limits.{deepest}
+use Rattle.fwd_value.specs.Val.{Val, text, mapping, Entries, entries_of}
+use Rattle.fwd_value.specs.Limits.{nesting, entry_count, entry_nestings}
+use Rattle.fwd_msgpack.specs.declared.form.Count.{Count}
+use Rattle.fwd_msgpack.specs.Encodings.{Counts, Encodes, EncodesEntries}
+use Rattle.fwd_event.specs.Event.{event_time}
+
+-- the bytes are an encoding of the value and then the rest
+abbrev pub StartsWith : Val → List ℕ → List ℕ → Type 0
+StartsWith v rest b = (front : List ℕ) × (b ≡ front ++ rest) × Encodes v front
+
+-- the bytes are the length n and then the rest
+abbrev pub StartsWithLength : Count → ℕ → List ℕ → List ℕ → Type 0
+StartsWithLength k n rest b = (len : List ℕ) × (b ≡ len ++ rest) × Counts k n len
+
+-- the bytes are the header of a text of n bytes and then the rest
+abbrev pub StartsWithText : ℕ → List ℕ → List ℕ → Type 0
+StartsWithText n rest b = (head : List ℕ) × (b ≡ head ++ rest) × ((s : List ℕ) → length s ≡ n → Encodes (text s) (head ++ s))
+
+-- the bytes are the header of a map of n pairs and then the rest
+abbrev pub StartsWithMap : ℕ → List ℕ → List ℕ → Type 0
+StartsWithMap n rest b = (head : List ℕ) × (b ≡ head ++ rest) × ((es : Entries) (s : List ℕ) → entry_count es ≡ n → EncodesEntries es s → Encodes (mapping es) (head ++ s))
+
+-- the bytes are the header of an event with this time and no metadata, in the encoding that this program
+-- writes, and then its record
+abbrev pub StartsWithTime : ℕ → ℕ → List ℕ → List ℕ → Type 0
+StartsWithTime sec nsec rest b = (time : List ℕ) × (b ≡ 146 ∷ 146 ∷ 215 ∷ 0 ∷ (time ++ 128 ∷ rest)) × (length time ≡ 8) × (event_time time ≡ Some (sec, nsec))
+
+-- the same, and then the header of a record with so many pairs
+abbrev pub StartsWithHeader : ℕ → ℕ → ℕ → List ℕ → List ℕ → Type 0
+StartsWithHeader sec nsec count rest b = (body : List ℕ) × StartsWithTime sec nsec body b × StartsWithMap count rest body
+
+-- the depth limit of a value in a record: the event and the record are two levels
+abbrev pub deepest_member : ℕ
+deepest_member = deepest - 2
+
+-- a pair that a record may have
+pub record StartsWithPair (p : Val × Val) (rest b : List ℕ) : Type 0 where
+  pub key : List ℕ
+  pub value : List ℕ
+  pub parts : b ≡ key ++ (value ++ rest)
+  pub key_spelled : Encodes p.0 key
+  pub value_spelled : Encodes p.1 value
+  pub key_nested : nesting p.0 ≤ deepest_member
+  pub value_nested : nesting p.1 ≤ deepest_member
+
+-- pairs that a record may have, one after another
+pub record StartsWithPairs (pairs : List (Val × Val)) (rest b : List ℕ) : Type 0 where
+  pub front : List ℕ
+  pub parts : b ≡ front ++ rest
+  pub spelled : EncodesEntries (entries_of pairs) front
+  pub nested : entry_nestings (entries_of pairs) ≤ deepest_member

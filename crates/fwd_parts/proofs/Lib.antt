@@ -1,3 +1,0 @@
-pub mod Sounding
-pub mod Noting
-pub mod Heard

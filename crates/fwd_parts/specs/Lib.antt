@@ -1,4 +1,0 @@
-pub mod Sound
-pub mod Shown
-pub mod Acts
-pub mod Heard

@@ -1,9 +1,0 @@
-use Rattle.fwd_play.specs.Unread.{unread}
-use Rattle.fwd_play.proofs.Coursing.{found_at, line_here}
-use Rattle.fwd_play.proofs.course.Course.line_ahead.Goals as goal
-
-pub returns-in-Some-get-clause-line : goal.returns-in-Some-get-clause-line
-returns-in-Some-get-clause-line c =
-    let course = c.seek.new.self in
-    line_here c.args.paused course.queue (unread course.unread) c.in-Some.at (found_at c.args.paused course _ c.in-Some.at c.in_ok-at.ensures.found c.in-Some.is)
-    course.unread.lines c.in-Some-get.coming.now (c.in-Some-get.ensures.3.1 c.in-Some-get.coming.now)

@@ -1,7 +1,0 @@
-use Rattle.std.proofs.Common.{◌≡◌, [], ◌++◌, drop}
-use Rattle.fwd_play.specs.Handed.{handed}
-use Rattle.fwd_play.specs.Told.{entries_of}
-use Rattle.fwd_play.proofs.handed.handed_of.Given as goal
-
-abbrev pub invariant-loop-note : goal.invariant-loop-note
-invariant-loop-note l = l.bytes ++ handed l.outputs l.links.items (entries_of (drop l.note-index l.notes)) ≡ handed l.outputs [] (entries_of l.notes)

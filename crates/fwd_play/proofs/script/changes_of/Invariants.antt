@@ -1,7 +1,0 @@
-use Rattle.std.proofs.Common.{◌≡◌, take}
-use Rattle.std.specs.List.{filter_map}
-use Rattle.fwd_play.specs.Held.{change_in}
-use Rattle.fwd_play.proofs.script.changes_of.Given as goal
-
-abbrev pub invariant-loop-planned : goal.invariant-loop-planned
-invariant-loop-planned l = l.changes ≡ filter_map change_in (take l.planned-index l.left)

@@ -1,5 +1,0 @@
-use Rattle.fwd_play.proofs.Unreading.{happens_alone}
-use Rattle.fwd_play.proofs.unread.first_of.Goals as goal
-
-pub returns-in_ok-try_clone-in-Happens-clause-first : goal.returns-in_ok-try_clone-in-Happens-clause-first
-returns-in_ok-try_clone-in-Happens-clause-first c = λ rest. happens_alone c.args.planned.now c.args.line c.in-Happens.happening _ rest c.in-Happens.is c.requires c.in_ok-try_clone-in-Happens.ensures

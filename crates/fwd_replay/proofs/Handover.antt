@@ -1,0 +1,373 @@
+-- What a run leaves.
+use Rattle.std.proofs.Common.{arith, ◌≡◌, ℕ, suc, ◌+◌, ◌-◌, ◌%◌, ◌<◌, ◌≤◌, Bool, true, false, if◌then◌else◌, List, [], ◌∷◌, ◌++◌, length, take, drop, Option, Some, None, Result, Ok, Err, inl, inr, refl, sym, subst, ap, ◌∙◌, append_assoc}
+use Rattle.std.proofs.lemmas.List.{append-nil, map-append}
+use Rattle.fwd_outside.specs.Program.{Return, Execution}
+use Rattle.fwd_outside.specs.declared.happening.Happening.{Happening}
+use Rattle.fwd_outside.specs.Loop.{LoopEntry, LoopGiven}
+use Rattle.fwd_outside.specs.Disk.{DiskEntry}
+use Rattle.fwd_outside.specs.Files.{found}
+use Rattle.fwd_disk_mem.specs.declared.told.Told.{Told}
+use Rattle.fwd_disk_mem.specs.Images.{picked, reach, prefix_after_mark}
+use Rattle.fwd_disk_mem.specs.DiskState.{Seen}
+use Rattle.fwd_disk_mem.specs.Told as disk
+use Rattle.fwd_disk_mem.proofs.CallTrace.{split_told, played_second}
+use Rattle.fwd_settings.specs.Endpoints.{ends_of}
+use Rattle.fwd_settings.specs.declared.settings_types.AllSettings.{AllSettings}
+use Rattle.fwd_script.specs.declared.schedule.Cut.{Cut}
+use Rattle.fwd_script.specs.declared.schedule.Life.{Life}
+use Rattle.fwd_script.specs.FilesState.{FilesState}
+use Rattle.fwd_script.specs.FilesAnswers as files_played
+use Rattle.fwd_script.specs.MemFiles.{entries_from, files_now}
+use Rattle.fwd_script_loop.specs.ScriptRun.{told_of}
+use Rattle.fwd_script_loop.specs.Lines.{given_in, given_of}
+use Rattle.fwd_script_loop.specs.Place as place
+use Rattle.fwd_script_loop.specs.ScriptState.{ScriptState}
+use Rattle.fwd_script_loop.specs.Told.{entries_of}
+use Rattle.fwd_model.specs.Fact.{History}
+use Rattle.fwd_model.specs.Trace.{Action, TraceEntry, loop_part, disk_part}
+use Rattle.fwd_model.specs.CallLogs.{CallLogs, LogsGrew}
+use Rattle.fwd_model.specs.Limits.{paused}
+use Rattle.fwd_model.specs.Run.{Over, DiskFailed, LoopFailed, TurnsSpent, RunResult, lived, life, run, is_over}
+use Rattle.fwd_model.proofs.CallLogs.{disk_append}
+use Rattle.fwd_engine.specs.EngineSteps.{IsAt, Turned, TurnOutcome}
+use Rattle.fwd_engine.specs.declared.engine.Engine.{Engine}
+use Rattle.fwd_engine.specs.declared.engine.EngineStop.{EngineStop}
+use Rattle.fwd_engine.specs.declared.engine.EngineStop.TheVariants as stop
+use Rattle.fwd_engine.specs.declared.engine.Turn.{Turn}
+use Rattle.fwd_engine.specs.declared.engine.Turn.TheVariants as turn
+use Rattle.fwd_engine.proofs.RunTurns.{spent}
+use Rattle.fwd_theorem_trace.specs.Waits.{waits_in}
+use Rattle.fwd_theorem_trace.proofs.WaitCounts.{ArePlain, step_plain}
+use Rattle.fwd_replay.specs.FileChanges.{FilesAt, course_after, content_after, is_last_next}
+use Rattle.fwd_replay.specs.Runs.{EndsIn, IsAnswered, IsCutIn, IsLife, Start, course_of, disk_of, first_calls, has_cut}
+use Rattle.fwd_replay.specs.Names.{IsNamed, IsNamedOf}
+use Rattle.fwd_replay.proofs.CallLog.{told_is}
+use Rattle.fwd_replay.specs.RunState.{AreRenewed, EndsBy, ProducesText, EndedAs, DevicesAreReady, LoopHasFailed, HaveAnswered, IsCrashed, IsOver, IsReady, IsInProgress, RunRepresents, HandsOver, is_out_of_memory, memory}
+use Rattle.fwd_replay.specs.Text.{life_text}
+use Rattle.fwd_replay.specs.declared.progress.Going.{Going}
+use Rattle.fwd_replay.specs.declared.names.Named.{Named}
+use Rattle.fwd_replay.specs.declared.life.LifeEnd.TheVariants as life_end
+use Rattle.fwd_replay.specs.declared.life.Next.TheVariants as follow
+use Rattle.fwd_replay.specs.declared.report.Ending.{Ending}
+use Rattle.fwd_replay.specs.declared.report.Ending.TheVariants as ending
+use Rattle.fwd_replay.specs.declared.report.Reported.{Reported}
+use Rattle.fwd_replay.specs.declared.report.Shown.{Shown}
+use Rattle.fwd_replay.proofs.ShownText.{text_behind, text_is}
+use Rattle.fwd_replay.proofs.TurnCalls.{asked_turn, asked_wait, more_is, over_is, turn_failed, turn_more, turn_over, turn_stands, wait_of}
+
+-- ---- what a run returned
+
+abbrev pub ScriptPlays : ScriptState → Type 0
+ScriptPlays script = place.IsPlayed (given_in script.lines script.answers) (entries_of script.notes)
+
+loop_played : (script : ScriptState) (given : LoopGiven) (entries : List LoopEntry) → told_of script ≡ Some (given, entries) → ScriptPlays script → place.IsPlayed given entries
+loop_played script given entries is played =
+    let call_log = told_is script given entries is in
+    subst (λ (es : List LoopEntry). place.IsPlayed given es) call_log.1 (subst (λ (g : LoopGiven). place.IsPlayed g (entries_of script.notes)) call_log.0 played)
+
+abbrev pub reported : List ℕ → Ending → Reported
+reported text end = record { text = text; ending = end }
+
+rest_is : (taken most : ℕ) → taken ≤ most → taken + (most - taken) ≡ most
+rest_is taken most fits = omega (arith, fits)
+
+module _ (s : AllSettings) (start : Start) (planned : Life) where
+  answered : (script : ScriptState) (taken : ℕ) (seen : Seen) (held : FilesState) (trace : List TraceEntry) (left : ℕ → Action RunResult) (at : FilesAt)
+      → (stands : RunRepresents s start planned (told_of script) taken seen held trace left at) → HaveAnswered script seen → IsAnswered start planned trace stands.asked
+  answered script taken seen held trace left at stands plays = record {
+    loop = loop_played script (given_of planned) (loop_part trace) stands.loop plays.loop;
+    are = stands.are;
+    disk = played_second [] (disk_of start planned) stands.asked (subst (λ (l : List Told). disk.IsPlayed [] l) stands.disk_is plays.disk);
+    files = stands.answered;
+  }
+
+  module _ (going : Going) (seen : Seen) (held : FilesState) (most : ℕ) (fits : going.taken ≤ most) (plays : HaveAnswered going.script seen) where
+    -- a run that came to its end, with at most `most` turns
+    is_life : (trace : List TraceEntry) (comes : RunResult) (at : FilesAt) → RunRepresents s start planned (told_of going.script) going.taken seen held trace (λ more. Return comes) at → IsLife s most start planned trace comes
+    is_life trace comes at stands = record {
+      way = subst (λ (n : ℕ). Execution (life s (ends_of s) None n) trace (Return comes)) (rest_is going.taken most fits) (stands.way (most - going.taken));
+      asked = stands.asked;
+      answered = answered going.script going.taken seen held trace (λ more. Return comes) at stands plays;
+      uncut = stands.uncut;
+    }
+
+    pub over_ends : (shown : Shown) (over : IsOver s start planned going seen held) (text : List ℕ) → planned.cut ≡ None → text ≡ text_behind shown s going.script over.history
+        → EndsIn shown s most start planned (reported text ending.Over)
+    over_ends shown over text uncut is = record {
+      trace = over.trace;
+      comes = lived over.history Over;
+      is = is_life over.trace (lived over.history Over) (course_after (course_of start planned) over.trace).files over.stands;
+      last = λ _. uncut;
+      call_log = ap (λ (t : List ℕ). reported t ending.Over) (is ∙ text_is shown s planned going.script over.trace over.history over.stands.loop);
+    }
+
+    pub failed_ends : (shown : Shown) → LoopHasFailed s start planned going seen held → EndsIn shown s most start planned (reported [] ending.LoopFailed)
+    failed_ends shown failed = record {
+      trace = failed.trace;
+      comes = lived failed.history LoopFailed;
+      is = is_life failed.trace (lived failed.history LoopFailed) (course_after (course_of start planned) failed.trace).files failed.stands;
+      last = λ is. absurd (cc is);
+      call_log = refl;
+    }
+
+  -- a run that has taken all turns
+  pub spent_ends : (shown : Shown) (going : Going) (seen : Seen) (held : FilesState) → HaveAnswered going.script seen → (under : IsInProgress s start planned going seen held) (text : List ℕ)
+      → text ≡ text_behind shown s going.script under.history → EndsIn shown s going.taken start planned (reported text ending.TurnsSpent)
+  spent_ends shown going seen held plays under text is =
+      let h = under.history in
+      let comes = lived h TurnsSpent in
+      let none : going.taken + 0 ≡ going.taken = omega arith in
+      record {
+        trace = under.trace;
+        comes = comes;
+        is = record {
+          way =
+              subst (λ (p : Action RunResult). Execution (life s (ends_of s) None going.taken) under.trace p) (spent s None h)
+              (subst (λ (n : ℕ). Execution (life s (ends_of s) None n) under.trace (run s None 0 h)) none (under.stands.way 0));
+          asked = under.stands.asked;
+          answered = answered going.script going.taken seen held under.trace (λ more. run s None more h) (course_after (course_of start planned) under.trace).files under.stands plays;
+          uncut = under.stands.uncut;
+        };
+        last = λ over. absurd (cc over);
+        call_log = ap (λ (t : List ℕ). reported t ending.TurnsSpent) (is ∙ text_is shown s planned going.script under.trace h under.stands.loop);
+      }
+
+  -- one that ended before a turn
+  pub load_ends : (shown : Shown) (most : ℕ) → EndedAs s start planned (lived [] DiskFailed) → EndsIn shown s most start planned (reported [] ending.DiskFailed)
+  load_ends shown most ended = record { trace = ended.trace; comes = lived [] DiskFailed; is = ended.is most; last = λ over. absurd (cc over); call_log = refl }
+
+  pub start_ends : (shown : Shown) (most : ℕ) (h : History) → EndedAs s start planned (lived h LoopFailed) → EndsIn shown s most start planned (reported [] ending.LoopFailed)
+  start_ends shown most h ended = record { trace = ended.trace; comes = lived h LoopFailed; is = ended.is most; last = λ over. absurd (cc over); call_log = refl }
+
+-- ---- the disk after a crash
+
+-- the calls up to some after a position are those before it and the first of those after
+until_is : (n : ℕ) (before more : List Told) → prefix_after_mark (length before) n (before ++ more) ≡ before ++ first_calls n more
+until_is n [] more = let same : 0 + reach n more ≡ reach n more = omega arith in ap (λ (k : ℕ). take k more) same
+until_is n (call ∷ before) more =
+    let len = length before in
+    let far = reach n (drop len (before ++ more)) in
+    let later : suc len + far ≡ suc (len + far) = omega arith in
+    ap (λ (k : ℕ). take k (call ∷ before ++ more)) later ∙ ap (λ (l : List Told). call ∷ l) (until_is n before more)
+
+-- the same files, with an empty call log
+finds_next : (next : Start) (image : Seen) (held renewed : FilesState) → image.calls ≡ next.disk → ((path : List ℕ) → found (files_now held.given held.notes) path ≡ content_after None next.changes path) → AreRenewed held renewed
+    → DevicesAreReady next image renewed
+finds_next next image held renewed disk_is has again = record { disk = disk_is; has = λ path. sym (again.same path) ∙ has path; unasked = again.unasked }
+
+module _ (s : AllSettings) (start : Start) (planned : Life) where
+  made_cut : (most since : ℕ) (cut : Cut) (going : Going) (history last : History) (before turn : List TraceEntry) (asked asked_in : List Told) (old now image : Seen) (held renewed : FilesState)
+      → planned.cut ≡ Some cut → IsCutIn s most start planned before history turn → has_cut start planned before ≡ false → IsAnswered start planned (before ++ turn) (asked ++ asked_in) → disk.entries_of asked ≡ disk_part before
+      → old.calls ≡ disk_of start planned ++ asked → now.calls ≡ old.calls ++ asked_in → since ≡ length old.calls → IsCrashed since cut now image → AreRenewed held renewed
+      → ((path : List ℕ) → found (files_now held.given held.notes) path ≡ content_after None (course_after (course_of start planned) (before ++ turn)).files.changes path)
+      → waits_in (before ++ turn) ≡ going.taken → IsAt going.engine s last → HandsOver s most start planned cut going history before image renewed
+  made_cut most since cut going history last before turn asked asked_in old now image held renewed is cut_in uncut answers are old_is now_is since_is crashed again has waits at_last =
+      let first : List Told = disk_of start planned ++ asked in
+      let all : now.calls ≡ first ++ asked_in = now_is ∙ ap (λ (l : List Told). l ++ asked_in) old_is in
+      let at : since ≡ length first = since_is ∙ ap (λ (l : List Told). length l) old_is in
+      let upto : prefix_after_mark since cut.calls now.calls ≡ first ++ first_calls cut.calls asked_in =
+      ap (λ (k : ℕ). prefix_after_mark k cut.calls now.calls) at ∙ ap (λ (l : List Told). prefix_after_mark (length first) cut.calls l) all ∙ until_is cut.calls first asked_in
+      in
+      let course = course_after (course_of start planned) (before ++ turn) in
+      record {
+        cuts = record { cut = cut; before = before; history = history; turn = turn; asked = asked; asked_in = asked_in; next = record { disk = image.calls; changes = course.files.changes } };
+        is = record {
+          is = is;
+          cut_in = cut_in;
+          uncut = uncut;
+          answered = answers;
+          are = are;
+          files = crashed.files;
+          disk_is = crashed.is;
+          image = λ name. crashed.picks name ∙ ap (λ (l : List Told). picked (cut.pick % 4) l name) upto;
+          changes = refl;
+        };
+        cut_is = refl;
+        history_is = refl;
+        before_is = refl;
+        finds = finds_next (record { disk = image.calls; changes = course.files.changes }) image held renewed refl has again;
+        waits = waits;
+        now = last;
+        at = at_last;
+      }
+
+  -- a run that was over before
+  pub over_cut : (going : Going) (seen image : Seen) (held renewed : FilesState) (most since : ℕ) (cut : Cut) (over : IsOver s start planned going seen held) → going.taken ≤ most → HaveAnswered going.script seen
+      → planned.cut ≡ Some cut → since ≡ length seen.calls → IsCrashed since cut seen image → AreRenewed held renewed → HandsOver s most start planned cut going over.history over.trace image renewed
+  over_cut going seen image held renewed most since cut over fits plays is since_is crashed again =
+      let trace = over.trace in
+      let course = course_of start planned in
+      let ended : IsLife s most start planned trace (lived over.history Over) =
+      is_life s start planned going seen held most fits plays trace (lived over.history Over) (course_after course trace).files over.stands
+      in
+      let same : trace ++ [] ≡ trace = append-nil trace in
+      made_cut most since cut going over.history over.history trace [] over.stands.asked [] seen seen image held renewed is (inr (ended.way, refl)) over.stands.uncut
+      (subst (λ (es : List TraceEntry). IsAnswered start planned es (over.stands.asked ++ [])) (sym same)
+      (subst (λ (l : List Told). IsAnswered start planned trace l) (sym (append-nil over.stands.asked)) (answered s start planned going.script going.taken seen held trace (λ more. Return (lived over.history Over)) (course_after course trace).files over.stands plays)))
+      over.stands.are over.stands.disk_is (sym (append-nil seen.calls)) since_is crashed again
+      (λ path. over.stands.files_stand.has path ∙ ap (λ (es : List TraceEntry). content_after None (course_after course es).files.changes path) (sym same))
+      (ap waits_in same ∙ over.stands.waits) over.at
+
+-- ---- the turn in which a run is cut
+
+-- a turn that was taken, whatever number of turns is left after it
+pub record Taken (a b : CallLogs) (s : AllSettings) (h : History) (after : Engine) : Type 0 where
+  pub brought : Happening
+  pub entries : List TraceEntry
+  pub plain : ArePlain entries
+  pub left : ℕ → Action RunResult
+  pub ways : (more : ℕ) → Execution (run s None (suc more) h) (wait_of s h brought ∷ entries) (left more)
+  pub last : RunResult
+  pub ends : left 0 ≡ Return last
+  pub asked : LogsGrew a b (wait_of s h brought ∷ entries)
+  pub now : History
+  pub at : IsAt after s now
+
+turn_taken : (a b : CallLogs) (s : AllSettings) (h : History) (after : Engine) (which : Turn) → Turned a b s h after (Ok which) → Taken a b s h after
+turn_taken a b s h after turn.More t =
+    let x = t.brought in
+    let stepped = t.steps.1 in
+    let es = stepped.did.entries in
+    record {
+      brought = x;
+      entries = es;
+      plain = step_plain s x h es (Return stepped.history) stepped.did.way;
+      left = λ more. run s None more stepped.history;
+      ways = λ more. turn_more s h x es stepped.history t.steps.0 stepped.did.way more (more_is (is_over s x stepped.history) stepped.over);
+      last = lived stepped.history TurnsSpent;
+      ends = spent s None stepped.history;
+      asked = asked_turn a t.between b s h x es t.waited stepped.did.asked;
+      now = stepped.history;
+      at = stepped.at;
+    }
+turn_taken a b s h after turn.Over t =
+    let x = t.brought in
+    let stepped = t.steps.1 in
+    let es = stepped.did.entries in
+    record {
+      brought = x;
+      entries = es;
+      plain = step_plain s x h es (Return stepped.history) stepped.did.way;
+      left = λ more. Return (lived stepped.history Over);
+      ways = λ more. turn_over s h x es stepped.history t.steps.0 stepped.did.way more (over_is (is_over s x stepped.history) stepped.over);
+      last = lived stepped.history Over;
+      ends = refl;
+      asked = asked_turn a t.between b s h x es t.waited stepped.did.asked;
+      now = stepped.history;
+      at = stepped.at;
+    }
+
+turn_broken : (a b : CallLogs) (s : AllSettings) (h : History) (after : Engine) → Turned a b s h after (Err stop.LoopFault) → Taken a b s h after
+turn_broken a b s h after t = record {
+  brought = t.brought;
+  entries = [];
+  plain = tt;
+  left = λ more. Return (lived h LoopFailed);
+  ways = turn_failed s h t.brought t.steps.0;
+  last = lived h LoopFailed;
+  ends = refl;
+  asked = asked_wait a t.between b s h t.brought t.waited t.steps.1;
+  now = h;
+  at = t.steps.2;
+}
+
+pub taken_of : (a b : CallLogs) (s : AllSettings) (h : History) (after : Engine) (result : Result Turn EngineStop) → is_out_of_memory result ≡ false → TurnOutcome a b s h after result → Taken a b s h after
+taken_of a b s h after (Ok which) had turns = turn_taken a b s h after which turns
+taken_of a b s h after (Err stop.LoopFault) had turns = turn_broken a b s h after turns
+taken_of a b s h after (Err stop.Memory) had turns = absurd (cc had)
+
+-- the crash of a run in its last event
+last_cut : (b : Bool) (cut : Cut) (planned : Option Cut) → Some cut ≡ (if b then planned else None) → (b ≡ true) × (planned ≡ Some cut)
+last_cut true cut planned is = (refl, sym is)
+last_cut false cut planned is = absurd (cc is)
+
+-- the same run, if it weren't cut
+abbrev whole : Life → Life
+whole planned = record planned { cut = None }
+
+uncut_always : (planned : Life) (b : Bool) → None ≡ (if b then (whole planned).cut else None)
+uncut_always planned true = refl
+uncut_always planned false = refl
+
+module _ (s : AllSettings) (start : Start) (planned : Life) (going : Going) (seen : Seen) (held : FilesState) (cut : Cut) (ready : IsReady s start planned going seen held (Some cut))
+    (going2 : Going) (seen2 : Seen) (held2 : FilesState) (taken : Taken (memory going.script seen held) (memory going2.script seen2 held2) s ready.history going2.engine)
+    (plays : files_played.IsPlayed held2.given [] (entries_from held2.given held2.notes)) where
+  abbrev turn_is : List TraceEntry
+  turn_is = wait_of s ready.history taken.brought ∷ taken.entries
+
+  abbrev whole_trace : List TraceEntry
+  whole_trace = ready.trace ++ turn_is
+
+  stands_behind : RunRepresents s start (whole planned) (told_of going2.script) (going.taken + 1) seen2 held2 whole_trace taken.left (course_after (course_of start planned) whole_trace).files
+  stands_behind =
+      let place = course_after (course_of start planned) ready.trace in
+      turn_stands s start (whole planned) ready.history ready.trace (told_of going.script) going.taken seen held (told_of going2.script) seen2 held2 taken.brought taken.entries taken.left
+      (record {
+        way = ready.stands.way;
+        waits = ready.stands.waits;
+        uncut = refl;
+        loop = ready.stands.loop;
+        asked = ready.stands.asked;
+        disk_is = ready.stands.disk_is;
+        are = ready.stands.are;
+        answered = ready.stands.answered;
+        files_stand = ready.stands.files_stand;
+      })
+      (uncut_always planned (is_last_next (paused s ready.history) place)) taken.plain taken.ways taken.asked.loop taken.asked.disk taken.asked.files plays
+
+  -- the calls on the disk in the turn
+  turn_asked : (made : List Told) × (seen2.calls ≡ seen.calls ++ made) × (disk.entries_of made ≡ disk_part turn_is)
+  turn_asked = split_told seen.calls seen2.calls (disk_part turn_is) taken.asked.disk.1
+
+  turn_answered : HaveAnswered going2.script seen2 → IsAnswered start planned whole_trace (ready.stands.asked ++ turn_asked.0)
+  turn_answered played =
+      let asked = ready.stands.asked in
+      let made = turn_asked.0 in
+      let all : seen2.calls ≡ disk_of start planned ++ (asked ++ made) = turn_asked.1 ∙ ap (λ (l : List Told). l ++ made) ready.stands.disk_is ∙ append_assoc (disk_of start planned) asked made in
+      record {
+        loop = loop_played going2.script (given_of planned) (loop_part whole_trace) stands_behind.loop played.loop;
+        are =
+            map-append disk.entry_of asked made ∙ ap (λ (l : List DiskEntry). l ++ disk.entries_of made) ready.stands.are ∙ ap (λ (l : List DiskEntry). disk_part ready.trace ++ l) turn_asked.2
+            ∙ sym (disk_append ready.trace turn_is);
+        disk = played_second [] (disk_of start planned) (asked ++ made) (subst (λ (l : List Told). disk.IsPlayed [] l) all played.disk);
+        files = stands_behind.answered;
+      }
+
+  turn_cut_in : (most : ℕ) → going.taken < most → is_last_next (paused s ready.history) (course_after (course_of start planned) ready.trace) ≡ true → IsCutIn s most start planned ready.trace ready.history turn_is
+  turn_cut_in most more last =
+      let h = ready.history in
+      let count : going.taken + 0 ≡ waits_in ready.trace = let same = ready.stands.waits in omega (arith, same) in
+      inl (
+        (let same = ready.stands.waits in omega (arith, same, more)),
+        subst (λ (p : Action RunResult). Execution (life s (ends_of s) None (waits_in ready.trace)) ready.trace p) (spent s None h)
+            (subst (λ (n : ℕ). Execution (life s (ends_of s) None n) ready.trace (run s None 0 h)) count (ready.stands.way 0)),
+        last,
+        (taken.last, subst (λ (p : Action RunResult). Execution (run s None 1 h) turn_is p) taken.ends (taken.ways 0)),
+      )
+
+  pub turn_cut : (most since : ℕ) (image : Seen) (renewed : FilesState) → going.taken < most → going2.taken ≡ going.taken + 1 → HaveAnswered going2.script seen2 → since ≡ length seen.calls → IsCrashed since cut seen2 image
+      → AreRenewed held2 renewed → HandsOver s most start planned cut going2 ready.history ready.trace image renewed
+  turn_cut most since image renewed more counted played since_is crashed again =
+      let last = last_cut (is_last_next (paused s ready.history) (course_after (course_of start planned) ready.trace)) cut planned.cut ready.cut_is in
+      made_cut s start planned most since cut going2 ready.history taken.now ready.trace turn_is ready.stands.asked turn_asked.0 seen seen2 image held2 renewed last.1 (turn_cut_in most more last.0) ready.stands.uncut
+      (turn_answered played) ready.stands.are ready.stands.disk_is turn_asked.1 since_is crashed again stands_behind.files_stand.has (stands_behind.waits ∙ sym counted) taken.at
+
+-- ---- what is left to the next run
+
+pub leaves : (shown : Shown) (s : AllSettings) (most : ℕ) (start : Start) (planned : Life) (cut : Cut) (going : Going) (seen : Seen) (held : FilesState) (text : List ℕ) (settings : AllSettings) (taken : ℕ)
+    → EndsBy shown s most start planned going seen held text (life_end.Cut cut) → ((now : History) → IsAt going.engine s now → settings ≡ s) → taken ≡ going.taken
+    → ProducesText shown s most start planned seen held text (follow.Life (record { cut = cut; settings = settings; taken = taken }))
+leaves shown s most start planned cut going seen held text settings taken came given counted =
+    let was = came.2 in
+    let c = was.cuts in (
+      c,
+      was.is,
+      came.3 ∙ ap (λ (es : List TraceEntry). life_text shown s es came.0) (sym was.before_is) ∙ ap (λ (h : History). life_text shown s c.before h) (sym was.history_is),
+      sym was.cut_is,
+      given was.now was.at,
+      was.finds,
+      counted ∙ sym was.waits,
+    )
+
+pub named_of : (named : Named) (engine : Engine) (s : AllSettings) (h : History) → IsNamed named s → IsAt engine s h → IsNamedOf named engine
+named_of named engine s h is at = record { settings = s; history = h; at = at; is = is }

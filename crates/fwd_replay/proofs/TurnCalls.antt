@@ -1,0 +1,291 @@
+-- The turns of a run.
+use Rattle.std.proofs.Common.{◌≡◌, ℕ, suc, ◌+◌, Bool, true, false, if◌then◌else◌, List, [], ◌∷◌, ◌++◌, find, max, Option, Some, None, Result, Ok, Err, refl, sym, ◌∙◌, ap, subst, append_assoc, arith}
+use Rattle.std.proofs.lemmas.List.{map-append}
+use Rattle.fwd_outside.specs.Program.{entry, Return, bind, Execution}
+use Rattle.fwd_outside.specs.Log.{LogGrew}
+use Rattle.fwd_outside.proofs.Executions.{way_trans, way_bind}
+use Rattle.fwd_outside.specs.declared.happening.Happening.{Happening}
+use Rattle.fwd_outside.specs.declared.happening.Happening.TheVariants as happening
+use Rattle.fwd_outside.specs.Loop.{LoopEntry, LoopLog, Wait}
+use Rattle.fwd_outside.specs.Disk.{DiskEntry}
+use Rattle.fwd_outside.specs.Files.{FilesEntry, FilesGiven}
+use Rattle.fwd_disk_mem.specs.declared.told.Told.{Told}
+use Rattle.fwd_disk_mem.specs.DiskState.{Seen}
+use Rattle.fwd_disk_mem.specs.Told as disk
+use Rattle.fwd_disk_mem.proofs.CallTrace.{split_told}
+use Rattle.fwd_settings.specs.Endpoints.{ends_of}
+use Rattle.fwd_settings.specs.declared.settings_types.AllSettings.{AllSettings}
+use Rattle.fwd_script.specs.declared.schedule.Cut.{Cut}
+use Rattle.fwd_script.specs.declared.schedule.FileChange.{FileChange}
+use Rattle.fwd_script.specs.declared.schedule.Life.{Life}
+use Rattle.fwd_script.specs.declared.schedule.Planned.{Planned}
+use Rattle.fwd_script.specs.FilesState.{FilesState}
+use Rattle.fwd_script.specs.FilesAnswers.{IsPlayed}
+use Rattle.fwd_script.specs.MemFiles.{entries_from}
+use Rattle.fwd_script.specs.MemFiles as files
+use Rattle.fwd_script_loop.specs.declared.queue.Coming.{Coming}
+use Rattle.fwd_script_loop.specs.PauseMask.{hears}
+use Rattle.fwd_script_loop.specs.ScriptRun.{ahead_after_calls, changes_between, next_in as script_next, told_of}
+use Rattle.fwd_script_loop.specs.Lines.{coming, ends_life, given_of, line_ahead, place_in}
+use Rattle.fwd_script_loop.specs.ScriptState.{ScriptState}
+use Rattle.fwd_script_loop.specs.Told.{entries_of}
+use Rattle.fwd_script_loop.proofs.EventPlaces.{coming_is}
+use Rattle.fwd_model.specs.Fact.{History}
+use Rattle.fwd_model.specs.Trace.{Action, TraceEntry, OnLoop, loop_part, disk_part, files_part}
+use Rattle.fwd_model.specs.CallLogs.{CallLogs, LogsGrew, Completes}
+use Rattle.fwd_model.specs.Settings.{saturating_plus}
+use Rattle.fwd_model.specs.Clock.{clock}
+use Rattle.fwd_model.specs.Limits.{paused}
+use Rattle.fwd_model.specs.StepActions.{step}
+use Rattle.fwd_model.specs.Run.{Over, LoopFailed, RunResult, lived, goes_on, unless_last, brought, run, life, is_over}
+use Rattle.fwd_model.proofs.CallLogs.{logs_grew_both, disk_append, loop_append}
+use Rattle.fwd_engine_state.specs.RefinesAction.{with_all}
+use Rattle.fwd_engine.specs.EngineSteps.{TurnOutcome, as_turn, is_failed, waits}
+use Rattle.fwd_engine.specs.declared.engine.Engine.{Engine}
+use Rattle.fwd_engine.specs.declared.engine.EngineStop.{EngineStop}
+use Rattle.fwd_engine.specs.declared.engine.EngineStop.TheVariants as stop
+use Rattle.fwd_engine.specs.declared.engine.Turn.{Turn}
+use Rattle.fwd_engine.specs.declared.engine.Turn.TheVariants as turn
+use Rattle.fwd_theorem_trace.proofs.WaitCounts.{ArePlain, plain_waitless, step_plain, waits_append}
+use Rattle.fwd_replay.specs.FileChanges.{Course, FilesAt, course_after, after_wait, is_last_next, next_in}
+use Rattle.fwd_replay.specs.Runs.{Start, course_of, disk_of}
+use Rattle.fwd_replay.proofs.CallLog.{told_is}
+use Rattle.fwd_replay.specs.RunState.{FilesRepresent, IsReady, IsInProgress, RunRepresents}
+use Rattle.fwd_replay.specs.RunState as stage
+use Rattle.fwd_replay.specs.declared.progress.Going.{Going}
+use Rattle.fwd_replay.proofs.Course.{Alike, ahead_is, alike_held, answered_append, behind_append, held_alike, lines_stay, plain_alike, plain_answered, plain_changed, played_second, turn_uncut, uncut_append}
+
+-- ---- the calls of a turn
+
+-- its wait, and the event that it returned
+abbrev pub wait_of : AllSettings → History → Happening → TraceEntry
+wait_of s h x = entry (OnLoop (Wait (saturating_plus (clock h) 250) (paused s h))) x
+
+wait_is : (s : AllSettings) (h : History) (x : Happening) (es : List TraceEntry) → Execution (waits s h) es (Return x) → es ≡ wait_of s h x ∷ []
+wait_is s h x [] way = absurd (cc way)
+wait_is s h x (e ∷ []) way = ap (λ (one : TraceEntry). one ∷ []) (way.1 ∙ ap (λ (y : Happening). wait_of s h y) (cc way.2))
+wait_is s h x (e ∷ more ∷ es) way = absurd way.2
+
+brought_is : (s : AllSettings) (next : History → Action RunResult) (h : History) (x : Happening) → is_failed x ≡ false → brought s None next h x ≡ bind (step s x h) (goes_on s (unless_last s None next x) x)
+brought_is s next h happening.Failed is = absurd (cc is)
+brought_is s next h happens is = refl
+
+failed_is : (s : AllSettings) (next : History → Action RunResult) (h : History) (x : Happening) → is_failed x ≡ true → brought s None next h x ≡ Return (lived h LoopFailed)
+failed_is s next h happening.Failed is = refl
+failed_is s next h happens is = absurd (cc is)
+
+-- a turn that takes the event of its wait, whatever number of turns is left after it
+module _ (s : AllSettings) (h : History) (x : Happening) (es : List TraceEntry) (now : History) (taken : is_failed x ≡ false) (way : Execution (step s x h) es (Return now)) (more : ℕ) where
+  turn_on : Execution (run s None (suc more) h) (wait_of s h x ∷ es) (goes_on s (unless_last s None (run s None more) x) x now)
+  unfolding run
+  turn_on =
+      let next : History → Action RunResult = goes_on s (unless_last s None (run s None more) x) x in
+      (x, refl, subst (λ (p : Action RunResult). Execution p es (next now)) (sym (brought_is s (run s None more) h x taken)) (way_bind (step s x h) (Return now) es next way))
+
+  pub turn_more : is_over s x now ≡ false → Execution (run s None (suc more) h) (wait_of s h x ∷ es) (run s None more now)
+  turn_more is =
+      subst (λ (over : Bool). Execution (run s None (suc more) h) (wait_of s h x ∷ es) (if over then Return (lived now Over) else unless_last s None (run s None more) x now)) is turn_on
+
+  pub turn_over : is_over s x now ≡ true → Execution (run s None (suc more) h) (wait_of s h x ∷ es) (Return (lived now Over))
+  turn_over is =
+      subst (λ (over : Bool). Execution (run s None (suc more) h) (wait_of s h x ∷ es) (if over then Return (lived now Over) else unless_last s None (run s None more) x now)) is turn_on
+
+-- one whose loop failed
+pub turn_failed : (s : AllSettings) (h : History) (x : Happening) → is_failed x ≡ true → (more : ℕ) → Execution (run s None (suc more) h) (wait_of s h x ∷ []) (Return (lived h LoopFailed))
+unfolding run
+turn_failed s h x is more = (x, refl, sym (failed_is s (run s None more) h x is))
+
+pub over_is : (b : Bool) → turn.Over ≡ as_turn b → b ≡ true
+over_is true is = refl
+over_is false is = absurd (cc is)
+
+pub more_is : (b : Bool) → turn.More ≡ as_turn b → b ≡ false
+more_is true is = absurd (cc is)
+more_is false is = refl
+
+-- ---- the state of a run after a turn
+
+grew_told : {G X : Type 0} (old new : Option (G × List X)) (given : G) (xs more : List X) → old ≡ Some (given, xs) → LogGrew old new more → new ≡ Some (given, xs ++ more)
+grew_told {G = G} {X = X} old new given xs more is grew = by new (subst (λ (o : Option (G × List X)). LogGrew o new more) is grew)
+  where
+    by : (new : Option (G × List X)) → LogGrew (Some (given, xs)) new more → new ≡ Some (given, xs ++ more)
+    by (Some now) g = ap (λ (o : G). Some (o, now.1)) g.0 ∙ ap (λ (l : List X). Some (given, l)) g.1
+    by None g = absurd g
+
+-- files with more calls
+files_behind_turn : (held held2 : FilesState) (course : Course) (es : List TraceEntry) → ArePlain es → FilesRepresent held course.files → LogGrew (files.told_of held) (files.told_of held2) (files_part es) → FilesRepresent held2 (course_after course es).files
+files_behind_turn held held2 course es plain stands grew =
+    let call_log = entries_from held.given held.notes in
+    let after = (course_after course es).files in
+    let one : Alike held.given (call_log ++ files_part es) after = plain_alike held.given call_log course es plain (alike_held held course.files stands) in
+    let two : Alike held.given (entries_from held2.given held2.notes) after = subst (λ (l : List FilesEntry). Alike held.given l after) (sym grew.1) one in
+    held_alike held2 after (subst (λ (g : FilesGiven). Alike g (entries_from held2.given held2.notes) after) (sym grew.0) two)
+
+played_behind_turn : (held held2 : FilesState) (es : List FilesEntry) → LogGrew (files.told_of held) (files.told_of held2) es → IsPlayed held2.given [] (entries_from held2.given held2.notes)
+    → IsPlayed held.given (entries_from held.given held.notes) es
+played_behind_turn held held2 es grew played =
+    let call_log = entries_from held.given held.notes in
+    let one : IsPlayed held2.given [] (call_log ++ es) = subst (λ (l : List FilesEntry). IsPlayed held2.given [] l) grew.1 played in
+    let two : IsPlayed held.given [] (call_log ++ es) = subst (λ (g : FilesGiven). IsPlayed g [] (call_log ++ es)) grew.0 one in
+    played_second held.given [] call_log es two
+
+module _ (s : AllSettings) (start : Start) (planned : Life) (h : History) (trace : List TraceEntry) (call_log : LoopLog) (taken : ℕ) (seen : Seen) (held : FilesState) where
+  pub turn_stands : (told2 : LoopLog) (seen2 : Seen) (held2 : FilesState) (x : Happening) (es : List TraceEntry) (left : ℕ → Action RunResult)
+      → RunRepresents s start planned call_log taken seen held trace (λ more. run s None more h) (after_wait (paused s h) (course_after (course_of start planned) trace)).files
+      → None ≡ (if is_last_next (paused s h) (course_after (course_of start planned) trace) then planned.cut else None)
+      → ArePlain es → ((more : ℕ) → Execution (run s None (suc more) h) (wait_of s h x ∷ es) (left more))
+      → LogGrew call_log told2 (loop_part (wait_of s h x ∷ es)) → LogGrew (disk.told_of seen.calls) (disk.told_of seen2.calls) (disk_part es) → LogGrew (files.told_of held) (files.told_of held2) (files_part es)
+      → IsPlayed held2.given [] (entries_from held2.given held2.notes)
+      → RunRepresents s start planned told2 (taken + 1) seen2 held2 (trace ++ wait_of s h x ∷ es) left (course_after (course_of start planned) (trace ++ wait_of s h x ∷ es)).files
+  turn_stands told2 seen2 held2 x es left stands uncut plain ways grew_loop grew_disk grew_files played =
+      let turn : List TraceEntry = wait_of s h x ∷ es in
+      let course = course_of start planned in
+      let place = course_after course trace in
+      let waited = after_wait (paused s h) place in
+      let made = split_told seen.calls seen2.calls (disk_part es) grew_disk.1 in
+      record {
+        way = λ more.
+            let moved : taken + suc more ≡ (taken + 1) + more = omega arith in
+            subst (λ (n : ℕ). Execution (life s (ends_of s) None n) (trace ++ turn) (left more)) moved
+            (way_trans (life s (ends_of s) None (taken + suc more)) (run s None (suc more) h) (left more) trace turn (stands.way (suc more)) (ways more));
+        waits =
+            let here = stands.waits in
+            let none = plain_waitless es plain in
+            waits_append trace turn ∙ omega (arith, here, none);
+        uncut = uncut_append planned.cut course trace turn stands.uncut (turn_uncut planned.cut place (saturating_plus (clock h) 250) (paused s h) x es plain uncut);
+        loop =
+            grew_told call_log told2 (given_of planned) (loop_part trace) (loop_part turn) stands.loop grew_loop
+            ∙ ap (λ (l : List LoopEntry). Some (given_of planned, l)) (sym (loop_append trace turn));
+        asked = stands.asked ++ made.0;
+        disk_is = made.1 ∙ ap (λ (l : List Told). l ++ made.0) stands.disk_is ∙ append_assoc (disk_of start planned) stands.asked made.0;
+        are =
+            map-append disk.entry_of stands.asked made.0
+            ∙ ap (λ (l : List DiskEntry). l ++ disk.entries_of made.0) stands.are
+            ∙ ap (λ (l : List DiskEntry). disk_part trace ++ l) made.2
+            ∙ sym (disk_append trace turn);
+        answered =
+            answered_append course trace turn stands.answered
+            (tt, plain_answered held.given (entries_from held.given held.notes) waited es plain (alike_held held waited.files stands.files_stand) (played_behind_turn held held2 (files_part es) grew_files played));
+        files_stand =
+            subst (λ (c : Course). FilesRepresent held2 c.files) (sym (behind_append course trace turn)) (files_behind_turn held held2 waited es plain stands.files_stand grew_files);
+      }
+
+-- ---- a turn is prepared
+
+-- the event that a script would return is the next one of its run
+next_is : (start : Start) (planned : Life) (script : ScriptState) (trace : List TraceEntry) (mask : ℕ) → told_of script ≡ Some (given_of planned, loop_part trace)
+    → script_next mask script ≡ next_in mask (course_after (course_of start planned) trace)
+next_is start planned script trace mask call_log =
+    let same = told_is script (given_of planned) (loop_part trace) call_log in
+    ap (λ (l : List Coming). find (hears mask) (ahead_after_calls l (entries_of script.notes))) (coming_is script.lines planned.lines script.answers planned.answers same.0)
+    ∙ ap (λ (es : List LoopEntry). find (hears mask) (ahead_after_calls (coming 0 planned.lines) es)) same.1
+    ∙ ap (λ (l : List Coming). find (hears mask) l) (ahead_is (course_of start planned) trace)
+
+module _ (s : AllSettings) (start : Start) (planned : Life) (going : Going) (seen : Seen) (held held2 : FilesState) (under : IsInProgress s start planned going seen held) where
+  pub prepared : (place : Option (ℕ × ℕ)) (mask upto changes : ℕ) (cut : Option Cut) → mask ≡ paused s under.history → place ≡ place_in (script_next mask going.script)
+      → ((next : Option Coming) → place ≡ place_in next → upto ≡ line_ahead planned.lines next)
+      → ((at : FilesAt) → FilesRepresent held at → FilesRepresent held2 (record at { changes = at.changes ++ changes_between planned.lines going.changed upto }))
+      → changes ≡ max going.changed upto → ((next : Option Coming) → place ≡ place_in next → cut ≡ (if ends_life planned.lines next then planned.cut else None))
+      → IsReady s start planned (record going { changed = changes }) seen held2 cut
+  prepared place mask upto changes cut masked placed line makes most cutting =
+      let h = under.history in
+      let course = course_after (course_of start planned) under.trace in
+      let next : Option Coming = next_in (paused s h) course in
+      let lines : planned.lines ≡ course.lines = sym (lines_stay (course_of start planned) under.trace) in
+      let here : place ≡ place_in next = placed ∙ ap place_in (next_is start planned going.script under.trace mask under.stands.loop) ∙ ap (λ (m : ℕ). place_in (next_in m course)) masked in
+      let there : upto ≡ line_ahead course.lines next = line next here ∙ ap (λ (l : List Planned). line_ahead l next) lines in
+      let before : changes_between planned.lines going.changed upto ≡ changes_between course.lines course.changed (line_ahead course.lines next) =
+      ap (λ (l : List Planned). changes_between l going.changed upto) lines
+      ∙ ap (λ (n : ℕ). changes_between course.lines n upto) under.changed
+      ∙ ap (λ (n : ℕ). changes_between course.lines course.changed n) there
+      in
+      record {
+        history = h;
+        at = under.at;
+        trace = under.trace;
+        stands = record {
+          way = under.stands.way;
+          waits = under.stands.waits;
+          uncut = under.stands.uncut;
+          loop = under.stands.loop;
+          asked = under.stands.asked;
+          disk_is = under.stands.disk_is;
+          are = under.stands.are;
+          answered = under.stands.answered;
+          files_stand = subst (λ (l : List FileChange). FilesRepresent held2 (record course.files { changes = course.files.changes ++ l })) before (makes course.files under.stands.files_stand);
+        };
+        changed = most ∙ ap (λ (n : ℕ). max n upto) under.changed ∙ ap (λ (n : ℕ). max course.changed n) there;
+        cut_is = cutting next here ∙ ap (λ (l : List Planned). if ends_life l next then planned.cut else None) lines;
+      }
+
+-- ---- a turn is taken
+
+pub asked_turn : (a between b : CallLogs) (s : AllSettings) (h : History) (x : Happening) (es : List TraceEntry) → Completes a between (waits s h) x → LogsGrew between b es → LogsGrew a b (wait_of s h x ∷ es)
+asked_turn a between b s h x es waited asked =
+    subst (λ (l : List TraceEntry). LogsGrew a b (l ++ es)) (wait_is s h x waited.entries waited.way) (logs_grew_both a between b waited.entries es waited.asked asked)
+
+pub asked_wait : (a between b : CallLogs) (s : AllSettings) (h : History) (x : Happening) → Completes a between (waits s h) x → b ≡ between → LogsGrew a b (wait_of s h x ∷ [])
+asked_wait a between b s h x waited is =
+    subst (λ (w : CallLogs). LogsGrew a w (wait_of s h x ∷ [])) (sym is) (subst (λ (l : List TraceEntry). LogsGrew a between l) (wait_is s h x waited.entries waited.way) waited.asked)
+
+abbrev Nowhere : CallLogs
+Nowhere = record { loop = None; disk = None; files = None; keeper = None }
+
+module _ (s : AllSettings) (start : Start) (planned : Life) (going : Going) (seen : Seen) (held : FilesState) (ready : IsReady s start planned going seen held None) (engine2 : Engine) (script2 : ScriptState) (seen2 : Seen) (held2 : FilesState)
+    (played : IsPlayed held2.given [] (entries_from held2.given held2.notes)) where
+  abbrev old : CallLogs
+  old = with_all (told_of going.script) (disk.told_of seen.calls) (files.told_of held) Nowhere
+
+  abbrev new : CallLogs
+  new = with_all (told_of script2) (disk.told_of seen2.calls) (files.told_of held2) Nowhere
+
+  stands_then : (x : Happening) (es : List TraceEntry) (left : ℕ → Action RunResult) → ArePlain es → ((more : ℕ) → Execution (run s None (suc more) ready.history) (wait_of s ready.history x ∷ es) (left more))
+      → LogsGrew old new (wait_of s ready.history x ∷ es)
+      → RunRepresents s start planned (told_of script2) (going.taken + 1) seen2 held2 (ready.trace ++ wait_of s ready.history x ∷ es) left (course_after (course_of start planned) (ready.trace ++ wait_of s ready.history x ∷ es)).files
+  stands_then x es left plain ways asked =
+      turn_stands s start planned ready.history ready.trace (told_of going.script) going.taken seen held (told_of script2) seen2 held2 x es left ready.stands ready.cut_is plain ways asked.loop asked.disk asked.files played
+
+  pub took : (result : Result Turn EngineStop) → TurnOutcome old new s ready.history engine2 result
+      → stage.Turned s start planned (record { engine = engine2; script = script2; changed = going.changed; taken = going.taken + 1 }) seen2 held2 result
+  took (Ok turn.More) turns =
+      let h = ready.history in
+      let x = turns.brought in
+      let stepped = turns.steps.1 in
+      let es = stepped.did.entries in
+      let plain = step_plain s x h es (Return stepped.history) stepped.did.way in
+      record {
+        history = stepped.history;
+        at = stepped.at;
+        trace = ready.trace ++ wait_of s h x ∷ es;
+        stands =
+            stands_then x es (λ more. run s None more stepped.history) plain
+            (λ more. turn_more s h x es stepped.history turns.steps.0 stepped.did.way more (more_is (is_over s x stepped.history) stepped.over))
+            (asked_turn old turns.between new s h x es turns.waited stepped.did.asked);
+        changed =
+            ready.changed
+            ∙ sym (plain_changed (after_wait (paused s h) (course_after (course_of start planned) ready.trace)) es plain)
+            ∙ ap (λ (c : Course). c.changed) (sym (behind_append (course_of start planned) ready.trace (wait_of s h x ∷ es)));
+      }
+  took (Ok turn.Over) turns =
+      let h = ready.history in
+      let x = turns.brought in
+      let stepped = turns.steps.1 in
+      let es = stepped.did.entries in
+      record {
+        history = stepped.history;
+        at = stepped.at;
+        trace = ready.trace ++ wait_of s h x ∷ es;
+        stands =
+            stands_then x es (λ more. Return (lived stepped.history Over)) (step_plain s x h es (Return stepped.history) stepped.did.way)
+            (λ more. turn_over s h x es stepped.history turns.steps.0 stepped.did.way more (over_is (is_over s x stepped.history) stepped.over))
+            (asked_turn old turns.between new s h x es turns.waited stepped.did.asked);
+      }
+  took (Err stop.LoopFault) turns =
+      let h = ready.history in
+      let x = turns.brought in
+      record {
+        history = h;
+        trace = ready.trace ++ wait_of s h x ∷ [];
+        stands = stands_then x [] (λ more. Return (lived h LoopFailed)) tt (turn_failed s h x turns.steps.0) (asked_wait old turns.between new s h x turns.waited turns.steps.1);
+      }
+  took (Err stop.Memory) turns = tt

@@ -1,4 +1,0 @@
-use Rattle.fwd_replay.proofs.life.are_played.Goals as goal
-
-pub returns : goal.returns
-returns c = record { loop = c.is_played.ensures; disk = c.is_played-2.ensures }

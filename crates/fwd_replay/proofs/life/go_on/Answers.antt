@@ -1,6 +1,0 @@
-use Rattle.std.proofs.Common.{refl}
-use Rattle.fwd_replay.proofs.life.go_on.Goals as goal
-
-pub returns : goal.returns
-returns g c s begins named under =
-    c.outcome_of.ensures c.args.named.now.shown s c.args.most begins c.args.life.now c.live-came.new.going c.live-came.new.disk c.live-came.new.files (c.live-came.ensures s begins named under) (λ now at. c.finish.ensures s now at) refl

@@ -1,0 +1,45 @@
+use Rattle.std.proofs.Common.{rules, None}
+use Rattle.fwd_model.specs.CallLogs.{CallLogs, Completes}
+use Rattle.fwd_model.specs.RecoveryActions.{recovers}
+use Rattle.fwd_engine_state.specs.RefinesAction.{with_all}
+use Rattle.fwd_replay.specs.RunState.{nowhere}
+use Rattle.fwd_replay.proofs.Handover.{named_of}
+use Rattle.fwd_replay.proofs.LiveRun.{begins_load, caused_later, disk_failed, ran_on}
+use Rattle.fwd_replay.proofs.live_run.begin_and_run.Goals as goal
+
+pub run_and_drop-requires : goal.run_and_drop-requires
+run_and_drop-requires g c =
+    let a : CallLogs = with_all (g.L.Loop.call_log c.args.outside.now) (g.D.Disk.call_log c.args.disk.now) (g.F.Files.call_log c.args.files.now) nowhere in
+    let begun = c.in-Ok.ensures.begins a in
+    (search rules, named_of c.args.named.now c.in-Ok.engine c.args.settings begun.history c.requires.named begun.at)
+
+pub returns-in-Ok-clause-life : goal.returns-in-Ok-clause-life
+returns-in-Ok-clause-life g c others =
+    let a : CallLogs = with_all (g.L.Loop.call_log c.args.outside.now) (g.D.Disk.call_log c.args.disk.now) (g.F.Files.call_log c.args.files.now) others in
+    let b : CallLogs = with_all (g.L.Loop.call_log c.args.outside.now) (g.D.Disk.call_log c.begin.new.disk) (g.F.Files.call_log c.args.files.now) others in
+    let d : CallLogs = with_all (g.L.Loop.call_log c.run_and_drop.new.outside) (g.D.Disk.call_log c.run_and_drop.new.disk) (g.F.Files.call_log c.run_and_drop.new.files) others in
+    let begun = c.in-Ok.ensures.begins a in
+    ran_on c.args.settings c.args.ticks c.args.most a b d c.args.ends.now begun.history c.requires.ends begun.did c.run_and_drop.result (c.run_and_drop.ensures.run others c.args.settings begun.history begun.at c.requires.named)
+
+pub returns-in-Err-DiskFault-clause-life : goal.returns-in-Err-DiskFault-clause-life
+returns-in-Err-DiskFault-clause-life g c others =
+    let a : CallLogs = with_all (g.L.Loop.call_log c.args.outside.now) (g.D.Disk.call_log c.args.disk.now) (g.F.Files.call_log c.args.files.now) others in
+    let b : CallLogs = with_all (g.L.Loop.call_log c.args.outside.now) (g.D.Disk.call_log c.begin.new.disk) (g.F.Files.call_log c.args.files.now) others in
+    let did : Completes a b (recovers c.args.settings) None = rw c.in-Err-DiskFault.field-0-is at (c.in-Err-DiskFault.ensures.begins a) in
+    disk_failed c.args.settings c.args.ticks c.args.most a b c.without_text.result did c.without_text.ensures
+
+pub returns-in-Err-Memory-clause-life : goal.returns-in-Err-Memory-clause-life
+returns-in-Err-Memory-clause-life g c others =
+    let a : CallLogs = with_all (g.L.Loop.call_log c.args.outside.now) (g.D.Disk.call_log c.args.disk.now) (g.F.Files.call_log c.args.files.now) others in
+    let b : CallLogs = with_all (g.L.Loop.call_log c.args.outside.now) (g.D.Disk.call_log c.begin.new.disk) (g.F.Files.call_log c.args.files.now) others in
+    let unfailed = rw c.in-Err-Memory.field-0-is at (c.in-Err-Memory.ensures.begins a) in
+    begins_load c.args.settings c.args.ticks c.args.most a b (unfailed.0, unfailed.1)
+
+pub returns-in-Ok-clause-heard : goal.returns-in-Ok-clause-heard
+returns-in-Ok-clause-heard g c = c.run_and_drop.ensures.heard
+
+pub returns-in-Ok-clause-loop_cause : goal.returns-in-Ok-clause-loop_cause
+returns-in-Ok-clause-loop_cause g c = c.run_and_drop.ensures.loop_cause
+
+pub returns-in-Ok-clause-disk_cause : goal.returns-in-Ok-clause-disk_cause
+returns-in-Ok-clause-disk_cause g c = caused_later _ _ _ c.begin.ensures.cause.later c.run_and_drop.ensures.disk_cause

@@ -1,0 +1,15 @@
+use Rattle.std.proofs.Common.{ap, refl}
+use Rattle.fwd_outside.specs.Files.{found}
+use Rattle.fwd_script.specs.FilesState.{FilesState}
+use Rattle.fwd_script.specs.MemFiles.{files_now}
+use Rattle.fwd_replay.proofs.runs.initial_state.Goals as goal
+
+pub returns-clause-first : goal.returns-clause-first
+returns-clause-first c = record {
+  finds = record {
+    disk = c.new-disk.ensures.calls;
+    has = λ path. ap (λ (h : FilesState). found (files_now h.given h.notes) path) c.new-files.ensures;
+    unasked = ap (λ (h : FilesState). h.notes) c.new-files.ensures;
+  };
+  cut = refl;
+}

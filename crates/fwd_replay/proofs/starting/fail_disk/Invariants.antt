@@ -1,6 +1,0 @@
-use Rattle.std.proofs.Common.{◌≡◌, ℕ, ◌++◌, take, map}
-use Rattle.fwd_disk_mem.specs.declared.told.Told.TheVariants as told
-use Rattle.fwd_replay.proofs.starting.fail_disk.Given as goal
-
-abbrev pub invariant-loop-number : goal.invariant-loop-number
-invariant-loop-number l = l.disk ≡ record l.fn.disk { calls = l.fn.disk.calls ++ map (λ (number : ℕ). told.FailAt number) (take l.number-index l.number-items) }

@@ -1,0 +1,126 @@
+-- The outcome of the runs of a schedule.
+use Rattle.std.specs.Prelude.{◌≡◌, ◌⊎◌, ℕ, ◌+◌, ◌-◌, ◌<◌, ◌%◌, Bool, true, false, ◌&&◌, List, [], ◌∷◌, ◌++◌, map, take, Some, None, is_some}
+use Rattle.fwd_outside.specs.Program.{Return, Execution}
+use Rattle.fwd_outside.specs.File.{content}
+use Rattle.fwd_disk_mem.specs.declared.told.Told.{Told}
+use Rattle.fwd_disk_mem.specs.declared.told.Told.TheVariants.{Preset, FailAt}
+use Rattle.fwd_disk_mem.specs.Told as disk
+use Rattle.fwd_disk_mem.specs.FileTable.{MemFile}
+use Rattle.fwd_disk_mem.specs.Images.{picked, file_settings, reach}
+use Rattle.fwd_settings.specs.Endpoints.{ends_of}
+use Rattle.fwd_settings.specs.declared.settings_types.AllSettings.{AllSettings}
+use Rattle.fwd_script.specs.declared.schedule.Cut.{Cut}
+use Rattle.fwd_script.specs.declared.schedule.FileChange.{FileChange}
+use Rattle.fwd_script.specs.declared.schedule.Life.{Life}
+use Rattle.fwd_script.specs.declared.schedule.Stored.{Stored}
+use Rattle.fwd_script_loop.specs.Lines.{coming, given_of}
+use Rattle.fwd_script_loop.specs.Place as place
+use Rattle.fwd_model.specs.Fact.{History}
+use Rattle.fwd_model.specs.Trace.{TraceEntry, loop_part, disk_part}
+use Rattle.fwd_model.specs.Limits.{paused}
+use Rattle.fwd_model.specs.Run.{Over, TurnsSpent, RunResult, lived, run, life}
+use Rattle.fwd_theorem_trace.specs.Waits.{waits_in}
+use Rattle.fwd_replay.specs.FileChanges.{Course, course_after, FilesAnswered, is_last_next, has_last}
+use Rattle.fwd_replay.specs.Text.{life_text, reported_by, out_of_memory, joined}
+use Rattle.fwd_replay.specs.declared.report.Reported.{Reported}
+use Rattle.fwd_replay.specs.declared.report.Ending.TheVariants as ending
+use Rattle.fwd_replay.specs.declared.report.Shown.{Shown}
+
+-- the state of the platform when a run begins: the calls on the disk, which has no unsynced state, and
+-- the changes of files so far
+pub record Start : Type 0 where
+  pub disk : List Told
+  pub changes : List FileChange
+
+-- an empty disk and no files
+abbrev pub first : Start
+first = record { disk = []; changes = [] }
+
+-- the calls of the setup are added to those of the disk: the files put on it, and the calls that are to
+-- fail
+abbrev pub disk_of : Start → Life → List Told
+disk_of start planned = start.disk ++ map (λ (file : Stored). Preset file.name file.bytes) planned.store ++ map (λ (number : ℕ). FailAt number) planned.disk_fails
+
+abbrev pub course_of : Start → Life → Course
+course_of start planned = record {
+  lines = planned.lines;
+  ahead = coming 0 planned.lines;
+  changed = 0;
+  files = record { changes = start.changes; fails = planned.file_fails; calls = 0 };
+}
+
+-- The answers to these calls are those of the run: of its loop, of the disk after these calls, and of the
+-- files.
+pub record IsAnswered (start : Start) (planned : Life) (trace : List TraceEntry) (asked : List Told) : Type 0 where
+  pub loop : place.IsPlayed (given_of planned) (loop_part trace)
+  pub are : disk.entries_of asked ≡ disk_part trace
+  pub disk : disk.IsPlayed (disk_of start planned) asked
+  pub files : FilesAnswered (course_of start planned) trace
+
+-- one of these calls is a wait that returns the event in which the run is cut
+abbrev pub has_cut : Start → Life → List TraceEntry → Bool
+has_cut start planned trace = is_some planned.cut && has_last (course_of start planned) trace
+
+-- ---- a run that isn't cut
+
+-- its joined trace and its result, with at most `turns` turns
+pub record IsLife (s : AllSettings) (turns : ℕ) (start : Start) (planned : Life) (trace : List TraceEntry) (comes : RunResult) : Type 0 where
+  pub way : Execution (life s (ends_of s) None turns) trace (Return comes)
+  pub asked : List Told
+  pub answered : IsAnswered start planned trace asked
+  pub uncut : has_cut start planned trace ≡ false
+
+-- The replay ends with this run. One that is over isn't to be cut.
+pub record EndsIn (shown : Shown) (s : AllSettings) (turns : ℕ) (start : Start) (planned : Life) (replayed : Reported) : Type 0 where
+  pub trace : List TraceEntry
+  pub comes : RunResult
+  pub is : IsLife s turns start planned trace comes
+  pub last : comes.end ≡ Over → planned.cut ≡ None
+  pub call_log : replayed ≡ reported_by (life_text shown s trace comes.history) comes.end
+
+-- ---- a run that is cut
+
+-- The turn in which it is cut: the run has that many turns left, and the turn's wait returns the event.
+-- If the run is over before, the turn makes no call.
+abbrev pub IsCutIn : AllSettings → ℕ → Start → Life → List TraceEntry → History → List TraceEntry → Type 0
+IsCutIn s turns start planned before h turn =
+    ((waits_in before < turns) × Execution (life s (ends_of s) None (waits_in before)) before (Return (lived h TurnsSpent))
+    × (is_last_next (paused s h) (course_after (course_of start planned) before) ≡ true) × ((last : RunResult) × Execution (run s None 1 h) turn (Return last)))
+    ⊎ (Execution (life s (ends_of s) None turns) before (Return (lived h Over)) × (turn ≡ []))
+
+-- the first of these calls, that many
+abbrev pub first_calls : ℕ → List Told → List Told
+first_calls n calls = take (reach n calls) calls
+
+-- a run that is cut, and the state of the platform after the crash
+pub record CutRun : Type 0 where
+  pub cut : Cut
+  pub before : List TraceEntry
+  pub history : History
+  pub turn : List TraceEntry
+  -- the calls on the disk before the turn, and in it
+  pub asked : List Told
+  pub asked_in : List Told
+  pub next : Start
+
+-- The disk is then in a post-crash state of the disk after that many calls of the turn, chosen by the
+-- pick; the files are unchanged.
+pub record IsCut (s : AllSettings) (turns : ℕ) (start : Start) (planned : Life) (c : CutRun) : Type 0 where
+  pub is : planned.cut ≡ Some c.cut
+  pub cut_in : IsCutIn s turns start planned c.before c.history c.turn
+  pub uncut : has_cut start planned c.before ≡ false
+  pub answered : IsAnswered start planned (c.before ++ c.turn) (c.asked ++ c.asked_in)
+  pub are : disk.entries_of c.asked ≡ disk_part c.before
+  pub files : List MemFile
+  pub disk_is : c.next.disk ≡ file_settings files
+  pub image : (name : List ℕ) → content (disk.files_of c.next.disk name) ≡ picked (c.cut.pick % 4) ((disk_of start planned ++ c.asked) ++ first_calls c.cut.calls c.asked_in) name
+  pub changes : c.next.changes ≡ (course_after (course_of start planned) (c.before ++ c.turn)).files.changes
+
+-- Each run in turn, with at most `turns` turns in all: the replay ends with it, or it is cut and the next
+-- one follows; or memory ran out in it, and nothing of it is in the text.
+abbrev pub IsReplayed : Shown → AllSettings → ℕ → Start → List Life → Reported → Type 0
+IsReplayed shown s turns start [] replayed = replayed ≡ record { text = []; ending = ending.Over }
+IsReplayed shown s turns start (planned ∷ lives) replayed =
+    EndsIn shown s turns start planned replayed
+    ⊎ ((c : CutRun) × IsCut s turns start planned c × ((rest : Reported) × IsReplayed shown s (turns - waits_in (c.before ++ c.turn)) c.next lives rest × (replayed ≡ joined (life_text shown s c.before c.history) c.cut rest)))
+    ⊎ (replayed ≡ out_of_memory)

@@ -1,0 +1,196 @@
+//! A live run over devices, from its settings to its report.
+
+ghost use Rattle.std.specs.Prelude.{◌≡◌, ◌≤◌, [], Some, IfOk};
+ghost use Rattle.fwd_outside.specs.Cause.{HasCause};
+ghost use Rattle.fwd_settings.specs.Endpoints.{ends_of};
+ghost use Rattle.fwd_settings.specs.Requirements.{MeetsRequirements};
+ghost use Rattle.fwd_settings.specs.declared.settings_types.AllSettings.{AllSettings};
+ghost use Rattle.fwd_model.specs.Fact.{History};
+ghost use Rattle.fwd_model.specs.CallLogs.{CallLogs};
+ghost use Rattle.fwd_model.specs.Run.{after_recovery};
+ghost use Rattle.fwd_engine_state.specs.RefinesAction.{with_all};
+ghost use Rattle.fwd_engine_state.specs.LoopCounters.{EventsTaken};
+ghost use Rattle.fwd_engine.specs.EngineSteps.{IsAt};
+ghost use Rattle.fwd_engine.specs.RunOutcome.{IsAtEnd, end_of};
+ghost use Rattle.fwd_replay.specs.LiveRun.{RunProduces, IsRunLive, ActionProduces, ending_of, heard_in};
+ghost use Rattle.fwd_replay.specs.Names.{IsNamed, IsNamedOf, IsNamedUnlessFailed};
+ghost use Rattle.fwd_replay.specs.Text.{report, reported_by};
+ghost use Rattle.fwd_replay.specs.declared.report.Ending.TheVariants as ending;
+
+use crate::names::Named;
+use crate::report::{Ending, Reported, Shown, report_text};
+use fwd_base::{Bytes, Memory};
+use fwd_engine::{BeginErr, Engine, RunEnd, run};
+use fwd_outside::{Disk, Ends, Files, Loop};
+use fwd_settings::{AllSettings, ends};
+use std::alloc::Global;
+use std::thread::Threads;
+
+/// Returns the report of an engine whose run ended this way.
+fn reported(alloc: Global, named: &Named, engine: &Engine, end: RunEnd) -> Result<Reported, Memory>
+    requires { IsNamedUnlessFailed named.now engine.now end }
+    ensures { (s : AllSettings) (h : History) → IsAtEnd engine.now s h end → IsNamed named.now s → IfOk result (λ reported. reported ≡ reported_by (report s h) (end_of end)) }
+{
+    let (text, ending) = match end {
+        RunEnd::Over => (report_text(alloc, named, engine)?, Ending::Over),
+        RunEnd::TurnsSpent => (report_text(alloc, named, engine)?, Ending::TurnsSpent),
+        RunEnd::LoopFailed => (Bytes::new(alloc), Ending::LoopFailed),
+    };
+    Ok(Reported { text, ending })
+}
+
+/// Returns an ending without a text.
+fn without_text(alloc: Global, ending: Ending) -> Reported
+    ensures { result ≡ record { text = []; ending = ending } }
+{
+    Reported {
+        text: Bytes::new(alloc),
+        ending,
+    }
+}
+
+/// Runs an engine that has begun.
+fn run_engine<L: Loop, D: Disk, F: Files>(
+    rt: &(impl Threads + Sync),
+    alloc: Global,
+    named: &Named,
+    engine: &mut Engine,
+    ends: &Ends,
+    ticks: Option<u64>,
+    disk: &mut D,
+    files: &mut F,
+    outside: &mut L,
+    most: u64,
+) -> Result<Reported, Memory>
+    requires { IsNamedOf named.now engine.old }
+    ensures run { (others : CallLogs) (s : AllSettings) (h : History) → IsAt engine.old s h → IsNamed named.now s → ActionProduces s (after_recovery s ends.now ticks most (Some h)) (with_all (L.call_log outside.old) (D.call_log disk.old) (F.call_log files.old) others) (with_all (L.call_log outside.new) (D.call_log disk.new) (F.call_log files.new) others) result }
+    ensures heard { EventsTaken (heard_in most (ending_of result)) (L.counts outside.old) (L.counts outside.new) }
+    ensures loop_cause { HasCause (L.faults outside.old) (L.faults outside.new) (ending_of result ≡ ending.LoopFailed) }
+    ensures disk_cause { HasCause (D.faults disk.old) (D.faults disk.new) (ending_of result ≡ ending.DiskFailed) }
+    ensures files_later { F.faults files.old ≤ F.faults files.new }
+{
+    match run(rt, engine, ends, ticks, disk, files, outside, most) {
+        Ok(end) => reported(alloc, named, engine, end),
+        Err(Memory) => Err(Memory),
+    }
+}
+
+/// Runs an engine that has begun, and drops the settings that it gives back.
+fn run_and_drop<L: Loop, D: Disk, F: Files>(
+    rt: &(impl Threads + Sync),
+    alloc: Global,
+    named: &Named,
+    mut engine: Engine,
+    ends: &Ends,
+    ticks: Option<u64>,
+    disk: &mut D,
+    files: &mut F,
+    outside: &mut L,
+    most: u64,
+) -> Result<Reported, Memory>
+    requires { IsNamedOf named.now engine }
+    ensures run { (others : CallLogs) (s : AllSettings) (h : History) → IsAt engine s h → IsNamed named.now s → ActionProduces s (after_recovery s ends.now ticks most (Some h)) (with_all (L.call_log outside.old) (D.call_log disk.old) (F.call_log files.old) others) (with_all (L.call_log outside.new) (D.call_log disk.new) (F.call_log files.new) others) result }
+    ensures heard { EventsTaken (heard_in most (ending_of result)) (L.counts outside.old) (L.counts outside.new) }
+    ensures loop_cause { HasCause (L.faults outside.old) (L.faults outside.new) (ending_of result ≡ ending.LoopFailed) }
+    ensures disk_cause { HasCause (D.faults disk.old) (D.faults disk.new) (ending_of result ≡ ending.DiskFailed) }
+    ensures files_later { F.faults files.old ≤ F.faults files.new }
+{
+    let call_log = run_engine(
+        rt,
+        alloc,
+        named,
+        &mut engine,
+        ends,
+        ticks,
+        disk,
+        files,
+        outside,
+        most,
+    );
+    let _given_back = engine.finish();
+    call_log
+}
+
+/// Begins an engine with the names and endpoints of its settings, and runs it.
+fn begin_and_run<L: Loop, D: Disk, F: Files>(
+    rt: &(impl Threads + Sync),
+    alloc: Global,
+    named: &Named,
+    settings: AllSettings,
+    ends: &Ends,
+    ticks: Option<u64>,
+    disk: &mut D,
+    files: &mut F,
+    outside: &mut L,
+    most: u64,
+) -> Result<Reported, Memory>
+    requires sound { MeetsRequirements settings }
+    requires named { IsNamed named.now settings }
+    requires ends { ends.now ≡ ends_of settings }
+    ensures life { (others : CallLogs) → RunProduces settings ticks most (with_all (L.call_log outside.old) (D.call_log disk.old) (F.call_log files.old) others) (with_all (L.call_log outside.new) (D.call_log disk.new) (F.call_log files.new) others) result }
+    ensures heard { EventsTaken (heard_in most (ending_of result)) (L.counts outside.old) (L.counts outside.new) }
+    ensures loop_cause { HasCause (L.faults outside.old) (L.faults outside.new) (ending_of result ≡ ending.LoopFailed) }
+    ensures disk_cause { HasCause (D.faults disk.old) (D.faults disk.new) (ending_of result ≡ ending.DiskFailed) }
+    ensures files_later { F.faults files.old ≤ F.faults files.new }
+{
+    match Engine::begin(rt, alloc, settings, disk) {
+        Ok(engine) => run_and_drop(
+            rt, alloc, named, engine, ends, ticks, disk, files, outside, most,
+        ),
+        Err(BeginErr::DiskFault) => Ok(without_text(alloc, Ending::DiskFailed)),
+        Err(BeginErr::Memory) => Err(Memory),
+    }
+}
+
+/// Makes the run.
+fn lived<L: Loop, D: Disk, F: Files>(
+    rt: &(impl Threads + Sync),
+    alloc: Global,
+    settings: AllSettings,
+    ticks: Option<u64>,
+    disk: &mut D,
+    files: &mut F,
+    outside: &mut L,
+    most: u64,
+) -> Result<Reported, Memory>
+    requires { MeetsRequirements settings }
+    ensures life { (others : CallLogs) → RunProduces settings ticks most (with_all (L.call_log outside.old) (D.call_log disk.old) (F.call_log files.old) others) (with_all (L.call_log outside.new) (D.call_log disk.new) (F.call_log files.new) others) result }
+    ensures heard { EventsTaken (heard_in most (ending_of result)) (L.counts outside.old) (L.counts outside.new) }
+    ensures loop_cause { HasCause (L.faults outside.old) (L.faults outside.new) (ending_of result ≡ ending.LoopFailed) }
+    ensures disk_cause { HasCause (D.faults disk.old) (D.faults disk.new) (ending_of result ≡ ending.DiskFailed) }
+    ensures files_later { F.faults files.old ≤ F.faults files.new }
+{
+    let named = Named::of(alloc, &settings, Shown::Report)?;
+    let ends = ends(alloc, &settings)?;
+    begin_and_run(
+        rt, alloc, &named, settings, &ends, ticks, disk, files, outside, most,
+    )
+}
+
+/// Runs the engine over devices with the settings of a configuration, for at most the given number of
+/// events: it loads the disk, and then takes the events of the loop. If a number of clock ticks is given,
+/// the run is stopped after the last of them. The text is the report. The ending is `DiskFailed` or
+/// `LoopFailed` only if a failure of the disk or the loop was counted, and `TurnsSpent` only if the loop
+/// returned that many events.
+pub fn run_live<L: Loop, D: Disk, F: Files>(
+    rt: &(impl Threads + Sync),
+    alloc: Global,
+    settings: AllSettings,
+    ticks: Option<u64>,
+    disk: &mut D,
+    files: &mut F,
+    outside: &mut L,
+    most: u64,
+) -> Reported
+    requires { MeetsRequirements settings }
+    ensures life { (others : CallLogs) → IsRunLive settings ticks most (with_all (L.call_log outside.old) (D.call_log disk.old) (F.call_log files.old) others) (with_all (L.call_log outside.new) (D.call_log disk.new) (F.call_log files.new) others) result }
+    ensures heard { EventsTaken (heard_in most result.ending) (L.counts outside.old) (L.counts outside.new) }
+    ensures loop_cause { HasCause (L.faults outside.old) (L.faults outside.new) (result.ending ≡ ending.LoopFailed) }
+    ensures disk_cause { HasCause (D.faults disk.old) (D.faults disk.new) (result.ending ≡ ending.DiskFailed) }
+    ensures files_later { F.faults files.old ≤ F.faults files.new }
+{
+    match lived(rt, alloc, settings, ticks, disk, files, outside, most) {
+        Ok(reported) => reported,
+        Err(Memory) => without_text(alloc, Ending::Memory),
+    }
+}

@@ -1,0 +1,131 @@
+//! The start of a run.
+
+ghost use Rattle.std.specs.Prelude.{◌≡◌, ◌++◌, map, ℕ, OnOk};
+ghost use Rattle.fwd_disk_mem.specs.declared.told.Told.TheVariants as call_log;
+ghost use Rattle.fwd_settings.specs.Endpoints.{ends_of};
+ghost use Rattle.fwd_settings.specs.Requirements.{MeetsRequirements};
+ghost use Rattle.fwd_script.specs.FilesState.{FilesState};
+ghost use Rattle.fwd_script.specs.declared.files.FilesNote.TheVariants as note;
+ghost use Rattle.fwd_script.specs.declared.schedule.Stored.{Stored};
+ghost use Rattle.fwd_replay.specs.Runs.{Start};
+ghost use Rattle.fwd_replay.specs.RunState.{EngineStarts, DevicesAreReady, IsSetUp, LoopStarts, Starts};
+
+use crate::progress::Going;
+use fwd_base::Memory;
+use fwd_disk_mem::MemDisk;
+use fwd_engine::{BeginErr, Engine};
+use fwd_outside::{Begun, Ends, Loop};
+use fwd_script::{Calls, Life, MemFiles, StoredList};
+use fwd_script_loop::Script;
+use fwd_settings::AllSettings;
+use std::alloc::Global;
+use std::thread::Threads;
+
+/// Why a run doesn't start.
+#[derive(Clone, Copy)]
+pub enum StartErr {
+    /// A call on the disk failed while it was loaded.
+    DiskFailed,
+    /// The loop couldn't start.
+    LoopFailed,
+    Memory,
+}
+
+/// Puts the files of the schedule on the disk.
+fn store(disk: &mut MemDisk, stored: &StoredList) -> Result<(), Memory>
+    ensures { OnOk result (disk.new ≡ record disk.old { calls = disk.old.calls ++ map (λ (file : Stored). call_log.Preset file.name file.bytes) stored.now }) }
+{
+    for file in stored.as_slice() {
+        disk.preset(file.name.as_slice(), file.bytes.as_slice())?;
+    }
+    Ok(())
+}
+
+/// Makes these calls on the disk fail.
+fn set_failing_disk_calls(disk: &mut MemDisk, numbers: &Calls) -> Result<(), Memory>
+    ensures { OnOk result (disk.new ≡ record disk.old { calls = disk.old.calls ++ map (λ (number : ℕ). call_log.FailAt number) numbers.now }) }
+{
+    for number in numbers.as_slice() {
+        disk.fail_at(*number)?;
+    }
+    Ok(())
+}
+
+/// Makes these calls on the files fail.
+fn set_failing_file_calls(files: &mut MemFiles, numbers: &Calls) -> Result<(), Memory>
+    ensures { OnOk result (files.new ≡ record files.old { notes = files.old.notes ++ map (λ (number : ℕ). note.FailAt number) numbers.now }) }
+{
+    for number in numbers.as_slice() {
+        files.fail_at(*number)?;
+    }
+    Ok(())
+}
+
+/// Sets up disk and files for the run.
+pub fn set_up(disk: &mut MemDisk, files: &mut MemFiles, life: &Life) -> Result<(), Memory>
+    ensures { (start : Start) → DevicesAreReady start disk.old files.old → OnOk result (IsSetUp start life.now disk.new files.new) }
+{
+    store(disk, &life.store)?;
+    set_failing_disk_calls(disk, &life.disk_fails)?;
+    set_failing_file_calls(files, &life.file_fails)
+}
+
+/// Returns the loop of a run, started with these endpoints.
+fn started_script(alloc: Global, ends: &Ends, life: &Life) -> Result<Script, StartErr>
+    ensures { LoopStarts life.now ends.now result }
+{
+    let Ok(mut script) = Script::new(alloc, life) else {
+        return Err(StartErr::Memory);
+    };
+    let begun = script.start(ends);
+    script.is_played();
+    match begun {
+        Begun::Ready => Ok(script),
+        Begun::Failed => Err(StartErr::LoopFailed),
+        Begun::Memory => Err(StartErr::Memory),
+    }
+}
+
+/// Starts the loop of a run whose engine has begun. If it can't start, drops the settings that the engine
+/// gives back.
+fn start_loop(alloc: Global, engine: Engine, ends: &Ends, life: &Life) -> Result<Going, StartErr>
+    ensures { EngineStarts life.now ends.now engine result }
+{
+    match started_script(alloc, ends, life) {
+        Ok(script) => Ok(Going {
+            engine,
+            script,
+            changed: 0,
+            taken: 0,
+        }),
+        Err(why) => {
+            let _given_back = engine.finish();
+            Err(why)
+        }
+    }
+}
+
+/// Loads the disk, and starts the loop of the run with these endpoints.
+pub fn start(
+    rt: &(impl Threads + Sync),
+    alloc: Global,
+    settings: AllSettings,
+    ends: &Ends,
+    life: &Life,
+    disk: &mut MemDisk,
+) -> Result<Going, StartErr>
+    requires { MeetsRequirements settings }
+    ensures { (begins : Start) (held : FilesState) → IsSetUp begins life.now disk.old held → ends.now ≡ ends_of settings → Starts settings begins life.now disk.new held result }
+{
+    match Engine::begin(rt, alloc, settings, disk) {
+        Ok(engine) => {
+            disk.is_played();
+            start_loop(alloc, engine, ends, life)
+        }
+        Err(BeginErr::DiskFault) => {
+            disk.is_played();
+            Err(StartErr::DiskFailed)
+        }
+        Err(BeginErr::Memory) => Err(StartErr::Memory),
+    }
+}

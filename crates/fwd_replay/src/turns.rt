@@ -1,0 +1,90 @@
+//! The turns of a run.
+
+ghost use Rattle.std.specs.Prelude.{◌≡◌, ◌<◌, ◌≤◌, ◌+◌, ◌-◌, ◌^◌, [], None, IfOk};
+ghost use Rattle.fwd_settings.specs.declared.settings_types.AllSettings.{AllSettings};
+ghost use Rattle.fwd_script.specs.FilesAnswers.{IsPlayed};
+ghost use Rattle.fwd_script.specs.MemFiles.{entries_from};
+ghost use Rattle.fwd_script.specs.declared.schedule.Life.{Life};
+ghost use Rattle.fwd_model.specs.Fact.{History};
+ghost use Rattle.fwd_engine.specs.EngineSteps.{IsAt, TurnOutcome};
+ghost use Rattle.fwd_replay.specs.Runs.{Start};
+ghost use Rattle.fwd_replay.specs.RunState.{Ended, HaveAnswered, IsReady, IsInProgress, Turned, is_out_of_memory, memory};
+
+use crate::progress::{Going, prepare};
+use fwd_base::Memory;
+use fwd_disk_mem::MemDisk;
+use fwd_engine::{EngineStop, Turn};
+use fwd_script::{Cut, Life, MemFiles};
+use std::thread::Threads;
+
+/// How the turns of a run ended.
+#[derive(Clone, Copy)]
+pub enum TurnsEnd {
+    /// The run is over.
+    Over,
+    /// This crash is to cut it in its next turn, whose changes are made.
+    Cut(Cut),
+    /// The loop failed.
+    LoopFailed,
+    /// All turns are taken.
+    TurnsSpent,
+}
+
+/// Takes a turn and counts it, whatever its result.
+pub fn take(
+    rt: &(impl Threads + Sync),
+    going: &mut Going,
+    disk: &mut MemDisk,
+    files: &mut MemFiles,
+) -> Result<Turn, EngineStop>
+    requires { going.old.taken < 2 ^ 64 - 1 }
+    ensures turned { (s : AllSettings) (start : Start) (planned : Life) → IsReady s start planned going.old disk.old files.old None → Turned s start planned going.new disk.new files.new result }
+    ensures turns { (s : AllSettings) (h : History) → IsAt going.old.engine s h → TurnOutcome (memory going.old.script disk.old files.old) (memory going.new.script disk.new files.new) s h going.new.engine result }
+    ensures played { HaveAnswered going.new.script disk.new }
+    ensures files { IsPlayed files.new.given [] (entries_from files.new.given files.new.notes) }
+    ensures taken { going.new.taken ≡ going.old.taken + 1 }
+{
+    going.taken += 1;
+    let turn = going.engine.turn(rt, disk, files, &mut going.script);
+    going.script.is_played();
+    disk.is_played();
+    files.is_played();
+    turn
+}
+
+/// Returns whether memory ran out in a turn.
+pub fn is_out_of_memory(turn: Result<Turn, EngineStop>) -> bool
+    ensures { result ≡ is_out_of_memory turn }
+{
+    match turn {
+        Ok(_) | Err(EngineStop::LoopFault) => false,
+        Err(EngineStop::Memory) => true,
+    }
+}
+
+/// Takes at most `most` turns, until the run is over or is to be cut.
+pub fn take_turns(
+    rt: &(impl Threads + Sync),
+    going: &mut Going,
+    life: &Life,
+    disk: &mut MemDisk,
+    files: &mut MemFiles,
+    most: u64,
+) -> Result<TurnsEnd, Memory>
+    requires { going.old.taken ≡ 0 }
+    ensures ended { (s : AllSettings) (start : Start) → IsInProgress s start life.now going.old disk.old files.old → IfOk result (Ended s start life.now most going.new disk.new files.new) }
+    ensures taken { going.new.taken ≤ most }
+{
+    for _ in 0..most {
+        if let Some(cut) = prepare(going, life, files)? {
+            return Ok(TurnsEnd::Cut(cut));
+        }
+        match take(rt, going, disk, files) {
+            Ok(Turn::More) => {}
+            Ok(Turn::Over) => return Ok(TurnsEnd::Over),
+            Err(EngineStop::LoopFault) => return Ok(TurnsEnd::LoopFailed),
+            Err(EngineStop::Memory) => return Err(Memory),
+        }
+    }
+    Ok(TurnsEnd::TurnsSpent)
+}

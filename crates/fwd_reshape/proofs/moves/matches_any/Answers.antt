@@ -1,0 +1,18 @@
+use Rattle.std.proofs.Common.{◌≡◌, ◌∙◌, sym, ap, Bool, refl, rules, tests}
+use Rattle.std.specs.List.{list_any}
+use Rattle.std.specs.Slice.Iter.{iter_rest}
+use Rattle.std.proofs.lemmas.Iterator.{YieldsList-from_slice}
+use Rattle.std.proofs.lemmas.Iterator.Search.{any_from_yields_List}
+use Rattle.fwd_value.specs.Val.{Val}
+use Rattle.fwd_value.specs.View.{pair_of}
+use Rattle.fwd_reshape.specs.Moves.{is_matched}
+use Rattle.fwd_value.proofs.MappedLists.{list_any-map}
+use Rattle.fwd_reshape.proofs.moves.matches_any.Goals as goal
+
+pub returns : goal.returns
+returns c =
+    let test : Val × Val → Bool = λ p. is_matched c.args.wildcards.now p.0 in
+    let items = iter_rest c.iter.result in
+    let of_items : c.any.result ≡ list_any (λ p. test (pair_of p)) items =
+    any_from_yields_List (λ p. test (pair_of p)) _ _ c.any.result c.any.ensures.ran (YieldsList-from_slice items refl) (λ x b q k. search (rules, tests)) in
+    of_items ∙ sym (list_any-map pair_of test items) ∙ ap (list_any test) c.iter.ensures

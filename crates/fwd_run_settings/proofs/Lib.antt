@@ -1,3 +1,0 @@
-mod Matching
-mod Owing
-mod Naming

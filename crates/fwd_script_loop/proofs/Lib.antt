@@ -1,0 +1,11 @@
+pub mod FirstMatches
+pub mod ClockReadings
+pub mod OutputAnswers
+pub mod PlayedCalls
+pub mod MaskBits
+pub mod LineSteps
+pub mod AnswerSteps
+pub mod EventQueue
+pub mod LinkByteSteps
+pub mod ChangesOfLines
+pub mod EventPlaces

@@ -1,0 +1,14 @@
+pub mod FirstMatch
+pub mod PauseMask
+pub mod QueueInvariant
+pub mod Lines
+pub mod LinesLeft
+pub mod RunEvents
+pub mod AnswerQueues
+pub mod Place
+pub mod AnswersLeft
+pub mod Told
+pub mod FaultCount
+pub mod ScriptState
+pub mod ScriptRun
+pub mod LinkBytes

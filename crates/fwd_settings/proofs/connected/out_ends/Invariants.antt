@@ -1,6 +1,0 @@
-use Rattle.std.proofs.Common.{◌≡◌, map, take}
-use Rattle.fwd_settings.specs.Ends.{out_end_of}
-use Rattle.fwd_settings.proofs.connected.out_ends.Given as goal
-
-abbrev pub invariant-loop-set : goal.invariant-loop-set
-invariant-loop-set l = l.ends ≡ map (λ set. out_end_of set.kind) (take l.set-index l.outputs)

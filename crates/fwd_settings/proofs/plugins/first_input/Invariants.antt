@@ -1,7 +1,0 @@
-use Rattle.std.proofs.Common.{◌≡◌, drop}
-use Rattle.std.specs.List.{find}
-use Rattle.fwd_settings.specs.Keys.{is_input_named}
-use Rattle.fwd_settings.proofs.plugins.first_input.Given as goal
-
-abbrev pub invariant-loop-plugin : goal.invariant-loop-plugin
-invariant-loop-plugin l = find (is_input_named l.name) l.plugins ≡ find (is_input_named l.name) (drop l.plugin-index l.plugins)

@@ -1,7 +1,0 @@
-use Rattle.std.proofs.Common.{◌≡◌}
-use Rattle.std.specs.List.{filter_map}
-use Rattle.fwd_settings.specs.Said.{condition_in, change_in}
-use Rattle.fwd_settings.proofs.said.modify_rules.Given as goal
-
-abbrev pub invariant-loop-item : goal.invariant-loop-item
-invariant-loop-item l = (l.rules.conditions ≡ filter_map condition_in l.yielded) × (l.rules.rules ≡ filter_map change_in l.yielded)

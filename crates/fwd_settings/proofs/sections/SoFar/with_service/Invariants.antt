@@ -1,5 +1,0 @@
-use Rattle.std.proofs.Common.{◌≡◌, ◌++◌}
-use Rattle.fwd_settings.proofs.sections.SoFar.with_service.Given as goal
-
-abbrev pub invariant-loop-item : goal.invariant-loop-item
-invariant-loop-item l = l.so_far ≡ record l.fn.self { service = l.fn.self.service ++ l.yielded }

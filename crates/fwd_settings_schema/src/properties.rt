@@ -1,0 +1,268 @@
+//! The entries of a section with the values read for them.
+
+ghost use Rattle.std.specs.Prelude.{◌≡◌, ◌++◌, ◌∷◌, [], IfOk, OnOk, unwrap_or};
+ghost use Rattle.std.specs.Option.{option_copied};
+ghost use Rattle.std.specs.List.{filter_map, last_or};
+ghost use Rattle.fwd_settings_schema.specs.Property.{last_value, number_at, port_at, truth_at, word_at, text_at, retries_at, last_in, pattern_in, parser_in, grep_in, condition_in, change_in, wildcard_in};
+
+use crate::keys::Key;
+use crate::words::Word;
+use fwd_base::{Bytes, Items, Memory, Names, Pattern, Retries};
+use fwd_grep::{GrepRule, GrepRules};
+use fwd_parser::Parser;
+use fwd_reshape::{Change, Changes, Condition, Conditions, ModifyRules};
+use std::alloc::Global;
+
+/// The value read for an entry.
+#[derive(Drop)]
+pub enum Value {
+    Nothing,
+    Number(u64),
+    Port(u16),
+    Truth(bool),
+    Word(Word),
+    Text(Bytes),
+    Retries(Retries),
+    Pattern(Pattern),
+    Parser(Parser),
+    Grep(GrepRule),
+    Condition(Condition),
+    Change(Change),
+    Wildcard(Bytes),
+}
+
+/// An entry: its key and the value read for it.
+#[derive(Drop)]
+pub struct Property {
+    pub key: Key,
+    pub value: Value,
+}
+
+/// Entries, in order.
+pub type Properties = Items<Property>;
+
+/// Returns the value of the last entry with a key.
+fn last_value(properties: &[Property], key: Key) -> Option<&Value>
+    ensures { option_copied result ≡ last_value key properties.now }
+{
+    let mut last = None;
+    for item in properties {
+        if key.is_written_as(item.key) {
+            last = Some(&item.value);
+        }
+    }
+    last
+}
+
+pub fn number_at(properties: &[Property], key: Key) -> Option<u64>
+    ensures { result ≡ number_at key properties.now }
+{
+    match last_value(properties, key) {
+        Some(Value::Number(number)) => Some(*number),
+        _ => None,
+    }
+}
+
+pub fn port_at(properties: &[Property], key: Key) -> Option<u16>
+    ensures { result ≡ port_at key properties.now }
+{
+    match last_value(properties, key) {
+        Some(Value::Port(port)) => Some(*port),
+        _ => None,
+    }
+}
+
+pub fn truth_at(properties: &[Property], key: Key) -> Option<bool>
+    ensures { result ≡ truth_at key properties.now }
+{
+    match last_value(properties, key) {
+        Some(Value::Truth(truth)) => Some(*truth),
+        _ => None,
+    }
+}
+
+pub fn word_at(properties: &[Property], key: Key) -> Option<Word>
+    ensures { result ≡ word_at key properties.now }
+{
+    match last_value(properties, key) {
+        Some(Value::Word(word)) => Some(*word),
+        _ => None,
+    }
+}
+
+pub fn retries_at(properties: &[Property], key: Key) -> Option<Retries>
+    ensures { result ≡ retries_at key properties.now }
+{
+    match last_value(properties, key) {
+        Some(Value::Retries(retries)) => Some(*retries),
+        _ => None,
+    }
+}
+
+/// Returns the text of the last entry with a key.
+pub fn text_at(properties: &[Property], key: Key) -> Option<&[u8]>
+    ensures { option_copied result ≡ text_at key properties.now }
+{
+    match last_value(properties, key) {
+        Some(Value::Text(text)) => Some(text.as_slice()),
+        _ => None,
+    }
+}
+
+/// Returns a copy of the text of the last entry with a key.
+pub fn own_text(alloc: Global, properties: &[Property], key: Key) -> Result<Option<Bytes>, Memory>
+    ensures { IfOk result (λ text. text ≡ text_at key properties.now) }
+{
+    match text_at(properties, key) {
+        Some(text) => Ok(Some(Bytes::from_slice(alloc, text)?)),
+        None => Ok(None),
+    }
+}
+
+/// Returns a copy of the text of the last entry with a key, or of a default.
+pub fn text_or(
+    alloc: Global,
+    properties: &[Property],
+    key: Key,
+    default: &[u8],
+) -> Result<Bytes, Memory>
+    ensures { IfOk result (λ text. text ≡ unwrap_or (text_at key properties.now) default.now) }
+{
+    match text_at(properties, key) {
+        Some(text) => Bytes::from_slice(alloc, text),
+        None => Bytes::from_slice(alloc, default),
+    }
+}
+
+/// Returns the pattern of an entry, or the one before.
+fn later_pattern(before: Option<Pattern>, item: Property) -> Option<Pattern>
+    ensures { result ≡ last_or before (filter_map pattern_in (item ∷ [])) }
+{
+    let Property { key: _, value } = item;
+    match value {
+        Value::Pattern(pattern) => {
+            drop(before);
+            Some(pattern)
+        }
+        other => {
+            drop(other);
+            before
+        }
+    }
+}
+
+/// Returns the last pattern.
+pub fn last_pattern(properties: Properties) -> Option<Pattern>
+    ensures { result ≡ last_in pattern_in properties }
+{
+    let mut pattern = None;
+    for item in properties.into_vec() {
+        pattern = later_pattern(pattern, item);
+    }
+    pattern
+}
+
+/// Returns the parser of an entry, or the one before.
+fn later_parser(before: Option<Parser>, item: Property) -> Option<Parser>
+    ensures { result ≡ last_or before (filter_map parser_in (item ∷ [])) }
+{
+    let Property { key: _, value } = item;
+    match value {
+        Value::Parser(parser) => {
+            drop(before);
+            Some(parser)
+        }
+        other => {
+            drop(other);
+            before
+        }
+    }
+}
+
+/// Returns the last parser.
+pub fn last_parser(properties: Properties) -> Option<Parser>
+    ensures { result ≡ last_in parser_in properties }
+{
+    let mut parser = None;
+    for item in properties.into_vec() {
+        parser = later_parser(parser, item);
+    }
+    parser
+}
+
+/// Appends the rule of an entry, if it has one.
+fn push_grep(rules: &mut GrepRules, item: Property) -> Result<(), Memory>
+    ensures { OnOk result (rules.new ≡ rules.old ++ filter_map grep_in (item ∷ [])) }
+{
+    let Property { key: _, value } = item;
+    match value {
+        Value::Grep(rule) => rules.push(rule),
+        other => {
+            drop(other);
+            Ok(())
+        }
+    }
+}
+
+/// Returns the rules of `grep`, in order.
+pub fn grep_rules(alloc: Global, properties: Properties) -> Result<GrepRules, Memory>
+    ensures { IfOk result (λ rules. rules ≡ filter_map grep_in properties) }
+{
+    let mut rules = GrepRules::new(alloc);
+    for item in properties.into_vec() {
+        push_grep(&mut rules, item)?;
+    }
+    Ok(rules)
+}
+
+/// Appends the condition or the change of an entry, if it has one.
+fn push_modify(rules: &mut ModifyRules, item: Property) -> Result<(), Memory>
+    ensures conditions { OnOk result (rules.new.conditions ≡ rules.old.conditions ++ filter_map condition_in (item ∷ [])) }
+    ensures changes { OnOk result (rules.new.rules ≡ rules.old.rules ++ filter_map change_in (item ∷ [])) }
+{
+    let Property { key: _, value } = item;
+    match value {
+        Value::Condition(condition) => rules.conditions.push(condition),
+        Value::Change(change) => rules.rules.push(change),
+        other => {
+            drop(other);
+            Ok(())
+        }
+    }
+}
+
+/// Returns the conditions and the changes of `modify`, in order.
+pub fn modify_rules(alloc: Global, properties: Properties) -> Result<ModifyRules, Memory>
+    ensures conditions { IfOk result (λ rules. rules.conditions ≡ filter_map condition_in properties) }
+    ensures changes { IfOk result (λ rules. rules.rules ≡ filter_map change_in properties) }
+{
+    let mut rules = ModifyRules {
+        conditions: Conditions::new(alloc),
+        rules: Changes::new(alloc),
+    };
+    for item in properties.into_vec() {
+        push_modify(&mut rules, item)?;
+    }
+    Ok(rules)
+}
+
+/// Appends the wildcard of an entry, if it has one.
+fn push_wildcard(alloc: Global, names: &mut Names, item: &Property) -> Result<(), Memory>
+    ensures { OnOk result (names.new ≡ names.old ++ filter_map wildcard_in (item.now ∷ [])) }
+{
+    match &item.value {
+        Value::Wildcard(name) => names.push(name.try_clone(alloc)?),
+        _ => Ok(()),
+    }
+}
+
+/// Returns the wildcards of `nest`, in order.
+pub fn wildcards(alloc: Global, properties: &[Property]) -> Result<Names, Memory>
+    ensures { IfOk result (λ names. names ≡ filter_map wildcard_in properties.now) }
+{
+    let mut names = Names::new(alloc);
+    for item in properties {
+        push_wildcard(alloc, &mut names, item)?;
+    }
+    Ok(names)
+}

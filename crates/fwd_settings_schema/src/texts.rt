@@ -1,0 +1,82 @@
+//! Tests on texts, and parts of texts.
+
+ghost use Rattle.std.specs.Prelude.{◌≡◌, IfOk};
+ghost use Rattle.std.specs.Str.{str_eq_ignore_ascii_case};
+ghost use Rattle.fwd_settings_schema.specs.Text.{is_tag_text, is_plain_text, is_visible_text, is_uri_text, is_one_of, parts_of, first_word, rest};
+
+use fwd_base::limits::LONGEST_TAG;
+use fwd_base::{Bytes, Memory, Names, index_of_blank, is_utf8, skip_blanks};
+use std::alloc::Global;
+use std::mem;
+
+/// Returns whether a text may be a tag: 1 to 1,024 bytes of UTF-8.
+pub fn is_tag(text: &[u8]) -> bool
+    ensures { result ≡ is_tag_text text.now }
+{
+    !text.is_empty() && text.len() <= LONGEST_TAG && is_utf8(text)
+}
+
+/// Returns whether two names are the same, case ignored.
+pub fn same_name(name: &[u8], other: &[u8]) -> bool
+    ensures { result ≡ str_eq_ignore_ascii_case name.now other.now }
+{
+    name.eq_ignore_ascii_case(other)
+}
+
+/// Returns whether a text has only visible ASCII characters.
+pub fn is_visible(text: &[u8]) -> bool
+    ensures { result ≡ is_visible_text text.now }
+{
+    text.iter().all(|byte| byte.is_ascii_graphic())
+}
+
+/// Returns whether a text may be the URI of a request: a slash, then only visible ASCII characters.
+pub fn is_uri(text: &[u8]) -> bool
+    ensures { result ≡ is_uri_text text.now }
+{
+    match text {
+        [b'/', rest @ ..] => is_visible(rest),
+        _ => false,
+    }
+}
+
+/// Returns whether a text has no star.
+pub fn is_plain(text: &[u8]) -> bool
+    ensures { result ≡ is_plain_text text.now }
+{
+    !is_one_of(text, b'*')
+}
+
+fn is_one_of(some: &[u8], byte: u8) -> bool
+    ensures { result ≡ is_one_of some.now byte }
+{
+    some.iter().any(|other| byte == *other)
+}
+
+/// Returns the parts of a text between separators, also the empty ones.
+pub fn parts_at(alloc: Global, separators: &[u8], text: &[u8]) -> Result<Names, Memory>
+    ensures { IfOk result (λ parts. parts ≡ parts_of separators.now text.now) }
+{
+    let mut parts = Names::new(alloc);
+    let mut part = Bytes::new(alloc);
+    for byte in text {
+        if is_one_of(separators, *byte) {
+            let whole = mem::replace(&mut part, Bytes::new(alloc));
+            parts.push(whole)?;
+            continue;
+        }
+        part.push(*byte)?;
+    }
+    parts.push(part)?;
+    Ok(parts)
+}
+
+/// Returns a text's first word, and what follows it and the blanks after it.
+pub fn split_word(text: &[u8]) -> (&[u8], &[u8])
+    ensures word { result.0.now ≡ first_word text.now }
+    ensures rest { result.1.now ≡ rest text.now }
+{
+    let text = skip_blanks(text);
+    let end = index_of_blank(text);
+    (&text[..end], skip_blanks(&text[end..]))
+}

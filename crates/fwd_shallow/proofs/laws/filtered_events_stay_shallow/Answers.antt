@@ -1,7 +1,0 @@
-use Rattle.fwd_filters.specs.Through.{matching, filtered}
-use Rattle.fwd_shallow.proofs.Shallow.{all_pass, all_tell}
-use Rattle.fwd_shallow.proofs.Filtered.{filtered_shallow}
-use Rattle.fwd_shallow.proofs.laws.filtered_events_stay_shallow.Goals as goal
-
-pub returns : goal.returns
-returns c steps tag events are = all_pass (filtered steps tag events) (filtered_shallow (matching tag steps) events (all_tell events are))

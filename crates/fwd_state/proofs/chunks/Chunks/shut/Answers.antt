@@ -1,7 +1,0 @@
-use Rattle.std.proofs.Common.{refl}
-use Rattle.fwd_table.specs.Rows.{shut_at}
-use Rattle.fwd_state.proofs.Numbers.{at_most_on_chunk}
-use Rattle.fwd_state.proofs.chunks.Chunks.shut.Goals as goal
-
-pub invariant_of-self : goal.invariant_of-self
-invariant_of-self c = rw c.shut.ensures.rows (at_most_on_chunk _ c.args.chunk (shut_at c.args.now) (λ row. refl) _ c.self.invariant)

@@ -1,7 +1,0 @@
-use Rattle.fwd_written.specs.Fact.{Retries}
-use Rattle.fwd_state.specs.declared.changes.OutputChange.TheVariants as change
-use Rattle.fwd_state.proofs.Counted.{retried_each, route_counted}
-use Rattle.fwd_state.proofs.counts.Counts.retried.Goals as goal
-
-pub returns : goal.returns
-returns c s h r wait to is = route_counted change.Retried (Retries wait) s h r c.args.output.0 _ _ (retried_each r wait h) to is c.change_output.ensures

@@ -1,5 +1,0 @@
-use Rattle.fwd_limits.proofs.Masks.{MaskBelow}
-use Rattle.fwd_state.proofs.pausing.all_below.Given as goal
-
-abbrev pub invariant-loop-i : goal.invariant-loop-i
-invariant-loop-i l = MaskBelow l.i (λ i. Unit {0}) l.mask

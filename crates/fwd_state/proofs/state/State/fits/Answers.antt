@@ -1,8 +1,0 @@
-use Rattle.std.proofs.Common.{List, ◌∙◌, ap}
-use Rattle.fwd_table.specs.Rows.{row_at}
-use Rattle.fwd_table.specs.declared.row.Row.{Row}
-use Rattle.fwd_written.specs.Walk.{fits_row}
-use Rattle.fwd_state.proofs.state.State.fits.Goals as goal
-
-pub returns : goal.returns
-returns c s h out before up backlog = c.fits_in.ensures s up backlog ∙ ap (λ (rows : List Row). fits_row s rows (row_at c.args.route.chunk rows)) (c.table.ensures ∙ before.rows)

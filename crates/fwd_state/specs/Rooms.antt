@@ -1,9 +1,0 @@
--- Whether a chunk has room beside those that are in flight, by what is seen of its row.
-use Rattle.std.specs.Prelude.{ℕ, ◌+◌, ◌==◌, ◌&&◌, ◌||◌, nat_lt, nat_le, not, Bool, List}
-use Rattle.fwd_table.specs.declared.row.Row.{Row}
-use Rattle.fwd_table.specs.declared.row.RowSeen.{RowSeen}
-use Rattle.fwd_table.specs.Kept.{is_file, is_nobody, files_up, found_up}
-
-abbrev pub fits_seen : ℕ → ℕ → List Row → RowSeen → Bool
-fits_seen max_up limit rows seen =
-    not (is_file seen.home) || (not (seen.flying == 0) || (nat_lt (files_up rows) max_up && (not (is_nobody seen.input) || (nat_le (found_up rows + seen.size) limit || found_up rows == 0))))

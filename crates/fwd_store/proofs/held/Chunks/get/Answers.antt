@@ -1,9 +1,0 @@
-use Rattle.std.proofs.Common.{ap, sym, ◌∙◌}
-use Rattle.std.specs.FinMap as map
-use Rattle.fwd_store.specs.Stored.{HeldList}
-use Rattle.fwd_store.proofs.Holding.{get_held}
-use Rattle.fwd_store.proofs.held.Chunks.get.Goals as goal
-
-pub returns : goal.returns
-returns c =
-    c.get.ensures.value ∙ sym (get_held c.self.inside.chunks.entries c.args.number) ∙ ap (λ (h : HeldList). map.get h.list c.args.number) c.self.view_is

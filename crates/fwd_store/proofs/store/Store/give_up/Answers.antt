@@ -1,5 +1,0 @@
-use Rattle.fwd_store.proofs.Sound.{sound_sealed}
-use Rattle.fwd_store.proofs.store.Store.give_up.Goals as goal
-
-pub invariant_of-self : goal.invariant_of-self
-invariant_of-self c = rw c.close.ensures (sound_sealed _ c.args.number c.self.invariant)

@@ -1,0 +1,5 @@
+use Rattle.fwd_store.proofs.Invariant.{sound_sealed}
+use Rattle.fwd_store.proofs.store.Store.seal_chunk.Goals as goal
+
+pub invariant_of-self : goal.invariant_of-self
+invariant_of-self c = rw c.close.ensures (sound_sealed _ c.args.number c.self.invariant)

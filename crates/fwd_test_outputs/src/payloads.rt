@@ -1,0 +1,98 @@
+//! Payloads of outputs.
+
+ghost use Rattle.std.specs.Prelude.{IsTrue, All};
+ghost use Rattle.fwd_event.specs.Event.{EventFits};
+
+use fwd_base::{Bytes, Form, Memory};
+use fwd_event::{Events, can_write, read_events};
+use fwd_out_http::payload_http;
+use fwd_out_text::{payload_of_content, payload_text};
+use fwd_test_rows::put_bytes;
+use std::alloc::Global;
+
+fn form(word: &[u8]) -> Form {
+    match str::from_utf8(word).unwrap_or("") {
+        "json_lines" => Form::JsonLines,
+        "msgpack" => Form::MsgPack,
+        _ => Form::OutFile,
+    }
+}
+
+fn can_write_all(events: &Events) -> bool
+    ensures { IsTrue result → All EventFits events.now }
+{
+    for event in events.as_slice() {
+        if !can_write(event) {
+            return false;
+        }
+    }
+    true
+}
+
+/// Whether the payload of a list of events is this one.
+fn is_payload(alloc: Global, form: Form, events: &Events, payload: &[u8]) -> Result<bool, Memory> {
+    if !can_write_all(events) {
+        return Ok(false);
+    }
+    let other = payload_text(alloc, form, b"app", events)?;
+    Ok(other.as_slice() == payload)
+}
+
+/// Whether the events of a content have this payload.
+fn agrees(alloc: Global, form: Form, content: &[u8], payload: &[u8]) -> Result<bool, Memory> {
+    match read_events(alloc, content) {
+        Ok(events) => is_payload(alloc, form, &events, payload),
+        Err(_) => Ok(false),
+    }
+}
+
+fn put_payload(
+    alloc: Global,
+    out: &mut String,
+    form: Form,
+    content: &[u8],
+    payload: &[u8],
+) -> Result<(), Memory> {
+    put_bytes(out, payload)?;
+    if !agrees(alloc, form, content, payload)? {
+        out.push_str(" (another of its events)")?;
+    }
+    Ok(())
+}
+
+/// Appends the payload of a chunk's content with the tag `app`, and whether that of its events is another.
+pub fn put_content(
+    alloc: Global,
+    out: &mut String,
+    word: &[u8],
+    content: &[u8],
+) -> Result<(), Memory> {
+    match payload_of_content(alloc, form(word), b"app", content)? {
+        Some(payload) => put_payload(alloc, out, form(word), content, payload.as_slice()),
+        None => Ok(out.push_str("no events")?),
+    }
+}
+
+fn put_http(alloc: Global, out: &mut String, form: Form, events: &Events) -> Result<(), Memory> {
+    if !can_write_all(events) {
+        return Ok(());
+    }
+    let request = payload_http(alloc, b"127.0.0.1", 8080, b"/in", form, b"app", events)?;
+    put_bytes(out, request.as_slice())
+}
+
+/// Appends the request that posts events to `/in` of 127.0.0.1:8080.
+pub fn put_request(
+    alloc: Global,
+    out: &mut String,
+    word: &[u8],
+    content: &[u8],
+) -> Result<(), Memory> {
+    match read_events(alloc, content) {
+        Ok(events) => put_http(alloc, out, form(word), &events),
+        Err(error) => {
+            write!(out, "{error}")?;
+            Ok(())
+        }
+    }
+}

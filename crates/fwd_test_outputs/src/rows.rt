@@ -1,0 +1,44 @@
+//! What each operation prints.
+
+use crate::messages::{put_forward, put_message, put_pieces, put_stream};
+use crate::payloads::{put_content, put_request};
+use crate::replies::{put_ack, put_id, put_reply, put_wait};
+use fwd_base::{Bytes, Memory};
+use fwd_test_rows::{argument, arguments};
+use std::alloc::Global;
+
+/// Appends what comes of an operation; the row itself if it begins with none.
+fn put_answer(
+    alloc: Global,
+    out: &mut String,
+    row: &str,
+    arguments: &[Bytes],
+) -> Result<(), Memory> {
+    let first = argument(arguments, 1);
+    let second = argument(arguments, 2);
+    match str::from_utf8(argument(arguments, 0)).unwrap_or("") {
+        "message" => put_message(alloc, out, first),
+        "stream" => put_stream(alloc, out, arguments.get(1..).unwrap_or(&[])),
+        "pieces" => put_pieces(alloc, out, first, second),
+        "forward" => put_forward(alloc, out, first, second),
+        "payload" => put_content(alloc, out, first, second),
+        "request" => put_request(alloc, out, first, second),
+        "reply" => put_reply(alloc, out, first),
+        "ack" => put_ack(alloc, out, first, second),
+        "id" => put_id(alloc, out, first, second),
+        "wait" => put_wait(out, arguments),
+        _ => Ok(out.push_str(row)?),
+    }
+}
+
+fn put_row(alloc: Global, out: &mut String, row: &str) -> Result<(), Memory> {
+    let arguments = arguments(alloc, row)?;
+    put_answer(alloc, out, row, arguments.as_slice())
+}
+
+/// What comes of a row.
+pub fn answer(alloc: Global, row: &str) -> Result<String, Memory> {
+    let mut out = String::new(alloc);
+    put_row(alloc, &mut out, row)?;
+    Ok(out)
+}

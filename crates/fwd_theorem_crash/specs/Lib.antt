@@ -1,0 +1,7 @@
+pub mod CrashPoint
+pub mod RecordedOutcomes
+pub mod ChunkFile
+pub mod Safety
+pub mod Recovery
+pub mod FlushEvents
+pub mod StepBoundaries

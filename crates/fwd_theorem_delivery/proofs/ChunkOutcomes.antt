@@ -1,0 +1,67 @@
+-- What became of a chunk for each output.
+use Rattle.std.proofs.Common.{◌≡◌, inl, inr, ⊎_elim, ℕ, not, Bool, true, false, List, [], ◌∷◌, map, filter, length, refl, subst, arith}
+use Rattle.std.specs.Prelude.{Contains, ◌==◌}
+use Rattle.std.proofs.lemmas.Bool.{eqb-true}
+use Rattle.fwd_outside.specs.Loop.{LoopEntry}
+use Rattle.fwd_table.specs.declared.route.Route.{Route as Owed}
+use Rattle.fwd_settings.specs.declared.settings_types.AllSettings.{AllSettings}
+use Rattle.fwd_model.specs.Fact.{Fact, History, Route, OnRoute, Delivered, Failed, Exhausted, Evicted}
+use Rattle.fwd_model.specs.Chunks.{ChunkInfo, chunks_of}
+use Rattle.fwd_model.specs.Routes.{route, is_resolved, owed, is_owed, table_route, row_of}
+use Rattle.fwd_theorem_trace.specs.Resolution.{IsResolved}
+use Rattle.fwd_theorem_trace.specs.Resolution.{IsDelivered as WasDelivered, IsFailed as WasFailed, IsExhausted as WasSpent, IsEvicted as WasLost, IsMarkedDone as WasRecorded}
+use Rattle.fwd_theorem_trace.proofs.Members.{here, deeper, either, in_filter}
+use Rattle.fwd_theorem_delivery.specs.LinkOutcomes.{IsLogged, SendsAll, IsRejected, HasRetryCause}
+use Rattle.fwd_theorem_delivery.specs.Guarantee.{IsReported, IsAccountedFor, IsDelivered, IsFailed, IsExhausted, IsEvicted, IsMarkedDone, IsPending}
+
+noted_of : (fact : Fact) (h : History) → Contains h fact → IsLogged fact h
+noted_of fact [] has = absurd (omega (arith, has.1))
+noted_of fact (other ∷ h) has = ⊎_elim (λ (same : other ≡ fact). inl same) (λ (later : Contains h fact). inr (noted_of fact h later)) (either other h fact has)
+
+in_map : {X Y : Type 0} (f : X → Y) (xs : List X) (x : X) → Contains xs x → Contains (map f xs) (f x)
+in_map f [] x has = absurd (omega (arith, has.1))
+in_map {X = X} f (y ∷ xs) x has =
+    ⊎_elim (λ (same : y ≡ x). subst (λ (z : X). Contains (map f (y ∷ xs)) (f z)) same (here (f y) (map f xs)))
+    (λ (later : Contains xs x). deeper (f y) (map f xs) (f x) (in_map f xs x later)) (either y xs x has)
+
+some_of : (xs : List ℕ) (x : ℕ) → Contains xs x → not (length xs == 0) ≡ true
+some_of xs x has = by (length xs == 0) refl
+  where
+    by : (b : Bool) → length xs == 0 ≡ b → not b ≡ true
+    by true none = absurd (omega (arith, eqb-true (length xs) 0 none, has.1))
+    by false none = refl
+
+-- a chunk that is pending for an output is in the report
+reported : (s : AllSettings) (h : History) (c : ChunkInfo) (output : ℕ) → Contains (chunks_of h) c → Contains (owed s h c) output → IsReported s h (route c.number output)
+reported s h c output there is = record {
+  row = row_of s h c;
+  among = in_map (row_of s h) (filter (is_owed s h) (chunks_of h)) c (in_filter (is_owed s h) (chunks_of h) c there (some_of (owed s h c) output is));
+  of_chunk = refl;
+  has =
+      in_map (λ (out : Owed). out.output.0) (map (table_route s h c.number) (owed s h c)) (table_route s h c.number output)
+      (in_map (table_route s h c.number) (owed s h c) output is);
+}
+
+-- by the facts about the route, and what the calls say of these
+pub kept_by : (s : AllSettings) (h : History) (es : List LoopEntry) (c : ChunkInfo) (output : ℕ)
+    → ((is_resolved s h (route c.number output) ≡ true) → IsResolved s h (route c.number output))
+    → (is_resolved s h (route c.number output) ≡ false → Contains (owed s h c) output)
+    → (IsLogged (OnRoute (route c.number output) Delivered) h → SendsAll s h es (route c.number output))
+    → (IsLogged (OnRoute (route c.number output) Failed) h → IsRejected s h es (route c.number output))
+    → (IsLogged (OnRoute (route c.number output) Exhausted) h → HasRetryCause s h es (route c.number output))
+    → Contains (chunks_of h) c → IsAccountedFor s h es (route c.number output)
+kept_by s h es c output ended owes delivered failed spent there = by (is_resolved s h (route c.number output)) ended owes
+  where
+    r : Route
+    r = route c.number output
+
+    ends : IsResolved s h r → IsAccountedFor s h es r
+    ends (WasDelivered has) = let noted = noted_of (OnRoute r Delivered) h has in IsDelivered noted (delivered noted)
+    ends (WasFailed has) = let noted = noted_of (OnRoute r Failed) h has in IsFailed noted (failed noted)
+    ends (WasSpent has) = let noted = noted_of (OnRoute r Exhausted) h has in IsExhausted noted (spent noted)
+    ends (WasLost has) = IsEvicted (noted_of (OnRoute r Evicted) h has)
+    ends (WasRecorded was) = IsMarkedDone was
+
+    by : (b : Bool) → (b ≡ true → IsResolved s h r) → (b ≡ false → Contains (owed s h c) output) → IsAccountedFor s h es r
+    by true ended owes = ends (ended refl)
+    by false ended owes = IsPending (reported s h c output there (owes refl))

@@ -1,0 +1,10 @@
+pub mod Origins
+pub mod Guarantee
+pub mod Replies
+pub mod Backpressure
+pub mod DueOrder
+pub mod OverdueChunks
+pub mod RetryCounts
+pub mod Links
+pub mod LinkOutcomes
+pub mod TakenBytes

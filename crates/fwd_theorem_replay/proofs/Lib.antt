@@ -1,0 +1,14 @@
+pub mod Entries
+pub mod PresetDisk
+pub mod DiskPoints
+pub mod CutRun
+pub mod NextRun
+pub mod PresetFiles
+pub mod EventsTaken
+pub mod TurnsSpent
+pub mod FolderListing
+pub mod AlikeDisks
+pub mod NoKeeper
+pub mod CommonPrefix
+pub mod CutPoint
+pub mod RunTexts

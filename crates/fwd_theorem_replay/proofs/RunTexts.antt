@@ -1,0 +1,197 @@
+-- The runs of a schedule determine one text.
+use Rattle.std.proofs.Common.{◌≡◌, ◌≢◌, ◌⊎◌, inl, inr, ℕ, ◌-◌, ◌%◌, List, [], ◌∷◌, ◌++◌, map, Some, None, refl, sym, ◌∙◌, ap, subst}
+use Rattle.std.proofs.lemmas.List.{append_cancel_left}
+use Rattle.fwd_outside.specs.Program.{Return}
+use Rattle.fwd_outside.specs.File.{content}
+use Rattle.fwd_disk_mem.specs.declared.told.Told.{Told}
+use Rattle.fwd_disk_mem.specs.declared.told.Told.TheVariants.{Preset, FailAt}
+use Rattle.fwd_disk_mem.specs.Told.{files_of}
+use Rattle.fwd_disk_mem.specs.Images.{CrashFile, picked, file_settings}
+use Rattle.fwd_settings.specs.Endpoints.{ends_of}
+use Rattle.fwd_settings.specs.declared.settings_types.AllSettings.{AllSettings}
+use Rattle.fwd_script.specs.declared.schedule.Cut.{Cut}
+use Rattle.fwd_script.specs.declared.schedule.FileChange.{FileChange}
+use Rattle.fwd_script.specs.declared.schedule.Life.{Life}
+use Rattle.fwd_script.specs.declared.schedule.Stored.{Stored}
+use Rattle.fwd_script_loop.specs.Lines.{given_of}
+use Rattle.fwd_script_loop.specs.Place.{beginning}
+use Rattle.fwd_model.specs.Fact.{History}
+use Rattle.fwd_model.specs.Trace.{TraceEntry, disk_part}
+use Rattle.fwd_model.specs.Run.{Over, RunResult, lived, life}
+use Rattle.fwd_theorem_trace.specs.Waits.{waits_in}
+use Rattle.fwd_replay.specs.FileChanges.{Course, course_after, has_last}
+use Rattle.fwd_replay.specs.Runs.{Start, first, disk_of, course_of, EndsIn, CutRun, IsCut, first_calls, IsReplayed}
+use Rattle.fwd_replay.specs.Text.{life_text, reported_by, out_of_memory, joined}
+use Rattle.fwd_replay.specs.declared.report.Reported.{Reported}
+use Rattle.fwd_replay.specs.declared.report.Ending.TheVariants as ending
+use Rattle.fwd_replay.specs.declared.report.Shown.{Shown}
+use Rattle.fwd_theorem_replay.proofs.AlikeDisks.{Alike, alike_itself, alike_back, alike_append, alike_presets, same_calls}
+use Rattle.fwd_theorem_replay.proofs.NoKeeper.{life_keeperless}
+use Rattle.fwd_theorem_replay.proofs.CommonPrefix.{Answers, passes, ends_same}
+use Rattle.fwd_theorem_replay.proofs.CutPoint.{CutIn, Cutting, IsSameCut, all_answers, cutting_of, goes_past, never, not_last, same_cut}
+
+-- the state of the platform determines the answers of a run
+pub record Similar (start start2 : Start) : Type 0 where
+  pub disk : Alike start.disk start2.disk
+  pub changes : start2.changes ≡ start.changes
+
+similar_back : (start start2 : Start) → Similar start start2 → Similar start2 start
+similar_back start start2 similar = record { disk = alike_back start.disk start2.disk similar.disk; changes = sym similar.changes }
+
+same_course : (start start2 : Start) (planned : Life) → Similar start start2 → course_of start2 planned ≡ course_of start planned
+same_course start start2 planned similar = ap (λ (changes : List FileChange). course_of (record { disk = []; changes = changes }) planned) similar.changes
+
+pub alike_disks : (start start2 : Start) (planned : Life) → Similar start start2 → Alike (disk_of start planned) (disk_of start2 planned)
+alike_disks start start2 planned similar =
+    let set = map (λ (file : Stored). Preset file.name file.bytes) planned.store in
+    alike_append (start.disk ++ set) (start2.disk ++ set) (map (λ (number : ℕ). FailAt number) planned.disk_fails) (alike_append start.disk start2.disk set similar.disk)
+
+module _ (shown : Shown) (s : AllSettings) (turns : ℕ) (start start2 : Start) (planned : Life) (similar : Similar start start2) where
+  -- ---- a run that ends
+
+  ended : (replayed : Reported) → (e : EndsIn shown s turns start planned replayed) → Answers (beginning (given_of planned)) (disk_of start planned) (course_of start planned) e.trace e.is.asked
+  ended replayed e = all_answers start planned (course_of start planned) refl e.trace e.is.asked e.is.answered (life_keeperless s (ends_of s) None turns e.trace (Return e.comes) e.is.way)
+
+  ended2 : (replayed : Reported) → (e : EndsIn shown s turns start2 planned replayed) → Answers (beginning (given_of planned)) (disk_of start2 planned) (course_of start planned) e.trace e.is.asked
+  ended2 replayed e =
+      all_answers start2 planned (course_of start planned) (same_course start start2 planned similar) e.trace e.is.asked e.is.answered (life_keeperless s (ends_of s) None turns e.trace (Return e.comes) e.is.way)
+
+  same_end : (one other : Reported) → EndsIn shown s turns start planned one → EndsIn shown s turns start2 planned other → other ≡ one
+  same_end one other e f =
+      let same = ends_same e.comes f.comes e.trace f.trace
+      (passes (life s (ends_of s) None turns) (beginning (given_of planned)) (disk_of start planned) (disk_of start2 planned) (course_of start planned) e.trace f.trace e.is.asked f.is.asked (Return e.comes) f.comes
+      (alike_disks start start2 planned similar) e.is.way f.is.way (ended one e) (ended2 other f))
+      in
+      f.call_log
+      ∙ ap (λ (l : List TraceEntry). reported_by (life_text shown s l f.comes.history) f.comes.end) same.0
+      ∙ ap (λ (l : RunResult). reported_by (life_text shown s e.trace l.history) l.end) same.1
+      ∙ sym e.call_log
+
+  -- one that ends isn't cut
+  no_cut : {X : Type 0} (replayed : Reported) (c : CutRun) → EndsIn shown s turns start planned replayed → IsCut s turns start2 planned c → X
+  no_cut {X = X} replayed c e cut = by cutting.cut_in
+    where
+      cutting : Cutting s turns (beginning (given_of planned)) (disk_of start2 planned) (course_of start planned) c
+      cutting = cutting_of s turns start2 planned c (course_of start planned) (same_course start start2 planned similar) cut
+
+      alike : Alike (disk_of start planned) (disk_of start2 planned)
+      alike = alike_disks start start2 planned similar
+
+      by : CutIn s turns (course_of start planned) c.before c.history c.turn → X
+      by (inl on) =
+          never (has_last (course_of start planned) e.trace)
+          (goes_past s (beginning (given_of planned)) (disk_of start2 planned) (disk_of start planned) (course_of start planned) (alike_back (disk_of start planned) (disk_of start2 planned) alike) (waits_in c.before) turns c.history e.comes
+          c.before e.trace c.asked e.is.asked on.0 on.1 e.is.way cutting.before (ended replayed e) on.2)
+          (not_last planned.cut c.cut (has_last (course_of start planned) e.trace) cut.is e.is.uncut)
+      by (inr over) =
+          let same = ends_same e.comes (lived c.history Over) e.trace c.before
+          (passes (life s (ends_of s) None turns) (beginning (given_of planned)) (disk_of start planned) (disk_of start2 planned) (course_of start planned) e.trace c.before e.is.asked c.asked (Return e.comes) (lived c.history Over)
+          alike e.is.way over.0 (ended replayed e) cutting.before)
+          in
+          let none : planned.cut ≡ None = e.last (sym (ap (λ (l : RunResult). l.end) same.1)) in
+          absurd (cc (sym cut.is ∙ none))
+
+  -- ---- a run that is cut
+
+  module _ (c c2 : CutRun) (cut : IsCut s turns start planned c) (cut2 : IsCut s turns start2 planned c2) where
+    pub same_place : IsSameCut s turns (beginning (given_of planned)) (disk_of start planned) (disk_of start2 planned) (course_of start planned) (alike_disks start start2 planned similar) c c2
+    same_place =
+        same_cut s turns (beginning (given_of planned)) (disk_of start planned) (disk_of start2 planned) (course_of start planned) (alike_disks start start2 planned similar) c c2
+        (cutting_of s turns start planned c (course_of start planned) refl cut) (cutting_of s turns start2 planned c2 (course_of start planned) (same_course start start2 planned similar) cut2)
+
+    pub cut_is : c2.cut ≡ c.cut
+    cut_is = let both : Some c2.cut ≡ Some c.cut = sym cut2.is ∙ cut.is in cc both
+
+    all_is : c2.before ++ c2.turn ≡ c.before ++ c.turn
+    all_is = ap (λ (l : List TraceEntry). l ++ c2.turn) same_place.before ∙ ap (λ (l : List TraceEntry). c.before ++ l) same_place.turn
+
+    asked_is : c2.asked ≡ c.asked
+    asked_is = same_calls c2.asked c.asked (cut2.are ∙ ap disk_part same_place.before ∙ sym cut.are)
+
+    asked_in_is : c2.asked_in ≡ c.asked_in
+    asked_in_is =
+        let all : c2.asked ++ c2.asked_in ≡ c.asked ++ c.asked_in = same_calls (c2.asked ++ c2.asked_in) (c.asked ++ c.asked_in) (cut2.answered.are ∙ ap disk_part all_is ∙ sym cut.answered.are) in
+        append_cancel_left c.asked c2.asked_in c.asked_in (ap (λ (l : List Told). l ++ c2.asked_in) (sym asked_is) ∙ all)
+
+    told2_is : (disk_of start2 planned ++ c2.asked) ++ first_calls c2.cut.calls c2.asked_in ≡ (disk_of start2 planned ++ c.asked) ++ first_calls c.cut.calls c.asked_in
+    told2_is =
+        ap (λ (l : List Told). (disk_of start2 planned ++ l) ++ first_calls c2.cut.calls c2.asked_in) asked_is
+        ∙ ap (λ (k : Cut). (disk_of start2 planned ++ c.asked) ++ first_calls k.calls c2.asked_in) cut_is
+        ∙ ap (λ (l : List Told). (disk_of start2 planned ++ c.asked) ++ first_calls c.cut.calls l) asked_in_is
+
+    same_image : (name : List ℕ) → picked (c2.cut.pick % 4) ((disk_of start2 planned ++ c2.asked) ++ first_calls c2.cut.calls c2.asked_in) name ≡ picked (c.cut.pick % 4) ((disk_of start planned ++ c.asked) ++ first_calls c.cut.calls c.asked_in) name
+    same_image name =
+        let more = first_calls c.cut.calls c.asked_in in
+        let disks : Alike ((disk_of start planned ++ c.asked) ++ more) ((disk_of start2 planned ++ c.asked) ++ more) =
+        alike_append (disk_of start planned ++ c.asked) (disk_of start2 planned ++ c.asked) more (alike_append (disk_of start planned) (disk_of start2 planned) c.asked (alike_disks start start2 planned similar))
+        in
+        ap (λ (l : List Told). picked (c2.cut.pick % 4) l name) told2_is
+        ∙ ap (λ (k : Cut). picked (k.pick % 4) ((disk_of start2 planned ++ c.asked) ++ more) name) cut_is
+        ∙ ap (λ (m : CrashFile). m.image) (disks.images (c.cut.pick % 4) name)
+
+    pub similar_next : Similar c.next c2.next
+    similar_next = record {
+      disk =
+          subst (λ (l : List Told). Alike l c2.next.disk) (sym cut.disk_is)
+          (subst (λ (l : List Told). Alike (file_settings cut.files) l) (sym cut2.disk_is)
+          (alike_presets cut.files cut2.files
+          (λ name.
+          ap (λ (l : List Told). content (files_of l name)) (sym cut2.disk_is)
+          ∙ cut2.image name
+          ∙ same_image name
+          ∙ sym (cut.image name)
+          ∙ ap (λ (l : List Told). content (files_of l name)) cut.disk_is)));
+      changes =
+          cut2.changes
+          ∙ ap (λ (at : Course). (course_after at (c2.before ++ c2.turn)).files.changes) (same_course start start2 planned similar)
+          ∙ ap (λ (l : List TraceEntry). (course_after (course_of start planned) l).files.changes) all_is
+          ∙ sym cut.changes;
+    }
+
+    pub same_joined : (rest rest2 : Reported) → rest2 ≡ rest → joined (life_text shown s c2.before c2.history) c2.cut rest2 ≡ joined (life_text shown s c.before c.history) c.cut rest
+    same_joined rest rest2 is =
+        ap (λ (l : List TraceEntry). joined (life_text shown s l c2.history) c2.cut rest2) same_place.before
+        ∙ ap (λ (h : History). joined (life_text shown s c.before h) c2.cut rest2) same_place.history
+        ∙ ap (λ (k : Cut). joined (life_text shown s c.before c.history) k rest2) cut_is
+        ∙ ap (λ (r : Reported). joined (life_text shown s c.before c.history) c.cut r) is
+
+    pub turns_is : turns - waits_in (c2.before ++ c2.turn) ≡ turns - waits_in (c.before ++ c.turn)
+    turns_is = ap (λ (l : List TraceEntry). turns - waits_in l) all_is
+
+-- ---- the runs
+
+module _ (shown : Shown) (s : AllSettings) where
+  -- the run is cut, and the next ones follow
+  abbrev IsCutTo : ℕ → Start → Life → List Life → Reported → Type 0
+  IsCutTo turns start planned lives replayed =
+      (c : CutRun) × IsCut s turns start planned c × ((rest : Reported) × IsReplayed shown s (turns - waits_in (c.before ++ c.turn)) c.next lives rest × (replayed ≡ joined (life_text shown s c.before c.history) c.cut rest))
+
+  abbrev HasOneText : List Life → Type 0
+  HasOneText lives =
+      (turns : ℕ) (start start2 : Start) → Similar start start2 → (one other : Reported) → IsReplayed shown s turns start lives one → IsReplayed shown s turns start2 lives other
+      → one.ending ≢ ending.Memory → other.ending ≢ ending.Memory → other ≡ one
+
+  one_text_from : (lives : List Life) → HasOneText lives
+  one_text_from [] turns start start2 similar one other is is2 wants wants2 = is2 ∙ sym is
+  one_text_from (planned ∷ lives) turns start start2 similar one other is is2 wants wants2 = by (one_text_from lives) is is2
+    where
+      by : HasOneText lives → (EndsIn shown s turns start planned one ⊎ IsCutTo turns start planned lives one ⊎ (one ≡ out_of_memory)) → (EndsIn shown s turns start2 planned other ⊎ IsCutTo turns start2 planned lives other ⊎ (other ≡ out_of_memory)) → other ≡ one
+      by more (inr (inr none)) b = absurd (wants (ap (λ (r : Reported). r.ending) none))
+      by more a (inr (inr none)) = absurd (wants2 (ap (λ (r : Reported). r.ending) none))
+      by more (inl e) (inl f) = same_end shown s turns start start2 planned similar one other e f
+      by more (inl e) (inr (inl cut)) = no_cut shown s turns start start2 planned similar one cut.0 e cut.1
+      by more (inr (inl cut)) (inl f) = no_cut shown s turns start2 start planned (similar_back start start2 similar) other cut.0 f cut.1
+      by more (inr (inl cut)) (inr (inl cut2)) =
+          let c = cut.0 in
+          let c2 = cut2.0 in
+          let rest = cut.2.0 in
+          let rest2 = cut2.2.0 in
+          let so2 = subst (λ (n : ℕ). IsReplayed shown s n c2.next lives rest2) (turns_is shown s turns start start2 planned similar c c2 cut.1 cut2.1) cut2.2.1 in
+          let same : rest2 ≡ rest =
+          more (turns - waits_in (c.before ++ c.turn)) c.next c2.next (similar_next shown s turns start start2 planned similar c c2 cut.1 cut2.1) rest rest2 cut.2.1 so2
+          (λ memory. wants (ap (λ (r : Reported). r.ending) cut.2.2 ∙ memory)) (λ memory. wants2 (ap (λ (r : Reported). r.ending) cut2.2.2 ∙ memory))
+          in
+          cut2.2.2 ∙ same_joined shown s turns start start2 planned similar c c2 cut.1 cut2.1 rest rest2 same ∙ sym cut.2.2
+
+  pub one_text : (turns : ℕ) (lives : List Life) (one other : Reported) → IsReplayed shown s turns first lives one → IsReplayed shown s turns first lives other → one.ending ≢ ending.Memory → other.ending ≢ ending.Memory → other ≡ one
+  one_text turns lives one other is is2 = one_text_from lives turns first first (record { disk = alike_itself []; changes = refl }) one other is is2

@@ -1,0 +1,10 @@
+pub mod Past
+pub mod Allowed
+pub mod Sound
+pub mod Platform
+pub mod Resolution
+pub mod Dispatch
+pub mod Events
+pub mod Closure
+pub mod Acceptance
+pub mod Waits

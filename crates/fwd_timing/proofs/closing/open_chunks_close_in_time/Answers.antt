@@ -1,5 +1,0 @@
-use Rattle.fwd_timing.proofs.Swept.{closed_in_time}
-use Rattle.fwd_timing.proofs.closing.open_chunks_close_in_time.Goals as goal
-
-pub returns : goal.returns
-returns c s ends ticks turns lived entries one way over = closed_in_time s ends ticks turns entries lived one way over

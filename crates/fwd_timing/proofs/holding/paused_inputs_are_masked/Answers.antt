@@ -1,8 +1,0 @@
-use Rattle.fwd_timing.proofs.Held.{held_life, masked_life}
-use Rattle.fwd_timing.proofs.holding.paused_inputs_are_masked.Goals as goal
-
-pub returns-clause-inputs : goal.returns-clause-inputs
-returns-clause-inputs c s ends ticks turns entries left input way = held_life s ends ticks turns entries left input way
-
-pub returns-clause-waits : goal.returns-clause-waits
-returns-clause-waits c s ends ticks turns before after left until mask brought input way = masked_life s ends ticks turns before after left until mask brought input way

@@ -1,4 +1,0 @@
-pub mod Holding
-pub mod Sooner
-pub mod Overdue
-pub mod Trying

@@ -1,0 +1,207 @@
+-- Calls and written text, by status.
+use Rattle.std.specs.Prelude.{◌≢◌}
+use Rattle.std.proofs.Common.{◌≡◌, inl, inr, ℕ, ◌≤◌, Bool, true, false, List, [], map, String, string_bytes, Some, refl, sym, ◌∙◌, arith}
+use Rattle.fwd_outside.specs.Log.{LogGrew}
+use Rattle.fwd_outside.specs.Cause.{HasCause}
+use Rattle.fwd_outside.proofs.LogGrowth.{grew_none}
+use Rattle.fwd_outside.specs.Files.{FilesLog}
+use Rattle.fwd_outside.specs.Loop.{LoopCounts}
+use Rattle.fwd_outside.specs.Sink.{SinkLog}
+use Rattle.fwd_engine_state.specs.LoopCounters.{EventsTaken}
+use Rattle.fwd_config.specs.Variables.{Values}
+use Rattle.fwd_replay.specs.LiveRun.{heard_in}
+use Rattle.fwd_replay.specs.declared.report.Ending.{Ending}
+use Rattle.fwd_replay.specs.declared.report.Ending.TheVariants as ending
+use Rattle.fwd_replay.specs.declared.report.Reported.{Reported}
+use Rattle.fwd_top.specs.Cases.{Case, Replays, Generates, Runs, Lists, Refuses}
+use Rattle.fwd_top.specs.Answers.{Verdict, says, status_of, of_reported, Platform, platform_of, AreNotCalled, Produces, IsVerdict, Devices, Asks, Comes, Wrote, Answers, is_over_disk, is_run, IsLoopFault, IsDiskFault, spent, spent_by}
+use Rattle.fwd_top.specs.Results.{HasDiskFailed, HasLoopFailed, IsRefusal, WritesVerdict, WritesSo, given_by, is_to_run, takes_disk, unless_memory}
+use Rattle.fwd_top.specs.Words.{command_of}
+use Rattle.fwd_top.specs.declared.job.Job.{Job}
+use Rattle.fwd_top.specs.declared.job.Job.TheVariants as job
+use Rattle.fwd_top.specs.declared.status.Status.{Status}
+use Rattle.fwd_top.specs.declared.status.Status.TheVariants as status
+
+pub still : (o : Platform) → AreNotCalled o o
+still o = record { disk = grew_none o.disk; files = grew_none o.files; loop = grew_none o.loop }
+
+-- ---- calls and written text
+
+-- the outcome of a case gives its verdict
+pub in_case : (turns : ℕ) (case : Case) (old new : Platform) (r : Reported) → Produces turns case old new r → IsVerdict turns case old new (of_reported r)
+in_case turns (Replays s lives) old new r is = (r, is, refl)
+in_case turns (Generates s lives) old new r is = (r, is, refl)
+in_case turns (Runs s ticks) old new r is = (r, is, refl)
+in_case turns (Lists root) old new r is = (r, is, refl)
+in_case turns (Refuses other) old new r is = absurd is
+
+module _ {Y : Type 0} (words : List (String Y)) (env : Values) (turns : ℕ) (old new : Devices) where
+  -- a job was done
+  comes_of : (case : Case) (read : FilesLog) (r : Reported) → Asks words env old.files read (Some case) → Produces turns case (platform_of old.disk read old.loop) (platform_of new.disk new.files new.loop) r → Comes words env turns old new (of_reported r)
+  comes_of case read r asks is = record { case = case; read = read; asks = asks; is = in_case turns case (platform_of old.disk read old.loop) (platform_of new.disk new.files new.loop) r is }
+
+  -- there was nothing to do
+  comes_refused : (other : Status) → Asks words env old.files new.files (Some (Refuses other)) → LogGrew old.disk new.disk [] → LogGrew old.loop new.loop [] → Comes words env turns old new (says [] other)
+  comes_refused other asks disk loop = record { case = Refuses other; read = new.files; asks = asks; is = (refl, record { disk = disk; files = grew_none new.files; loop = loop }) }
+
+-- the text written for a verdict with this property
+pub written : (Holds : Verdict → Type 0) (a b : SinkLog) (text : List ℕ) (end : Ending) (result : Status) → Holds (says text (status_of end)) → WritesSo a b text (status_of end) result → Wrote Holds a b result
+written Holds a b text ending.Over result holds (inl wrote) = rw wrote.0 (text, holds, wrote.1)
+written Holds a b text ending.TurnsSpent result holds (inl wrote) = rw wrote.0 (text, holds, wrote.1)
+written Holds a b text ending.DiskFailed result holds (inl wrote) = rw wrote.0 (text, holds, wrote.1)
+written Holds a b text ending.LoopFailed result holds (inl wrote) = rw wrote.0 (text, holds, wrote.1)
+written Holds a b text ending.Memory result holds (inl wrote) = rw wrote.0 tt
+written Holds a b text end result holds (inr (inl wrote)) = rw wrote.0 (text, status_of end, holds, wrote.1)
+written Holds a b text end result holds (inr (inr wrote)) = rw wrote.0 tt
+
+module _ {Y : Type 0} (words : List (String Y)) (env : Values) (turns : ℕ) (old new : Devices) where
+  -- the outcome of a job was written
+  call_log : (text : List ℕ) (end : Ending) (result : Status) → Comes words env turns old new (says text (status_of end)) → WritesSo old.sink new.sink text (status_of end) result → Answers words env turns old new result
+  call_log text ending.Over result comes (inl wrote) = rw wrote.0 (text, comes, wrote.1)
+  call_log text ending.TurnsSpent result comes (inl wrote) = rw wrote.0 (text, comes, wrote.1)
+  call_log text ending.DiskFailed result comes (inl wrote) = rw wrote.0 (text, comes, wrote.1)
+  call_log text ending.LoopFailed result comes (inl wrote) = rw wrote.0 (text, comes, wrote.1)
+  call_log text ending.Memory result comes (inl wrote) = rw wrote.0 (inr (inl (text, comes, wrote.1)))
+  call_log text end result comes (inr (inl wrote)) = rw wrote.0 (text, status_of end, comes, wrote.1)
+  call_log text end result comes (inr (inr wrote)) = rw wrote.0 (inr (inr (text, status_of end, comes, wrote.1)))
+
+  -- there was nothing to do
+  pub refused : (result : Status) → IsRefusal result → Asks words env old.files new.files (unless_memory result) → LogGrew old.disk new.disk [] → LogGrew old.loop new.loop [] → LogGrew old.sink new.sink []
+      → Answers words env turns old new result
+  refused status.Done is asks disk loop sink = absurd is
+  refused status.TurnsSpent is asks disk loop sink = absurd is
+  refused status.OutFault is asks disk loop sink = absurd is
+  refused status.LoopFault is asks disk loop sink = absurd is
+  refused status.DiskFault is asks disk loop sink = absurd is
+  refused status.Memory is asks disk loop sink = inl (record { asks = asks; disk = disk; loop = loop }, sink)
+  refused other is asks disk loop sink = ([], comes_refused words env turns old new other asks disk loop, sink)
+
+  -- a job was done
+  pub done : (case : Case) (read : FilesLog) (r : Reported) (result : Status) → Asks words env old.files read (Some case) → Produces turns case (platform_of old.disk read old.loop) (platform_of new.disk new.files new.loop) r → WritesVerdict old.sink new.sink (of_reported r) result
+      → Answers words env turns old new result
+  done case read r result asks is tells = call_log r.text r.ending result (comes_of words env turns old new case read r asks is) tells
+
+-- ---- counts
+
+-- the status of a text is its own, or one of two others
+told_by_one : (text : List ℕ) (a b : SinkLog) (end result other : Status) → WritesSo a b text end result → end ≢ other → status.OutFault ≢ other → status.Memory ≢ other → result ≢ other
+told_by_one text a b end result other (inl wrote) one two three is = one (sym wrote.0 ∙ is)
+told_by_one text a b end result other (inr (inl wrote)) one two three is = two (sym wrote.0 ∙ is)
+told_by_one text a b end result other (inr (inr wrote)) one two three is = three (sym wrote.0 ∙ is)
+
+heard_all : {a b : LoopCounts} (n most : ℕ) → most ≤ n → EventsTaken n a b → EventsTaken most a b
+heard_all n most least heard = record { happenings = let x = heard.happenings in grind arith; greatest = heard.greatest; endless = heard.endless }
+
+pub heard_none : (a : LoopCounts) → EventsTaken 0 a a
+heard_none a = record { happenings = omega arith; greatest = omega arith; endless = refl }
+
+-- with another status no turns ran out
+spent_none : (runs : Bool) (turns : ℕ) (result : Status) → result ≢ status.TurnsSpent → spent_by result runs turns ≡ 0
+spent_none runs turns status.TurnsSpent other = absurd (other refl)
+spent_none runs turns result other = refl
+
+spent_unrun : (turns : ℕ) (result : Status) → spent_by result false turns ≡ 0
+spent_unrun turns status.TurnsSpent = refl
+spent_unrun turns result = refl
+
+module _ {Y : Type 0} (words : List (String Y)) (turns : ℕ) (before after : LoopCounts) where
+  abbrev runs : Bool
+  runs = is_run (command_of (map string_bytes words))
+
+  unspent : (n : ℕ) (result : Status) → spent_by result runs turns ≡ 0 → EventsTaken n before after → EventsTaken (spent words turns result) before after
+  unspent n result is heard = rw is (heard_all n 0 (omega arith) heard)
+
+  spent_all : (text : List ℕ) (a b : SinkLog) (result : Status) → runs ≡ true → WritesSo a b text status.TurnsSpent result → EventsTaken turns before after → EventsTaken (spent words turns result) before after
+  spent_all text a b result run (inl wrote) heard = rw (wrote.0, run) heard
+  spent_all text a b result run (inr (inl wrote)) heard = unspent turns result (rw wrote.0 refl) heard
+  spent_all text a b result run (inr (inr wrote)) heard = unspent turns result (rw wrote.0 refl) heard
+
+  none_spent : (n : ℕ) (text : List ℕ) (a b : SinkLog) (end result : Status) → WritesSo a b text end result → end ≢ status.TurnsSpent → EventsTaken n before after → EventsTaken (spent words turns result) before after
+  none_spent n text a b end result tells other heard = unspent n result (spent_none runs turns result (told_by_one text a b end result status.TurnsSpent tells other (λ is. cc is) (λ is. cc is))) heard
+
+  ran_heard : (text : List ℕ) (end : Ending) (a b : SinkLog) (result : Status) → runs ≡ true → WritesSo a b text (status_of end) result → EventsTaken (heard_in turns end) before after → EventsTaken (spent words turns result) before after
+  ran_heard text ending.TurnsSpent a b result run tells heard = spent_all text a b result run tells heard
+  ran_heard text ending.Over a b result run tells heard = none_spent 0 text a b status.Done result tells (λ is. cc is) heard
+  ran_heard text ending.DiskFailed a b result run tells heard = none_spent 0 text a b status.DiskFault result tells (λ is. cc is) heard
+  ran_heard text ending.LoopFailed a b result run tells heard = none_spent 0 text a b status.LoopFault result tells (λ is. cc is) heard
+  ran_heard text ending.Memory a b result run tells heard = none_spent 0 text a b status.Memory result tells (λ is. cc is) heard
+
+  -- the outcome of a job was written
+  pub done_heard : (j : Job) (r : Reported) (a b : SinkLog) (result : Status) → runs ≡ is_to_run j → WritesVerdict a b (of_reported r) result → EventsTaken (given_by j turns r) before after → EventsTaken (spent words turns result) before after
+  done_heard (job.Run s ticks) r a b result run tells heard = ran_heard r.text r.ending a b result run tells heard
+  done_heard (job.Replay s schedule) r a b result run tells heard = unspent 0 result (rw run (spent_unrun turns result)) heard
+  done_heard (job.Generate s schedule) r a b result run tells heard = unspent 0 result (rw run (spent_unrun turns result)) heard
+  done_heard (job.List folder) r a b result run tells heard = unspent 0 result (rw run (spent_unrun turns result)) heard
+
+-- there was nothing to do
+pub refused_heard : {Y : Type 0} (words : List (String Y)) (turns : ℕ) (a : LoopCounts) (result : Status) → IsRefusal result → EventsTaken (spent words turns result) a a
+refused_heard words turns a status.TurnsSpent is = absurd is
+refused_heard words turns a result is = heard_none a
+
+-- ---- causes
+
+pub no_cause : {F : Type 0} (n : ℕ) → (F → ⊥) → HasCause n n F
+no_cause n none = record { later = omega arith; cause = λ failed. absurd (none failed) }
+
+-- a job with this status ended this way
+loop_failed : (end : Ending) → status_of end ≡ status.LoopFault → end ≡ ending.LoopFailed
+loop_failed ending.LoopFailed is = refl
+loop_failed end is = absurd (cc is)
+
+disk_failed : (end : Ending) → status_of end ≡ status.DiskFault → end ≡ ending.DiskFailed
+disk_failed ending.DiskFailed is = refl
+disk_failed end is = absurd (cc is)
+
+no_file_failed : (end : Ending) → status_of end ≢ status.FileFault
+no_file_failed ending.Over is = absurd (cc is)
+no_file_failed end is = absurd (cc is)
+
+-- a status other than these two is that of the ending
+end_told : (text : List ℕ) (a b : SinkLog) (end result other : Status) → WritesSo a b text end result → status.OutFault ≢ other → status.Memory ≢ other → result ≡ other → end ≡ other
+end_told text a b end result other (inl wrote) two three is = sym wrote.0 ∙ is
+end_told text a b end result other (inr (inl wrote)) two three is = absurd (two (sym wrote.0 ∙ is))
+end_told text a b end result other (inr (inr wrote)) two three is = absurd (three (sym wrote.0 ∙ is))
+
+module _ {Y : Type 0} (words : List (String Y)) (before after : ℕ) (a b : SinkLog) (result : Status) where
+  pub done_loop_cause : (j : Job) (r : Reported) → is_run (command_of (map string_bytes words)) ≡ is_to_run j → WritesVerdict a b (of_reported r) result → HasCause before after (HasLoopFailed j r) → HasCause before after (IsLoopFault words result)
+  done_loop_cause (job.Run s ticks) r run tells cause = record {
+    later = cause.later;
+    cause = λ fault. cause.cause (loop_failed r.ending (end_told r.text a b (status_of r.ending) result status.LoopFault tells (λ is. cc is) (λ is. cc is) fault.1));
+  }
+  done_loop_cause (job.Replay s schedule) r run tells cause = record { later = cause.later; cause = λ fault. absurd (cc (sym run ∙ fault.0)) }
+  done_loop_cause (job.Generate s schedule) r run tells cause = record { later = cause.later; cause = λ fault. absurd (cc (sym run ∙ fault.0)) }
+  done_loop_cause (job.List folder) r run tells cause = record { later = cause.later; cause = λ fault. absurd (cc (sym run ∙ fault.0)) }
+
+  over_disk : (r : Reported) → WritesVerdict a b (of_reported r) result → HasCause before after (r.ending ≡ ending.DiskFailed) → HasCause before after (IsDiskFault words result)
+  over_disk r tells cause = record {
+    later = cause.later;
+    cause = λ fault. cause.cause (disk_failed r.ending (end_told r.text a b (status_of r.ending) result status.DiskFault tells (λ is. cc is) (λ is. cc is) fault.1));
+  }
+
+  pub done_disk_cause : (j : Job) (r : Reported) → is_over_disk (command_of (map string_bytes words)) ≡ takes_disk j → WritesVerdict a b (of_reported r) result → HasCause before after (HasDiskFailed j r) → HasCause before after (IsDiskFault words result)
+  done_disk_cause (job.Run s ticks) r over tells cause = over_disk r tells cause
+  done_disk_cause (job.Replay s schedule) r over tells cause = record { later = cause.later; cause = λ fault. absurd (cc (sym over ∙ fault.0)) }
+  done_disk_cause (job.Generate s schedule) r over tells cause = record { later = cause.later; cause = λ fault. absurd (cc (sym over ∙ fault.0)) }
+  done_disk_cause (job.List folder) r over tells cause = over_disk r tells cause
+
+-- a written outcome isn't a fault of a file
+pub no_file_fault : (r : Reported) (a b : SinkLog) (result : Status) → WritesVerdict a b (of_reported r) result → result ≢ status.FileFault
+no_file_fault r a b result tells = told_by_one r.text a b (status_of r.ending) result status.FileFault tells (no_file_failed r.ending) (λ is. cc is) (λ is. cc is)
+
+-- a refusal isn't a fault of the loop, the disk or the sink
+module _ {Y : Type 0} (words : List (String Y)) where
+  pub refused_loop : (result : Status) → IsRefusal result → IsLoopFault words result → ⊥
+  refused_loop status.LoopFault is fault = is
+  refused_loop result is fault = absurd (cc fault.1)
+
+  pub refused_disk : (result : Status) → IsRefusal result → IsDiskFault words result → ⊥
+  refused_disk status.DiskFault is fault = is
+  refused_disk result is fault = absurd (cc fault.1)
+
+pub refused_out : (result : Status) → IsRefusal result → result ≢ status.OutFault
+refused_out status.OutFault is same = is
+refused_out result is same = absurd (cc same)
+
+-- a count that rose twice, without a failure
+pub goes_later : {F : Type 0} {a b c : ℕ} → a ≤ b → b ≤ c → (F → ⊥) → HasCause a c F
+goes_later first second none = record { later = omega arith; cause = λ failed. absurd (none failed) }

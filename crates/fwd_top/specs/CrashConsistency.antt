@@ -1,0 +1,42 @@
+-- Crash consistency of the outcome of a case.
+use Rattle.std.specs.Prelude.{◌≡◌, ℕ, true, List, [], Option}
+use mathlib.Core.Logic.{inl, inr}
+use Rattle.fwd_outside.specs.AtCrashPoints.{AtCrashPoints}
+use Rattle.fwd_outside.specs.DiskStates.{Files}
+use Rattle.fwd_backlog.specs.Recovered.{AreDurable}
+use Rattle.fwd_settings.specs.declared.settings_types.AllSettings.{AllSettings}
+use Rattle.fwd_settings.specs.Requirements.{MeetsRequirements}
+use Rattle.fwd_model.specs.Trace.{TraceEntry}
+use Rattle.fwd_theorem_crash.specs.CrashPoint.{crash_point, LeadsTo}
+use Rattle.fwd_theorem_crash.specs.Safety.{IsSafe}
+use Rattle.fwd_theorem_replay.specs.Crashes.{NothingIsLost}
+use Rattle.fwd_replay.specs.LiveRun.{IsRunLive}
+use Rattle.fwd_replay.specs.Runs.{first}
+use Rattle.fwd_replay.specs.declared.report.Reported.{Reported}
+use Rattle.fwd_replay.specs.declared.report.Shown.TheVariants.{All, Report}
+use Rattle.fwd_top.specs.Cases.{Case, Replays, Generates, Runs, Lists, Refuses}
+use Rattle.fwd_top.specs.Answers.{Platform, Produces, world}
+
+-- settings of a configuration with which each append is fsynced
+pub record AreSynced (s : AllSettings) : Type 0 where
+  pub sound : MeetsRequirements s
+  pub full : s.service.full ≡ true
+
+-- From each disk without unsynced state that could have answered this way, each point of these calls is
+-- safe: whatever a crash leaves has the file of each pending chunk, whole.
+abbrev pub AreSafe : AllSettings → List TraceEntry → Type 0
+AreSafe s entries = (start : Files) → AreDurable start → AtCrashPoints LeadsTo (IsSafe s start) (crash_point [] start) entries
+
+-- a run over devices, with a call log or not, to its end or to where memory ran out
+abbrev pub RunIsSafe : (s : AllSettings) (ticks : Option ℕ) (turns : ℕ) (old new : Platform) (reported : Reported) → IsRunLive s ticks turns (world old) (world new) reported → Type 0
+RunIsSafe s ticks turns old new reported (inl lived) = AreSynced s → AreSafe s lived.did.entries
+RunIsSafe s ticks turns old new reported (inr begun) = AreSynced s → AreSafe s begun.0.1.entries
+
+-- the outcome of a case: no crash between the runs of a schedule loses a chunk, and each crash point of a
+-- run is safe
+abbrev pub IsCrashConsistent : (turns : ℕ) (case : Case) (old new : Platform) (reported : Reported) → Produces turns case old new reported → Type 0
+IsCrashConsistent turns (Replays s lives) old new reported comes = AreSynced s → NothingIsLost All s turns first lives reported comes.0
+IsCrashConsistent turns (Generates s lives) old new reported comes = AreSynced s → NothingIsLost Report s turns first lives reported comes.0
+IsCrashConsistent turns (Runs s ticks) old new reported comes = RunIsSafe s ticks turns old new reported comes
+IsCrashConsistent turns (Lists root) old new reported comes = Unit {0}
+IsCrashConsistent turns (Refuses other) old new reported comes = Unit {0}

@@ -1,0 +1,16 @@
+ghost use Rattle.std.specs.Prelude.{ℕ};
+ghost use Rattle.fwd_replay.specs.declared.report.Reported.{Reported};
+ghost use Rattle.fwd_top.specs.Answers.{Produces, Platform};
+ghost use Rattle.fwd_top.specs.Cases.{Case};
+ghost use Rattle.fwd_top.specs.CrashConsistency.{IsCrashConsistent};
+
+use fwd_theorem_crash::crash_points_are_safe;
+use fwd_theorem_replay::no_crash_loses_a_chunk;
+
+/// No crash between the runs of a schedule loses a chunk, and each crash point of a run is safe.
+pub fn outcomes_are_crash_consistent()
+    ensures { (turns : ℕ) (case : Case) (old new : Platform) (reported : Reported) (comes : Produces turns case old new reported) → IsCrashConsistent turns case old new reported comes }
+{
+    no_crash_loses_a_chunk();
+    crash_points_are_safe();
+}

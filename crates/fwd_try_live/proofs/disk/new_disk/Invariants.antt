@@ -1,5 +1,0 @@
-use Rattle.std.proofs.Common.{[]}
-use Rattle.fwd_try_live.proofs.disk.new_disk.Given as goal
-
-abbrev pub ghost-new : goal.ghost-new
-ghost-new a = record { files = [] }
