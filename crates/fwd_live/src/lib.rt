@@ -7,7 +7,6 @@
 #![tactic(auto)]
 
 mod answer;
-mod calls;
 mod disk_calls;
 mod file_name;
 mod files_calls;
@@ -19,7 +18,6 @@ mod loop_calls;
 mod sink_calls;
 mod std_sink;
 
-pub use calls::Calls;
 pub use disk_calls::{DiskCalls, DiskRecord, DiskStart};
 pub use files_calls::{FilesCalls, FilesRecord, FilesStart};
 pub use folder_disk::FolderDisk;

@@ -1,5 +1,5 @@
 pub mod KeepsBytes
-pub mod Calls
+pub mod CallEffects
 pub mod Invariant
 pub mod UnchangedFiles
 pub mod AtomicFiles
@@ -12,3 +12,4 @@ pub mod Executions
 pub mod CrashPointLemmas
 pub mod AndThen
 pub mod SinceLemmas
+mod LogValues

@@ -10,7 +10,7 @@ use denote.RattleType.{RattleType}
 use denote.Shadow.{makes_shadow}
 use denote.Struct.Struct.{Struct}
 use denote.Struct.Owning.{shape}
-use Rattle.fwd_live.specs.contracts.calls.Calls as calls
+use Rattle.fwd_outside.specs.contracts.call_log.Calls as calls
 
 abbrev pub token : Val
 token = vstruct (vcons (vstruct vnil) vnil)

@@ -17,11 +17,11 @@ use denote.Param.{param, layouts}
 use denote.Triple.Entry.{alive}
 use denote.Triple.Walked.{Stays, walk_of}
 use Rattle.std.proofs.raw_atomic.Walks.{proved_at, leaves}
-use Rattle.fwd_live.proofs.LogValues.{token, Data, made}
-use Rattle.fwd_live.specs.contracts.calls.Calls.new.{ended, clauses}
-use Rattle.fwd_live.specs.contracts.calls.Calls.new.Key.{name as #self}
-use Rattle.fwd_live.proofs.calls.Calls.new.Statement.{statement}
-use Rattle.fwd_live.proofs.calls.Calls.new.Code as code
+use Rattle.fwd_outside.proofs.LogValues.{token, Data, made}
+use Rattle.fwd_outside.specs.contracts.call_log.Calls.new.{ended, clauses}
+use Rattle.fwd_outside.specs.contracts.call_log.Calls.new.Key.{name as #self}
+use Rattle.fwd_outside.proofs.call_log.Calls.new.Statement.{statement}
+use Rattle.fwd_outside.proofs.call_log.Calls.new.Code as code
 
 pub new_spec : {M : Type 1} → statement M
 new_spec 𝓤 𝓛 𝓜 𝓡 wired G T LG LT =

@@ -20,12 +20,12 @@ use denote.Param.{param, layouts}
 use denote.Triple.Entry.{alive}
 use denote.Triple.Walked.{Stays, stay_dropped, walk_of, Goes-dropped}
 use Rattle.std.proofs.raw_atomic.Walks.{proved_at, leaves}
-use Rattle.fwd_live.proofs.LogValues.{token, Data, made}
-use Rattle.fwd_live.specs.contracts.calls.Calls as calls
-use Rattle.fwd_live.specs.contracts.calls.Calls.then.{ended, clauses}
-use Rattle.fwd_live.specs.contracts.calls.Calls.then.Key.{name as #self}
-use Rattle.fwd_live.proofs.calls.Calls.then.Statement.{statement}
-use Rattle.fwd_live.proofs.calls.Calls.then.Code as code
+use Rattle.fwd_outside.proofs.LogValues.{token, Data, made}
+use Rattle.fwd_outside.specs.contracts.call_log.Calls as calls
+use Rattle.fwd_outside.specs.contracts.call_log.Calls.then.{ended, clauses}
+use Rattle.fwd_outside.specs.contracts.call_log.Calls.then.Key.{name as #self}
+use Rattle.fwd_outside.proofs.call_log.Calls.then.Statement.{statement}
+use Rattle.fwd_outside.proofs.call_log.Calls.then.Code as code
 
 pub then_spec : {M : Type 1} → statement M
 then_spec 𝓤 𝓛 𝓜 𝓡 wired G T N LG LT LN =

@@ -11,7 +11,8 @@ use std::marker::{Model, PhantomData};
 /// contracts see as the initial state and as a call with its answer.
 ///
 /// The log is as true as the methods that write it: each makes one system call and logs it with the answer
-/// that it returns, and nothing else. So `new` and `then` are for the devices of this crate only.
+/// that it returns, and nothing else. So only devices of the machine, and what wraps a device, call `new`
+/// and `then`.
 #[derive(Drop)]
 pub struct Calls<G, E> {
     marker: PhantomData<(G, E)>,
@@ -25,7 +26,7 @@ impl<G, E> Model for Calls<G, E> {
 
 impl<G, E> Calls<G, E> {
     /// Returns the empty log. The caller picks the initial state: the clause holds for each.
-    pub(crate) fn new() -> Calls<G, E>
+    pub fn new() -> Calls<G, E>
         ghost given: { G }
         ensures { (result.given ≡ given) × (result.entries ≡ []) }
     {
@@ -35,7 +36,7 @@ impl<G, E> Calls<G, E> {
     }
 
     /// Returns the log with one more call. The caller picks the entry from the note.
-    pub(crate) fn then<N>(&self, _note: &N) -> Calls<G, E>
+    pub fn then<N>(&self, _note: &N) -> Calls<G, E>
         ghost entry: { E }
         ensures { (result.given ≡ self.now.given) × (result.entries ≡ self.now.entries ++ entry ∷ []) }
     {
