@@ -1,4 +1,4 @@
-"""A hostile case: its configuration, what is asked of the program meanwhile, and its row of the table."""
+"""A hostile case: its configuration, what it requires of the program, and its row of the table."""
 import os
 import re
 import shutil
@@ -9,10 +9,10 @@ from typing import Callable
 from hostile_room import IN_TIME, MEGABYTE, GoodPeer, Trial
 from live_room import Failed, Program
 
-# the program may take so many kilobytes of addresses, so that a case that fails doesn't take the machine's memory
+# The program may take this many kilobytes of address space, so that a failing case doesn't exhaust the machine.
 CAP = "ulimit -v 8000000"
 
-# where peers are silent, the program may take so much of a processor
+# The share of a processor that the program may take while peers are silent.
 QUIET = 0.25
 
 SERVICE = """[SERVICE]
@@ -57,7 +57,7 @@ MESSAGES_TO_FILE = (
 
 @dataclass
 class Case:
-    """What is tried. `memory` is how many bytes above an idle run the program may take, by the options, and `limit` says why."""
+    """A case. `memory` returns, for the options, how many bytes the program may take above an idle run; `limit` says why."""
 
     attack: Callable
     configuration: str
@@ -68,7 +68,7 @@ class Case:
     after: Callable = None
     quiet: bool = False
     before: str = CAP
-    # why the case fails today, where it does, and by what: a pattern of all that is found wrong then
+    # Why the case fails today, if it does, and a pattern that matches everything that is then found wrong.
     known: str = ""
     shows: str = ""
 
@@ -82,14 +82,14 @@ def of_megabytes(count):
 
 
 def case(configuration, limit, memory, good=GoodPeer, **more):
-    """Makes a case of a function that attacks."""
+    """Makes a case from a function that attacks."""
     bound = memory if callable(memory) else of_megabytes(memory)
     return lambda attack: Case(attack, configuration, good, bound, limit, **more)
 
 
 @dataclass
 class Row:
-    """What came of a case."""
+    """The result of a case."""
 
     case: Case
     trial: Trial
@@ -126,7 +126,7 @@ HEAD = ("case", "verdict", "idle MB", "peak MB", "bound MB", "good lines", "slow
 
 
 def look_at_end(trial):
-    """The program ends well, and gave up nothing."""
+    """Checks that the program ends with status 0, and that no output counts an error, a spent retry or a loss."""
     if not trial.alive():
         told = trial.program.stderr().decode(errors="replace").strip()
         trial.complain(f"the program ended with status {trial.program.process.poll()}: {told[-300:]}")
@@ -142,7 +142,7 @@ def look_at_end(trial):
 
 
 def judge(case, trial, bound):
-    """What was asked of every case."""
+    """Checks what every case requires."""
     good = trial.good
     for text in good.trouble:
         trial.complain(text)
@@ -165,7 +165,7 @@ def work(case, trial):
 
 
 def tried(case, room, options):
-    """Runs a case, and gives its row."""
+    """Runs a case, and returns its row."""
     begun = time.monotonic()
     trial = Trial(options)
     configuration = case.configuration.format(port=trial.port, other=trial.other)
@@ -186,7 +186,7 @@ def tried(case, room, options):
 
 
 def told(row):
-    """What is said of a case as soon as it is over."""
+    """Prints the result of a case as soon as it is over."""
     print(f"hostile {row.case.name}: {row.verdict} in {row.seconds:.1f} s", flush=True)
     print(f"    bound: {row.case.limit}", flush=True)
     for text in row.trial.told:
@@ -198,7 +198,7 @@ def told(row):
 
 
 def page(rows):
-    """The same as docs/HOSTILE.md has it."""
+    """Prints the table as docs/HOSTILE.md has it."""
     print("| Case | What bounds the memory | Peak (bound), MB | Good lines, the slowest | Peers | Bytes | Processors | Verdict |")
     print("|---|---|---:|---:|---:|---:|---:|---|")
     for row in rows:
@@ -207,7 +207,7 @@ def page(rows):
 
 
 def table(rows):
-    """The figures of all cases."""
+    """Prints the figures of all cases."""
     cells = [HEAD, *(row.cells() for row in rows)]
     widths = [max(len(line[place]) for line in cells) for place in range(len(HEAD))]
     for line in cells:

@@ -4,7 +4,7 @@ import socket
 
 from hostile_case import MESSAGES_TO_FILE, case
 from hostile_lines import half_and_silence, of_silent
-from hostile_room import MEGABYTE, GoodSender, good_message, spelled
+from hostile_room import MEGABYTE, GoodSender, good_message, encoded
 from live_room import content, until
 
 LONGEST_MESSAGE = 16_777_216
@@ -13,7 +13,7 @@ LONGEST_MESSAGE = 16_777_216
 HUGE = {"bin": b"\xc6", "text": b"\xdb", "ext": b"\xc9", "list": b"\xdd", "map": b"\xdf"}
 HUGE = {name: head + b"\xff\xff\xff\xff" for name, head in HUGE.items()}
 
-TAG = spelled(b"bad")
+TAG = encoded(b"bad")
 
 
 def text32(text):
@@ -26,7 +26,7 @@ def message(record, option=b"", tag=TAG):
 
 
 def is_dropped(link, patience=5):
-    """Whether the program ends a connection, over which it may write before."""
+    """Returns whether the program ends a connection; it may write over it before."""
     link.settimeout(patience)
     try:
         while link.recv(65_536):
@@ -42,13 +42,13 @@ def forward(limit, memory, **more):
     return case(MESSAGES_TO_FILE, limit, memory, good=GoodSender, **more)
 
 
-@forward("some kilobytes for each connection; descriptors bound these", of_silent(4_096, 16 * MEGABYTE), quiet=True)
+@forward("some kilobytes for each connection; the descriptor limit bounds the connections", of_silent(4_096, 16 * MEGABYTE), quiet=True)
 def half_a_message_and_silence(trial):
     """Many peers send half a message each, and nothing more."""
     half_and_silence(trial, b"\x93" + TAG + b"\x00\xdf\x00\x00\x00\x02\xa1a")
 
 
-@forward("of replies that a socket doesn't take 65,536 bytes are kept, and past that the connection is dropped; a message of 16 MB", 96)
+@forward("a message of 16 MB, and 65,536 bytes of replies that the socket doesn't take; beyond that the connection is dropped", 96)
 def acks_are_never_read(trial):
     """Peers ask for acknowledgements, never read one, and go on sending; one of them asks for such of a megabyte."""
 
@@ -85,7 +85,7 @@ NO_MESSAGES = {
 }
 
 
-@forward("nothing is kept of what is no message", 16)
+@forward("invalid bytes are not kept", 16)
 def bytes_that_are_no_message(trial):
     """Each is dropped at once, and whatever comes at random does no harm; a message before them is taken and answered."""
     chance, longest = random.Random(5), 0
@@ -93,7 +93,7 @@ def bytes_that_are_no_message(trial):
         for name, data in NO_MESSAGES.items():
             with trial.connect() as link:
                 trial.send(link, data)
-                trial.hopes(is_dropped(link), f"a connection goes on behind {name}")
+                trial.hopes(is_dropped(link), f"a connection goes on after {name}")
         with trial.connect() as link:
             data = chance.randbytes(chance.randrange(1, 65_536))
             trial.send(link, data)
@@ -101,13 +101,13 @@ def bytes_that_are_no_message(trial):
         with trial.connect() as link:
             trial.send(link, good_message([9_999_999], b"before") + b"\xc1")
             link.settimeout(5)
-            wanted = b"\x81" + spelled(b"ack") + spelled(b"before")
+            wanted = b"\x81" + encoded(b"ack") + encoded(b"before")
             got = link.recv(len(wanted), socket.MSG_WAITALL)
             trial.hopes(got == wanted and is_dropped(link), f"a message before such bytes is answered with {got!r}")
     trial.tell(f"random bytes too, of up to {longest:,}")
 
 
-@forward("no room is made for a length that the bytes don't carry", 16, quiet=True)
+@forward("nothing is allocated for a declared length before its bytes come", 16, quiet=True)
 def huge_lengths_and_silence(trial):
     """Values that say to have 2^32 - 1 bytes or members, of which nothing comes, bare and inside a message."""
     for number in range(40):
@@ -147,7 +147,7 @@ def a_list_without_end(trial):
 
 def send_new_tags(trial, link, first, count):
     """Small messages, each of a tag of its own."""
-    messages = (message(b"\x81\xa3bad\x01", tag=spelled(b"tag.%07d" % number)) for number in range(first, first + count))
+    messages = (message(b"\x81\xa3bad\x01", tag=encoded(b"tag.%07d" % number)) for number in range(first, first + count))
     trial.send(link, b"".join(messages))
 
 
@@ -156,9 +156,9 @@ def list_of(count, member):
 
 
 @forward(
-    "a message of 16,777,216 bytes, as it came, as values and as a payload",
+    "a message of 16,777,216 bytes: as received, decoded, and as a payload",
     256,
-    known="a whole message is read as values, some 30 to 60 bytes of memory for each byte; each flight reads it so again",
+    known="a message is decoded as a whole, at 30 to 60 bytes of memory for each byte; each flush decodes it again",
     shows="of memory|good line",
 )
 def small_values_in_a_large_message(trial):
@@ -177,9 +177,9 @@ UNFINISHED = 40
 
 
 @forward(
-    "each connection keeps up to 16,777,216 bytes of a message; descriptors bound these",
+    "up to 16,777,216 bytes of a message for each connection; the descriptor limit bounds the connections",
     64,
-    known="nothing bounds the bytes that connections keep of unfinished messages together: Mem_Buf_Limit counts chunks alone",
+    known="nothing bounds the unfinished messages of all connections together: Mem_Buf_Limit counts only chunks",
     shows="of memory",
 )
 def unfinished_messages(trial):
@@ -194,7 +194,7 @@ NEW_TAGS = 50_000
 
 
 @forward(
-    "a row, an open chunk and its tag for each tag until it is flushed and delivered; Mem_Buf_Limit counts the bytes of their events alone",
+    "a row, an open chunk and its tag for each tag until its chunk is delivered; Mem_Buf_Limit counts only the bytes of events",
     64,
 )
 def a_new_tag_with_each_message(trial):

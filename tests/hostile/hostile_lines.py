@@ -18,7 +18,7 @@ IP_BIND_ADDRESS_NO_PORT = 24
 
 
 def of_silent(each, more):
-    """So many bytes for each silent peer, and more for all."""
+    """Returns a bound of `each` bytes for each silent peer, and `more` for all."""
     return lambda options: options.silent * each + more
 
 
@@ -26,10 +26,10 @@ def half_and_silence(trial, half):
     for _ in range(trial.options.silent):
         trial.send(trial.keep(trial.connect()), half)
     trial.rest()
-    trial.tell(f"{trial.meter.descriptors()} descriptors are open, as no time limits a silent peer")
+    trial.tell(f"{trial.meter.descriptors()} descriptors are open, as a silent peer has no time limit")
 
 
-@case(LINES_TO_FILE, "some kilobytes for each connection; descriptors bound these", of_silent(4_096, 16 * MEGABYTE), quiet=True)
+@case(LINES_TO_FILE, "some kilobytes for each connection; the descriptor limit bounds the connections", of_silent(4_096, 16 * MEGABYTE), quiet=True)
 def half_a_line_and_silence(trial):
     """Many peers send half a line each, and nothing more."""
     half_and_silence(trial, b'{"half":"a line')
@@ -37,12 +37,12 @@ def half_a_line_and_silence(trial):
 
 @case(
     LINES_TO_FILE,
-    "a line's first 32,768 bytes for each connection, in a buffer that doubles; descriptors bound these",
+    "a line's first 32,768 bytes for each connection, in a buffer that doubles; the descriptor limit bounds the connections",
     of_silent(2 * LONGEST_LINE, 16 * MEGABYTE),
     quiet=True,
 )
 def most_of_a_line_and_silence(trial):
-    """Many peers send all of a longest line but its line feed, and then bytes that aren't kept."""
+    """Many peers send the longest line without its line feed, and then bytes that aren't kept."""
     half_and_silence(trial, b"x" * (4 * LONGEST_LINE))
 
 
@@ -102,7 +102,7 @@ class RowPeers:
 THREADS = 3
 
 
-@case(LINES_TO_FILE, "a connection that is over leaves nothing; maps and queues keep the room of the most at once", 32)
+@case(LINES_TO_FILE, "a closed connection leaves nothing; maps and queues keep their largest capacity", 32)
 def connections_in_a_row(trial):
     """Connections one after another, with a line or none, closed or reset."""
     peers = RowPeers(trial)
@@ -115,7 +115,7 @@ def connections_in_a_row(trial):
     trial.tell(f"{came():,} lines came out, {peers.lines:,} of them of peers that weren't reset")
 
 
-@case(LINES_TO_FILE, "a line's first 32,768 bytes; what comes behind them is skipped", 16)
+@case(LINES_TO_FILE, "a line's first 32,768 bytes; the rest is skipped", 16)
 def no_line_feed(trial):
     """A gigabyte or more without a line feed, and then a line."""
     link = trial.keep(trial.connect())
@@ -129,7 +129,7 @@ def no_line_feed(trial):
     trial.hopes(LONGEST_LINE < longest < LONGEST_LINE + 100, f"the longest line that came out has {longest} bytes")
 
 
-@case(LINES_TO_FILE, "Mem_Buf_Limit 16M, the events and payload of a chunk of 2 MB at a time, and a piece of 65,536 bytes", 128)
+@case(LINES_TO_FILE, "Mem_Buf_Limit 16M, the events and payload of a chunk of 2 MB at a time, and a read of 65,536 bytes", 128)
 def a_flood_of_lines(trial):
     """Twenty peers send lines as fast as they are taken."""
     block = b'{"flood":"%s"}\n' % (b"f" * 86) * 500
@@ -145,7 +145,7 @@ def a_flood_of_lines(trial):
 
 @case(
     LINES_TO_FILE,
-    "the limit of the process on descriptors, of which inputs get those that nothing else needs",
+    "the descriptor limit of the process; inputs get what nothing else needs",
     16,
     good=KeptPeer,
     quiet=True,

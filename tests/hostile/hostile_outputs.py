@@ -1,4 +1,4 @@
-"""Hostile collectors. The good peer's lines go to a file beside them, and to the collector once it is good."""
+"""Hostile collectors. The good peer's lines go to a file too, and to the collector once it behaves."""
 import os
 import threading
 import time
@@ -32,18 +32,18 @@ def to_collector(kind, inputs=STORED):
     return inputs + output
 
 
-FLIGHTS = "four flights of a chunk each, with what comes back of them; other chunks are in files"
-HEAD = "8,192 bytes of a reply up to the end of its head and a piece of 65,536, for each of four flights"
-ACK = "1,024 bytes of a reply and a piece of 65,536, for each of four flights"
-UNREAD = "65,536 bytes of what comes back while a payload isn't taken and a piece of 65,536, for each of four flights"
-# after so many seconds a link is broken over which nothing came and nothing was taken
+FLUSHES = "four flushes of a chunk each, and their replies; other chunks are in files"
+HEAD = "8,192 bytes of a reply up to the end of its header, and a read of 65,536, for each of four flushes"
+ACK = "1,024 bytes of a reply, and a read of 65,536, for each of four flushes"
+UNREAD = "65,536 bytes of reply before the payload is taken, and a read of 65,536, for each of four flushes"
+# The loop breaks a link that is silent for this many seconds.
 SILENCE = 60
 
 KNOWN_TCP = "a tcp output has no acknowledgement: what the socket took counts as delivered"
 
 
-def owed_lines_come(trial, patience=40):
-    """The collector is good now, and has whatever was sent in that time."""
+def pending_lines_come(trial, patience=40):
+    """Lets the collector behave, and waits until it has every line that was sent."""
     begun, collector, wanted = time.monotonic(), trial.collector, set(trial.good.sent)
     collector.turn_good()
     try:
@@ -85,7 +85,7 @@ def collected(name, treats, kind, limit, memory=64, inputs=STORED, bursts=False,
 
     attack.__name__ = name
     configuration = to_collector(kind, inputs)
-    return Case(attack, configuration, GoodPeer, of_megabytes(memory), limit, after=owed_lines_come, **more)
+    return Case(attack, configuration, GoodPeer, of_megabytes(memory), limit, after=pending_lines_come, **more)
 
 
 CHUNKS = 10_000
@@ -93,11 +93,11 @@ CHUNKS = 10_000
 
 @case(
     to_collector("http", MESSAGES_TO_FILE),
-    "a row for each chunk that is owed, and what Mem_Buf_Limit 16M lets in",
+    "a row for each pending chunk, and what Mem_Buf_Limit 16M lets in",
     64,
     good=GoodSender,
-    after=owed_lines_come,
-    known="four flights of an output begin at a tick, so that lines behind 10,000 chunks come late",
+    after=pending_lines_come,
+    known="an output starts four flushes at a tick, so lines that queue after 10,000 chunks come late",
     shows="don't come to the collector",
 )
 def many_chunks_wait_for_a_silent_collector(trial):
@@ -136,7 +136,7 @@ TO_STANDARD = """[OUTPUT]
     quiet=True,
     before=CAP + "; mkfifo pipe; exec >pipe",
     prepare=begin_pipe,
-    known="a write to standard output waits, and all else with it",
+    known="a write to standard output blocks the program",
     shows="good line|timed out",
 )
 def standard_output_is_not_read(trial):
@@ -152,34 +152,34 @@ CASES = (
     collected("http_head_without_end", treat.head_without_end, "http", HEAD),
     collected("http_body_without_end", treat.body_without_end, "http", HEAD),
     collected("http_a_byte_at_a_time", treat.byte_at_a_time, "http", HEAD, quiet=True),
-    collected("http_never_answers", treat.reads_and_is_silent, "http", FLIGHTS, quiet=True),
+    collected("http_never_answers", treat.reads_and_is_silent, "http", FLUSHES, quiet=True),
     collected("http_answers_before_it_reads", treat.answers_before_it_reads, "http", UNREAD, bursts=True),
-    collected("forward_never_acknowledges", treat.reads_and_is_silent, "forward", FLIGHTS, quiet=True),
+    collected("forward_never_acknowledges", treat.reads_and_is_silent, "forward", FLUSHES, quiet=True),
     collected("forward_wrong_acknowledgement", treat.wrong_acknowledgement, "forward", ACK, quiet=True),
     collected("forward_acknowledgement_without_end", treat.acknowledgement_without_end, "forward", ACK),
     collected("forward_answers_before_it_reads", treat.answers_before_it_reads, "forward", UNREAD, bursts=True),
-    collected("tcp_answers_before_it_reads", treat.answers_before_it_reads, "tcp", FLIGHTS, bursts=True, known=KNOWN_TCP, shows="don't come to the collector"),
-    collected("http_accepts_and_closes", treat.closes, "http", FLIGHTS, quiet=True),
-    collected("forward_accepts_and_closes", treat.closes, "forward", FLIGHTS, quiet=True),
-    collected("tcp_accepts_and_closes", treat.closes, "tcp", FLIGHTS, quiet=True, known=KNOWN_TCP, shows="don't come to the collector"),
-    collected("http_accepts_and_never_reads", treat.reads_nothing, "http", FLIGHTS, bursts=True, quiet=True),
-    collected("forward_accepts_and_never_reads", treat.reads_nothing, "forward", FLIGHTS, bursts=True, quiet=True),
-    collected("tcp_accepts_and_never_reads", treat.reads_nothing, "tcp", FLIGHTS, bursts=True, quiet=True, known=KNOWN_TCP, shows="don't come to the collector"),
+    collected("tcp_answers_before_it_reads", treat.answers_before_it_reads, "tcp", FLUSHES, bursts=True, known=KNOWN_TCP, shows="don't come to the collector"),
+    collected("http_accepts_and_closes", treat.closes, "http", FLUSHES, quiet=True),
+    collected("forward_accepts_and_closes", treat.closes, "forward", FLUSHES, quiet=True),
+    collected("tcp_accepts_and_closes", treat.closes, "tcp", FLUSHES, quiet=True, known=KNOWN_TCP, shows="don't come to the collector"),
+    collected("http_accepts_and_never_reads", treat.reads_nothing, "http", FLUSHES, bursts=True, quiet=True),
+    collected("forward_accepts_and_never_reads", treat.reads_nothing, "forward", FLUSHES, bursts=True, quiet=True),
+    collected("tcp_accepts_and_never_reads", treat.reads_nothing, "tcp", FLUSHES, bursts=True, quiet=True, known=KNOWN_TCP, shows="don't come to the collector"),
     collected(
         "http_four_links_are_silent",
         treat.first_four_are_silent,
         "http",
-        FLIGHTS,
+        FLUSHES,
         quiet=True,
     ),
     collected(
         "http_never_answers_and_memory_is_full",
         treat.reads_and_is_silent,
         "http",
-        "Mem_Buf_Limit: the input is paused where chunks that any output is owed have so many bytes",
+        "Mem_Buf_Limit: the input is paused if its pending chunks have so many bytes",
         inputs=LIMITED,
         quiet=True,
-        known="an input that is paused for one output is paused for all, however often its chunks are tried again",
+        known="an input that is paused for one output is paused for all, however often its chunks are retried",
         shows="good line",
     ),
     many_chunks_wait_for_a_silent_collector,

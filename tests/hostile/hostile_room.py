@@ -1,4 +1,4 @@
-"""What hostile runs are made of: what the program takes of the machine, a good peer beside the hostile ones, and their counts."""
+"""What hostile cases share: the resources that the program takes, a good peer beside the hostile ones, and counts."""
 import itertools
 import os
 import re
@@ -11,13 +11,13 @@ from live_room import HOST, Failed, free_port
 
 MEGABYTE = 1_000_000
 
-# a good line has to come out so many seconds after it was sent
+# A good line has to be in the output within this many seconds.
 IN_TIME = 5
 
-# how long lines that are late are waited for
+# How many seconds late lines are waited for.
 LATE = 20
 
-# how long a call on a socket waits
+# The timeout of a call on a socket, in seconds.
 PATIENCE = 60
 
 # a number of a good line, in JSON and in MessagePack
@@ -32,15 +32,15 @@ def good_line(number):
     return b'{"g":"%s"}\n' % number_text(number)
 
 
-def spelled(text):
-    """A text of at most 31 bytes in MessagePack."""
+def encoded(text):
+    """Returns a text of at most 31 bytes in MessagePack."""
     return bytes([0xA0 + len(text)]) + text
 
 
 def good_message(numbers, chunk):
     """A forward message of numbered events that asks for an acknowledgement."""
-    events = b"".join(b"\x92\x00\x81\xa1g" + spelled(number_text(number)) for number in numbers)
-    return b"\x93" + spelled(b"good") + b"\xdc" + len(numbers).to_bytes(2, "big") + events + b"\x81\xa5chunk" + spelled(chunk)
+    events = b"".join(b"\x92\x00\x81\xa1g" + encoded(number_text(number)) for number in numbers)
+    return b"\x93" + encoded(b"good") + b"\xdc" + len(numbers).to_bytes(2, "big") + events + b"\x81\xa5chunk" + encoded(chunk)
 
 
 def reset(link):
@@ -50,19 +50,19 @@ def reset(link):
 
 
 class Meter:
-    """What a process has taken of the machine."""
+    """The resources that a process has taken."""
 
     def __init__(self, pid):
         self.folder = f"/proc/{pid}"
 
     def peak(self):
-        """The most resident memory so far, in bytes."""
+        """Returns the peak of resident memory so far, in bytes."""
         with open(f"{self.folder}/status") as status:
             found = re.search(r"VmHWM:\s+([0-9]+) kB", status.read())
         return int(found[1]) * 1_024 if found else 0
 
     def seconds(self):
-        """Processor seconds."""
+        """Returns the processor seconds so far."""
         with open(f"{self.folder}/stat") as stat:
             fields = stat.read().rsplit(")", 1)[1].split()
         return (int(fields[11]) + int(fields[12])) / os.sysconf("SC_CLK_TCK")
@@ -72,7 +72,7 @@ class Meter:
 
 
 class Arrivals:
-    """Follows a file, and notes when each number came."""
+    """Follows a file, and notes when each number arrived."""
 
     def __init__(self, path):
         self.path = path
@@ -153,28 +153,28 @@ class GoodPeer:
         return [number for number in list(self.sent) if number not in self.arrivals.at]
 
     def waited(self):
-        """How long ago the first line was sent that hasn't come."""
+        """Returns how many seconds ago the oldest missing line was sent."""
         return time.monotonic() - min((self.sent[number] for number in self.missing()), default=time.monotonic())
 
     def slowest(self):
-        """The longest that a line took to come out, of those that did."""
+        """Returns the longest time that a line took to arrive, in seconds."""
         return max((self.arrivals.at[number] - at for number, at in self.sent.items() if number in self.arrivals.at), default=0)
 
 
 class KeptPeer(GoodPeer):
-    """The same over the connection that it keeps alone."""
+    """The same, but only over the connection that it keeps."""
 
     def comes_anew(self):
         pass
 
 
 class GoodSender(GoodPeer):
-    """The same over the forward protocol, where each message is waited for to be acknowledged."""
+    """The same over the forward protocol: it waits for the acknowledgement of each message."""
 
     def say(self, link, numbers):
         chunk = b"good" + number_text(numbers[0])
         link.sendall(good_message(numbers, chunk))
-        wanted, got = b"\x81" + spelled(b"ack") + spelled(chunk), b""
+        wanted, got = b"\x81" + encoded(b"ack") + encoded(chunk), b""
         while len(got) < len(wanted):
             part = link.recv(len(wanted) - len(got))
             if not part:
@@ -202,7 +202,7 @@ class Trial:
         self.last = 0
 
     def begin(self, program, good):
-        """The program listens and is idle for a second, but for the good peer."""
+        """Waits until the program listens, and then lets only the good peer send for a second."""
         self.program, self.meter = program, Meter(program.process.pid)
         program.connect(self.port).close()
         self.arrivals = Arrivals(program.path("out"))
@@ -215,29 +215,29 @@ class Trial:
         return time.monotonic() < self.last and self.program.process.poll() is None
 
     def is_in_time(self):
-        """Whether it isn't much later than the end of the attack."""
+        """Returns whether the attack ended at most `LATE` seconds ago."""
         return time.monotonic() < self.last + LATE
 
     def attacked(self):
-        """The attack is over: what it cost is noted."""
+        """Notes what the attack cost, after its end."""
         if self.alive():
             self.busy = self.meter.seconds() - self.busy
             self.wall = time.monotonic() - self.wall
 
     def end(self):
-        """The good peer ends, and its lines are waited for."""
+        """Stops the good peer, and waits for its lines."""
         self.good.stop()
         last = time.monotonic() + LATE
         while self.good.missing() and time.monotonic() < last and self.alive():
             time.sleep(0.05)
 
     def settle(self):
-        """All is over but the program's end."""
+        """Notes the peak of memory, before the program ends."""
         if self.alive():
             self.peak = self.meter.peak()
 
     def leave(self):
-        """Nothing is followed or kept open any more."""
+        """Closes everything that is open."""
         if self.arrivals:
             self.arrivals.stopping = True
         if self.collector:
@@ -245,7 +245,7 @@ class Trial:
         self.let_go()
 
     def let_go(self):
-        """Hostile connections that were kept are closed."""
+        """Closes the hostile connections that were kept."""
         for link in self.links:
             link.close()
         self.links = []
@@ -269,7 +269,7 @@ class Trial:
             self.complain(text)
 
     def connect(self, port=None, small=False):
-        """A hostile connection, which may have a small buffer for what comes."""
+        """Opens a hostile connection, with a small receive buffer if `small`."""
         link = socket.socket()
         if small:
             link.setsockopt(socket.SOL_SOCKET, socket.SO_RCVBUF, 4_096)
@@ -279,13 +279,13 @@ class Trial:
         return link
 
     def keep(self, link):
-        """A hostile connection stays open until all are let go."""
+        """Keeps a hostile connection open until `let_go`."""
         with self.lock:
             self.links.append(link)
         return link
 
     def rest(self):
-        """The time that is left to the case passes."""
+        """Waits until the time of the case is over."""
         while self.goes_on():
             time.sleep(0.05)
 
@@ -294,7 +294,7 @@ class Trial:
         self.count(sent=len(data))
 
     def together(self, work, count):
-        """So many threads do the same, each with its number, and all are waited for."""
+        """Runs `work` in this many threads, each with its number, and waits for all."""
 
         def guarded(number):
             try:
