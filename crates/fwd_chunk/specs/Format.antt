@@ -40,11 +40,14 @@ metadata_of bytes =
 
 -- a marked file has all of its committed bytes
 abbrev pub if_long_enough : List ℕ → Metadata → Result Metadata NotAChunk
-if_long_enough bytes metadata = if is_marked bytes && nat_lt (length (body_of bytes)) (committed_length bytes) then Err BadLength else Ok metadata
+if_long_enough bytes metadata =
+    if is_marked bytes && nat_lt (length (body_of bytes)) (committed_length bytes) then Err BadLength
+    else Ok metadata
 
 abbrev pub if_valid_tag : List ℕ → Result Metadata NotAChunk → Result Metadata NotAChunk
 if_valid_tag bytes (Err refusal) = Err refusal
-if_valid_tag bytes (Ok metadata) = if is_utf8 metadata.tag then if_long_enough bytes metadata else Err NotUtf8Tag
+if_valid_tag bytes (Ok metadata) =
+    if is_utf8 metadata.tag then if_long_enough bytes metadata else Err NotUtf8Tag
 
 abbrev pub headed_by : List ℕ → Result (List ℕ) NotAChunk → Result Metadata NotAChunk
 headed_by bytes (Err refusal) = Err refusal
@@ -63,7 +66,9 @@ HasContent bytes events n =
 
 -- the committed bytes of a marked file aren't a list of events
 abbrev pub HasBadEvents : List ℕ → Type 0
-HasBadEvents bytes = IsTrue (is_marked bytes) × ((events : List Event) → AreEvents events (take (committed_length bytes) (body_of bytes)) → ⊥)
+HasBadEvents bytes =
+    IsTrue (is_marked bytes)
+    × ((events : List Event) → AreEvents events (take (committed_length bytes) (body_of bytes)) → ⊥)
 
 -- the chunk with these metadata and this content; the bytes after the content are torn
 abbrev pub chunk_of : List ℕ → Metadata → List Event → ℕ → Chunk
@@ -83,8 +88,11 @@ ChunkRead = Result Chunk NotAChunk
 
 -- the reading of these bytes
 abbrev pub StandsFor : List ℕ → ChunkRead → Type 0
-StandsFor bytes (Ok chunk) = (metadata : Metadata) × (events : List Event) × (n : ℕ) × (parse_header bytes ≡ Ok metadata) × HasContent bytes events n × (chunk ≡ chunk_of bytes metadata events n)
-StandsFor bytes (Err BadEvents) = (metadata : Metadata) × (parse_header bytes ≡ Ok metadata) × HasBadEvents bytes
+StandsFor bytes (Ok chunk) =
+    (metadata : Metadata) × (events : List Event) × (n : ℕ) × (parse_header bytes ≡ Ok metadata)
+    × HasContent bytes events n × (chunk ≡ chunk_of bytes metadata events n)
+StandsFor bytes (Err BadEvents) =
+    (metadata : Metadata) × (parse_header bytes ≡ Ok metadata) × HasBadEvents bytes
 StandsFor bytes (Err refusal) = parse_header bytes ≡ Err refusal
 
 -- out of memory

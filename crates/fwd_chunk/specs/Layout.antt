@@ -11,7 +11,9 @@ part bytes from count = take count (drop from bytes)
 
 -- the big-endian number of four bytes
 abbrev pub number_at : List ℕ → ℕ → ℕ
-number_at bytes at = ((slice_index bytes at * 256 + slice_index bytes (at + 1)) * 256 + slice_index bytes (at + 2)) * 256 + slice_index bytes (at + 3)
+number_at bytes at =
+    ((slice_index bytes at * 256 + slice_index bytes (at + 1)) * 256 + slice_index bytes (at + 2)) * 256
+    + slice_index bytes (at + 3)
 
 -- the offset of the slot that a selector chooses, and of the other slot
 abbrev pub chosen : ℕ → ℕ
@@ -55,7 +57,9 @@ named_output_bytes output = output.outcome ∷ length output.name ∷ output.nam
 -- The metadata of a file of mark 2: four bytes, the length of the tag and the tag, the number of the outputs
 -- and the outputs.
 abbrev pub named_meta_bytes : List ℕ → List NamedOutput → List ℕ
-named_meta_bytes tag outputs = 241 ∷ 119 ∷ 0 ∷ 2 ∷ to_be_bytes w16 (length tag) ++ tag ++ length outputs ∷ flat_map named_output_bytes outputs
+named_meta_bytes tag outputs =
+    241 ∷ 119 ∷ 0 ∷ 2 ∷ to_be_bytes w16 (length tag) ++ tag
+    ++ length outputs ∷ flat_map named_output_bytes outputs
 
 -- at most 64 different names of 1 to 255 bytes of UTF-8
 pub record AreOutputs (names : List (List ℕ)) : Type 0 where
@@ -73,8 +77,11 @@ new_meta tag outputs = named_meta_bytes tag (unrecorded outputs)
 
 -- The first 24 bytes of a new file. Its mark is 2, and its selector is 0, which chooses the first slot.
 abbrev pub new_header : ℕ → ℕ → List ℕ
-new_header meta size = 193 ∷ 0 ∷ 0 ∷ 0 ∷ 0 ∷ 0 ∷ 2 ∷ 0 ∷ 0 ∷ 0 ∷ 0 ∷ 0 ∷ 0 ∷ 0 ∷ to_be_bytes w32 size ++ 0 ∷ 0 ∷ 0 ∷ 0 ∷ to_be_bytes w16 meta
+new_header meta size =
+    193 ∷ 0 ∷ 0 ∷ 0 ∷ 0 ∷ 0 ∷ 2 ∷ 0 ∷ 0 ∷ 0 ∷ 0 ∷ 0 ∷ 0 ∷ 0 ∷ to_be_bytes w32 size
+    ++ 0 ∷ 0 ∷ 0 ∷ 0 ∷ to_be_bytes w16 meta
 
 -- the bytes of a new file with this tag and content that names these outputs
 abbrev pub new_file : List ℕ → List ℕ → List (List ℕ) → List ℕ
-new_file tag content outputs = new_header (length (new_meta tag outputs)) (length content) ++ new_meta tag outputs ++ content
+new_file tag content outputs =
+    new_header (length (new_meta tag outputs)) (length content) ++ new_meta tag outputs ++ content

@@ -10,7 +10,8 @@ use Rattle.fwd_limits.specs.declared.chunk_state.ChunkState.{ChunkState}
 
 -- the state of a chunk towards an output
 abbrev pub state_of : OutputId → Row → ChunkState
-state_of output row = record { chunk = row.chunk; size = row.size; is_file = in_file row; is_waiting = is_waiting output row }
+state_of output row =
+    record { chunk = row.chunk; size = row.size; is_file = in_file row; is_waiting = is_waiting output row }
 
 -- whether an output's bit is set in a mask
 abbrev pub has_bit : ℕ → OutputId → Bool

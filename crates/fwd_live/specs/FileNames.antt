@@ -4,4 +4,6 @@ use Rattle.std.specs.List.{ends_with, list_any}
 
 -- the name, unless it has a `/` or the suffix of an incomplete file
 abbrev pub complete_file_name : List ℕ → Option (List ℕ)
-complete_file_name name = if ends_with (λ x y. x == y) name (codes ".tmp") || list_any (λ byte. byte == 47) name then None else Some name
+complete_file_name name =
+    if ends_with (λ x y. x == y) name (codes ".tmp") || list_any (λ byte. byte == 47) name then None
+    else Some name

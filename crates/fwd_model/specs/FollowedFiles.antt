@@ -21,8 +21,10 @@ polled_by false from_head poll file = file
 -- the state of a followed file, by its input and the index of its path
 abbrev pub file_at : AllSettings → History → ℕ → ℕ → Followed
 file_at s [] input index = unread
-file_at s (Resumed i k place ∷ h) input index = resumed_by (i == input && k == index) place (file_at s h input index)
-file_at s (Polled i k long bytes ∷ h) input index = polled_by (i == input && k == index) (from_head_at s i) (polled long bytes) (file_at s h input index)
+file_at s (Resumed i k place ∷ h) input index =
+    resumed_by (i == input && k == index) place (file_at s h input index)
+file_at s (Polled i k long bytes ∷ h) input index =
+    polled_by (i == input && k == index) (from_head_at s i) (polled long bytes) (file_at s h input index)
 file_at s (_ ∷ h) input index = file_at s h input index
 
 -- the offset after its last complete line, from which a later run may resume

@@ -34,7 +34,9 @@ with_reply payload judged = record { payload = payload; wanted = true; judged = 
 
 -- a forward message, which asks for an acknowledgement if one is wanted
 abbrev pub message_to : Bool → Bool → List ℕ → Route → List Event → Delivery
-message_to true whole_time tag r events = with_reply (forward_payload tag events (Some (chunk_id r.chunk r.output)) whole_time) (ack_judged (chunk_id r.chunk r.output))
+message_to true whole_time tag r events =
+    with_reply (forward_payload tag events (Some (chunk_id r.chunk r.output)) whole_time)
+    (ack_judged (chunk_id r.chunk r.output))
 message_to false whole_time tag r events = without_reply (forward_payload tag events None whole_time)
 
 -- events of a tag in the format of an output
@@ -42,8 +44,10 @@ abbrev pub delivery_to : OutputKind → List ℕ → Route → List Event → De
 delivery_to (output_kind.Stdout form) tag r events = without_reply (payload_of form tag events)
 delivery_to (output_kind.File folder file form) tag r events = without_reply (payload_of form tag events)
 delivery_to (output_kind.Tcp host port form) tag r events = without_reply (payload_of form tag events)
-delivery_to (output_kind.Forward host port ack whole_time) tag r events = message_to ack whole_time tag r events
-delivery_to (output_kind.Http host port uri form) tag r events = with_reply (http_payload host port uri form tag events) http_judged
+delivery_to (output_kind.Forward host port ack whole_time) tag r events =
+    message_to ack whole_time tag r events
+delivery_to (output_kind.Http host port uri form) tag r events =
+    with_reply (http_payload host port uri form tag events) http_judged
 
 abbrev pub delivery_at : Option OutputSet → List ℕ → Route → List Event → Delivery
 delivery_at None tag r events = without_reply []

@@ -32,7 +32,8 @@ hears_peers (input_kind.Tail paths from_head) = false
 hears_peers input_kind.Stdin = false
 
 abbrev pub accepts_connections_at : AllSettings → ℕ → Bool
-accepts_connections_at s input = option_map_or (λ (set : InputSet). hears_peers set.kind) (input_at s input) false
+accepts_connections_at s input =
+    option_map_or (λ (set : InputSet). hears_peers set.kind) (input_at s input) false
 
 -- whether an input reads the standard input
 abbrev pub reads_standard : InputKind → Bool

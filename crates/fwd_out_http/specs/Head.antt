@@ -15,9 +15,11 @@ pub record BeginsWith (bytes : List ℕ) (head : ResponseHead) (rest : List ℕ)
 -- the first head in the bytes that isn't interim
 pub data IsHead : List ℕ → ResponseHead → Type 0 where
   -- the bytes start with it
-  First : (bytes : List ℕ) (head : ResponseHead) (rest : List ℕ) → BeginsWith bytes head rest → is_interim (status_code head) ≡ false → IsHead bytes head
+  First : (bytes : List ℕ) (head : ResponseHead) (rest : List ℕ) → BeginsWith bytes head rest
+      → is_interim (status_code head) ≡ false → IsHead bytes head
   -- the bytes start with an interim one, and it is the first one after that
-  Later : (bytes : List ℕ) (interim head : ResponseHead) (rest : List ℕ) → BeginsWith bytes interim rest → is_interim (status_code interim) ≡ true → IsHead rest head → IsHead bytes head
+  Later : (bytes : List ℕ) (interim head : ResponseHead) (rest : List ℕ) → BeginsWith bytes interim rest
+      → is_interim (status_code interim) ≡ true → IsHead rest head → IsHead bytes head
 
 -- a reply has a final head with this status, within as many bytes as are read
 pub record HasHead (reply : List ℕ) (status : ℕ) : Type 0 where
@@ -39,6 +41,7 @@ IsBusy status = (status ≡ 429) ⊎ ((500 ≤ status) × (status ≤ 599))
 -- the judgement of a reply: by its head, or by its length if it has none
 abbrev pub IsJudged : List ℕ → Judged → Type 0
 IsJudged reply Right = (status : ℕ) × HasHead reply status × IsGood status
-IsJudged reply Wrong = ((status : ℕ) × HasHead reply status × IsBusy status) ⊎ (HasNoHead reply × (longest_head ≤ length reply))
+IsJudged reply Wrong =
+    ((status : ℕ) × HasHead reply status × IsBusy status) ⊎ (HasNoHead reply × (longest_head ≤ length reply))
 IsJudged reply Fatal = (status : ℕ) × HasHead reply status × (IsGood status → ⊥) × (IsBusy status → ⊥)
 IsJudged reply More = HasNoHead reply × (length reply < longest_head)

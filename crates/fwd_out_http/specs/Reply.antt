@@ -45,7 +45,8 @@ status_after_version _ = None
 
 -- the status of a status line; none for any other line
 abbrev pub status_of : List ℕ → Option ℕ
-status_of line = if starts_with nat_eq line (codes "HTTP/1.") then status_after_version (drop 7 line) else None
+status_of line =
+    if starts_with nat_eq line (codes "HTTP/1.") then status_after_version (drop 7 line) else None
 
 -- whether a line is a field line, or the end of one: a name, unless it has come already, then a colon and a
 -- value

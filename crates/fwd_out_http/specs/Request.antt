@@ -62,7 +62,8 @@ fields_of host port form size =
     ∷ []
 
 -- a request is read back as a head with the method, the URI and these fields, and then the payload
-pub record ReadsBack (host : List ℕ) (port : ℕ) (uri : List ℕ) (form : Form) (tag : List ℕ) (events : List Event) : Type 0 where
+pub record ReadsBack (host : List ℕ) (port : ℕ) (uri : List ℕ) (form : Form) (tag : List ℕ)
+    (events : List Event) : Type 0 where
   pub head : RequestHead
   pub reads : ReadsRequest (http_payload host port uri form tag events) head (payload_of form tag events)
   pub method : head.method ≡ codes "POST"

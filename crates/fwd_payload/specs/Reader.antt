@@ -20,7 +20,8 @@ judges (Http reader) reply = http_judged reply
 
 -- the payload, whether a reply is wanted, and its judgement are these
 abbrev pub SendsAndJudges : Delivery → List ℕ → Reader → Type 0
-SendsAndJudges d payload reader = record { payload = payload; wanted = wants reader; judged = judges reader } ≡ d
+SendsAndJudges d payload reader =
+    record { payload = payload; wanted = wants reader; judged = judges reader } ≡ d
 
 -- a flush that hasn't started goes to this output and sends this
 pub record IsFlushTo (d : Delivery) (to : OutputId) (flight : Flight Reader) : Type 0 where

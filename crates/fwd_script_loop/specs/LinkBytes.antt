@@ -34,7 +34,8 @@ dialed_by links (DropConn conn) answer = links
 dialed_by links Word answer = links
 
 abbrev pub taken_by : ℕ → List ℕ → (call : LoopCall) → LoopAnswer call → List ℕ
-taken_by outputs links (Push link bytes) answer = if leads_to outputs links link then taken_of bytes answer else []
+taken_by outputs links (Push link bytes) answer =
+    if leads_to outputs links link then taken_of bytes answer else []
 taken_by outputs links (Start ends) answer = []
 taken_by outputs links (Wait until paused) answer = []
 taken_by outputs links (Dial output tag) answer = []
@@ -46,4 +47,5 @@ taken_by outputs links Word answer = []
 -- the bytes that links of the outputs in a mask received, in order
 abbrev pub handed : ℕ → List ℕ → List LoopEntry → List ℕ
 handed outputs links [] = []
-handed outputs links (e ∷ es) = taken_by outputs links e.call e.answer ++ handed outputs (dialed_by links e.call e.answer) es
+handed outputs links (e ∷ es) =
+    taken_by outputs links e.call e.answer ++ handed outputs (dialed_by links e.call e.answer) es

@@ -49,13 +49,18 @@ input_name before plugin = instance (name_of_input plugin) (count_by (is_input_o
 
 abbrev pub tail_by : Place → List Property → Option (List ℕ) → Checked InputKind
 tail_by place properties None = Err (fault Missing place)
-tail_by place properties (Some paths) = Ok (input.Tail (parts_of (codes ",") paths) (unwrap_or (truth_at key.ReadFromHead properties) false))
+tail_by place properties (Some paths) =
+    Ok (input.Tail (parts_of (codes ",") paths) (unwrap_or (truth_at key.ReadFromHead properties) false))
 
 -- a tail input requires its Path, which is split at each comma
 abbrev pub input_kind : InputPlugin → Place → List Property → Checked InputKind
 input_kind plugin.Tail place properties = tail_by place properties (text_at key.Paths properties)
-input_kind plugin.Tcp place properties = Ok (input.Tcp (unwrap_or (text_at key.Listen properties) (codes "0.0.0.0")) (unwrap_or (port_at key.Port properties) 5170))
-input_kind plugin.Forward place properties = Ok (input.Forward (unwrap_or (text_at key.Listen properties) (codes "0.0.0.0")) (unwrap_or (port_at key.Port properties) 24224))
+input_kind plugin.Tcp place properties =
+    Ok (input.Tcp (unwrap_or (text_at key.Listen properties) (codes "0.0.0.0"))
+      (unwrap_or (port_at key.Port properties) 5170))
+input_kind plugin.Forward place properties =
+    Ok (input.Forward (unwrap_or (text_at key.Listen properties) (codes "0.0.0.0"))
+      (unwrap_or (port_at key.Port properties) 24224))
 input_kind plugin.Stdin place properties = Ok input.Stdin
 
 -- without a Tag the instance's name is the tag, except for forward, whose messages bring theirs
@@ -109,10 +114,13 @@ input_set plugin name properties kind = record {
 abbrev pub stored_in : Bool → Place → InputSet → Checked InputSet
 stored_in path place set = if set.stored && not path then Err (fault Missing place) else Ok set
 
-abbrev pub input_by : Bool → InputPlugin → Place → List ℕ → List Property → Checked InputKind → Checked InputSet
-input_by path plugin place name properties (Ok kind) = stored_in path place (input_set plugin name properties kind)
+abbrev pub input_by : Bool → InputPlugin → Place → List ℕ → List Property → Checked InputKind
+    → Checked InputSet
+input_by path plugin place name properties (Ok kind) =
+    stored_in path place (input_set plugin name properties kind)
 input_by path plugin place name properties (Err refusal) = Err refusal
 
 -- the settings of an input, given those of the inputs before it
 abbrev pub input_from : Bool → InputPlugin → Place → List InputSet → List Property → Checked InputSet
-input_from path plugin place before properties = input_by path plugin place (input_name before plugin) properties (input_kind plugin place properties)
+input_from path plugin place before properties =
+    input_by path plugin place (input_name before plugin) properties (input_kind plugin place properties)

@@ -54,12 +54,20 @@ host_of properties = unwrap_or (text_at key.Host properties) (codes "127.0.0.1")
 
 abbrev pub output_kind : OutputPlugin → List Property → OutputKind
 output_kind plugin.Stdout properties = output.Stdout (record_form (word_at key.RecordFormat properties))
-output_kind plugin.File properties = output.File (unwrap_or (text_at key.Folder properties) (codes ".")) (text_at key.File properties) (file_form (word_at key.FileFormat properties))
-output_kind plugin.Tcp properties = output.Tcp (host_of properties) (unwrap_or (port_at key.Port properties) 5170) (record_form (word_at key.RecordFormat properties))
+output_kind plugin.File properties =
+    output.File (unwrap_or (text_at key.Folder properties) (codes ".")) (text_at key.File properties)
+    (file_form (word_at key.FileFormat properties))
+output_kind plugin.Tcp properties =
+    output.Tcp (host_of properties) (unwrap_or (port_at key.Port properties) 5170)
+    (record_form (word_at key.RecordFormat properties))
 output_kind plugin.Forward properties =
-    output.Forward (host_of properties) (unwrap_or (port_at key.Port properties) 24224) (unwrap_or (truth_at key.RequireAck properties) false) (unwrap_or (truth_at key.TimeAsInteger properties) false)
+    output.Forward (host_of properties) (unwrap_or (port_at key.Port properties) 24224)
+        (unwrap_or (truth_at key.RequireAck properties) false)
+        (unwrap_or (truth_at key.TimeAsInteger properties) false)
 output_kind plugin.Http properties =
-    output.Http (host_of properties) (unwrap_or (port_at key.Port properties) 80) (unwrap_or (text_at key.Uri properties) (codes "/")) (request_form (word_at key.RecordFormat properties))
+    output.Http (host_of properties) (unwrap_or (port_at key.Port properties) 80)
+        (unwrap_or (text_at key.Uri properties) (codes "/"))
+        (request_form (word_at key.RecordFormat properties))
 
 -- the settings of an output, given those of the outputs before it
 abbrev pub output_from : OutputPlugin → List OutputSet → List Property → OutputSet

@@ -33,7 +33,9 @@ timeless shape = record { shape = shape; time = None }
 abbrev pub time_of : List Property → Option TimeRule
 time_of properties =
     option_map
-    (λ format. record { key = unwrap_or (text_at key.TimeKey properties) (codes "time"); format = format; keep = unwrap_or (truth_at key.TimeKeep properties) false })
+    (λ format. record
+          { key = unwrap_or (text_at key.TimeKey properties) (codes "time"); format = format;
+            keep = unwrap_or (truth_at key.TimeKeep properties) false })
     (text_at key.TimeFormat properties)
 
 abbrev pub parser_by : List Property → Shape → Parser
@@ -48,7 +50,8 @@ types_by (Some text) = unwrap_or (types_of text) []
 abbrev pub groups_by : Place → List Property → Option Pattern → Checked Shape
 groups_by place properties None = Err (fault Missing place)
 groups_by place properties (Some p) =
-    Ok (shape.Groups p (types_by (text_at key.Types properties)) (unwrap_or (truth_at key.SkipEmptyValues properties) true))
+    Ok (shape.Groups p (types_by (text_at key.Types properties))
+          (unwrap_or (truth_at key.SkipEmptyValues properties) true))
 
 -- a Format is required
 abbrev pub shape_by : Place → List Property → Option Word → Checked Shape
@@ -63,7 +66,8 @@ with_time properties (Err refusal) = Err refusal
 
 -- the parser that the entries of a section describe, whose header is at this place
 abbrev pub parser_from : Place → List Property → Checked Parser
-parser_from place properties = with_time properties (shape_by place properties (word_at key.ParserFormat properties))
+parser_from place properties =
+    with_time properties (shape_by place properties (word_at key.ParserFormat properties))
 
 -- an entry of a PARSER section can't name a parser
 abbrev pub no_parser : Entry → Reading Parser
@@ -90,7 +94,8 @@ has_name name None = false
 has_name name (Some entry) = bytes_eq entry.value name
 
 abbrev pub is_parser_named : List ℕ → Section → Bool
-is_parser_named name section = is_parser_head (head_of section.name) && has_name name (name_entry section.entries)
+is_parser_named name section =
+    is_parser_head (head_of section.name) && has_name name (name_entry section.entries)
 
 abbrev pub parser_in_section : Entry → Option Section → Reading Parser
 parser_in_section entry None = known (Err (fault BadChoice entry.place))

@@ -16,11 +16,13 @@ use Rattle.fwd_settings.specs.Outputs.{output_plugin, output_name}
 -- each is named by its plugin and its number among those of the plugin
 abbrev pub AreInputsNamed : List InputSet → List InputSet → Type 0
 AreInputsNamed before [] = Unit {0}
-AreInputsNamed before (set ∷ more) = (set.name ≡ input_name before (input_plugin set.kind)) × AreInputsNamed (before ++ set ∷ []) more
+AreInputsNamed before (set ∷ more) =
+    (set.name ≡ input_name before (input_plugin set.kind)) × AreInputsNamed (before ++ set ∷ []) more
 
 abbrev pub AreOutputsNamed : List OutputSet → List OutputSet → Type 0
 AreOutputsNamed before [] = Unit {0}
-AreOutputsNamed before (set ∷ more) = (set.name ≡ output_name before (output_plugin set.kind)) × AreOutputsNamed (before ++ set ∷ []) more
+AreOutputsNamed before (set ∷ more) =
+    (set.name ≡ output_name before (output_plugin set.kind)) × AreOutputsNamed (before ++ set ∷ []) more
 
 -- a tag has at least one byte, and at most as many as a tag may have; only forward may have none
 abbrev pub IsTagText : List ℕ → Type 0

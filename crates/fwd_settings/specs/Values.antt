@@ -45,7 +45,8 @@ value_of plain.False text = or_else BadChoice value.Truth (when (is_false_word t
 value_of (plain.Choice menu) text = or_else BadChoice value.Word (word_of menu text)
 value_of plain.Text text = Ok (value.Text text)
 value_of plain.Tag text = or_else BadChoice value.Text (when (is_tag_text text) text)
-value_of plain.PlainTag text = or_else BadChoice value.Text (when (is_plain_text text && is_tag_text text) text)
+value_of plain.PlainTag text =
+    or_else BadChoice value.Text (when (is_plain_text text && is_tag_text text) text)
 value_of plain.Paths text = or_else BadChoice value.Text (when (is_plain_text text) text)
 value_of plain.Visible text = or_else BadChoice value.Text (when (is_visible_text text) text)
 value_of plain.Uri text = or_else BadChoice value.Text (when (is_uri_text text) text)

@@ -66,20 +66,48 @@ output_plugins = output.Stdout ∷ output.File ∷ output.Tcp ∷ output.Forward
 
 -- the keys of each section and plugin
 abbrev pub keys_of : Target → List Key
-keys_of target.Service = key.Flush ∷ key.Grace ∷ key.StoragePath ∷ key.StorageSync ∷ key.StorageChecksum ∷ key.MaxChunksUp ∷ key.BacklogMemLimit ∷ key.SchedulerBase ∷ key.SchedulerCap ∷ key.ParsersFile ∷ key.Daemon ∷ key.LogLevel ∷ key.LogFile ∷ key.HttpServer ∷ key.HttpListen ∷ key.HttpPort ∷ key.HealthCheck ∷ key.StorageMetrics ∷ key.PluginsFile ∷ []
-keys_of target.Parser = key.Name ∷ key.ParserFormat ∷ key.Regex ∷ key.TimeKey ∷ key.TimeFormat ∷ key.TimeKeep ∷ key.Types ∷ key.SkipEmptyValues ∷ []
-keys_of (target.Input input.Tail) = key.Name ∷ key.PlainTag ∷ key.StorageType ∷ key.MemBufLimit ∷ key.Alias ∷ key.LogLevel ∷ key.Paths ∷ key.ParserName ∷ key.ReadFromHead ∷ key.RefreshInterval ∷ key.RotateWait ∷ key.SkipLongLines ∷ key.BufferChunkSize ∷ key.BufferMaxSize ∷ []
-keys_of (target.Input input.Tcp) = key.Name ∷ key.Tag ∷ key.StorageType ∷ key.MemBufLimit ∷ key.Alias ∷ key.LogLevel ∷ key.Listen ∷ key.Port ∷ key.LineFormat ∷ key.ChunkSize ∷ key.BufferSize ∷ []
-keys_of (target.Input input.Forward) = key.Name ∷ key.Tag ∷ key.StorageType ∷ key.MemBufLimit ∷ key.Alias ∷ key.LogLevel ∷ key.Listen ∷ key.Port ∷ key.BufferChunkSize ∷ key.BufferMaxSize ∷ []
-keys_of (target.Input input.Stdin) = key.Name ∷ key.Tag ∷ key.StorageType ∷ key.MemBufLimit ∷ key.Alias ∷ key.LogLevel ∷ key.ParserName ∷ []
+keys_of target.Service =
+    key.Flush ∷ key.Grace ∷ key.StoragePath ∷ key.StorageSync ∷ key.StorageChecksum ∷ key.MaxChunksUp
+    ∷ key.BacklogMemLimit ∷ key.SchedulerBase ∷ key.SchedulerCap ∷ key.ParsersFile ∷ key.Daemon ∷ key.LogLevel
+    ∷ key.LogFile ∷ key.HttpServer ∷ key.HttpListen ∷ key.HttpPort ∷ key.HealthCheck ∷ key.StorageMetrics
+    ∷ key.PluginsFile ∷ []
+keys_of target.Parser =
+    key.Name ∷ key.ParserFormat ∷ key.Regex ∷ key.TimeKey ∷ key.TimeFormat ∷ key.TimeKeep ∷ key.Types
+    ∷ key.SkipEmptyValues ∷ []
+keys_of (target.Input input.Tail) =
+    key.Name ∷ key.PlainTag ∷ key.StorageType ∷ key.MemBufLimit ∷ key.Alias ∷ key.LogLevel ∷ key.Paths
+    ∷ key.ParserName ∷ key.ReadFromHead ∷ key.RefreshInterval ∷ key.RotateWait ∷ key.SkipLongLines
+    ∷ key.BufferChunkSize ∷ key.BufferMaxSize ∷ []
+keys_of (target.Input input.Tcp) =
+    key.Name ∷ key.Tag ∷ key.StorageType ∷ key.MemBufLimit ∷ key.Alias ∷ key.LogLevel ∷ key.Listen ∷ key.Port
+    ∷ key.LineFormat ∷ key.ChunkSize ∷ key.BufferSize ∷ []
+keys_of (target.Input input.Forward) =
+    key.Name ∷ key.Tag ∷ key.StorageType ∷ key.MemBufLimit ∷ key.Alias ∷ key.LogLevel ∷ key.Listen ∷ key.Port
+    ∷ key.BufferChunkSize ∷ key.BufferMaxSize ∷ []
+keys_of (target.Input input.Stdin) =
+    key.Name ∷ key.Tag ∷ key.StorageType ∷ key.MemBufLimit ∷ key.Alias ∷ key.LogLevel ∷ key.ParserName ∷ []
 keys_of (target.Filter filter.Grep) = key.Name ∷ key.Match ∷ key.GrepRegex ∷ key.GrepExclude ∷ []
-keys_of (target.Filter filter.Modify) = key.Name ∷ key.Match ∷ key.Condition ∷ key.Set ∷ key.Add ∷ key.Remove ∷ key.RemoveWildcard ∷ key.Rename ∷ key.HardRename ∷ key.Copy ∷ key.HardCopy ∷ []
-keys_of (target.Filter filter.Nest) = key.Name ∷ key.Match ∷ key.Operation ∷ key.Wildcard ∷ key.NestUnder ∷ key.NestedUnder ∷ key.RemovePrefix ∷ key.AddPrefix ∷ []
-keys_of (target.Output output.Stdout) = key.Name ∷ key.Match ∷ key.RetryLimit ∷ key.TotalLimit ∷ key.Tls ∷ key.Alias ∷ key.LogLevel ∷ key.Workers ∷ key.RecordFormat ∷ []
-keys_of (target.Output output.File) = key.Name ∷ key.Match ∷ key.RetryLimit ∷ key.TotalLimit ∷ key.Tls ∷ key.Alias ∷ key.LogLevel ∷ key.Workers ∷ key.Folder ∷ key.File ∷ key.FileFormat ∷ key.Mkdir ∷ []
-keys_of (target.Output output.Tcp) = key.Name ∷ key.Match ∷ key.RetryLimit ∷ key.TotalLimit ∷ key.Tls ∷ key.Alias ∷ key.LogLevel ∷ key.Workers ∷ key.Host ∷ key.Port ∷ key.RecordFormat ∷ []
-keys_of (target.Output output.Forward) = key.Name ∷ key.Match ∷ key.RetryLimit ∷ key.TotalLimit ∷ key.Tls ∷ key.Alias ∷ key.LogLevel ∷ key.Workers ∷ key.Host ∷ key.Port ∷ key.RequireAck ∷ key.TimeAsInteger ∷ []
-keys_of (target.Output output.Http) = key.Name ∷ key.Match ∷ key.RetryLimit ∷ key.TotalLimit ∷ key.Tls ∷ key.Alias ∷ key.LogLevel ∷ key.Workers ∷ key.RequestHost ∷ key.Port ∷ key.Uri ∷ key.RecordFormat ∷ []
+keys_of (target.Filter filter.Modify) =
+    key.Name ∷ key.Match ∷ key.Condition ∷ key.Set ∷ key.Add ∷ key.Remove ∷ key.RemoveWildcard ∷ key.Rename
+    ∷ key.HardRename ∷ key.Copy ∷ key.HardCopy ∷ []
+keys_of (target.Filter filter.Nest) =
+    key.Name ∷ key.Match ∷ key.Operation ∷ key.Wildcard ∷ key.NestUnder ∷ key.NestedUnder ∷ key.RemovePrefix
+    ∷ key.AddPrefix ∷ []
+keys_of (target.Output output.Stdout) =
+    key.Name ∷ key.Match ∷ key.RetryLimit ∷ key.TotalLimit ∷ key.Tls ∷ key.Alias ∷ key.LogLevel ∷ key.Workers
+    ∷ key.RecordFormat ∷ []
+keys_of (target.Output output.File) =
+    key.Name ∷ key.Match ∷ key.RetryLimit ∷ key.TotalLimit ∷ key.Tls ∷ key.Alias ∷ key.LogLevel ∷ key.Workers
+    ∷ key.Folder ∷ key.File ∷ key.FileFormat ∷ key.Mkdir ∷ []
+keys_of (target.Output output.Tcp) =
+    key.Name ∷ key.Match ∷ key.RetryLimit ∷ key.TotalLimit ∷ key.Tls ∷ key.Alias ∷ key.LogLevel ∷ key.Workers
+    ∷ key.Host ∷ key.Port ∷ key.RecordFormat ∷ []
+keys_of (target.Output output.Forward) =
+    key.Name ∷ key.Match ∷ key.RetryLimit ∷ key.TotalLimit ∷ key.Tls ∷ key.Alias ∷ key.LogLevel ∷ key.Workers
+    ∷ key.Host ∷ key.Port ∷ key.RequireAck ∷ key.TimeAsInteger ∷ []
+keys_of (target.Output output.Http) =
+    key.Name ∷ key.Match ∷ key.RetryLimit ∷ key.TotalLimit ∷ key.Tls ∷ key.Alias ∷ key.LogLevel ∷ key.Workers
+    ∷ key.RequestHost ∷ key.Port ∷ key.Uri ∷ key.RecordFormat ∷ []
 
 -- the name of each key
 abbrev pub name_of : Key → List ℕ

@@ -8,11 +8,15 @@ use Rattle.fwd_base.specs.Limits.{longest_tag}
 
 -- On, True and Yes, case ignored
 abbrev pub is_true_word : List ℕ → Bool
-is_true_word text = str_eq_ignore_ascii_case text (codes "on") || (str_eq_ignore_ascii_case text (codes "true") || str_eq_ignore_ascii_case text (codes "yes"))
+is_true_word text =
+    str_eq_ignore_ascii_case text (codes "on")
+    || (str_eq_ignore_ascii_case text (codes "true") || str_eq_ignore_ascii_case text (codes "yes"))
 
 -- Off, False and No, case ignored
 abbrev pub is_false_word : List ℕ → Bool
-is_false_word text = str_eq_ignore_ascii_case text (codes "off") || (str_eq_ignore_ascii_case text (codes "false") || str_eq_ignore_ascii_case text (codes "no"))
+is_false_word text =
+    str_eq_ignore_ascii_case text (codes "off")
+    || (str_eq_ignore_ascii_case text (codes "false") || str_eq_ignore_ascii_case text (codes "no"))
 
 abbrev pub truth_of : List ℕ → Option Bool
 truth_of text = if is_true_word text then Some true else (if is_false_word text then Some false else None)

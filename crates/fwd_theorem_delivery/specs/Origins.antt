@@ -69,6 +69,7 @@ pub record WasCompleted (s : AllSettings) (h : History) (b : Batch) : Type 0 whe
 
 -- The batches accepted or refused since a fact are, in order, the first of the nonempty ones that it
 -- completed. So at most one fact says what became of each.
-pub record AreDecidedInOrder (s : AllSettings) (during : History) (fact : Fact) (before : History) : Type 0 where
+pub record AreDecidedInOrder (s : AllSettings) (during : History) (fact : Fact)
+    (before : History) : Type 0 where
   pub rest : List Batch
   pub is : with_events (completed_by s before fact) ≡ decided_batches during ++ rest

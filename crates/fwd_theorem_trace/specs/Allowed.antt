@@ -48,7 +48,8 @@ pub record IsToStore (s : AllSettings) (b : Batch) : Type 0 where
   pub fits : is_storable b.events ≡ true
 
 -- it was just offered to a chunk, which was in this state before
-pub record WasOffered (Stood : Batch → ℕ → History → Type 0) (b : Batch) (chunk : ℕ) (h : History) : Type 0 where
+pub record WasOffered (Stood : Batch → ℕ → History → Type 0) (b : Batch) (chunk : ℕ)
+    (h : History) : Type 0 where
   pub before : History
   pub is : h ≡ Offered chunk b ∷ before
   pub stood : Stood b chunk before
@@ -85,7 +86,8 @@ pub record IsFinished (s : AllSettings) (chunk : ℕ) (h : History) : Type 0 whe
 
 -- a wait just returned it, or it is the first `Stop`
 abbrev pub EventAllowed : AllSettings → Happening → Past → Type 0
-EventAllowed s brought past = (last_event past ≡ Some brought) ⊎ ((brought ≡ happening.Stop) × (stopped s (logged past) ≡ None))
+EventAllowed s brought past =
+    (last_event past ≡ Some brought) ⊎ ((brought ≡ happening.Stop) × (stopped s (logged past) ≡ None))
 
 abbrev pub FactAllowed : AllSettings → Fact → Past → Type 0
 FactAllowed s (Happened brought) past = EventAllowed s brought past
@@ -93,8 +95,10 @@ FactAllowed s (Resumed input index place) past = IsLoading (logged past)
 FactAllowed s (Polled input index long bytes) past = Unit {0}
 FactAllowed s (Disconnected conn) past = last_call past ≡ Some (OnLoop (DropConn conn))
 FactAllowed s (Malformed input) past = Unit {0}
-FactAllowed s (Found number stream name bytes) past = (number ≡ length (logged past) + 1) × IsLoading (logged past)
-FactAllowed s (Offered chunk b) past = IsToStore s b × (StartsChunk b chunk (logged past) ⊎ AppendsTo b chunk (logged past))
+FactAllowed s (Found number stream name bytes) past =
+    (number ≡ length (logged past) + 1) × IsLoading (logged past)
+FactAllowed s (Offered chunk b) past =
+    IsToStore s b × (StartsChunk b chunk (logged past) ⊎ AppendsTo b chunk (logged past))
 FactAllowed s (Accepted b place) past = AcceptAllowed s b place (logged past)
 FactAllowed s (Refused b why) past = RefuseAllowed s b why (logged past)
 FactAllowed s (ChunkClosed chunk) past = IsChunk (logged past) chunk
@@ -108,11 +112,13 @@ FactAllowed s IoFailed past = Unit {0}
 
 -- directly after the beginning of a flush, for its output and the tag of its chunk
 abbrev pub DialAllowed : ℕ → List ℕ → Past → Option Fact → Type 0
-DialAllowed output tag past (Some (OnRoute r (FlushStarted events))) = (output ≡ r.output) × (tag ≡ tag_of_chunk (logged past) r.chunk)
+DialAllowed output tag past (Some (OnRoute r (FlushStarted events))) =
+    (output ≡ r.output) × (tag ≡ tag_of_chunk (logged past) r.chunk)
 DialAllowed output tag past other = ⊥
 
 abbrev pub LoopCallAllowed : AllSettings → LoopCall → Past → Type 0
-LoopCallAllowed s (Wait until mask) past = (until ≡ saturating_plus (clock (logged past)) longest_wait) × (mask ≡ paused s (logged past))
+LoopCallAllowed s (Wait until mask) past =
+    (until ≡ saturating_plus (clock (logged past)) longest_wait) × (mask ≡ paused s (logged past))
 LoopCallAllowed s (Dial output tag) past = DialAllowed output tag past (last_fact past)
 LoopCallAllowed s call past = Unit {0}
 
