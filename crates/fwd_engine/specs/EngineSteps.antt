@@ -27,7 +27,7 @@ use Rattle.fwd_engine.specs.declared.engine.Turn.TheVariants.{More, Over}
 
 -- the engine runs by these settings, and represents this history
 pub record IsAt (engine : Engine) (s : AllSettings) (h : History) : Type 0 where
-  pub settings : engine.setup ≡ s
+  pub settings : engine.run ≡ s
   pub shows : PartsRepresentIdle s engine.parts h
 
 -- a statement about each history that the engine represents

@@ -20,11 +20,11 @@ ghost use Rattle.fwd_engine.specs.CrashSafety.{BeginIsCrashSafe, IsAtCrashPoint,
 ghost use Rattle.fwd_engine.specs.declared.engine.BeginErr.TheVariants as begin_err;
 ghost use Rattle.fwd_engine.specs.declared.engine.EngineStop.TheVariants as stop;
 
-use crate::setup::Setup;
 use crate::{is_finished, step};
 use fwd_base::Memory;
 use fwd_base::limits::LONGEST_WAIT;
 use fwd_engine_recovery::{LoadErr, load};
+use fwd_engine_settings::RunSettings;
 use fwd_engine_state::Parts;
 use fwd_outside::{Disk, Files, Happening, Loop};
 use fwd_settings::AllSettings;
@@ -73,7 +73,7 @@ fn turn_of(over: bool) -> Turn
 /// An engine: its settings and its parts.
 #[derive(Drop)]
 pub struct Engine {
-    setup: Setup,
+    run: RunSettings,
     parts: Parts,
 }
 
@@ -123,7 +123,7 @@ impl Engine {
         ensures safe { (others : CallLogs) (s : AllSettings) (first : DiskFiles) (m : CrashPoint) → s.service.full ≡ true → AreDurable first → IsAtCrashPoint s first self.old m → EventAllowed s happening m.past
             → StepIsCrashSafe (with_all (L.call_log outside.old) (D.call_log disk.old) (F.call_log files.old) others) (with_all (L.call_log outside.new) (D.call_log disk.new) (F.call_log files.new) others) s first m happening self.new result }
     {
-        self.setup.lemma_settings_are_sound();
+        self.run.lemma_settings_are_sound();
         self.take(rt, &happening, disk, files, outside)
     }
 
@@ -158,7 +158,7 @@ impl Engine {
         ensures safe { (others : CallLogs) (s : AllSettings) (first : DiskFiles) (m : CrashPoint) → s.service.full ≡ true → AreDurable first → IsAtCrashPoint s first self.old m
             → TurnIsCrashSafe (with_all (L.call_log outside.old) (D.call_log disk.old) (F.call_log files.old) others) (with_all (L.call_log outside.new) (D.call_log disk.new) (F.call_log files.new) others) s first m self.new result }
     {
-        self.setup.lemma_settings_are_sound();
+        self.run.lemma_settings_are_sound();
         match self.wait(outside) {
             Ok(happening) => self.take(rt, &happening, disk, files, outside),
             Err(_) => Err(EngineStop::Memory),
@@ -175,11 +175,11 @@ impl Engine {
         ensures begins { (others : CallLogs) → BeginOutcome (with_disk (D.call_log disk.old) others) (with_disk (D.call_log disk.new) others) settings result }
         ensures cause { HasCause (D.faults disk.old) (D.faults disk.new) (result ≡ Err begin_err.DiskFault) }
     {
-        let Ok(setup) = Setup::new(alloc, settings) else {
+        let Ok(run) = RunSettings::new(alloc, settings) else {
             return Err(BeginErr::Memory);
         };
-        match load(rt, alloc, setup.run(), disk) {
-            Ok(parts) => Ok(Engine { setup, parts }),
+        match load(rt, alloc, &run, disk) {
+            Ok(parts) => Ok(Engine { run, parts }),
             Err(LoadErr::DiskFailed) => Err(BeginErr::DiskFault),
             Err(LoadErr::Memory) => Err(BeginErr::Memory),
         }
@@ -204,18 +204,8 @@ impl Engine {
         if is_failure(happening) {
             return Err(EngineStop::LoopFault);
         }
-        let run = self.setup.run();
-        let limits = self.setup.limits();
-        match step(
-            rt,
-            run,
-            limits,
-            &mut self.parts,
-            outside,
-            disk,
-            files,
-            happening,
-        ) {
+        let run = &self.run;
+        match step(rt, run, &mut self.parts, outside, disk, files, happening) {
             Ok(()) => Ok(turn_of(is_finished(run, &self.parts, happening))),
             Err(_) => Err(EngineStop::Memory),
         }
@@ -226,7 +216,7 @@ impl Engine {
     pub fn paused(&self) -> u64
         ensures { EngineAnswers self.now (λ s h. result ≡ paused s h) }
     {
-        self.parts.state.paused(self.setup.limits())
+        self.parts.state.paused(self.run.memory_limits())
     }
 
     /// Exactly the pending chunks, each with its outputs, tries and due times.
@@ -265,6 +255,6 @@ impl Engine {
     pub fn finish(self) -> AllSettings
         ensures { (s : AllSettings) (h : History) → IsAt self s h → result ≡ s }
     {
-        self.setup.into_settings()
+        self.run.into_settings()
     }
 }

@@ -13,7 +13,6 @@ mod dispatch;
 mod engine;
 mod run_end;
 mod run_loop;
-mod setup;
 
 pub use dispatch::step;
 pub use engine::{BeginErr, Engine, EngineStop, Turn};

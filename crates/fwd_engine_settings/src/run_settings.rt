@@ -1,14 +1,17 @@
 ghost use Rattle.std.specs.Prelude.{◌≡◌, ◌≤◌, length, map, option_copied, IfOk};
+ghost use Rattle.fwd_base.specs.Limits.{most_inputs};
 ghost use Rattle.fwd_route.specs.GlobTest.{globs};
 ghost use Rattle.fwd_table.specs.Routes.{idle_at, routes_to};
 ghost use Rattle.fwd_settings.specs.Requirements.{MeetsRequirements};
 ghost use Rattle.fwd_settings.specs.declared.settings_types.AllSettings.{AllSettings};
+ghost use Rattle.fwd_settings.specs.declared.settings_types.InputSet.{InputSet};
 ghost use Rattle.fwd_model.specs.Settings.{input_at, output_at, outputs_for, slots_at, places_of, retries_at, home_at, input_name, output_name, names_for, total_limit_at, hears_peers, accepts_connections_at, reads_standard, reads_stdin_at};
 ghost use Rattle.fwd_model.specs.Notes.{is_empty};
 
 use fwd_base::limits::MOST_PEER_FLUSHES;
 use fwd_base::{Bytes, InputId, Memory, Names, OutputId, Retries};
 use fwd_filters::FilterSteps;
+use fwd_limits::MemLimits;
 use fwd_outside::Home;
 use fwd_route::matches;
 use fwd_settings::{AllSettings, InputKind, InputSet, OutputKind, OutputSet};
@@ -21,9 +24,12 @@ use std::marker::Model;
 #[derive(Debug, Drop)]
 pub struct RunSettings {
     settings: AllSettings,
+    memory_limits: MemLimits,
 }
 
 impl Model for RunSettings {
+    ghost use Rattle.std.specs.Prelude.{◌≡◌, ◌×◌, map};
+    ghost use Rattle.fwd_settings.specs.declared.settings_types.InputSet.{InputSet};
     ghost use Rattle.fwd_settings.specs.Requirements.{MeetsRequirements};
     ghost use Rattle.fwd_settings.specs.declared.settings_types.AllSettings.{AllSettings};
     ghost use Rattle.fwd_settings.specs.contracts.settings_types.AllSettings as all;
@@ -34,16 +40,31 @@ impl Model for RunSettings {
 
     ghost view = { λ s. s.settings };
 
-    ghost invariant = { λ s. MeetsRequirements s.settings };
+    ghost invariant = { λ s. MeetsRequirements s.settings × (s.memory_limits ≡ map (λ (set : InputSet). set.mem_limit) s.settings.inputs) };
+}
+
+/// Returns the memory limits of inputs, in their order.
+fn memory_limits_of(alloc: Global, inputs: &[InputSet]) -> Result<MemLimits, Memory>
+    ensures { IfOk result (λ limits. limits ≡ map (λ (set : InputSet). set.mem_limit) inputs.now) }
+{
+    let mut limits = MemLimits::new(alloc);
+    for set in inputs {
+        limits.push(set.mem_limit)?;
+    }
+    Ok(limits)
 }
 
 impl RunSettings {
     /// Wraps settings that satisfy `MeetsRequirements`, as those of every valid configuration do.
-    pub fn new(settings: AllSettings) -> RunSettings
+    pub fn new(alloc: Global, settings: AllSettings) -> Result<RunSettings, Memory>
         requires { MeetsRequirements settings }
-        ensures { result ≡ settings }
+        ensures { IfOk result (λ run. run ≡ settings) }
     {
-        RunSettings { settings }
+        let memory_limits = memory_limits_of(alloc, settings.inputs.as_slice())?;
+        Ok(RunSettings {
+            settings,
+            memory_limits,
+        })
     }
 
     /// Lemma: the settings satisfy `MeetsRequirements`.
@@ -84,6 +105,15 @@ impl RunSettings {
         ensures { option_copied result ≡ output_at self.now output.0 }
     {
         self.settings.outputs.as_slice().get(output.0 as usize)
+    }
+
+    /// The bytes of memory that the chunks of each input may use, in the order of the configuration.
+    pub fn memory_limits(&self) -> &MemLimits
+        ensures value { result.now ≡ map (λ (set : InputSet). set.mem_limit) self.now.inputs }
+        ensures most { length result.now ≤ most_inputs }
+    {
+        self.lemma_settings_are_sound();
+        &self.memory_limits
     }
 
     /// Milliseconds between two closings of the open chunks.
