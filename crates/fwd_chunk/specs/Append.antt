@@ -1,6 +1,7 @@
 -- The disk programs that create a chunk file and append to it, and what each post-crash state represents.
 use Rattle.std.specs.Prelude.{◌≡◌, ◌⊎◌, ℕ, ◌+◌, ◌%◌, ◌≤◌, Bool, if◌then◌else◌, Option, Some, None, List, [], ◌∷◌, ◌++◌, length}
 use Rattle.std.specs.Int.{to_be_bytes, w32}
+use Rattle.fwd_base.specs.Limits.{chunk_header}
 use Rattle.fwd_outside.specs.Program.{Return, and_then}
 use Rattle.fwd_outside.specs.Disk.{DiskProgram, places, writes, syncs}
 use Rattle.fwd_outside.specs.File.{FileState, whole}
@@ -31,7 +32,7 @@ next_selector selector = (selector + 1) % 256
 -- writes the batch after the content, then the new length into the inactive slot
 abbrev pub stage_program : ChunkHead → List ℕ → Bool → DiskProgram (Option (Unit {0}))
 stage_program head batch full =
-    and_then (writes head.name (24 + head.meta + head.size) batch)
+    and_then (writes head.name (chunk_header + head.meta + head.size) batch)
     (λ _. and_then (writes head.name (other head.selector) (to_be_bytes w32 (head.size + length batch)))
           (λ _. sync_if_program full head.name))
 
@@ -66,8 +67,8 @@ pub record IsDurable (head : ChunkHead) (meta content : List ℕ) (s : FileState
 pub record IsStaged (head : ChunkHead) (meta content batch : List ℕ) (s : FileState) : Type 0 where
   pub settled : IsDurable head meta content s
   pub slot : number_at settled.bytes (other head.selector) ≡ head.size + length batch
-  pub behind : part settled.bytes (24 + head.meta) (head.size + length batch) ≡ content ++ batch
-  pub fits : 24 + head.meta + head.size + length batch ≤ length settled.bytes
+  pub behind : part settled.bytes (chunk_header + head.meta) (head.size + length batch) ≡ content ++ batch
+  pub fits : chunk_header + head.meta + head.size + length batch ≤ length settled.bytes
 
 abbrev pub DurableIn : ChunkHead → List ℕ → List ℕ → Files → Type 0
 DurableIn head meta content files = IsDurable head meta content (files head.name)

@@ -1,6 +1,6 @@
 -- The reads of a chunk's content, and their result.
 use Rattle.std.specs.Prelude.{◌≡◌, ◌≢◌, ℕ, zero, suc, ◌+◌, ◌-◌, min, nat_lt, if◌then◌else◌, List, [], ◌++◌, length, Option, Some, None, Result, Ok, Err}
-use Rattle.fwd_base.specs.Limits.{longest_piece}
+use Rattle.fwd_base.specs.Limits.{chunk_header, longest_piece}
 use Rattle.fwd_outside.specs.Program.{Return, Ask}
 use Rattle.fwd_outside.specs.Log.{Completes, IsBegunUnfailed}
 use Rattle.fwd_outside.specs.Disk.{DiskLog, DiskProgram, Read}
@@ -69,8 +69,8 @@ ReadReturns old new program Judges result =
 
 -- The content of a chunk in a file is read from the end of its metadata. In memory it needs no call.
 abbrev pub read_content_program : Kept → DiskProgram (Option (List ℕ))
-read_content_program (InFile head) = read_part_program head.name (24 + head.meta) head.size
-read_content_program (Adopted head) = read_part_program head.name (24 + head.meta) head.size
+read_content_program (InFile head) = read_part_program head.name (chunk_header + head.meta) head.size
+read_content_program (Adopted head) = read_part_program head.name (chunk_header + head.meta) head.size
 read_content_program (InMemory content) = Return (Some content)
 
 -- bytes that were read from a file are compared with the recorded length; bytes in memory are the content
@@ -80,8 +80,10 @@ IsContentOf kept bytes result = IsWholeContent (size_of kept) bytes result
 
 -- the content is in its file, after the metadata, or in memory
 abbrev pub IsContentIn : Kept → List ℕ → Files → Type 0
-IsContentIn (InFile head) content files = part (files head.name).bytes (24 + head.meta) head.size ≡ content
-IsContentIn (Adopted head) content files = part (files head.name).bytes (24 + head.meta) head.size ≡ content
+IsContentIn (InFile head) content files =
+    part (files head.name).bytes (chunk_header + head.meta) head.size ≡ content
+IsContentIn (Adopted head) content files =
+    part (files head.name).bytes (chunk_header + head.meta) head.size ≡ content
 IsContentIn (InMemory bytes) content files = bytes ≡ content
 
 -- whole events, as many bytes as are recorded

@@ -3,7 +3,7 @@
 use Rattle.std.specs.Prelude.{◌≡◌, ◌⊎◌, ℕ, ◌+◌, ◌-◌, ◌==◌, ◌&&◌, ◌||◌, not, nat_lt, Bool, IsTrue, if◌then◌else◌, List, length, take, drop, Result, Ok, Err}
 use Rattle.std.specs.Prelude.{slice_index}
 use Rattle.std.specs.Str.{is_utf8}
-use Rattle.fwd_base.specs.Limits.{longest_file}
+use Rattle.fwd_base.specs.Limits.{chunk_header, longest_file}
 use Rattle.fwd_event.specs.declared.event.Event.{Event}
 use Rattle.fwd_event.specs.Event.{AreEvents, IsWholePrefix}
 use Rattle.fwd_chunk.specs.Layout.{part, meta_length, committed_length}
@@ -27,16 +27,16 @@ has_id bytes = (slice_index bytes 0 == 193) && (slice_index bytes 1 == 0) && nat
 
 -- the bytes after the metadata
 abbrev pub body_of : List ℕ → List ℕ
-body_of bytes = drop (24 + meta_length bytes) bytes
+body_of bytes = drop (chunk_header + meta_length bytes) bytes
 
 -- the metadata, if the header is valid
 abbrev pub metadata_of : List ℕ → Result (List ℕ) NotAChunk
 metadata_of bytes =
     if nat_lt longest_file (length bytes) then Err TooLong
-    else if nat_lt (length bytes) 24 then Err TooShort
+    else if nat_lt (length bytes) chunk_header then Err TooShort
     else if not (has_id bytes) then Err BadId
-    else if nat_lt (length bytes) (24 + meta_length bytes) then Err TooShort
-    else Ok (part bytes 24 (meta_length bytes))
+    else if nat_lt (length bytes) (chunk_header + meta_length bytes) then Err TooShort
+    else Ok (part bytes chunk_header (meta_length bytes))
 
 -- a marked file has all of its committed bytes
 abbrev pub if_long_enough : List ℕ → Metadata → Result Metadata NotAChunk

@@ -3,7 +3,7 @@
 -- the committed length of the content.
 use Rattle.std.specs.Prelude.{◌≡◌, ◌≢◌, ◌⊎◌, ℕ, ◌+◌, ◌*◌, ◌%◌, ◌≤◌, ◌==◌, if◌then◌else◌, List, ◌∷◌, ◌++◌, length, map, flat_map, take, drop, slice_index, All, AllPairs, IsUtf8}
 use Rattle.std.specs.Int.{to_be_bytes, w16, w32}
-use Rattle.fwd_base.specs.Limits.{longest_file, longest_name, most_outputs}
+use Rattle.fwd_base.specs.Limits.{chunk_header, longest_file, longest_name, most_outputs}
 
 -- `count` bytes at an offset
 abbrev pub part : List ℕ → ℕ → ℕ → List ℕ
@@ -40,9 +40,9 @@ pub record HasParts (mark : ℕ) (bytes meta content : List ℕ) : Type 0 where
   pub id_end : slice_index bytes 1 ≡ 0
   pub marked : (mark ≡ 1) ⊎ (mark ≡ 2)
   pub mark_is : slice_index bytes 6 ≡ mark
-  pub fits : 24 + meta_length bytes + committed_length bytes ≤ length bytes
-  pub meta_is : meta ≡ part bytes 24 (meta_length bytes)
-  pub content_is : content ≡ part bytes (24 + meta_length bytes) (committed_length bytes)
+  pub fits : chunk_header + meta_length bytes + committed_length bytes ≤ length bytes
+  pub meta_is : meta ≡ part bytes chunk_header (meta_length bytes)
+  pub content_is : content ≡ part bytes (chunk_header + meta_length bytes) (committed_length bytes)
 
 -- An output that a file of mark 2 names, with its outcome byte: 68 if its outcome is recorded, else another
 -- value.

@@ -2,6 +2,7 @@
 -- represents.
 use Rattle.std.specs.Prelude.{◌≡◌, ℕ, ◌+◌, ◌-◌, ◌<◌, ◌≤◌, ◌==◌, Bool, true, false, if◌then◌else◌, Option, Some, None, List, [], ◌∷◌, length, map}
 use Rattle.std.specs.Str.{bytes_eq}
+use Rattle.fwd_base.specs.Limits.{chunk_header}
 use Rattle.fwd_outside.specs.Program.{Return, and_then}
 use Rattle.fwd_outside.specs.Disk.{DiskProgram, writes}
 use Rattle.fwd_outside.specs.File.{FileState, IsPostCrash, whole}
@@ -31,7 +32,7 @@ place_before end (Some count) = Some (end - count)
 -- metadata
 abbrev pub outcome_place : ChunkHead → List ℕ → Option ℕ
 outcome_place head output =
-    if head.mark == 2 then place_before (24 + head.meta) (bytes_from output head.outputs) else None
+    if head.mark == 2 then place_before (chunk_header + head.meta) (bytes_from output head.outputs) else None
 
 -- The metadata of a file of mark 2 are long enough for some tag and the head's outputs, and no longer than
 -- their two-byte length in the header can say.
