@@ -14,9 +14,9 @@ use Rattle.fwd_backlog.specs.LoadProgram.{read_files_program, IsDescriptionOf}
 abbrev pub ReadsGroup : DiskLog → DiskLog → List ℕ → List Listed → Result (List FileRead) LoadErr → Type 0
 ReadsGroup old new root files (Ok group) =
     (length group ≤ length files)
-        × ((so_far : List FileRead)
-          → Leads old new (read_files_program root files so_far)
-          (read_files_program root (drop (length group) files) (so_far ++ group)))
+    × ((so_far : List FileRead)
+    → Leads old new (read_files_program root files so_far)
+    (read_files_program root (drop (length group) files) (so_far ++ group)))
 ReadsGroup old new root files (Err e) =
     (so_far : List FileRead) → StopsWith old new (read_files_program root files so_far) e
 

@@ -27,10 +27,10 @@ pub record HaveListableNames (found : List Found) : Type 0 where
 pub record AreRecoveredFrom (root : List ℕ) (files : Files) (found : List Found) : Type 0 where
   pub each : All
       (λ file. (bytes : List ℕ) × (content (files (path_of root (place_of file))) ≡ Some bytes)
-        × IsCheckResult bytes file.seen) found
+      × IsCheckResult bytes file.seen) found
   pub all : (stream name : List ℕ) → IsFileName stream → IsFileName name → IsTrue (is_chunk_name name)
       → IsTrue (files (path_of root (record { name = name; stream = stream }))).there
-          → Contains (map place_of found) (record { name = name; stream = stream })
+      → Contains (map place_of found) (record { name = name; stream = stream })
   pub sorted : IsStrictlySortedBy by_name (map place_of found)
 
 -- the content of a found chunk with events ends within the longest file that is read

@@ -13,9 +13,14 @@ use Rattle.fwd_chunk.specs.Layout.{part, number_at, other, meta_length, selector
 -- the head of a new file
 abbrev pub new_head : List ℕ → List ℕ → List ℕ → List (List ℕ) → ChunkHead
 new_head name tag content outputs =
-    record
-    { name = name; meta = length (new_meta tag outputs); size = length content; selector = 0; mark = 2;
-      outputs = outputs }
+    record {
+      name = name;
+      meta = length (new_meta tag outputs);
+      size = length content;
+      selector = 0;
+      mark = 2;
+      outputs = outputs;
+    }
 
 -- a new file is created atomically
 abbrev pub create_program : List ℕ → List ℕ → List ℕ → List (List ℕ) → DiskProgram (Option ChunkHead)
@@ -34,7 +39,7 @@ abbrev pub stage_program : ChunkHead → List ℕ → Bool → DiskProgram (Opti
 stage_program head batch full =
     and_then (writes head.name (chunk_header + head.meta + head.size) batch)
     (λ _. and_then (writes head.name (other head.selector) (to_be_bytes w32 (head.size + length batch)))
-          (λ _. sync_if_program full head.name))
+    (λ _. sync_if_program full head.name))
 
 -- writes the next selector, which chooses the other slot
 abbrev pub commit_program : ChunkHead → Bool → DiskProgram (Option (Unit {0}))

@@ -14,9 +14,16 @@ use Rattle.fwd_chunk.specs.Format.{StandsFor}
 -- a chunk with the length of its content in place of the content
 abbrev pub brief_of : Chunk → Brief
 brief_of chunk =
-    record
-    { meta = chunk.meta; tag = chunk.tag; size = length chunk.content; events = chunk.events;
-      torn = chunk.torn; mark = chunk.mark; outputs = chunk.outputs; done = chunk.done }
+    record {
+      meta = chunk.meta;
+      tag = chunk.tag;
+      size = length chunk.content;
+      events = chunk.events;
+      torn = chunk.torn;
+      mark = chunk.mark;
+      outputs = chunk.outputs;
+      done = chunk.done;
+    }
 
 -- the refusal of this kind
 abbrev pub refusal_of : ChunkKind → NotAChunk

@@ -32,7 +32,7 @@ read_loop zero name from size so_far = Return (Some so_far)
 read_loop (suc reads) name from size so_far =
     if nat_lt (length so_far) size
     then Ask (Read name (from + length so_far) (piece (size - length so_far)))
-        (after_read (read_loop reads name from size) so_far (piece (size - length so_far)))
+    (after_read (read_loop reads name from size) so_far (piece (size - length so_far)))
     else Return (Some so_far)
 
 abbrev pub read_part_program : List ℕ → ℕ → ℕ → DiskProgram (Option (List ℕ))

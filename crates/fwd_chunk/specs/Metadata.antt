@@ -21,9 +21,9 @@ is_typed meta = (slice_index meta 0 == 241) && (slice_index meta 1 == 119)
 abbrev pub tag_of : List ℕ → Option (List ℕ)
 tag_of meta =
     if is_typed meta
-        then
-        (if slice_index meta 2 == 0 then Some (if nat_lt (length meta) 4 then meta else drop 4 meta)
-          else None)
+    then
+    (if slice_index meta 2 == 0 then Some (if nat_lt (length meta) 4 then meta else drop 4 meta)
+    else None)
     else Some meta
 
 -- ---- metadata of mark 2

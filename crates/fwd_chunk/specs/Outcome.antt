@@ -54,7 +54,7 @@ abbrev pub with_outcome : List ℕ → ℕ → List NamedOutput → List NamedOu
 with_outcome output outcome [] = []
 with_outcome output outcome (named ∷ others) =
     if bytes_eq named.name output then record { name = named.name; outcome = outcome } ∷ others
-        else named ∷ with_outcome output outcome others
+    else named ∷ with_outcome output outcome others
 
 -- A file of mark 2, with metadata of the head's length and the head's outputs in their order. It has this
 -- tag, these outputs with their outcomes, and this content.
@@ -82,7 +82,7 @@ RecordsOne head output before None = ⊥
 RecordsOne head output before (Some image) =
     (was tag : List ℕ) × (outputs : List NamedOutput) × (content : List ℕ) × (outcome : ℕ)
     × IsPostCrash before (Some was) × HasOutputs head tag outputs content was
-        × HasOutputs head tag (with_outcome output outcome outputs) content image
+    × HasOutputs head tag (with_outcome output outcome outputs) content image
 
 -- this holds for each post-crash state of the head's file, and no other name changed
 abbrev pub KeepsOtherOutcomes : ChunkHead → List ℕ → Files → Files → Type 0

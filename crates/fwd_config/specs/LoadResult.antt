@@ -39,6 +39,6 @@ abbrev pub IsResultOfFiles : FilesLog → FilesLog → List ℕ → Values → R
     → Type 0
 IsResultOfFiles old new path env result =
     (given : FilesGiven) (before made : List FilesEntry) → old ≡ Some (given, before)
-        → new ≡ Some (given, before ++ made) → IsConsistentLog (files_after_all given before) made
+    → new ≡ Some (given, before ++ made) → IsConsistentLog (files_after_all given before) made
     → IsErrAnd result (λ fault. fault.kind ≡ Memory)
-        ⊎ (IsFileFault result ⊎ (result ≡ sections (found (files_after_all given before)) path env))
+    ⊎ (IsFileFault result ⊎ (result ≡ sections (found (files_after_all given before)) path env))

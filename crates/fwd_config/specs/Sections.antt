@@ -48,8 +48,8 @@ abbrev pub with_lines : Values → ℕ → (List ℕ → Text → Reading TextRe
 with_lines env left included file number [] above = Return (Ok above)
 with_lines env left included file number (line ∷ more) above =
     then_text
-        (with_line included (place file number) above
-          (meaning env left (place file number) above (form_of line)))
+    (with_line included (place file number) above
+    (meaning env left (place file number) above (form_of line)))
     (with_lines env left included file (number + 1) more)
 
 -- the bytes of a file, if it can be read and is UTF-8

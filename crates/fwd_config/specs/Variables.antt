@@ -39,7 +39,7 @@ replace_variables_from values (suc passed) (byte ∷ bytes) = replace_variables_
 replace_variables_from values zero (byte ∷ bytes) =
     if begins_variable (byte ∷ bytes)
     then values (name_after (drop 1 bytes))
-        ++ replace_variables_from values (length (name_after (drop 1 bytes)) + 2) bytes
+    ++ replace_variables_from values (length (name_after (drop 1 bytes)) + 2) bytes
     else byte ∷ replace_variables_from values zero bytes
 
 abbrev pub replace_variables : Values → List ℕ → List ℕ

@@ -92,10 +92,12 @@ acted_file pick file (Place _ bytes ok) =
     else record file { base = bytes; image = if pick == 0 then None else Some bytes }
 acted_file pick file (WriteAt _ at bytes ok) =
     if fits_in file at
-    then record file
-        { bytes = if ok then overwritten file.bytes at bytes
-          else file.bytes; image =
-          if pick == 0 then file.image else written_over at (variant pick file.base at bytes) file.image }
+    then record file {
+      bytes = if ok then overwritten file.bytes at bytes
+          else file.bytes;
+      image =
+          if pick == 0 then file.image else written_over at (variant pick file.base at bytes) file.image;
+    }
     else file
 acted_file pick file (Sync _ ok) =
     if ok && file.there then record file { base = file.bytes; image = Some file.bytes } else file

@@ -105,11 +105,11 @@ AnswerIs calls (Remove name ok) = ok ≡ (next_succeeds calls && (files_of calls
 AnswerIs calls (Read name at len answer) =
     answer
     ≡ (if next_succeeds calls && (files_of calls name).there
-      then Some (take len (drop at (files_of calls name).bytes)) else None)
+    then Some (take len (drop at (files_of calls name).bytes)) else None)
 AnswerIs calls (Listed folder answer) =
     MatchBool (next_succeeds calls)
     ((names : List (List ℕ)) × (answer ≡ Some names) × IsListing names
-      × AreNamesIn folder names (files_of calls)) (answer ≡ None)
+    × AreNamesIn folder names (files_of calls)) (answer ≡ None)
 AnswerIs calls call = Unit {0}
 
 -- each of these calls, after the others, has the answer that the disk gives

@@ -35,7 +35,7 @@ abbrev pub AcceptsAs : {E : Type 0} → AllSettings → Parts → CallLogs → C
 AcceptsAs s after old new act result =
     Refines
     (λ was_taken (a : Acceptance). (a.taken ≡ was_taken)
-      × PartsRepresentIdle s after a.history) old new act result
+    × PartsRepresentIdle s after a.history) old new act result
 
 -- The store is ahead of the other parts: it represents a longer history than they do.
 pub record StoreIsAhead (s : AllSettings) (parts : Parts) (h now : History) : Type 0 where

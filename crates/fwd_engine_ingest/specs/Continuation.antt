@@ -29,7 +29,7 @@ abbrev pub RefinesContinuing : {E : Type 0} → AllSettings → (CallLogs → Ca
     → Parts → Parts → (History → (History → Action History) → Action History) → Result Bool E → Type 0
 RefinesContinuing s old new before after act result =
     (others : CallLogs) (h : History) (next : History → Action History) → PartsRepresentIdle s before h
-        → ContinuedWith s (old others) (new others) after (act h next) next result
+    → ContinuedWith s (old others) (new others) after (act h next) next result
 
 -- a tag isn't longer than the longest tag
 abbrev pub TagIsShort : MessageContent → Type 0

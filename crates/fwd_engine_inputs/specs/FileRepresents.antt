@@ -25,7 +25,7 @@ abbrev pub FilePolled : FilesLog → FilesLog → List ℕ → Bool → Followed
     → Result (List Line) TailErr → Type 0
 FilePolled old new path from_head f source (Ok found) =
     (p : Polled) × Completes old new (polls path from_head f.place) (Some p) × (found ≡ completed f p)
-        × FileRepresents path from_head (after from_head f p) source
+    × FileRepresents path from_head (after from_head f p) source
 FilePolled old new path from_head f source (Err FileFault) =
     Completes old new (polls path from_head f.place) None
 FilePolled old new path from_head f source (Err Memory) = IsBegun old new (polls path from_head f.place)
@@ -58,8 +58,8 @@ abbrev pub InputFilePolled : FilesLog → FilesLog → List (List ℕ) → Bool 
     → List FollowedFile → Result (List Line) TailErr → Type 0
 InputFilePolled old new paths from_head files index path sources (Ok found) =
     (p : Polled) × Completes old new (polls path from_head (files index).place) (Some p)
-        × (found ≡ completed (files index) p)
-        × InputFilesRepresent paths from_head (changed files index (after from_head (files index) p)) sources
+    × (found ≡ completed (files index) p)
+    × InputFilesRepresent paths from_head (changed files index (after from_head (files index) p)) sources
 InputFilePolled old new paths from_head files index path sources (Err FileFault) =
     Completes old new (polls path from_head (files index).place) None
 InputFilePolled old new paths from_head files index path sources (Err Memory) =

@@ -42,9 +42,9 @@ abbrev pub FilesPolled : FilesLog → FilesLog → AllSettings → History → �
     → Result (List Line) TailErr → Type 0
 FilesPolled old new s h input index path after (Ok found) =
     (p : Poll)
-        × Completes old new (polls path (from_head_at s input) (file_at s h input index).place) (Some p)
-        × (found ≡ completed (file_at s h input index) p)
-        × FilesRepresent s after (Polled input index p.long p.bytes ∷ h)
+    × Completes old new (polls path (from_head_at s input) (file_at s h input index).place) (Some p)
+    × (found ≡ completed (file_at s h input index) p)
+    × FilesRepresent s after (Polled input index p.long p.bytes ∷ h)
 FilesPolled old new s h input index path after (Err FileFault) =
     Completes old new (polls path (from_head_at s input) (file_at s h input index).place) None
 FilesPolled old new s h input index path after (Err Memory) =

@@ -40,7 +40,7 @@ recovered_history number (read ∷ reads) h =
 abbrev pub StateNotesFile : AllSettings → State → State → ℕ → Seen → Type 0
 StateNotesFile s old new number seen =
     (stream name bytes : List ℕ) (h : History) → IsCheckResult bytes seen → next h ≤ number
-        → StateShows s old h → StateShows s new (Found number stream name bytes ∷ h)
+    → StateShows s old h → StateShows s new (Found number stream name bytes ∷ h)
 
 -- the store after a file that was read as this
 abbrev pub taken : Stored → ℕ → FoundFile → Seen → Stored
@@ -67,7 +67,7 @@ abbrev pub AreAdoptable : AllSettings → ℕ → List FoundFile → Type 0
 AreAdoptable s past [] = Unit {0}
 AreAdoptable s past (found ∷ more) =
     FitsStore found × IsNoLater s.service.path past (path_in s found) × IsOtherPath s (path_in s found) more
-        × AreAdoptable s past more
+    × AreAdoptable s past more
 
 -- the store has adopted this many files, and can adopt these
 pub record StoreIsReady (s : AllSettings) (store : Stored) (number : ℕ) (more : List FoundFile) : Type 0 where

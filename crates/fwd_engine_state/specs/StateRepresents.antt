@@ -78,13 +78,13 @@ IsClosedRoute h r = (is_closed h r.chunk ≡ true) × (r.chunk < next h)
 abbrev pub IsFlightOf : AllSettings → History → FlushAttempt → Route → Type 0
 IsFlightOf s h f r =
     (route_of f.route ≡ r) × (f.flush.output ≡ f.route.output)
-        × (delivery_of wants judges f.flush ≡ delivery s h r) × (f.tries ≡ tries h r) × IsClosedRoute h r
+    × (delivery_of wants judges f.flush ≡ delivery s h r) × (f.tries ≡ tries h r) × IsClosedRoute h r
 
 -- the attempt over a connection is that of the route, has this progress, and isn't the one that is out
 abbrev pub AttemptIsKept : AllSettings → History → Option Route → ℕ → FlushAttempt → Route → Type 0
 AttemptIsKept s h out link f r =
     IsFlightOf s h f r × (flight h r ≡ Some f.flush.progress)
-        × (link_in f.flush.progress.stage ≡ Some (record { 0 = link })) × (out ≢ Some r)
+    × (link_in f.flush.progress.stage ≡ Some (record { 0 = link })) × (out ≢ Some r)
 
 -- The attempt over a connection, and the route on it. The attempt of the route that is out isn't kept.
 abbrev pub LinkHolds : AllSettings → History → Option Route → ℕ → Option FlushAttempt → Option Route → Type 0
@@ -149,7 +149,7 @@ abbrev pub IsTakenOut : AllSettings → History → State → ℕ → Option Flu
 IsTakenOut s h state link None = StateRepresents s state h None × (route_on_link h link ≡ None)
 IsTakenOut s h state link (Some f) =
     StateRepresents s state h (Some (route_of f.route)) × (route_on_link h link ≡ Some (route_of f.route))
-        × (flight h (route_of f.route) ≡ Some f.flush.progress) × IsFlightOf s h f (route_of f.route)
+    × (flight h (route_of f.route) ≡ Some f.flush.progress) × IsFlightOf s h f (route_of f.route)
 
 -- ---- facts that leave a state as it is
 

@@ -12,7 +12,7 @@ abbrev pub AreMatching : List ℕ → List FilterStep → List FilterKind → Ty
 AreMatching tag [] kinds = kinds ≡ []
 AreMatching tag (step ∷ steps) kinds =
     (Glob step.glob tag
-          × ((more : List FilterKind) × (kinds ≡ step.kind ∷ more) × AreMatching tag steps more))
+    × ((more : List FilterKind) × (kinds ≡ step.kind ∷ more) × AreMatching tag steps more))
     ⊎ ((Glob step.glob tag → ⊥) × AreMatching tag steps kinds)
 
 -- each event after all filters whose glob matches, in order

@@ -46,8 +46,8 @@ abbrev pub ReadsLines : {E : Type 0} → TailView → TailView → ℕ → List 
     → Type 0
 ReadsLines before tail from said bytes (Ok found) =
     (found ≡ drop (length (lines said)) (lines (said ++ bytes)))
-        × SameFile before tail
-        (record { place = Some (min (from + length bytes) (2 ^ 64 - 1)); said = said ++ bytes })
+    × SameFile before tail
+    (record { place = Some (min (from + length bytes) (2 ^ 64 - 1)); said = said ++ bytes })
 ReadsLines before tail from said bytes (Err e) = Unit {0}
 
 -- A poll makes its calls, and returns the lines that end in what was read. If a call fails, or memory runs
@@ -56,7 +56,7 @@ abbrev pub PollsAs : FilesLog → FilesLog → TailView → TailView → Followe
     → Type 0
 PollsAs old new before tail f (Ok found) =
     (p : Polled) × Completes old new (polls before.path before.from_head f.place) (Some p)
-        × (found ≡ completed f p) × SameFile before tail (after before.from_head f p)
+    × (found ≡ completed f p) × SameFile before tail (after before.from_head f p)
 PollsAs old new before tail f (Err FileFault) =
     Completes old new (polls before.path before.from_head f.place) None
 PollsAs old new before tail f (Err Memory) = IsBegun old new (polls before.path before.from_head f.place)

@@ -29,7 +29,7 @@ abbrev pub evicted_for : OutputId → ℕ → ChunkId → List Row → List Chun
 evicted_for output limit chunk rows =
     if nat_lt limit (fixed output chunk rows) then chunk ∷ []
     else map (λ row. row.chunk)
-        (evicted_among (limit - fixed output chunk rows) (other_waiting output chunk rows))
+    (evicted_among (limit - fixed output chunk rows) (other_waiting output chunk rows))
 
 abbrev pub first_chunk : List Row → Option ChunkId
 first_chunk [] = None
@@ -44,7 +44,7 @@ abbrev pub next_eviction : OutputId → ℕ → ChunkId → List Row → Loss
 next_eviction output limit chunk rows =
     if nat_lt limit (fixed output chunk rows) then NewLoses
     else loss_of
-        (first_chunk (evicted_among (limit - fixed output chunk rows) (other_waiting output chunk rows)))
+    (first_chunk (evicted_among (limit - fixed output chunk rows) (other_waiting output chunk rows)))
 
 -- what is evicted after an answer: nothing, the closed chunk, or another one and what follows it
 abbrev pub evicted_after : (List Row → List ChunkId) → OutputId → ChunkId → List Row → Loss → List ChunkId

@@ -12,7 +12,7 @@ Done = Option (Unit {0})
 abbrev Parts : Type 0
 Parts = (List ℕ × (List ℕ × Done)) ⊎ ((List ℕ × (ℕ × (List ℕ × Done))) ⊎ ((List ℕ × Done) ⊎ ((List ℕ × Done)
     ⊎ ((List ℕ × (ℕ × (ℕ × Option (List ℕ))))
-          ⊎ ((List ℕ × Option (List (List ℕ))) ⊎ ((List ℕ × List ℕ) ⊎ ℕ))))))
+    ⊎ ((List ℕ × Option (List (List ℕ))) ⊎ ((List ℕ × List ℕ) ⊎ ℕ))))))
 
 abbrev parts_of : (call : DiskCall) → DiskAnswer call → Parts
 parts_of (Place name bytes) answer = inl (name, (bytes, answer))
@@ -54,11 +54,11 @@ done_code = coded_option coded_unit
 abbrev pub disk_code : Coded DiskEntry
 disk_code = code_by Parts
     (coded⊎ (coded× bytes_code (coded× bytes_code done_code))
-          (coded⊎ (coded× bytes_code (coded× coded_ℕ (coded× bytes_code done_code)))
-            (coded⊎ (coded× bytes_code done_code) (coded⊎ (coded× bytes_code done_code)
+    (coded⊎ (coded× bytes_code (coded× coded_ℕ (coded× bytes_code done_code)))
+    (coded⊎ (coded× bytes_code done_code) (coded⊎ (coded× bytes_code done_code)
     (coded⊎ (coded× bytes_code (coded× coded_ℕ (coded× coded_ℕ (coded_option bytes_code))))
-          (coded⊎ (coded× bytes_code (coded_option (coded_list bytes_code)))
-            (coded⊎ (coded× bytes_code bytes_code) coded_ℕ)))))))
+    (coded⊎ (coded× bytes_code (coded_option (coded_list bytes_code)))
+    (coded⊎ (coded× bytes_code bytes_code) coded_ℕ)))))))
     (λ e. parts_of e.call e.answer) of_parts (λ e. of_parts-parts_of e.call e.answer)
 
 -- a value as the logic stores it

@@ -47,16 +47,16 @@ unfoldable pub appends : AllSettings → Batch → ℕ → History → Action Ac
 appends s b chunk h =
     note_then (Offered chunk b) h
     (λ at. bind (on_disk (append_to_program (kept_of s h chunk) (encoded b.events) s.service.full))
-      (finishes_append s b chunk at))
+    (finishes_append s b chunk at))
 
 -- start a chunk with this id and a batch
 unfoldable pub starts_chunk : AllSettings → Batch → ℕ → History → Action Acceptance
 starts_chunk s b chunk h =
     note_then (Offered chunk b) h
-        (λ at. bind
-          (on_disk
-            (begins_as (name_for s b.input chunk) b.tag (home_at s b.input) (encoded b.events)
-              (names_for s b.tag))) (finishes_create s b chunk at))
+    (λ at. bind
+    (on_disk
+    (begins_as (name_for s b.input chunk) b.tag (home_at s b.input) (encoded b.events)
+    (names_for s b.tag))) (finishes_create s b chunk at))
 
 -- append to the open chunk, or start one with the next id; refuse the batch if the ids are used up
 abbrev pub stores : AllSettings → Batch → Option ChunkInfo → History → Action Acceptance

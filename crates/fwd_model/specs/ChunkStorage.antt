@@ -22,10 +22,15 @@ abbrev pub adopted : List ℕ → Option Chunk → Option Kept
 adopted name None = None
 adopted name (Some chunk) =
     Some
-        (Adopted
-          (record
-            { name = name; meta = chunk.meta; size = length chunk.content; selector = 0; mark = chunk.mark;
-              outputs = chunk.outputs }))
+    (Adopted
+    (record {
+      name = name;
+      meta = chunk.meta;
+      size = length chunk.content;
+      selector = 0;
+      mark = chunk.mark;
+      outputs = chunk.outputs;
+    }))
 
 -- how the store keeps a chunk that starts with a batch
 abbrev pub created_with : AllSettings → Batch → ℕ → Kept
@@ -50,8 +55,8 @@ abbrev pub kept_of : AllSettings → History → ℕ → Option Kept
 kept_of s [] chunk = None
 kept_of s (Found other stream name bytes ∷ h) chunk =
     if other == chunk
-        then adopted (found_name (unwrap_or s.service.path []) stream name) (recovered_chunk bytes)
-        else kept_of s h chunk
+    then adopted (found_name (unwrap_or s.service.path []) stream name) (recovered_chunk bytes)
+    else kept_of s h chunk
 kept_of s (Accepted b place ∷ h) chunk = stored_after s b place chunk (kept_of s h chunk)
 kept_of s (Removed other ∷ h) chunk = if other == chunk then None else kept_of s h chunk
 kept_of s (FileLeft other ∷ h) chunk = if other == chunk then None else kept_of s h chunk

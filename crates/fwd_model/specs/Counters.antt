@@ -61,7 +61,7 @@ abbrev pub outcome_count : (Counts → ℕ) → History → ℕ → ℕ
 outcome_count which [] output = 0
 outcome_count which (OnRoute route outcome ∷ h) output =
     if route.output == output then saturating_plus (outcome_count which h output) (which (counts_of outcome))
-        else outcome_count which h output
+    else outcome_count which h output
 outcome_count which (_ ∷ h) output = outcome_count which h output
 
 -- the bytes that links of an output took
@@ -84,7 +84,7 @@ abbrev pub file_fate_by : AllSettings → Chunk → List ℕ → FileFate
 file_fate_by s chunk [] = Unrouted
 file_fate_by s chunk (output ∷ outputs) =
     if list_all (λ one. is_marked_done (output_name s one) (Some chunk)) (output ∷ outputs) then LeftAsIs
-        else Loaded
+    else Loaded
 
 abbrev pub file_fate : AllSettings → Option Chunk → FileFate
 file_fate s None = LeftAsIs

@@ -35,7 +35,7 @@ fits_row s rows None = false
 fits_row s rows (Some row) =
     not (in_file row)
     || (flies row
-      || (nat_lt (files_up rows) s.service.max_up && fits_backlog s.service.backlog_limit rows row))
+    || (nat_lt (files_up rows) s.service.max_up && fits_backlog s.service.backlog_limit rows row))
 
 abbrev pub fits : AllSettings → History → Route → Bool
 fits s h r = fits_row s (rows_of s h) (row_at (record { 0 = r.chunk }) (rows_of s h))

@@ -40,25 +40,50 @@ localhost = codes "127.0.0.1"
 abbrev pub settings : AllSettings
 settings = record {
   service =
-      record
-      { flush_ms = 1000; grace_s = 5; path = Some (codes "S"); full = true; max_up = 128;
-        backlog_limit = 5000000; base = 5; cap = 2000 };
+      record {
+        flush_ms = 1000;
+        grace_s = 5;
+        path = Some (codes "S");
+        full = true;
+        max_up = 128;
+        backlog_limit = 5000000;
+        base = 5;
+        cap = 2000;
+      };
   inputs =
-      record
-          { name = codes "forward.0"; kind = input_kind.Forward localhost 24224; tag = None; stored = true;
-            mem_limit = None; parser = plain }
-      ∷ record
-          { name = codes "tail.0"; kind = input_kind.Tail (codes "/l" ∷ []) true; tag = Some (codes "app");
-            stored = false; mem_limit = None; parser = plain }
+      record {
+        name = codes "forward.0";
+        kind = input_kind.Forward localhost 24224;
+        tag = None;
+        stored = true;
+        mem_limit = None;
+        parser = plain;
+      }
+      ∷ record {
+        name = codes "tail.0";
+        kind = input_kind.Tail (codes "/l" ∷ []) true;
+        tag = Some (codes "app");
+        stored = false;
+        mem_limit = None;
+        parser = plain;
+      }
       ∷ [];
   filters = [];
   outputs =
-      record
-          { name = codes "stdout.0"; glob = codes "*"; kind = output_kind.Stdout JsonLines; retries = Times 1;
-            total_limit = None }
-      ∷ record
-          { name = codes "forward.0"; glob = codes "t"; kind = output_kind.Forward localhost 24225 true false;
-            retries = Times 2; total_limit = None }
+      record {
+        name = codes "stdout.0";
+        glob = codes "*";
+        kind = output_kind.Stdout JsonLines;
+        retries = Times 1;
+        total_limit = None;
+      }
+      ∷ record {
+        name = codes "forward.0";
+        glob = codes "t";
+        kind = output_kind.Forward localhost 24225 true false;
+        retries = Times 2;
+        total_limit = None;
+      }
       ∷ [];
 }
 

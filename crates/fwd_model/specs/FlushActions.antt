@@ -59,8 +59,8 @@ notes_calls s r before progress h =
 unfoldable pub starts_with : AllSettings → Route → List Event → History → Action History
 starts_with s r events h =
     note_then (OnRoute r (FlushStarted events)) h
-        (λ at. bind (on_loop (starts (delivery s at r) r.output (tag_of_chunk at r.chunk) not_started))
-          (λ progress. notes_calls s r 0 progress at))
+    (λ at. bind (on_loop (starts (delivery s at r) r.output (tag_of_chunk at r.chunk) not_started))
+    (λ progress. notes_calls s r 0 progress at))
 
 -- whether a read returned as many bytes as the chunk has, and all of them are events
 abbrev pub is_complete_read : ℕ → List ℕ → Bool

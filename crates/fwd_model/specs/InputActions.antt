@@ -54,7 +54,7 @@ accepts_stream s before input bytes (Some (LineStream conn)) h =
 accepts_stream s before input bytes (Some (MessageStream conn)) h =
     let said_before = said s before (MessageStream conn) in
     accepts_messages s input conn (becomes_malformed said_before bytes)
-        (completed_messages said_before bytes) h
+    (completed_messages said_before bytes) h
 accepts_stream s before input bytes (Some (Standard reader)) h =
     ingests s (piece_batch s before input (Standard reader) bytes) h
 

@@ -24,8 +24,8 @@ abbrev pub evictions_for : AllSettings → History → Option ChunkInfo → List
 evictions_for s h None = []
 evictions_for s h (Some c) =
     if is_file (home_of s c.input)
-        then flat_map (λ output. evictions_to s h c.number output (total_limit_at s output)) (owed s h c)
-        else []
+    then flat_map (λ output. evictions_to s h c.number output (total_limit_at s output)) (owed s h c)
+    else []
 
 -- the routes that are evicted when a chunk in a file closes, output by output
 abbrev pub evicted_at : AllSettings → History → ℕ → List Route

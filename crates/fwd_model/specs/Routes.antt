@@ -135,7 +135,7 @@ abbrev pub table_route : AllSettings → History → ℕ → ℕ → Owed
 table_route s h chunk output =
     let r = route chunk output in
     record
-        { output = record { 0 = output }; due = due s h r; tries = tries h r; flying = is_some (flight h r) }
+    { output = record { 0 = output }; due = due s h r; tries = tries h r; flying = is_some (flight h r) }
 
 -- a recovered chunk is in a file; any other is where its input keeps chunks
 abbrev pub home_of : AllSettings → Option ℕ → Home

@@ -25,7 +25,7 @@ abbrev pub StartsWithMap : ℕ → List ℕ → List ℕ → Type 0
 StartsWithMap n rest b =
     (head : List ℕ) × (b ≡ head ++ rest)
     × ((es : Entries) (s : List ℕ) → entry_count es ≡ n → EncodesEntries es s
-      → Encodes (mapping es) (head ++ s))
+    → Encodes (mapping es) (head ++ s))
 
 -- the bytes are the header of an event with this time and no metadata, in the encoding that this program
 -- writes, and then its record

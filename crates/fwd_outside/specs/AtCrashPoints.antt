@@ -28,4 +28,4 @@ HoldsThroughout Steps P Q s (Return x) = P s × Q x s
 HoldsThroughout {A = A} {S = S} Steps P Q s (Ask call go) =
     P s ×
     ((answer : A call) (during after : S) → Steps call answer s during after
-      → P during × HoldsThroughout Steps P Q after (go answer))
+    → P during × HoldsThroughout Steps P Q after (go answer))

@@ -23,7 +23,7 @@ PlaceTransition bytes (Some done) old during new =
 PlaceTransition bytes None old during new =
     FileInvariant during × FileInvariant new
     × (old ≡ absent
-      → (during ≡ whole_or_absent bytes false) × (there : Bool) × (new ≡ whole_or_absent bytes there))
+    → (during ≡ whole_or_absent bytes false) × (there : Bool) × (new ≡ whole_or_absent bytes there))
 
 -- a write begins inside the file or at its end
 pub record CanWrite (file : FileState) (at : ℕ) : Type 0 where
@@ -37,8 +37,8 @@ WriteTransition at bytes (Some done) old during new =
     × (new ≡ after_write old at (length bytes) bytes)
 WriteTransition at bytes None old during new =
     (CanWrite old at × (left : List ℕ) × (length left ≤ length bytes)
-          × (during ≡ after_write old at (length bytes) left)
-          × (new ≡ after_write old at (length bytes) left))
+    × (during ≡ after_write old at (length bytes) left)
+    × (new ≡ after_write old at (length bytes) left))
     ⊎ Unchanged old during new
 
 -- a sync ends all doubt

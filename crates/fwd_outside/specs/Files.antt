@@ -94,7 +94,7 @@ read_rest_program zero path wanted so_far = Return (Some so_far)
 read_rest_program (suc reads) path wanted so_far =
     if nat_lt (length so_far) wanted
     then Ask (ReadAt path (length so_far) (wanted - length so_far))
-        (after_read (read_rest_program reads path wanted) so_far)
+    (after_read (read_rest_program reads path wanted) so_far)
     else Return (Some so_far)
 
 -- after the answer to `Length`

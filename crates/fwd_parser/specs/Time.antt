@@ -60,7 +60,7 @@ unfoldable pub distance_of : List ℕ → Option (ℕ × List ℕ)
 distance_of text =
     option_and_then (λ hours.
     option_map (λ minutes. (3600 * hours.0 + 60 * minutes.0, minutes.1))
-        (two_digits_of 59 (after_colon hours.1)))
+    (two_digits_of 59 (after_colon hours.1)))
     (two_digits_of 23 text)
 
 -- an offset from UTC in seconds, positive to the east: Z, or a sign and a distance
@@ -96,8 +96,8 @@ single letter text f =
     else (if letter == byte "b" then set_field (λ n. record f { month = Some n }) (month_of text)
     else (if letter == byte "d" then set_field (λ n. record f { day = Some n }) (number_of 1 2 text)
     else
-        (if letter == byte "e"
-          then set_field (λ n. record f { day = Some n }) (number_of 1 2 (skip_blanks text))
+    (if letter == byte "e"
+    then set_field (λ n. record f { day = Some n }) (number_of 1 2 (skip_blanks text))
     else of_clock letter text f))))
 
 -- reads a format and a text from left to right: % and a letter are a directive, each other byte matches
@@ -120,8 +120,8 @@ directive letter text f =
 abbrev pub is_day : ℕ → ℕ → ℕ → Bool
 is_day year month day =
     nat_le year 9999
-        && (nat_le 1 month && nat_le month 12
-          && (nat_le 1 day && nat_le day (days_in_month (pos year) month)))
+    && (nat_le 1 month && nat_le month 12
+    && (nat_le 1 day && nat_le day (days_in_month (pos year) month)))
 
 -- the days from 1970-01-01 to a day of the calendar
 unfoldable pub day_number : ℕ → ℕ → ℕ → Option ℤ
@@ -136,7 +136,7 @@ day_of f = option_and_then (λ y. option_and_then (λ m. option_and_then (day_nu
 abbrev pub clock_seconds : ℕ → ℕ → ℕ → Option ℕ
 clock_seconds hour minute second =
     if nat_le hour 23 && (nat_le minute 59 && nat_le second 59) then Some (3600 * hour + 60 * minute + second)
-        else None
+    else None
 
 -- the time of day that was read; a part that wasn't read is 0
 abbrev pub clock_of : Fields → Option ℕ
@@ -155,15 +155,23 @@ seconds_of f = option_or f.stamp (civil_seconds f)
 -- nothing is read yet
 abbrev pub no_fields : Fields
 no_fields =
-    record
-    { year = None; month = None; day = None; hour = None; minute = None; second = None; nanos = None;
-      offset = None; stamp = None }
+    record {
+      year = None;
+      month = None;
+      day = None;
+      hour = None;
+      minute = None;
+      second = None;
+      nanos = None;
+      offset = None;
+      stamp = None;
+    }
 
 -- the seconds and nanoseconds of what was read, if no text is left
 unfoldable pub moment_of : Fields × List ℕ → Option (ℤ × ℕ)
 moment_of r =
     if length r.1 == 0 then option_map (λ seconds. (seconds, unwrap_or r.0.nanos 0)) (seconds_of r.0)
-        else None
+    else None
 
 -- the moment of a text under a format: seconds since 1970 in UTC, and nanoseconds
 unfoldable pub time_of : List ℕ → List ℕ → Option (ℤ × ℕ)

@@ -100,7 +100,7 @@ pub record IsReady (s : AllSettings) (start : Start) (planned : Life) (going : G
       ≡ (after_wait (paused s history) (course_after (course_of start planned) trace)).changed
   pub cut_is : cut
       ≡ (if is_last_next (paused s history) (course_after (course_of start planned) trace) then planned.cut
-        else None)
+      else None)
 
 -- the run is over
 pub record IsOver (s : AllSettings) (start : Start) (planned : Life) (going : Going) (seen : Seen)
@@ -231,8 +231,8 @@ EndsBy shown s most start planned going seen held text (life_end.Ends ending) =
     EndsIn shown s most start planned (record { text = text; ending = ending })
 EndsBy shown s most start planned going seen held text (life_end.Cut cut) =
     (history : History) × (before : List TraceEntry)
-        × HandsOver s most start planned cut going history before seen held
-        × (text ≡ life_text shown s before history)
+    × HandsOver s most start planned cut going history before seen held
+    × (text ≡ life_text shown s before history)
 
 abbrev pub EndsAs : Shown → AllSettings → ℕ → Start → Life → Going → Seen → FilesState → Came → Type 0
 EndsAs shown s most start planned going seen held came =
@@ -245,7 +245,7 @@ ProducesText shown s most start planned seen held text (follow.Ends ending) =
     EndsIn shown s most start planned (record { text = text; ending = ending })
 ProducesText shown s most start planned seen held text (follow.Life left) =
     (c : CutRun) × IsCut s most start planned c × (text ≡ life_text shown s c.before c.history)
-        × (left.cut ≡ c.cut) × (left.settings ≡ s)
+    × (left.cut ≡ c.cut) × (left.settings ≡ s)
     × DevicesAreReady c.next seen held × (left.taken ≡ waits_in (c.before ++ c.turn))
 
 abbrev pub ProducesOutcome : Shown → AllSettings → ℕ → Start → Life → Seen → FilesState → Outcome → Type 0
@@ -277,9 +277,9 @@ abbrev pub AppendsRun : Shown → AllSettings → Start → Life → Between →
     → Type 0
 AppendsRun shown s start planned old new text all (afterwards.Ends ending) =
     (own : List ℕ) × EndsIn shown s old.left start planned (record { text = own; ending = ending })
-        × (all ≡ text ++ after_cut old.cut own)
+    × (all ≡ text ++ after_cut old.cut own)
 AppendsRun shown s start planned old new text all (afterwards.Life settings) =
     (c : CutRun) × IsCut s old.left start planned c
-        × (all ≡ text ++ after_cut old.cut (life_text shown s c.before c.history)) × (settings ≡ s)
+    × (all ≡ text ++ after_cut old.cut (life_text shown s c.before c.history)) × (settings ≡ s)
     × DevicesAreReady c.next new.disk new.files × (new.cut ≡ Some c.cut)
-        × (new.left ≡ old.left - waits_in (c.before ++ c.turn))
+    × (new.left ≡ old.left - waits_in (c.before ++ c.turn))

@@ -90,9 +90,9 @@ pub record EndsIn (shown : Shown) (s : AllSettings) (turns : ℕ) (start : Start
 abbrev pub IsCutIn : AllSettings → ℕ → Start → Life → List TraceEntry → History → List TraceEntry → Type 0
 IsCutIn s turns start planned before h turn =
     ((waits_in before < turns)
-          × Execution (life s (ends_of s) None (waits_in before)) before (Return (lived h TurnsSpent))
+    × Execution (life s (ends_of s) None (waits_in before)) before (Return (lived h TurnsSpent))
     × (is_last_next (paused s h) (course_after (course_of start planned) before) ≡ true)
-        × ((last : RunResult) × Execution (run s None 1 h) turn (Return last)))
+    × ((last : RunResult) × Execution (run s None 1 h) turn (Return last)))
     ⊎ (Execution (life s (ends_of s) None turns) before (Return (lived h Over)) × (turn ≡ []))
 
 -- the first of these calls, that many
@@ -133,6 +133,6 @@ IsReplayed shown s turns start [] replayed = replayed ≡ record { text = []; en
 IsReplayed shown s turns start (planned ∷ lives) replayed =
     EndsIn shown s turns start planned replayed
     ⊎ ((c : CutRun) × IsCut s turns start planned c
-          × ((rest : Reported) × IsReplayed shown s (turns - waits_in (c.before ++ c.turn)) c.next lives rest
-            × (replayed ≡ joined (life_text shown s c.before c.history) c.cut rest)))
+    × ((rest : Reported) × IsReplayed shown s (turns - waits_in (c.before ++ c.turn)) c.next lives rest
+    × (replayed ≡ joined (life_text shown s c.before c.history) c.cut rest)))
     ⊎ (replayed ≡ out_of_memory)

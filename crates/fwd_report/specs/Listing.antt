@@ -27,7 +27,7 @@ done_text name = codes " done " ++ quoted name
 unfoldable pub chunk_text : Brief → List ℕ
 chunk_text brief =
     codes " chunk " ++ quoted brief.tag ++ codes " events " ++ decimal brief.events ++ codes " bytes "
-        ++ decimal brief.size
+    ++ decimal brief.size
     ++ codes " torn " ++ decimal brief.torn ++ flat_map done_text brief.done
 
 -- the reason of a refusal

@@ -12,7 +12,7 @@ use Rattle.fwd_table.specs.declared.tally.Tally.{Tally}
 unfoldable pub input_line : List ℕ → InputTally → List ℕ
 input_line name tally =
     codes "input " ++ name ++ codes ": batches " ++ decimal tally.batches ++ codes " events "
-        ++ decimal tally.events
+    ++ decimal tally.events
     ++ codes " refused " ++ decimal tally.refused ++ codes "\n"
 
 -- an output and its counters
@@ -20,7 +20,7 @@ unfoldable pub output_line : List ℕ → OutputTally → List ℕ
 output_line name tally =
     codes "output " ++ name ++ codes ": ok " ++ decimal tally.good ++ codes " retry " ++ decimal tally.retry
     ++ codes " error " ++ decimal tally.bad ++ codes " spent " ++ decimal tally.spent ++ codes " lost "
-        ++ decimal tally.lost
+    ++ decimal tally.lost
     ++ codes " taken " ++ decimal tally.taken ++ codes "\n"
 
 -- a line for each input, in order
@@ -35,7 +35,7 @@ output_lines names tallies = flat_map (λ (p : List ℕ × OutputTally). output_
 unfoldable pub total_line : Tally → List ℕ
 total_line tally =
     codes "loaded " ++ decimal tally.loaded ++ codes " unrouted " ++ decimal tally.unrouted ++ codes " left "
-        ++ decimal tally.left
+    ++ decimal tally.left
     ++ codes " faults " ++ decimal tally.faults ++ codes "\n"
 
 -- The number of pending routes: a chunk has one for each output that it is pending for. It saturates at
@@ -58,7 +58,7 @@ names_from output (name ∷ names) row =
 unfoldable pub chunk_line : List (List ℕ) → Row → List ℕ
 chunk_line outputs row =
     codes "chunk " ++ decimal row.chunk.0 ++ codes " " ++ json (text row.tag) ++ codes " " ++ decimal row.size
-        ++ names_from 0 outputs row ++ codes "\n"
+    ++ names_from 0 outputs row ++ codes "\n"
 
 -- a line for a chunk that is pending for an output, none for any other
 abbrev pub row_lines : List (List ℕ) → Row → List ℕ
@@ -73,4 +73,4 @@ owed_part outputs rows =
 unfoldable pub report_of : List (List ℕ) → List (List ℕ) → List Row → Tally → List ℕ
 report_of inputs outputs rows tally =
     input_lines inputs tally.inputs ++ output_lines outputs tally.outputs ++ total_line tally
-        ++ owed_part outputs rows
+    ++ owed_part outputs rows

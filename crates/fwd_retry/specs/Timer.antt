@@ -11,8 +11,8 @@ use Rattle.fwd_retry.specs.declared.timer.Timer.{Timer}
 abbrev pub is_before : Timer → Timer → Bool
 is_before a b =
     nat_lt a.due b.due
-        || (a.due == b.due
-          && (nat_lt a.chunk.0 b.chunk.0 || (a.chunk.0 == b.chunk.0 && nat_lt a.output.0 b.output.0)))
+    || (a.due == b.due
+    && (nat_lt a.chunk.0 b.chunk.0 || (a.chunk.0 == b.chunk.0 && nat_lt a.output.0 b.output.0)))
 
 -- whether a timer comes after the given one, if one is given
 abbrev pub is_after : Option Timer → Timer → Bool

@@ -119,7 +119,7 @@ read_on so_far number [] = Ok (schedule_so_far so_far)
 read_on so_far number (line ∷ behind) =
     if is_passed_over line then read_on so_far (number + 1) behind
     else go_on number (λ meaning. read_on (after meaning so_far) (number + 1) behind)
-        (judge so_far line behind)
+    (judge so_far line behind)
 
 unfoldable pub schedule_of : List ℕ → Result Schedule ScheduleRefused
 schedule_of text = read_on reader_start 1 (lines_of text)

@@ -52,7 +52,7 @@ ok_or_word not_taken = do
   chosen ← word
   judged UnknownWord
       (if bytes_eq chosen (codes "ok") then Some true else if bytes_eq chosen not_taken then Some false
-        else None)
+      else None)
 
 -- `took N`, `again` or `broken`
 abbrev pub push_by : List ℕ → Reader PushWord
@@ -62,8 +62,8 @@ push_by chosen =
       taken ← number
       judged UnknownWord (Some (push.Took taken)))
     else judged UnknownWord
-        (if bytes_eq chosen (codes "again") then Some push.Again
-          else if bytes_eq chosen (codes "broken") then Some push.Broken else None)
+    (if bytes_eq chosen (codes "again") then Some push.Again
+    else if bytes_eq chosen (codes "broken") then Some push.Broken else None)
 
 abbrev pub push_word : Reader PushWord
 push_word = do

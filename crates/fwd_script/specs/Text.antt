@@ -90,7 +90,7 @@ file_text call = codes "file " ++ decimal call
 abbrev pub life_lines : Life → List (List ℕ)
 life_lines life =
     map stored_text life.store ++ map disk_text life.disk_fails ++ map file_text life.file_fails
-        ++ map given_text life.answers ++ plan_lines life.cut life.lines
+    ++ map given_text life.answers ++ plan_lines life.cut life.lines
 
 -- each line ends in a line feed
 abbrev pub ended_line : List ℕ → List ℕ

@@ -72,9 +72,10 @@ after_wait place paused =
 
 abbrev pub after_dial : Place → ℕ → Place
 after_dial place output =
-    record
-    { left = record place.left { dials = without_first (is_for output) place.left.dials };
-      links = linked_to place.links output (dialed place output) }
+    record {
+      left = record place.left { dials = without_first (is_for output) place.left.dials };
+      links = linked_to place.links output (dialed place output);
+    }
 
 abbrev pub after_push_to : Place → Option ℕ → Place
 after_push_to place (Some output) =

@@ -22,9 +22,17 @@ use Rattle.std.specs.Prelude.{Bool, false}
 -- a run without calls so far
 abbrev pub new_script : Life → ScriptState
 new_script life =
-    record
-    { lines = life.lines; answers = life.answers; crashes = is_some life.cut; changed = 0; notes = [];
-      brought = 0; greatest = 0; fails_to_start = false; faults = 0 }
+    record {
+      lines = life.lines;
+      answers = life.answers;
+      crashes = is_some life.cut;
+      changed = 0;
+      notes = [];
+      brought = 0;
+      greatest = 0;
+      fails_to_start = false;
+      faults = 0;
+    }
 
 -- a script that is to fail at its start, which no run says, has an empty trace
 abbrev pub told_of : ScriptState → LoopLog

@@ -26,20 +26,25 @@ nest_by place properties None = Err (fault Missing place)
 nest_by place properties (Some under) =
     if length (filter_map wildcard_in properties) == 0 then Err (fault Missing place)
     else Ok
-        (filter.Nest
-          (record
-            { wildcards = filter_map wildcard_in properties; under = under;
-              remove_prefix =
-              prefix key.RemovePrefix properties; add_prefix = prefix key.AddPrefix properties }))
+    (filter.Nest
+    (record {
+      wildcards = filter_map wildcard_in properties;
+      under = under;
+      remove_prefix =
+          prefix key.RemovePrefix properties;
+      add_prefix = prefix key.AddPrefix properties;
+    }))
 
 -- lift requires the key whose map is lifted
 abbrev pub lift_by : Place → List Property → Option (List ℕ) → Checked FilterKind
 lift_by place properties None = Err (fault Missing place)
 lift_by place properties (Some under) =
     Ok (filter.Lift
-          (record
-            { under = under; remove_prefix = prefix key.RemovePrefix properties;
-              add_prefix = prefix key.AddPrefix properties }))
+    (record {
+      under = under;
+      remove_prefix = prefix key.RemovePrefix properties;
+      add_prefix = prefix key.AddPrefix properties;
+    }))
 
 -- an Operation is required
 abbrev pub operation_by : Place → List Property → Option Word → Checked FilterKind
@@ -52,7 +57,7 @@ abbrev pub filter_kind : FilterPlugin → Place → List Property → Checked Fi
 filter_kind plugin.Grep place properties = Ok (filter.Grep (filter_map grep_in properties))
 filter_kind plugin.Modify place properties =
     Ok (filter.Modify
-      (record { conditions = filter_map condition_in properties; rules = filter_map change_in properties }))
+    (record { conditions = filter_map condition_in properties; rules = filter_map change_in properties }))
 filter_kind plugin.Nest place properties = operation_by place properties (word_at key.Operation properties)
 
 -- a filter or an output without Match gets all tags

@@ -57,10 +57,10 @@ abbrev pub input_kind : InputPlugin → Place → List Property → Checked Inpu
 input_kind plugin.Tail place properties = tail_by place properties (text_at key.Paths properties)
 input_kind plugin.Tcp place properties =
     Ok (input.Tcp (unwrap_or (text_at key.Listen properties) (codes "0.0.0.0"))
-      (unwrap_or (port_at key.Port properties) 5170))
+    (unwrap_or (port_at key.Port properties) 5170))
 input_kind plugin.Forward place properties =
     Ok (input.Forward (unwrap_or (text_at key.Listen properties) (codes "0.0.0.0"))
-      (unwrap_or (port_at key.Port properties) 24224))
+    (unwrap_or (port_at key.Port properties) 24224))
 input_kind plugin.Stdin place properties = Ok input.Stdin
 
 -- without a Tag the instance's name is the tag, except for forward, whose messages bring theirs

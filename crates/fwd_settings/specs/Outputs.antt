@@ -62,12 +62,12 @@ output_kind plugin.Tcp properties =
     (record_form (word_at key.RecordFormat properties))
 output_kind plugin.Forward properties =
     output.Forward (host_of properties) (unwrap_or (port_at key.Port properties) 24224)
-        (unwrap_or (truth_at key.RequireAck properties) false)
-        (unwrap_or (truth_at key.TimeAsInteger properties) false)
+    (unwrap_or (truth_at key.RequireAck properties) false)
+    (unwrap_or (truth_at key.TimeAsInteger properties) false)
 output_kind plugin.Http properties =
     output.Http (host_of properties) (unwrap_or (port_at key.Port properties) 80)
-        (unwrap_or (text_at key.Uri properties) (codes "/"))
-        (request_form (word_at key.RecordFormat properties))
+    (unwrap_or (text_at key.Uri properties) (codes "/"))
+    (request_form (word_at key.RecordFormat properties))
 
 -- the settings of an output, given those of the outputs before it
 abbrev pub output_from : OutputPlugin → List OutputSet → List Property → OutputSet

@@ -33,9 +33,11 @@ timeless shape = record { shape = shape; time = None }
 abbrev pub time_of : List Property → Option TimeRule
 time_of properties =
     option_map
-    (λ format. record
-          { key = unwrap_or (text_at key.TimeKey properties) (codes "time"); format = format;
-            keep = unwrap_or (truth_at key.TimeKeep properties) false })
+    (λ format. record {
+      key = unwrap_or (text_at key.TimeKey properties) (codes "time");
+      format = format;
+      keep = unwrap_or (truth_at key.TimeKeep properties) false;
+    })
     (text_at key.TimeFormat properties)
 
 abbrev pub parser_by : List Property → Shape → Parser
@@ -51,7 +53,7 @@ abbrev pub groups_by : Place → List Property → Option Pattern → Checked Sh
 groups_by place properties None = Err (fault Missing place)
 groups_by place properties (Some p) =
     Ok (shape.Groups p (types_by (text_at key.Types properties))
-          (unwrap_or (truth_at key.SkipEmptyValues properties) true))
+    (unwrap_or (truth_at key.SkipEmptyValues properties) true))
 
 -- a Format is required
 abbrev pub shape_by : Place → List Property → Option Word → Checked Shape

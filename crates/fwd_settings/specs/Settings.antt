@@ -107,9 +107,12 @@ with_sections all path partial (section ∷ more) = do
 
 abbrev pub all_of : PartialSettings → AllSettings
 all_of partial =
-    record
-    { service = service_of partial.service; inputs = partial.inputs; filters = partial.filters;
-      outputs = partial.outputs }
+    record {
+      service = service_of partial.service;
+      inputs = partial.inputs;
+      filters = partial.filters;
+      outputs = partial.outputs;
+    }
 
 unfoldable pub settings_of : List Section → Reading AllSettings
 settings_of sections = do

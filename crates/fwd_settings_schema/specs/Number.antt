@@ -37,8 +37,8 @@ abbrev pub flush_of : List ℕ → Option ℕ
 flush_of text =
     if is_digits (decimals text) && nat_le (length (decimals text)) 9
     then option_and_then
-        (λ seconds. option_and_then (within 1 18446744073709551615)
-          (within_64_bits (seconds * 1000 + thousandths (decimals text))))
+    (λ seconds. option_and_then (within 1 18446744073709551615)
+    (within_64_bits (seconds * 1000 + thousandths (decimals text))))
     (number_of (before_first (λ b. b == byte ".") text))
     else None
 
@@ -46,6 +46,6 @@ flush_of text =
 abbrev pub retries_of : List ℕ → Option Retries
 retries_of text =
     if str_eq_ignore_ascii_case text (codes "no_limits") || str_eq_ignore_ascii_case text (codes "false")
-        then Some Unlimited
+    then Some Unlimited
     else (if str_eq_ignore_ascii_case text (codes "no_retries") then Some (Times 0)
     else option_map Times (number_of text))

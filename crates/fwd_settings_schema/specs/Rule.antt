@@ -33,16 +33,16 @@ two_keys text =
 abbrev pub condition_of : List ℕ → Option Condition
 condition_of text =
     if str_eq_ignore_ascii_case (first_word text) (codes "key_exists")
-        then option_map (λ k. condition.KeyExists k) (one_key (rest text))
+    then option_map (λ k. condition.KeyExists k) (one_key (rest text))
     else
-        (if str_eq_ignore_ascii_case (first_word text) (codes "key_does_not_exist")
-          then option_map (λ k. condition.KeyDoesNotExist k) (one_key (rest text))
+    (if str_eq_ignore_ascii_case (first_word text) (codes "key_does_not_exist")
+    then option_map (λ k. condition.KeyDoesNotExist k) (one_key (rest text))
     else
-        (if str_eq_ignore_ascii_case (first_word text) (codes "key_value_equals")
-          then option_map (λ p. condition.KeyValueEquals p.0 p.1) (key_and_rest_of (rest text))
+    (if str_eq_ignore_ascii_case (first_word text) (codes "key_value_equals")
+    then option_map (λ p. condition.KeyValueEquals p.0 p.1) (key_and_rest_of (rest text))
     else
-        (if str_eq_ignore_ascii_case (first_word text) (codes "key_value_does_not_equal")
-          then option_map (λ p. condition.KeyValueDoesNotEqual p.0 p.1) (key_and_rest_of (rest text))
+    (if str_eq_ignore_ascii_case (first_word text) (codes "key_value_does_not_equal")
+    then option_map (λ p. condition.KeyValueDoesNotEqual p.0 p.1) (key_and_rest_of (rest text))
     else None)))
 
 -- the change that the text of a rule gives

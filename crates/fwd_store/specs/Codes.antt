@@ -16,13 +16,18 @@ HeadParts = List ℕ × (ℕ × (ℕ × (ℕ × (ℕ × List (List ℕ)))))
 abbrev pub head_code : Coded ChunkHead
 head_code =
     code_by HeadParts
-        (coded× (coded_list coded_ℕ)
-          (coded× coded_ℕ
-            (coded× coded_ℕ (coded× coded_ℕ (coded× coded_ℕ (coded_list (coded_list coded_ℕ)))))))
+    (coded× (coded_list coded_ℕ)
+    (coded× coded_ℕ
+    (coded× coded_ℕ (coded× coded_ℕ (coded× coded_ℕ (coded_list (coded_list coded_ℕ)))))))
     (λ h. (h.name, (h.meta, (h.size, (h.selector, (h.mark, h.outputs))))))
-    (λ p. record
-          { name = p.0; meta = p.1.0; size = p.1.1.0; selector = p.1.1.1.0; mark = p.1.1.1.1.0;
-            outputs = p.1.1.1.1.1 }) (λ _. refl)
+    (λ p. record {
+      name = p.0;
+      meta = p.1.0;
+      size = p.1.1.0;
+      selector = p.1.1.1.0;
+      mark = p.1.1.1.1.0;
+      outputs = p.1.1.1.1.1;
+    }) (λ _. refl)
 
 abbrev pub Parts : Type 0
 Parts = ChunkHead ⊎ (ChunkHead ⊎ List ℕ)
@@ -59,7 +64,7 @@ abbrev pub stored_code : Coded Stored
 stored_code =
     code_by (Option (List ℕ) × (Bool × (ℕ × (KeptMap × List Opened))))
     (coded× (coded_option (coded_list coded_ℕ))
-          (coded× coded_bool (coded× coded_ℕ (coded× (map.code coded_ℕ kept_code) (coded_list opened_code)))))
+    (coded× coded_bool (coded× coded_ℕ (coded× (map.code coded_ℕ kept_code) (coded_list opened_code)))))
     (λ s. (s.root, (s.full, (s.next, (s.chunks, s.opened)))))
-        (λ p. record { root = p.0; full = p.1.0; next = p.1.1.0; chunks = p.1.1.1.0; opened = p.1.1.1.1 })
-        (λ _. refl)
+    (λ p. record { root = p.0; full = p.1.0; next = p.1.1.0; chunks = p.1.1.1.0; opened = p.1.1.1.1 })
+    (λ _. refl)

@@ -106,14 +106,14 @@ abbrev pub BeginsChunk : Stored → Stored → ℕ → List ℕ → List ℕ →
     → Type 0
 BeginsChunk old new input stream tag home batch outputs a =
     (a ≡ record { chunk = record { 0 = old.next }; size = length batch; fresh = true })
-        × (new ≡ with_new old input tag (new_kept (new_name old stream) tag home batch outputs))
+    × (new ≡ with_new old input tag (new_kept (new_name old stream) tag home batch outputs))
 
 -- the batch is appended to the open chunk, with this answer
 abbrev pub GrowsChunk : Stored → Stored → ℕ → List ℕ → Accepted → Type 0
 GrowsChunk old new n batch a =
     (kept : Kept) × (map.get old.chunks n ≡ Some kept)
-        × (a ≡ record { chunk = record { 0 = n }; size = size_of (after_append kept batch); fresh = false })
-        × (new ≡ with_kept old n (after_append kept batch))
+    × (a ≡ record { chunk = record { 0 = n }; size = size_of (after_append kept batch); fresh = false })
+    × (new ≡ with_kept old n (after_append kept batch))
 
 -- one of both, by the open chunk
 abbrev pub AcceptsBatch : Stored → Stored → Option ℕ → ℕ → List ℕ → List ℕ → Home → List ℕ → List (List ℕ)
@@ -220,9 +220,14 @@ HasFailed _ = ⊥
 -- the head of a recovered file
 abbrev pub head_of : List ℕ → Brief → ChunkHead
 head_of name brief =
-    record
-    { name = name; meta = brief.meta; size = brief.size; selector = 0; mark = brief.mark;
-      outputs = brief.outputs }
+    record {
+      name = name;
+      meta = brief.meta;
+      size = brief.size;
+      selector = 0;
+      mark = brief.mark;
+      outputs = brief.outputs;
+    }
 
 -- The recovered file has events. Its offsets fit 64 bits, and its metadata hold its outputs.
 abbrev pub IsWhole : Found → Type 0

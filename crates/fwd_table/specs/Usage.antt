@@ -66,5 +66,5 @@ abbrev pub memory_of : ℕ → List Row → ℕ
 memory_of input rows =
     size_of
     (filter
-      (λ row. not (in_file row)
-        && (is_from input row.input && (not row.shut || not (length row.routes == 0)))) rows)
+    (λ row. not (in_file row)
+    && (is_from input row.input && (not row.shut || not (length row.routes == 0)))) rows)

@@ -24,7 +24,7 @@ pub record RepresentsChunk (s : AllSettings) (h : History) (c : ChunkInfo) (byte
   pub no_other : (output : ℕ) → Contains (outputs_for s c.tag) output
       → is_marked_done (output_name s output) (Some chunk) ≡ true
       → (may_be_recorded s h (route c.number output) ≡ true)
-          × (is_resolved s h (route c.number output) ≡ true)
+      × (is_resolved s h (route c.number output) ≡ true)
 
 -- what a crash leaves of its file: it exists, and its bytes represent the chunk
 abbrev pub IsIntact : AllSettings → History → ChunkInfo → Option (List ℕ) → Type 0

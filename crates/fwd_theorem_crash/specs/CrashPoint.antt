@@ -43,4 +43,4 @@ Changes (Note fact) answer old during new = disk.NoFileChanges old during new
 abbrev pub LeadsTo : TransitionsOf Call Answer CrashPoint
 LeadsTo call answer old during new =
     Changes call answer old.files during.files new.files × (during.past ≡ old.past)
-        × (new.past ≡ entry call answer ∷ old.past)
+    × (new.past ≡ entry call answer ∷ old.past)

@@ -48,4 +48,4 @@ pub data HasReached (s : AllSettings) (first : Files) : CrashPoint → Type 0 wh
   HasStepped : (before m : CrashPoint) (brought : Happening) (entries : List TraceEntry) (h : History)
       → HasReached s first before → EventAllowed s brought before.past
       → Execution (step s brought (logged before.past)) entries (Return h) → Ends LeadsTo before entries m
-          → HasReached s first m
+      → HasReached s first m

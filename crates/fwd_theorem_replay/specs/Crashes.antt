@@ -61,6 +61,6 @@ NothingIsLost shown s turns start [] reported is = Unit {0}
 NothingIsLost shown s turns start (planned ∷ lives) reported (inl ends) = Unit {0}
 NothingIsLost shown s turns start (planned ∷ lives) reported (inr (inl cut)) =
     NextLosesNothing shown s (turns - waits_in (cut.0.before ++ cut.0.turn)) cut.0 lives cut.2.0 cut.2.1
-        × NothingIsLost shown s
-        (turns - waits_in (cut.0.before ++ cut.0.turn)) cut.0.next lives cut.2.0 cut.2.1
+    × NothingIsLost shown s
+    (turns - waits_in (cut.0.before ++ cut.0.turn)) cut.0.next lives cut.2.0 cut.2.1
 NothingIsLost shown s turns start (planned ∷ lives) reported (inr (inr wanting)) = Unit {0}

@@ -67,4 +67,4 @@ abbrev pub IsDispatched : AllSettings → List Route → History → List TraceE
 IsDispatched s [] h es new = (es ≡ []) × (new ≡ h)
 IsDispatched s (r ∷ rs) h es new =
     (own : List TraceEntry) × (more : List TraceEntry) × (es ≡ own ++ more)
-        × IsTurn s h (history_after own h) r own × IsDispatched s rs (history_after own h) more new
+    × IsTurn s h (history_after own h) r own × IsDispatched s rs (history_after own h) more new

@@ -153,9 +153,9 @@ abbrev pub RanOutOfMemory : {Y : Type 0} → List (String Y) → Values → ℕ 
 RanOutOfMemory words env turns old new =
     (Begins words env old new × LogGrew old.sink new.sink [])
     ⊎ (((text : List ℕ) × Comes words env turns old new (says text status.Memory)
-            × WroteIt old.sink new.sink text)
+    × WroteIt old.sink new.sink text)
     ⊎ ((text : List ℕ) × (end : Status) × Comes words env turns old new (says text end)
-          × (LogGrew old.sink new.sink [] ⊎ WroteAPrefix old.sink new.sink text)))
+    × (LogGrew old.sink new.sink [] ⊎ WroteAPrefix old.sink new.sink text)))
 
 -- the calls on the devices and the text written to the sink, for each status
 abbrev pub Answers : {Y : Type 0} → List (String Y) → Values → ℕ → Devices → Devices → Status → Type 0
@@ -179,10 +179,10 @@ pub record IsVerdictOf {Y : Type 0} (words : List (String Y)) (env : Values) (tu
 abbrev pub IsOfTheFiles : {Y : Type 0} → List (String Y) → Values → ℕ → Devices → Devices → Status → Type 0
 IsOfTheFiles words env turns old new result =
     (standing : FilesGiven) (before made : List FilesEntry) → old.files ≡ Some (standing, before)
-        → new.files ≡ Some (standing, before ++ made) → IsConsistentLog (files_after_all standing before) made
+    → new.files ≡ Some (standing, before ++ made) → IsConsistentLog (files_after_all standing before) made
     → result ≢ status.FileFault
-        → Wrote
-        (IsVerdictOf words env turns (files_after_all standing before) old new) old.sink new.sink result
+    → Wrote
+    (IsVerdictOf words env turns (files_after_all standing before) old new) old.sink new.sink result
 
 -- the words ask for a run
 abbrev pub is_run : Option Command → Bool

@@ -137,9 +137,11 @@ pub record AsksAfter (sections : List Section) (wanted : Wanted) (old new : File
 -- files in memory with the texts of a generated load
 abbrev pub held_load : ℕ → FilesState
 held_load count =
-    record
-    { given = []; notes = Preset load_schedule (schedule_text count) ∷ Preset load_config config_text ∷ [];
-      faults = 0 }
+    record {
+      given = [];
+      notes = Preset load_schedule (schedule_text count) ∷ Preset load_config config_text ∷ [];
+      faults = 0;
+    }
 
 -- the texts of a generated load have this case; nothing is claimed if memory ran out
 abbrev pub ComesOfLoad : ℕ → Option Case → Type 0
