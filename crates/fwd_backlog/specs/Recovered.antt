@@ -4,7 +4,7 @@ use Rattle.std.specs.List.Sorted.{IsStrictlySortedBy}
 use Rattle.fwd_outside.specs.Disk.{IsFileName}
 use Rattle.fwd_outside.specs.File.{IsPostCrash, content, whole, absent}
 use Rattle.fwd_outside.specs.DiskStates.{Files}
-use Rattle.fwd_base.specs.Limits.{longest_file}
+use Rattle.fwd_base.specs.Limits.{chunk_header, longest_file}
 use Rattle.fwd_chunk.specs.declared.chunk.Brief.{Brief}
 use Rattle.fwd_chunk.specs.declared.chunk.Found.{Found}
 use Rattle.fwd_chunk.specs.declared.chunk.Seen.TheVariants.{Whole}
@@ -35,7 +35,8 @@ pub record AreRecoveredFrom (root : List ℕ) (files : Files) (found : List Foun
 
 -- the content of a found chunk with events ends within the longest file that is read
 abbrev pub FitsFile : Found → Type 0
-FitsFile found = (brief : Brief) → found.seen ≡ Whole brief → 24 + brief.meta + brief.size ≤ longest_file
+FitsFile found =
+    (brief : Brief) → found.seen ≡ Whole brief → chunk_header + brief.meta + brief.size ≤ longest_file
 
 -- a read returns what it returned before, and a crash leaves nothing that it couldn't have left before
 pub record LeavesNoMore (old new : Files) : Type 0 where

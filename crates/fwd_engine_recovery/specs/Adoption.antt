@@ -3,6 +3,7 @@ use Rattle.std.specs.Prelude.{◌≡◌, ◌≢◌, ℕ, ◌+◌, ◌<◌, ◌�
 use Rattle.std.specs.List.{list_any}
 use Rattle.std.specs.Str.{bytes_eq}
 use Rattle.std.specs.FinMap as map
+use Rattle.fwd_base.specs.Limits.{chunk_header}
 use Rattle.fwd_chunk.specs.Outcome.{FitsNames}
 use Rattle.fwd_chunk.specs.declared.chunk.Found.{Found as FoundFile}
 use Rattle.fwd_chunk.specs.declared.chunk.Brief.{Brief}
@@ -52,7 +53,7 @@ taken store number found (Refused kind) = store
 abbrev pub FitsStore : FoundFile → Type 0
 FitsStore found =
     (brief : Brief) → found.seen ≡ Whole brief
-    → (24 + brief.meta + brief.size < 2 ^ 64) × FitsNames (head_of [] brief)
+    → (chunk_header + brief.meta + brief.size < 2 ^ 64) × FitsNames (head_of [] brief)
 
 abbrev pub path_in : AllSettings → FoundFile → List ℕ
 path_in s found = found_name (unwrap_or s.service.path []) found.stream found.name

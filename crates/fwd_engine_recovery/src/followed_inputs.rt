@@ -4,7 +4,6 @@ ghost use Rattle.fwd_model.specs.Settings.{followed_paths, starts_at_head};
 ghost use Rattle.fwd_engine_recovery.specs.FollowedPaths.{followed_paths_of};
 
 use fwd_base::{Bytes, InputId, Memory};
-use fwd_chunk::clone_names;
 use fwd_engine_inputs::FollowedFiles;
 use fwd_engine_settings::RunSettings;
 use fwd_parser::{Parser, Shape};
@@ -17,7 +16,7 @@ fn copy_kind(alloc: Global, kind: &InputKind) -> Result<InputKind, Memory>
 {
     match kind {
         InputKind::Tail { paths, from_head } => Ok(InputKind::Tail {
-            paths: clone_names(alloc, paths)?,
+            paths: paths.try_clone(alloc)?,
             from_head: *from_head,
         }),
         InputKind::Tcp { .. } | InputKind::Forward { .. } | InputKind::Stdin => {

@@ -1,7 +1,7 @@
 -- The disk program of `accept`, and the store after it.
 use Rattle.std.specs.Prelude.{◌≡◌, ◌≢◌, ◌⊎◌, ℕ, ◌+◌, ◌^◌, ◌<◌, ◌≤◌, ◌==◌, ◌&&◌, ◌||◌, nat_lt, not, is_some, unwrap_or, Bool, true, false, if◌then◌else◌, List, [], ◌∷◌, ◌++◌, length, All, Option, Some, None, IsSome, Result, Ok, Err}
 use Rattle.std.specs.FinMap as map
-use Rattle.fwd_base.specs.Limits.{full_chunk, largest_batch, numbers_end}
+use Rattle.fwd_base.specs.Limits.{chunk_header, full_chunk, largest_batch, numbers_end}
 use Rattle.fwd_outside.specs.Program.{Return, and_then}
 use Rattle.fwd_outside.specs.Log.{LogGrew}
 use Rattle.fwd_outside.specs.declared.home.Home.{Home}
@@ -232,7 +232,7 @@ head_of name brief =
 -- The recovered file has events. Its offsets fit 64 bits, and its metadata hold its outputs.
 abbrev pub IsWhole : Found → Type 0
 IsWhole found =
-    (brief : Brief) × (found.seen ≡ Whole brief) × (24 + brief.meta + brief.size < 2 ^ 64)
+    (brief : Brief) × (found.seen ≡ Whole brief) × (chunk_header + brief.meta + brief.size < 2 ^ 64)
     × FitsNames (head_of [] brief)
 
 -- the path of a recovered file

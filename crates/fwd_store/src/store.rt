@@ -1,6 +1,6 @@
 ghost use Rattle.std.specs.Prelude.{◌≡◌, ◌≢◌, ◌⊎◌, ◌↔◌, ℕ, ◌+◌, ◌<◌, ◌≤◌, ◌^◌, ◌==◌, [], List, length, Some, None, Option, IfOk, IfErr, OnOk, OnErr, IsTrue, IsSome, IsErrOf, is_some, unwrap_or, Err, false};
 ghost use Rattle.std.specs.FinMap as map;
-ghost use Rattle.fwd_base.specs.Limits.{largest_batch, longest_tag, numbers_end};
+ghost use Rattle.fwd_base.specs.Limits.{chunk_header, largest_batch, longest_tag, numbers_end};
 ghost use Rattle.fwd_outside.specs.Program.{Return, and_then};
 ghost use Rattle.fwd_outside.specs.Log.{RunsFallible, LogGrew};
 ghost use Rattle.fwd_outside.specs.Cause.{HasCause};
@@ -28,9 +28,7 @@ use crate::answer::{Accepted, StoreRefusal};
 use crate::chunk_map::ChunkMap;
 use crate::open_chunks::{OpenChunks, Source};
 use fwd_base::limits::{FULL_CHUNK, LARGEST_BATCH, NUMBERS_END};
-use fwd_chunk::{
-    Brief, ChunkHead, Found, Kept, PartErr, Seen, clone_names, create, file_name, found_name,
-};
+use fwd_chunk::{Brief, ChunkHead, Found, Kept, PartErr, Seen, create, file_name, found_name};
 use fwd_event::Events;
 use fwd_outside::{Bytes, ChunkId, Disk, DiskErr, Home, InputId, Memory, Names};
 use std::alloc::Global;
@@ -134,7 +132,7 @@ fn create_chunk<D: Disk>(
 fn recovered_head(alloc: Global, name: Bytes, brief: &Brief) -> Result<ChunkHead, Memory>
     ensures { IfOk result (λ head. head ≡ head_of name brief.now) }
 {
-    let outputs = clone_names(alloc, &brief.outputs)?;
+    let outputs = brief.outputs.try_clone(alloc)?;
     Ok(ChunkHead {
         name,
         meta: brief.meta,
@@ -193,7 +191,8 @@ impl Store {
         self.opened.close(chunk.0);
     }
 
-    /// Returns the open chunk that was opened first, for callers that close chunks in that order.
+    /// Returns the open chunk that was opened first. The program doesn't use it: it is for callers that close
+    /// chunks in that order.
     pub fn first_open(&self) -> Option<ChunkId>
         ensures { result ≡ named (first_of self.now.opened) }
     {
@@ -269,7 +268,8 @@ impl Store {
 
     /// Returns the content of a chunk of the store, whole events. The content of a chunk in a file is read
     /// from it, in pieces. It is `Damaged` if the bytes aren't whole events of the recorded length, which
-    /// can't happen on a disk that keeps synced bytes.
+    /// can't happen on a disk that keeps synced bytes. The program doesn't use it (it reads by `bytes`): it is
+    /// for callers that want whole events.
     pub fn content<D: Disk>(
         &self,
         alloc: Global,
@@ -378,7 +378,7 @@ impl Store {
     ) -> Result<(), Memory>
         requires number { number < self.old.next }
         requires new { map.get self.old.chunks number ≡ None }
-        requires offsets { 24 + brief.now.meta + brief.now.size < 2 ^ 64 }
+        requires offsets { chunk_header + brief.now.meta + brief.now.size < 2 ^ 64 }
         requires names { FitsNames (head_of [] brief.now) }
         requires own { IsNew self.old (path_of_recovered self.old found.now) }
         requires free { IsNoLater self.old.root self.old.next (path_of_recovered self.old found.now) }
