@@ -15,7 +15,6 @@
 mod error;
 mod file_check;
 mod file_group;
-mod file_name;
 mod file_read;
 mod listed_file;
 mod listing;

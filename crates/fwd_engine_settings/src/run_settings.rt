@@ -300,19 +300,13 @@ impl RunSettings {
 fn accepts_peers(kind: &InputKind) -> bool
     ensures { result ≡ hears_peers kind.now }
 {
-    match kind {
-        InputKind::Tcp { .. } | InputKind::Forward { .. } => true,
-        InputKind::Tail { .. } | InputKind::Stdin => false,
-    }
+    matches!(kind, InputKind::Tcp { .. } | InputKind::Forward { .. })
 }
 
 fn is_stdin(kind: &InputKind) -> bool
     ensures { result ≡ reads_standard kind.now }
 {
-    match kind {
-        InputKind::Stdin => true,
-        InputKind::Tail { .. } | InputKind::Tcp { .. } | InputKind::Forward { .. } => false,
-    }
+    matches!(kind, InputKind::Stdin)
 }
 
 /// Whether the glob of an output matches a tag.

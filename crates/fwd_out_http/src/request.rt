@@ -84,7 +84,8 @@ fn head(
 
 /// Returns the request (RFC 9112) with the events of a tag, in a format. It is a POST to a URI of a server,
 /// with the length and type of the body and `Connection: close`; its body is the payload of `fwd_out_text`.
-/// As MessagePack it requires events that can be encoded.
+/// As MessagePack it requires events that can be encoded. The program doesn't use it (it has a body and asks
+/// `request_of`): it is for callers that have events.
 pub fn payload_http(
     alloc: Global,
     host: &[u8],

@@ -43,13 +43,7 @@ fn output_names(alloc: Global, outputs: &[OutputSet]) -> Result<Names, Memory>
 fn is_stdout(kind: &OutputKind) -> bool
     ensures { result ≡ is_stdout kind.now }
 {
-    match kind {
-        OutputKind::Stdout { .. } => true,
-        OutputKind::File { .. }
-        | OutputKind::Tcp { .. }
-        | OutputKind::Forward { .. }
-        | OutputKind::Http { .. } => false,
-    }
+    matches!(kind, OutputKind::Stdout { .. })
 }
 
 /// Returns the mask whose bit `i` is set if output `i` is a standard output.

@@ -15,7 +15,6 @@ use fwd_base::{Bytes, Memory};
 use fwd_disk_mem::MemDisk;
 use fwd_script::{Cut, Life, Lives, MemFiles};
 use fwd_settings::AllSettings;
-use itoa::Buffer;
 use std::alloc::Global;
 use std::thread::Threads;
 
@@ -24,10 +23,9 @@ fn crash_line(alloc: Global, cut: Cut) -> Result<Bytes, Memory>
     ensures { IfOk result (λ line. line ≡ crash_line cut) }
 {
     let mut line = Bytes::from_slice(alloc, b"crash ")?;
-    let mut digits = Buffer::new();
-    line.extend_from_slice(digits.format(cut.calls).as_bytes())?;
+    line.push_decimal(cut.calls)?;
     line.extend_from_slice(b" ")?;
-    line.extend_from_slice(digits.format(cut.pick).as_bytes())?;
+    line.push_decimal(cut.pick)?;
     line.extend_from_slice(b"\n")?;
     Ok(line)
 }

@@ -13,7 +13,6 @@ mod listing_line;
 mod listing_text;
 mod pending;
 mod sections;
-mod sort_key;
 
 pub use listing_text::{ListErr, listing};
 pub use sections::report;

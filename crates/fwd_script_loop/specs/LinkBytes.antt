@@ -1,7 +1,7 @@
 -- The bytes that links received.
-use Rattle.std.specs.Prelude.{ℕ, zero, suc, Bool, false, if◌then◌else◌, List, [], ◌∷◌, ◌++◌, take, slice_get, Option, Some, None}
+use Rattle.std.specs.Prelude.{ℕ, zero, suc, ◌==◌, Bool, false, if◌then◌else◌, List, [], ◌∷◌, ◌++◌, take, slice_get, Option, Some, None}
+use Rattle.std.specs.Int.{bit_at}
 use Rattle.fwd_outside.specs.Loop.{LoopCall, LoopAnswer, LoopEntry, PushAnswer, Start, Wait, Dial, Push, Close, Reply, DropConn, Word, Took, Again, Broke}
-use Rattle.fwd_script_loop.specs.PauseMask.{is_set}
 
 abbrev pub taken_of : List ℕ → PushAnswer → List ℕ
 taken_of bytes (Took taken) = take taken bytes
@@ -9,7 +9,7 @@ taken_of bytes Again = []
 taken_of bytes Broke = []
 
 abbrev pub is_one_of : ℕ → Option ℕ → Bool
-is_one_of outputs (Some output) = is_set outputs output
+is_one_of outputs (Some output) = bit_at outputs output == 1
 is_one_of outputs None = false
 
 -- whether a link belongs to one of the outputs, by the outputs of all links in the order of their numbers

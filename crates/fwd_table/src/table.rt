@@ -164,7 +164,8 @@ impl Table {
     }
 
     /// Returns the first of the idle routes that are due at `now` and come after `after`, ordered by due
-    /// time, then chunk, then output.
+    /// time, then chunk, then output. The program doesn't use it (it takes all due routes at once): it is for
+    /// callers that start one route at a time.
     pub fn next_due(&self, now: u64, after: Option<Timer>) -> Option<Timer>
         ensures value { result ≡ first (filter (is_next now after) (idle_timers_of self.now.rows)) }
         ensures first { let due = filter (is_next now after) (idle_timers_of self.now.rows) in MatchOption result (due ≡ []) (IsFirst due) }
@@ -213,7 +214,8 @@ impl Table {
         self.tries_so_far(chunk, output)
     }
 
-    /// Returns whether a route may be retried if its flush fails now.
+    /// Returns whether a route may be retried if its flush fails now. The program doesn't use it (it asks the
+    /// function `may_retry`): it is for callers that don't count tries themselves.
     pub fn may_retry(&self, chunk: ChunkId, output: OutputId, limit: Retries) -> bool
         ensures { result ≡ may_retry limit (tries_of chunk output self.now.rows) }
     {
@@ -221,7 +223,8 @@ impl Table {
     }
 
     /// Records the outcome of a flush. If the route may be retried, it is due `wait_s` seconds after `now`;
-    /// else it is resolved.
+    /// else it is resolved. The program calls it for retries alone: the other answers are for callers that leave
+    /// the decision to the table.
     pub fn answered(
         &mut self,
         chunk: ChunkId,
