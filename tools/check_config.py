@@ -3,9 +3,9 @@
 usage: check_config.py COMMAND.. -- FILE
 
 COMMAND runs the program. The dry run is a replay of an empty schedule, so it opens no socket and no storage folder. The first
-line says that the configuration is taken, and each further one what matches nothing; or the program's refusal comes on standard
-error, with the text of the line that is refused, or with the file that can't be read. The status is 0 if the configuration is
-taken and 1 if not.
+line says that the configuration is taken, and each further one what matches nothing, or which path of a followed file has a blank
+at its edge; or the program's refusal comes on standard error, with the text of the line that is refused, or with the file that
+can't be read. The status is 0 if the configuration is taken and 1 if not.
 """
 import os
 import re
@@ -108,6 +108,14 @@ def unmatched(sections):
                 yield f"{section.place}: {kind} {name}: Match {glob} matches no input"
 
 
+def padded_paths(sections):
+    """Gives a line for each path of a tail input with a blank beside its comma: the blank belongs to the name of the file."""
+    for name, section in instances(sections, "input"):
+        for path in section.last("path", "").split(",") if name.startswith("tail.") else ():
+            if path != path.strip(BLANKS):
+                yield f'{section.place}: input {name}: the blank beside a comma of Path belongs to the name of the file "{path}"'
+
+
 def dry_run(command, file):
     """Runs the program, and returns its status and its last line on standard error. The lines before it go on to standard error."""
     with tempfile.NamedTemporaryFile(prefix="fwd-check-") as schedule:
@@ -144,7 +152,8 @@ def main(words):
             print(line, end="\n" if line else "", file=sys.stderr)
         return 1
     print(f"{file}: taken")
-    for line in unmatched(Reader(file).sections):
+    sections = Reader(file).sections
+    for line in (*unmatched(sections), *padded_paths(sections)):
         print(line)
     return 0
 
