@@ -7,3 +7,4 @@ pub mod ClosedChunks
 pub mod Scans
 pub mod EncodingLemmas
 pub mod StoreOutcome
+pub mod ReadyStores

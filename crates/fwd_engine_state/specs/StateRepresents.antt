@@ -1,6 +1,7 @@
 -- The abstraction relation between a state and a history.
 use Rattle.std.specs.Prelude.{◌≡◌, ◌≢◌, ℕ, ◌+◌, ◌<◌, ◌≤◌, ◌==◌, not, Bool, true, false, List, [], ◌∷◌, length, map, filter, Option, Some, None}
 use Rattle.std.specs.List.{list_any}
+use Rattle.std.specs.Option.{option_map_or}
 use Rattle.fwd_outside.specs.declared.happening.Happening.{Happening}
 use Rattle.fwd_outside.specs.declared.happening.Happening.TheVariants as happening
 use Rattle.fwd_chunk.specs.declared.chunk.Chunk.{Chunk}
@@ -12,7 +13,7 @@ use Rattle.fwd_model.specs.Fact.{Fact, History, Route, Happened, Resumed, Polled
 use Rattle.fwd_model.specs.Settings.{outputs_for, output_name, reads_stdin_at}
 use Rattle.fwd_model.specs.Clock.{clock, ticked, stopped, next_close}
 use Rattle.fwd_model.specs.RecoveredFile.{recovered_chunk, is_marked_done}
-use Rattle.fwd_model.specs.Chunks.{ChunkInfo, chunks_of, next, is_closed, open_chunks, content}
+use Rattle.fwd_model.specs.Chunks.{ChunkInfo, chunks_of, chunk_at, next, is_closed, open_chunks, content}
 use Rattle.fwd_model.specs.Routes.{route, tries, due, flight, is_resolved, rows_of, route_on_link}
 use Rattle.fwd_model.specs.Payloads.{delivery}
 use Rattle.fwd_model.specs.Counters.{tally_of}
@@ -73,12 +74,20 @@ pub record IsLoaded (s : AllSettings) (tag : List ℕ) (size owed : ℕ) (bytes 
 abbrev pub IsClosedRoute : History → Route → Type 0
 IsClosedRoute h r = (is_closed h r.chunk ≡ true) × (r.chunk < next h)
 
--- a flush attempt of a route, at any progress: what it delivers, and how many tries of the route failed
--- before
+-- whether an output is among those that match the tag of a chunk
+abbrev pub is_for : AllSettings → ℕ → ChunkInfo → Bool
+is_for s output c = list_any (λ o. o == output) (outputs_for s c.tag)
+
+-- a route is pending: its chunk exists and matches its output, and the route isn't resolved
+abbrev pub IsPending : AllSettings → History → Route → Type 0
+IsPending s h r =
+    (option_map_or (is_for s r.output) (chunk_at h r.chunk) false ≡ true) × (is_resolved s h r ≡ false)
+
+-- a flush attempt of a pending route, at any progress, and what it delivers
 abbrev pub IsFlightOf : AllSettings → History → FlushAttempt → Route → Type 0
 IsFlightOf s h f r =
     (route_of f.route ≡ r) × (f.flush.output ≡ f.route.output)
-    × (delivery_of wants judges f.flush ≡ delivery s h r) × (f.tries ≡ tries h r) × IsClosedRoute h r
+    × (delivery_of wants judges f.flush ≡ delivery s h r) × IsPending s h r × IsClosedRoute h r
 
 -- the attempt over a connection is that of the route, has this progress, and isn't the one that is out
 abbrev pub AttemptIsKept : AllSettings → History → Option Route → ℕ → FlushAttempt → Route → Type 0

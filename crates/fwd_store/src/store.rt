@@ -363,8 +363,7 @@ impl Store {
     {
         match &found.seen {
             Seen::Whole(brief) => self.adopt_file(alloc, chunk.0, found, brief),
-            Seen::Empty(_) => Err(Memory),
-            Seen::Refused(_) => Err(Memory),
+            Seen::Empty(_) | Seen::Refused(_) => unreachable!(),
         }
     }
 
@@ -393,62 +392,66 @@ impl Store {
         Ok(())
     }
 
-    // Removes the file of a chunk, if it has one.
+    // Removes the file of a chunk of the store, if it has one.
     fn remove_file<D: Disk>(&self, disk: &mut D, number: u64) -> Result<(), DiskErr>
+        requires { IsSome (map.get self.now.chunks number) }
         ensures calls { RunsFallible (D.call_log disk.old) (D.call_log disk.new) (drops (map.get self.now.chunks number)) (disk_outcome result) }
         ensures cause { HasCause (D.faults disk.old) (D.faults disk.new) (IsErrOf result Failed) }
     {
         match self.chunks.get(number) {
             Some(kept) => kept.remove(disk),
-            None => Ok(()),
+            None => unreachable!(),
         }
     }
 
-    // Reads the content of a chunk.
+    // Reads the content of a chunk of the store.
     fn read_content<D: Disk>(
         &self,
         alloc: Global,
         disk: &mut D,
         number: u64,
     ) -> Result<Bytes, PartErr>
+        requires { IsSome (map.get self.now.chunks number) }
         ensures calls { (kept : Kept) → map.get self.now.chunks number ≡ Some kept → ReadReturns (D.call_log disk.old) (D.call_log disk.new) (read_content_program kept) (IsContentOf kept) result }
         ensures cause { HasCause (D.faults disk.old) (D.faults disk.new) (IsErrOf result part_err.DiskFailed) }
     {
         match self.chunks.get(number) {
             Some(kept) => kept.content(alloc, disk),
-            None => Err(PartErr::Memory),
+            None => unreachable!(),
         }
     }
 
-    // Reads the bytes of a chunk.
+    // Reads the bytes of a chunk of the store.
     fn read_bytes<D: Disk>(
         &self,
         alloc: Global,
         disk: &mut D,
         number: u64,
     ) -> Result<Bytes, PartErr>
+        requires { IsSome (map.get self.now.chunks number) }
         ensures calls { (kept : Kept) → map.get self.now.chunks number ≡ Some kept → ReadReturns (D.call_log disk.old) (D.call_log disk.new) (read_content_program kept) (HasRecordedLength (size_of kept)) result }
         ensures cause { HasCause (D.faults disk.old) (D.faults disk.new) (IsErrOf result part_err.DiskFailed) }
     {
         match self.chunks.get(number) {
             Some(kept) => kept.bytes(alloc, disk),
-            None => Err(PartErr::Memory),
+            None => unreachable!(),
         }
     }
 
-    // Makes the calls of `settle`.
+    // Makes the calls of `settle` for a chunk of the store.
     fn settle_inner<D: Disk>(
         &self,
         disk: &mut D,
         number: u64,
         output: &[u8],
     ) -> Result<bool, DiskErr>
+        requires { IsSome (map.get self.now.chunks number) }
         ensures calls { RunsFallible (D.call_log disk.old) (D.call_log disk.new) (settle_for_program (map.get self.now.chunks number) output.now self.now.full) (disk_outcome result) }
         ensures cause { HasCause (D.faults disk.old) (D.faults disk.new) (IsErrOf result Failed) }
     {
         match self.chunks.get(number) {
             Some(kept) => kept.settle(disk, output, self.full),
-            None => Ok(false),
+            None => unreachable!(),
         }
     }
 
