@@ -37,7 +37,7 @@ use Rattle.fwd_settings_schema.specs.declared.properties.Value.{Value}
 use Rattle.fwd_settings_schema.specs.declared.properties.Value.TheVariants as value
 use Rattle.fwd_settings_schema.specs.declared.properties.Property.{Property}
 use Rattle.fwd_settings.specs.declared.sections.PartialSettings.{PartialSettings}
-use Rattle.fwd_settings_schema.specs.Keys.{name_of_input, name_of, keys_of, kind_of, key_of, input_of, output_of, filter_of, head_of}
+use Rattle.fwd_settings_schema.specs.Keys.{name_of_input, name_of, table, key_of, input_of, output_of, filter_of, head_of}
 use Rattle.fwd_settings_schema.specs.Property.{last_value, as_number, as_text, text_at}
 use Rattle.fwd_settings.specs.Reading.{Checked, ◌>>=◌, known, fault, IsResult}
 use Rattle.fwd_settings.specs.Values.{entry_property, entry_properties}
@@ -48,7 +48,7 @@ use Rattle.fwd_settings.specs.Filters.{filter_from}
 use Rattle.fwd_settings.specs.Settings.{nothing, plugin_at, by_name, of_header, part_of, entries_here, with_input, with_filter, with_output, with_target, with_section, with_sections, all_of, settings_of}
 use Rattle.fwd_settings.specs.Requirements.{AreInputsNamed, AreOutputsNamed, IsTagText, HasTag, CanRequest, MeetsRequirements}
 use Rattle.fwd_settings.proofs.Always.{Always, always_then, always_known, always_result, always_each, Pairs, all_of_pairs}
-use Rattle.fwd_settings.proofs.Table.{IsPositive, IsTagValue, IsText, IsTextSo, IsOfKind, IsPropertyOf, always_property, named_passes, kind_passes, Holds, last_holds, last_there}
+use Rattle.fwd_settings.proofs.Table.{IsPositive, IsTagValue, IsText, IsTextSo, IsOfKind, IsPropertyOf, always_property, row_passes, kind_passes, Holds, last_holds, last_there}
 
 -- ---- lists that grow
 
@@ -83,10 +83,10 @@ outputs_more before (y ∷ xs) x all is =
 -- ---- what is known of the entries of a part
 
 abbrev ArePropertiesOf : Target → Property → Type 0
-ArePropertiesOf p item = ((name : List ℕ) × (key_of p name ≡ Some item.key)) × IsOfKind (kind_of item.key) item.value
+ArePropertiesOf p item = (name : List ℕ) × (how : Kind) × (key_of p name ≡ Some (item.key, how)) × IsOfKind how item.value
 
 properties_in : (p : Target) (entry : Entry) (item : Property) → IsPropertyOf p entry item → ArePropertiesOf p item
-properties_in p entry item is = ((entry.key, is.0), is.1)
+properties_in p entry item is = (entry.key, is)
 
 abbrev is_positive : Kind → Bool
 is_positive (kind.Plain plain.Positive) = true
@@ -130,9 +130,9 @@ text_of_kind : (k : Kind) (v : Value) → is_text k ≡ true → IsOfKind k v �
 text_of_kind (kind.Plain plain.Text) v so of = of
 text_of_kind _ v so of = absurd (cc so)
 
-module _ (by_name : Key) (test : Kind → Bool) (P : Value → Type 0) (gives : (k : Kind) (v : Value) → test k ≡ true → IsOfKind k v → P v) (p : Target) (table : list_all (named_passes by_name test) (keys_of p) ≡ true) where
+module _ (by_name : Key) (test : Kind → Bool) (P : Value → Type 0) (gives : (k : Kind) (v : Value) → test k ≡ true → IsOfKind k v → P v) (p : Target) (rows : list_all (row_passes p by_name test) table ≡ true) where
   of_named : (item : Property) → ArePropertiesOf p item → bytes_eq (name_of by_name) (name_of item.key) ≡ true → P item.value
-  of_named item is same = gives (kind_of item.key) item.value (kind_passes by_name test p table item.key is.0.0 is.0.1 same) is.1
+  of_named item is same = gives is.1.0 item.value (kind_passes by_name test p rows item.key is.1.0 is.0 is.1.1.0 same) is.1.1.1
 
   last_of_named : (properties : List Property) → AllByRecursion (ArePropertiesOf p) properties → Holds P (last_value by_name properties)
   last_of_named properties all = last_holds by_name P properties (all_so (ArePropertiesOf p) (λ s. bytes_eq (name_of by_name) (name_of s.key) ≡ true → P s.value) of_named properties all)
@@ -143,7 +143,9 @@ base_is (Some (value.Number n)) here = here
 base_is (Some value.Nothing) here = absurd here
 base_is (Some (value.Port n)) here = absurd here
 base_is (Some (value.Truth b)) here = absurd here
-base_is (Some (value.Word w)) here = absurd here
+base_is (Some (value.Format w)) here = absurd here
+base_is (Some (value.Form w)) here = absurd here
+base_is (Some (value.Operation w)) here = absurd here
 base_is (Some (value.Text t)) here = absurd here
 base_is (Some (value.Retries r)) here = absurd here
 base_is (Some (value.Pattern p)) here = absurd here
@@ -160,7 +162,9 @@ path_is (Some value.Nothing) here some = absurd here
 path_is (Some (value.Number n)) here some = absurd here
 path_is (Some (value.Port n)) here some = absurd here
 path_is (Some (value.Truth b)) here some = absurd here
-path_is (Some (value.Word w)) here some = absurd here
+path_is (Some (value.Format w)) here some = absurd here
+path_is (Some (value.Form w)) here some = absurd here
+path_is (Some (value.Operation w)) here some = absurd here
 path_is (Some (value.Retries r)) here some = absurd here
 path_is (Some (value.Pattern p)) here some = absurd here
 path_is (Some (value.Parser p)) here some = absurd here
@@ -177,7 +181,9 @@ text_or_so test default so (Some value.Nothing) here = absurd here
 text_or_so test default so (Some (value.Number n)) here = absurd here
 text_or_so test default so (Some (value.Port n)) here = absurd here
 text_or_so test default so (Some (value.Truth b)) here = absurd here
-text_or_so test default so (Some (value.Word w)) here = absurd here
+text_or_so test default so (Some (value.Format w)) here = absurd here
+text_or_so test default so (Some (value.Form w)) here = absurd here
+text_or_so test default so (Some (value.Operation w)) here = absurd here
 text_or_so test default so (Some (value.Retries r)) here = absurd here
 text_or_so test default so (Some (value.Pattern p)) here = absurd here
 text_or_so test default so (Some (value.Parser p)) here = absurd here
@@ -186,14 +192,31 @@ text_or_so test default so (Some (value.Condition c)) here = absurd here
 text_or_so test default so (Some (value.Change c)) here = absurd here
 text_or_so test default so (Some (value.Wildcard w)) here = absurd here
 
+-- the kinds of these keys, by computation
+host_passes : list_all (row_passes (target.Output out_plugin.Http) key.Host is_visible) table ≡ true
+unfolding table
+host_passes = refl
+
+uri_passes : list_all (row_passes (target.Output out_plugin.Http) key.Uri is_uri) table ≡ true
+unfolding table
+uri_passes = refl
+
+base_passes : list_all (row_passes target.Service key.SchedulerBase is_positive) table ≡ true
+unfolding table
+base_passes = refl
+
+path_passes : list_all (row_passes target.Service key.StoragePath is_text) table ≡ true
+unfolding table
+path_passes = refl
+
 can_request : (p : OutputPlugin) (properties : List Property) → AllByRecursion (ArePropertiesOf (target.Output p)) properties → CanRequest (output_kind p properties)
 can_request out_plugin.Stdout properties all = tt
 can_request out_plugin.File properties all = tt
 can_request out_plugin.Tcp properties all = tt
 can_request out_plugin.Forward properties all = tt
 can_request out_plugin.Http properties all = (
-  text_or_so is_visible_text (codes "127.0.0.1") refl (last_value key.Host properties) (last_of_named key.Host is_visible (IsTextSo is_visible_text) visible_of_kind (target.Output out_plugin.Http) refl properties all),
-  text_or_so is_uri_text (codes "/") refl (last_value key.Uri properties) (last_of_named key.Uri is_uri (IsTextSo is_uri_text) uri_of_kind (target.Output out_plugin.Http) refl properties all),
+  text_or_so is_visible_text (codes "127.0.0.1") refl (last_value key.Host properties) (last_of_named key.Host is_visible (IsTextSo is_visible_text) visible_of_kind (target.Output out_plugin.Http) host_passes properties all),
+  text_or_so is_uri_text (codes "/") refl (last_value key.Uri properties) (last_of_named key.Uri is_uri (IsTextSo is_uri_text) uri_of_kind (target.Output out_plugin.Http) uri_passes properties all),
 )
 
 abbrev HoldsText : Option (List ℕ) → Type 0
@@ -207,7 +230,9 @@ tag_is (Some value.Nothing) here = tt
 tag_is (Some (value.Number n)) here = tt
 tag_is (Some (value.Port n)) here = tt
 tag_is (Some (value.Truth b)) here = tt
-tag_is (Some (value.Word w)) here = tt
+tag_is (Some (value.Format w)) here = tt
+tag_is (Some (value.Form w)) here = tt
+tag_is (Some (value.Operation w)) here = tt
 tag_is (Some (value.Retries r)) here = tt
 tag_is (Some (value.Pattern p)) here = tt
 tag_is (Some (value.Parser p)) here = tt
@@ -289,7 +314,7 @@ tail_kind place properties None kind is = absurd (cc is)
 tail_kind place properties (Some paths) kind is = sym (ap input_plugin (kind_ok is))
 
 kind_is : (p : InputPlugin) (place : Place) (properties : List Property) (kind : InputKind) → input_kind p place properties ≡ Ok kind → input_plugin kind ≡ p
-kind_is in_plugin.Tail place properties kind is = tail_kind place properties (text_at key.Paths properties) kind is
+kind_is in_plugin.Tail place properties kind is = tail_kind place properties (text_at key.Path properties) kind is
 kind_is in_plugin.Tcp place properties kind is = sym (ap input_plugin (kind_ok is))
 kind_is in_plugin.Forward place properties kind is = sym (ap input_plugin (kind_ok is))
 kind_is in_plugin.Stdin place properties kind is = sym (ap input_plugin (kind_ok is))
@@ -397,7 +422,8 @@ room_of s section (Some head.Filter) p is = room_of_filter s section.place (name
 room_of s section (Some head.Parser) p is = room_of_parser s section.place (name_entry section.entries) p is
 
 -- the Tag of an input is a valid tag
-tag_passes : (p : InputPlugin) → list_all (named_passes key.Tag is_tag) (keys_of (target.Input p)) ≡ true
+tag_passes : (p : InputPlugin) → list_all (row_passes (target.Input p) key.Tag is_tag) table ≡ true
+unfolding table
 tag_passes in_plugin.Tail = refl
 tag_passes in_plugin.Tcp = refl
 tag_passes in_plugin.Forward = refl
@@ -485,7 +511,7 @@ path_property : (entries : List Entry) (properties : List Property) → Pairs (I
 path_property [] [] pairs any = absurd (cc any)
 path_property [] (x ∷ properties) pairs any = absurd pairs
 path_property (e ∷ entries) [] pairs any = absurd pairs
-path_property (e ∷ entries) (x ∷ properties) pairs any = by_test (is_path_said x) (is_path_entry e) (path_property entries properties pairs.1) (ap names_path pairs.0.0) any
+path_property (e ∷ entries) (x ∷ properties) pairs any = by_test (is_path_said x) (is_path_entry e) (path_property entries properties pairs.1) (ap names_path pairs.0.1.0) any
   where
     by_test : (b c : Bool) → (list_any is_path_entry entries ≡ true → NamesPath properties) → c ≡ b → (c || list_any is_path_entry entries) ≡ true → (b || list_any is_path_said properties) ≡ true
     by_test true c later same so = refl
@@ -576,9 +602,9 @@ all_meet path s sound there = record {
   outputs_named = sound.outputs_named;
   requests = sound.requests;
   tagged = sound.tagged;
-  base = base_is (last_value key.SchedulerBase s.service) (last_of_named key.SchedulerBase is_positive IsPositive positive_of_kind target.Service refl s.service sound.properties);
+  base = base_is (last_value key.SchedulerBase s.service) (last_of_named key.SchedulerBase is_positive IsPositive positive_of_kind target.Service base_passes s.service sound.properties);
   stored = all_so (λ set. set.stored ≡ true → path ≡ true) (λ set. IsTrue set.stored → IsSome (text_at key.StoragePath s.service))
-      (λ set gives so. path_is (last_value key.StoragePath s.service) (last_of_named key.StoragePath is_text IsText text_of_kind target.Service refl s.service sound.properties)
+      (λ set gives so. path_is (last_value key.StoragePath s.service) (last_of_named key.StoragePath is_text IsText text_of_kind target.Service path_passes s.service sound.properties)
       (last_there key.StoragePath s.service (there (gives (true_is set.stored so))) None))
       s.inputs sound.stored;
 }

@@ -1,5 +1,5 @@
--- What the table says of every key of a section or plugin, and so of its entries.
-use Rattle.std.proofs.Common.{◌≡◌, ℕ, ◌≤◌, Bool, true, false, cond, not, ◌&&◌, ◌||◌, nat_le, nat_lt, if◌then◌else◌, List, [], ◌∷◌, length, Option, Some, None, Result, Ok, Err, IsSome, refl, subst, arith, option_and_then}
+-- What the table says of each key of a section or plugin, and so of its entries.
+use Rattle.std.proofs.Common.{◌≡◌, ℕ, ◌≤◌, Bool, true, false, cond, not, ◌&&◌, ◌||◌, nat_le, nat_lt, if◌then◌else◌, List, [], ◌∷◌, length, Option, Some, None, Result, Ok, Err, IsSome, refl, subst, arith, option_and_then, option_map}
 use Rattle.std.specs.List.{AllByRecursion, find, filter_map, last_or, list_all, list_any, cons_option}
 use Rattle.std.specs.Str.{bytes_eq, is_utf8}
 use Rattle.std.proofs.lemmas.Bool.Decides.{nat_tests}
@@ -21,7 +21,7 @@ use Rattle.fwd_settings_schema.specs.declared.section_kind.Target.{Target}
 use Rattle.fwd_settings_schema.specs.declared.properties.Value.{Value}
 use Rattle.fwd_settings_schema.specs.declared.properties.Value.TheVariants as value
 use Rattle.fwd_settings_schema.specs.declared.properties.Property.{Property}
-use Rattle.fwd_settings_schema.specs.Keys.{name_of, keys_of, kind_of, key_of, is_key_named}
+use Rattle.fwd_settings_schema.specs.Keys.{name_of, Row, table, covers, is_row_of, row_of, key_of, is_key_named}
 use Rattle.fwd_settings_schema.specs.Property.{value_for, last_value}
 use Rattle.fwd_settings.specs.Reading.{Reading, known}
 use Rattle.fwd_settings.specs.Values.{or_else, when, value_of, property_value, key_property, entry_property}
@@ -124,7 +124,13 @@ plain_is plain.Size text v is = tt
 plain_is plain.Flush text v is = tt
 plain_is plain.Truth text v is = tt
 plain_is plain.False text v is = tt
-plain_is (plain.Choice menu) text v is = tt
+plain_is plain.Sync text v is = tt
+plain_is plain.Store text v is = tt
+plain_is plain.LineFormat text v is = tt
+plain_is plain.ParserFormat text v is = tt
+plain_is plain.RecordForm text v is = tt
+plain_is plain.FileForm text v is = tt
+plain_is plain.Operation text v is = tt
 plain_is plain.Paths text v is = tt
 plain_is plain.Retries text v is = tt
 plain_is plain.Visible text v is = text_so is_visible_text text v (is_visible_text text) refl is
@@ -142,7 +148,7 @@ always_any (Ask text go) = λ answer. always_any (go answer)
 
 -- what is read for an entry of a section or plugin
 abbrev pub IsPropertyOf : Target → Entry → Property → Type 0
-IsPropertyOf p entry item = (key_of p entry.key ≡ Some item.key) × IsOfKind (kind_of item.key) item.value
+IsPropertyOf p entry item = (how : Kind) × (key_of p entry.key ≡ Some (item.key, how)) × IsOfKind how item.value
 
 module _ (by_name : Entry → Reading Parser) where
   always_value : (k : Kind) (entry : Entry) → Always (IsOfKind k) (property_value by_name k entry)
@@ -151,11 +157,11 @@ module _ (by_name : Entry → Reading Parser) where
   always_value (kind.Grep exclude) entry = always_any (property_value by_name (kind.Grep exclude) entry)
   always_value kind.Parser entry = always_any (property_value by_name kind.Parser entry)
 
-  always_key : (p : Target) (entry : Entry) (o : Option Key) → key_of p entry.key ≡ o → Always (IsPropertyOf p entry) (key_property by_name entry o)
+  always_key : (p : Target) (entry : Entry) (o : Option (Key × Kind)) → key_of p entry.key ≡ o → Always (IsPropertyOf p entry) (key_property by_name entry o)
   always_key p entry None is = tt
-  always_key p entry (Some k) is =
-      always_then (IsOfKind (kind_of k)) (IsPropertyOf p entry) (property_value by_name (kind_of k) entry) (λ v. known (Ok (record { key = k; value = v })))
-      (always_value (kind_of k) entry) (λ v of_kind. (is, of_kind))
+  always_key p entry (Some (k, how)) is =
+      always_then (IsOfKind how) (IsPropertyOf p entry) (property_value by_name how entry) (λ v. known (Ok (record { key = k; value = v })))
+      (always_value how entry) (λ v of_kind. (how, is, of_kind))
 
   pub always_property : (p : Target) (entry : Entry) → Always (IsPropertyOf p entry) (entry_property by_name p entry)
   always_property p entry = always_key p entry (key_of p entry.key) refl
@@ -174,16 +180,42 @@ found_passes {X = X} test found (first ∷ keys) k all is = here (test first) (f
     here true false later so all is = later all is
     here false f later so all is = absurd (cc all)
 
--- every key of the part with the same name as `by_name` has a kind that passes the test
-abbrev pub named_passes : Key → (Kind → Bool) → Key → Bool
-named_passes by_name test k = not (bytes_eq (name_of by_name) (name_of k)) || test (kind_of k)
+-- each row of a section or plugin with this key has a kind that passes the test
+abbrev pub row_passes : Target → Key → (Kind → Bool) → Row → Bool
+row_passes p by_name test row = not (covers row.0 p && bytes_eq (name_of by_name) (name_of row.1.0)) || test row.1.1
 
-pub kind_passes : (by_name : Key) (test : Kind → Bool) (p : Target) → list_all (named_passes by_name test) (keys_of p) ≡ true → (k : Key) (name : List ℕ) → key_of p name ≡ Some k → bytes_eq (name_of by_name) (name_of k) ≡ true → test (kind_of k) ≡ true
-kind_passes by_name test p all k name is same = by_test (bytes_eq (name_of by_name) (name_of k)) same (found_passes (named_passes by_name test) (is_key_named name) (keys_of p) k all is)
+found_is : {X : Type 0} (found : X → Bool) (rows : List X) (x : X) → find found rows ≡ Some x → found x ≡ true
+found_is found [] x is = absurd (cc is)
+found_is {X = X} found (first ∷ rows) x is = here (found first) (found_is found rows x) refl is
   where
-    by_test : (b : Bool) → b ≡ true → (not b || test (kind_of k)) ≡ true → test (kind_of k) ≡ true
-    by_test true so passes = passes
-    by_test false so passes = absurd (cc so)
+    some_is : ◌≡◌ {A = Option X} (Some first) (Some x) → first ≡ x
+    some_is e = cc
+
+    here : (f : Bool) → (find found rows ≡ Some x → found x ≡ true) → found first ≡ f → cond f (Some first) (find found rows) ≡ Some x → found x ≡ true
+    here true later so is = subst (λ (y : X). found y ≡ true) (some_is is) so
+    here false later so is = later is
+
+first_so : (a b : Bool) → (a && b) ≡ true → a ≡ true
+first_so true b so = refl
+first_so false b so = absurd (cc so)
+
+module _ (by_name : Key) (test : Kind → Bool) (p : Target) (all : list_all (row_passes p by_name test) table ≡ true) where
+  by_tests : (a b : Bool) (row : Row) → covers row.0 p ≡ a → bytes_eq (name_of by_name) (name_of row.1.0) ≡ b → a ≡ true → b ≡ true → row_passes p by_name test row ≡ true → test row.1.1 ≡ true
+  by_tests a b row covered same a_so b_so passes = cc
+
+  by_row : (k : Key) (how : Kind) (name : List ℕ) (o : Option Row) → row_of p name ≡ o → option_map (λ (row : Row). row.1) o ≡ Some (k, how) → bytes_eq (name_of by_name) (name_of k) ≡ true → test how ≡ true
+  by_row k how name None found is same = absurd (cc is)
+  by_row k how name (Some row) found is same =
+      let parts : row.1 ≡ (k, how) = pair_is is in
+      let passes : row_passes p by_name test row ≡ true = found_passes (row_passes p by_name test) (is_row_of p name) table row all found in
+      let covered : covers row.0 p ≡ true = first_so (covers row.0 p) (is_key_named name row.1.0) (found_is (is_row_of p name) table row found) in
+      cc
+    where
+      pair_is : ◌≡◌ {A = Option (Key × Kind)} (Some row.1) (Some (k, how)) → row.1 ≡ (k, how)
+      pair_is e = cc
+
+  pub kind_passes : (k : Key) (how : Kind) (name : List ℕ) → key_of p name ≡ Some (k, how) → bytes_eq (name_of by_name) (name_of k) ≡ true → test how ≡ true
+  kind_passes k how name is same = by_row k how name (row_of p name) refl is same
 
 -- ---- the last value of a key
 

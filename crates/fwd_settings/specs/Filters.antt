@@ -10,10 +10,10 @@ use Rattle.fwd_settings_schema.specs.declared.plugins.FilterPlugin.{FilterPlugin
 use Rattle.fwd_settings_schema.specs.declared.plugins.FilterPlugin.TheVariants as plugin
 use Rattle.fwd_settings_schema.specs.declared.keys.Key.{Key}
 use Rattle.fwd_settings_schema.specs.declared.keys.Key.TheVariants as key
-use Rattle.fwd_settings_schema.specs.declared.words.Word.{Word}
-use Rattle.fwd_settings_schema.specs.declared.words.Word.TheVariants as word
+use Rattle.fwd_settings_schema.specs.declared.words.Operation.{Operation}
+use Rattle.fwd_settings_schema.specs.declared.words.Operation.TheVariants as operation
 use Rattle.fwd_settings_schema.specs.declared.properties.Property.{Property}
-use Rattle.fwd_settings_schema.specs.Property.{word_at, text_at, grep_in, condition_in, change_in, wildcard_in}
+use Rattle.fwd_settings_schema.specs.Property.{operation_at, text_at, grep_in, condition_in, change_in, wildcard_in}
 use Rattle.fwd_settings.specs.Reading.{Checked, fault}
 
 -- a prefix, empty if it isn't given
@@ -47,10 +47,12 @@ lift_by place properties (Some under) =
     }))
 
 -- an Operation is required
-abbrev pub operation_by : Place → List Property → Option Word → Checked FilterKind
-operation_by place properties (Some word.Nest) = nest_by place properties (text_at key.NestUnder properties)
-operation_by place properties (Some word.Lift) = lift_by place properties (text_at key.NestedUnder properties)
-operation_by place properties _ = Err (fault Missing place)
+abbrev pub operation_by : Place → List Property → Option Operation → Checked FilterKind
+operation_by place properties (Some operation.Nest) =
+    nest_by place properties (text_at key.NestUnder properties)
+operation_by place properties (Some operation.Lift) =
+    lift_by place properties (text_at key.NestedUnder properties)
+operation_by place properties None = Err (fault Missing place)
 
 -- every rule counts, in order
 abbrev pub filter_kind : FilterPlugin → Place → List Property → Checked FilterKind
@@ -58,7 +60,8 @@ filter_kind plugin.Grep place properties = Ok (filter.Grep (filter_map grep_in p
 filter_kind plugin.Modify place properties =
     Ok (filter.Modify
     (record { conditions = filter_map condition_in properties; rules = filter_map change_in properties }))
-filter_kind plugin.Nest place properties = operation_by place properties (word_at key.Operation properties)
+filter_kind plugin.Nest place properties =
+    operation_by place properties (operation_at key.Operation properties)
 
 -- a filter or an output without Match gets all tags
 abbrev pub glob_of : List Property → List ℕ

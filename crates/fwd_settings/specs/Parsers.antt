@@ -17,11 +17,11 @@ use Rattle.fwd_settings_schema.specs.declared.section_kind.SectionKind.{SectionK
 use Rattle.fwd_settings_schema.specs.declared.section_kind.SectionKind.TheVariants as head
 use Rattle.fwd_settings_schema.specs.declared.section_kind.Target.TheVariants as target
 use Rattle.fwd_settings_schema.specs.declared.keys.Key.TheVariants as key
-use Rattle.fwd_settings_schema.specs.declared.words.Word.{Word}
-use Rattle.fwd_settings_schema.specs.declared.words.Word.TheVariants as word
+use Rattle.fwd_settings_schema.specs.declared.words.LineFormat.{LineFormat}
+use Rattle.fwd_settings_schema.specs.declared.words.LineFormat.TheVariants as format
 use Rattle.fwd_settings_schema.specs.declared.properties.Property.{Property}
 use Rattle.fwd_settings_schema.specs.Keys.{head_of}
-use Rattle.fwd_settings_schema.specs.Property.{word_at, text_at, truth_at, last_in, pattern_in}
+use Rattle.fwd_settings_schema.specs.Property.{format_at, text_at, truth_at, last_in, pattern_in}
 use Rattle.fwd_settings.specs.Reading.{Reading, Checked, ◌>>=◌, known, fault}
 use Rattle.fwd_settings.specs.Values.{entry_properties}
 
@@ -56,11 +56,11 @@ groups_by place properties (Some p) =
     (unwrap_or (truth_at key.SkipEmptyValues properties) true))
 
 -- a Format is required
-abbrev pub shape_by : Place → List Property → Option Word → Checked Shape
+abbrev pub shape_by : Place → List Property → Option LineFormat → Checked Shape
 shape_by place properties None = Err (fault Missing place)
-shape_by place properties (Some word.Json) = Ok shape.Json
-shape_by place properties (Some word.Regex) = groups_by place properties (last_in pattern_in properties)
-shape_by place properties (Some _) = Ok shape.Plain
+shape_by place properties (Some format.Json) = Ok shape.Json
+shape_by place properties (Some format.Regex) = groups_by place properties (last_in pattern_in properties)
+shape_by place properties (Some format.Plain) = Ok shape.Plain
 
 abbrev pub with_time : List Property → Checked Shape → Checked Parser
 with_time properties (Ok shape) = Ok (parser_by properties shape)
@@ -69,7 +69,7 @@ with_time properties (Err refusal) = Err refusal
 -- the parser that the entries of a section describe, whose header is at this place
 abbrev pub parser_from : Place → List Property → Checked Parser
 parser_from place properties =
-    with_time properties (shape_by place properties (word_at key.ParserFormat properties))
+    with_time properties (shape_by place properties (format_at key.Format properties))
 
 -- an entry of a PARSER section can't name a parser
 abbrev pub no_parser : Entry → Reading Parser

@@ -20,7 +20,8 @@ use Rattle.fwd_settings_schema.specs.declared.section_kind.Target.{Target}
 use Rattle.fwd_settings_schema.specs.declared.properties.Value.{Value}
 use Rattle.fwd_settings_schema.specs.declared.properties.Value.TheVariants as value
 use Rattle.fwd_settings_schema.specs.declared.properties.Property.{Property}
-use Rattle.fwd_settings_schema.specs.Keys.{key_of, kind_of, word_of}
+use Rattle.fwd_settings_schema.specs.Words.{sync_of, store_of, line_format_of, parser_format_of, record_form_of, file_form_of, operation_of}
+use Rattle.fwd_settings_schema.specs.Keys.{key_of}
 use Rattle.fwd_settings.specs.Reading.{Reading, ◌>>=◌, known, fault, at, pattern, each}
 
 -- the value, or the error
@@ -42,7 +43,13 @@ value_of plain.Retries text = or_else BadNumber value.Retries (retries_of text)
 value_of plain.Size text = or_else BadSize value.Number (size_of text)
 value_of plain.Truth text = or_else BadChoice value.Truth (truth_of text)
 value_of plain.False text = or_else BadChoice value.Truth (when (is_false_word text) false)
-value_of (plain.Choice menu) text = or_else BadChoice value.Word (word_of menu text)
+value_of plain.Sync text = or_else BadChoice value.Truth (sync_of text)
+value_of plain.Store text = or_else BadChoice value.Truth (store_of text)
+value_of plain.LineFormat text = or_else BadChoice value.Format (line_format_of text)
+value_of plain.ParserFormat text = or_else BadChoice value.Format (parser_format_of text)
+value_of plain.RecordForm text = or_else BadChoice value.Form (record_form_of text)
+value_of plain.FileForm text = or_else BadChoice value.Form (file_form_of text)
+value_of plain.Operation text = or_else BadChoice value.Operation (operation_of text)
 value_of plain.Text text = Ok (value.Text text)
 value_of plain.Tag text = or_else BadChoice value.Text (when (is_tag_text text) text)
 value_of plain.PlainTag text =
@@ -76,11 +83,11 @@ property_value by_name kind.Parser entry = do
   p ← by_name entry
   known (Ok (value.Parser p))
 
-abbrev pub key_property : (Entry → Reading Parser) → Entry → Option Key → Reading Property
+abbrev pub key_property : (Entry → Reading Parser) → Entry → Option (Key × Kind) → Reading Property
 key_property by_name entry None = known (Err (fault UnknownKey entry.place))
-key_property by_name entry (Some key) = do
-  v ← property_value by_name (kind_of key) entry
-  known (Ok (record { key = key; value = v }))
+key_property by_name entry (Some found) = do
+  v ← property_value by_name found.1 entry
+  known (Ok (record { key = found.0; value = v }))
 
 -- an entry of a section or plugin
 abbrev pub entry_property : (Entry → Reading Parser) → Target → Entry → Reading Property

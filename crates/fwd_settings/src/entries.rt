@@ -12,7 +12,7 @@ use fwd_base::{Bytes, Pattern, PatternErr};
 use fwd_config::{Entry, Place, Section};
 use fwd_grep::GrepRule;
 use fwd_settings_schema::{
-    Key, Kind, Plain, Properties, Property, SettingKind, Target, Value, key_and_rest,
+    Kind, Plain, Properties, Property, SettingKind, Target, Value, key_and_rest, key_of,
 };
 use std::alloc::Global;
 
@@ -109,10 +109,10 @@ fn value(alloc: Global, all: &[Section], kind: Kind, entry: &Entry) -> Result<Va
 fn read_parser_entry(alloc: Global, entry: &Entry) -> Result<Property, Stop>
     ensures { ReturnsResult (entry_property no_parser Target.Parser entry.now) result }
 {
-    let Some(key) = Key::of(Target::Parser, entry.key.as_slice()) else {
+    let Some((key, kind)) = key_of(Target::Parser, entry.key.as_slice()) else {
         return refuse(alloc, SettingKind::UnknownKey, &entry.place);
     };
-    let value = read_parser_value(alloc, key.kind(), entry)?;
+    let value = read_parser_value(alloc, kind, entry)?;
     Ok(Property { key, value })
 }
 
@@ -124,10 +124,10 @@ fn read_entry(
 ) -> Result<Property, Stop>
     ensures { ReturnsResult (entry_property (parser_named all.now) target entry.now) result }
 {
-    let Some(key) = Key::of(target, entry.key.as_slice()) else {
+    let Some((key, kind)) = key_of(target, entry.key.as_slice()) else {
         return refuse(alloc, SettingKind::UnknownKey, &entry.place);
     };
-    let value = value(alloc, all, key.kind(), entry)?;
+    let value = value(alloc, all, kind, entry)?;
     Ok(Property { key, value })
 }
 

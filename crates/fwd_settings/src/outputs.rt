@@ -1,15 +1,15 @@
 //! Settings of outputs.
 
 ghost use Rattle.std.specs.Prelude.{◌≡◌, IfOk, count_by};
-ghost use Rattle.fwd_settings.specs.Outputs.{output_plugin, is_output_of, record_form, file_form, request_form, host_of, output_kind, output_from};
+ghost use Rattle.fwd_settings.specs.Outputs.{output_plugin, is_output_of, host_of, output_kind, output_from};
 
 use crate::filters::glob_of;
 use crate::inputs::instance;
 use crate::{OutputKind, OutputSet};
 use fwd_base::{Bytes, Form, Memory, Retries};
 use fwd_settings_schema::{
-    FORWARD_PORT, HTTP_PORT, Key, OutputPlugin, Property, TCP_PORT, Word, number_at, own_text,
-    port_at, retries_at, text_or, truth_at, word_at,
+    FORWARD_PORT, HTTP_PORT, Key, OutputPlugin, Property, TCP_PORT, form_at, number_at, own_text,
+    port_at, retries_at, text_or, truth_at,
 };
 use std::alloc::Global;
 
@@ -41,33 +41,6 @@ fn count_of(plugin: OutputPlugin, before: &[OutputSet]) -> usize
         .count()
 }
 
-fn record_form(word: Option<Word>) -> Form
-    ensures { result ≡ record_form word }
-{
-    match word {
-        Some(Word::MsgPack) => Form::MsgPack,
-        _ => Form::JsonLines,
-    }
-}
-
-fn file_form(word: Option<Word>) -> Form
-    ensures { result ≡ file_form word }
-{
-    match word {
-        Some(Word::JsonLines) => Form::JsonLines,
-        _ => Form::OutFile,
-    }
-}
-
-fn request_form(word: Option<Word>) -> Form
-    ensures { result ≡ request_form word }
-{
-    match word {
-        Some(Word::JsonLines) => Form::JsonLines,
-        _ => Form::MsgPack,
-    }
-}
-
 fn host_of(alloc: Global, properties: &[Property]) -> Result<Bytes, Memory>
     ensures { IfOk result (λ host. host ≡ host_of properties.now) }
 {
@@ -84,17 +57,17 @@ fn output_kind(
 {
     match plugin {
         OutputPlugin::Stdout => Ok(OutputKind::Stdout {
-            form: record_form(word_at(properties, Key::RecordFormat)),
+            form: form_at(properties, Key::Format).unwrap_or(Form::JsonLines),
         }),
         OutputPlugin::File => Ok(OutputKind::File {
-            folder: text_or(alloc, properties, Key::Folder, b".")?,
+            folder: text_or(alloc, properties, Key::Path, b".")?,
             file: own_text(alloc, properties, Key::File)?,
-            form: file_form(word_at(properties, Key::FileFormat)),
+            form: form_at(properties, Key::Format).unwrap_or(Form::OutFile),
         }),
         OutputPlugin::Tcp => Ok(OutputKind::Tcp {
             host: host_of(alloc, properties)?,
             port: port_at(properties, Key::Port).unwrap_or(TCP_PORT),
-            form: record_form(word_at(properties, Key::RecordFormat)),
+            form: form_at(properties, Key::Format).unwrap_or(Form::JsonLines),
         }),
         OutputPlugin::Forward => Ok(OutputKind::Forward {
             host: host_of(alloc, properties)?,
@@ -106,7 +79,7 @@ fn output_kind(
             host: host_of(alloc, properties)?,
             port: port_at(properties, Key::Port).unwrap_or(HTTP_PORT),
             uri: text_or(alloc, properties, Key::Uri, b"/")?,
-            form: request_form(word_at(properties, Key::RecordFormat)),
+            form: form_at(properties, Key::Format).unwrap_or(Form::MsgPack),
         }),
     }
 }

@@ -6,10 +6,11 @@ ghost use Rattle.fwd_settings_schema.specs.declared.error_kind.SettingKind.TheVa
 ghost use Rattle.fwd_settings.specs.Values.{value_of, or_else, when};
 ghost use Rattle.fwd_settings_schema.specs.declared.keys.Plain.TheVariants as plain;
 
-use fwd_base::{Bytes, number, parse_size};
+use fwd_base::{Bytes, Form, number, parse_size};
 use fwd_settings_schema::{
-    ChangeWord, Menu, Plain, SettingKind, Value, Word, change, condition, field_types, flush_ms,
-    is_false, is_plain, is_tag, is_uri, is_visible, port, positive, retries, truth,
+    ChangeWord, LineFormat, Plain, SettingKind, Value, change, condition, field_types, file_form,
+    flush_ms, is_false, is_plain, is_tag, is_uri, is_visible, line_format, nest_operation,
+    parser_format, port, positive, record_form, retries, store, sync, truth,
 };
 use std::alloc::Global;
 
@@ -50,10 +51,10 @@ fn read_size(text: &[u8]) -> Result<Value, SettingKind>
     }
 }
 
-fn read_truth(text: &[u8]) -> Result<Value, SettingKind>
-    ensures { result ≡ value_of plain.Truth text.now }
+fn read_truth(truth: Option<bool>) -> Result<Value, SettingKind>
+    ensures { result ≡ or_else BadChoice Value.Truth truth }
 {
-    match truth(text) {
+    match truth {
         Some(truth) => Ok(Value::Truth(truth)),
         None => Err(SettingKind::BadChoice),
     }
@@ -69,11 +70,29 @@ fn read_false(text: &[u8]) -> Result<Value, SettingKind>
     }
 }
 
-fn read_word(menu: Menu, text: &[u8]) -> Result<Value, SettingKind>
-    ensures { result ≡ value_of (plain.Choice menu) text.now }
+fn read_format(format: Option<LineFormat>) -> Result<Value, SettingKind>
+    ensures { result ≡ or_else BadChoice Value.Format format }
 {
-    match Word::of(menu, text) {
-        Some(word) => Ok(Value::Word(word)),
+    match format {
+        Some(format) => Ok(Value::Format(format)),
+        None => Err(SettingKind::BadChoice),
+    }
+}
+
+fn read_form(form: Option<Form>) -> Result<Value, SettingKind>
+    ensures { result ≡ or_else BadChoice Value.Form form }
+{
+    match form {
+        Some(form) => Ok(Value::Form(form)),
+        None => Err(SettingKind::BadChoice),
+    }
+}
+
+fn read_operation(text: &[u8]) -> Result<Value, SettingKind>
+    ensures { result ≡ value_of plain.Operation text.now }
+{
+    match nest_operation(text) {
+        Some(operation) => Ok(Value::Operation(operation)),
         None => Err(SettingKind::BadChoice),
     }
 }
@@ -130,9 +149,15 @@ pub fn read_plain(alloc: Global, plain: Plain, text: &[u8]) -> Result<Value, Set
         Plain::Port => read_port(text),
         Plain::Retries => read_retries(text),
         Plain::Size => read_size(text),
-        Plain::Truth => read_truth(text),
+        Plain::Truth => read_truth(truth(text)),
         Plain::False => read_false(text),
-        Plain::Choice(menu) => read_word(menu, text),
+        Plain::Sync => read_truth(sync(text)),
+        Plain::Store => read_truth(store(text)),
+        Plain::LineFormat => read_format(line_format(text)),
+        Plain::ParserFormat => read_format(parser_format(text)),
+        Plain::RecordForm => read_form(record_form(text)),
+        Plain::FileForm => read_form(file_form(text)),
+        Plain::Operation => read_operation(text),
         Plain::Text => Ok(Value::Text(Bytes::from_slice(alloc, text)?)),
         Plain::Tag => text_if(alloc, is_tag(text), text),
         Plain::PlainTag => text_if(alloc, is_plain(text) && is_tag(text), text),

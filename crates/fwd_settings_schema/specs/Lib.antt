@@ -2,5 +2,6 @@ pub mod Number
 pub mod Text
 pub mod Types
 pub mod Rule
+pub mod Words
 pub mod Keys
 pub mod Property

@@ -2,6 +2,7 @@
 use Rattle.std.specs.Prelude.{ℕ, Bool, if◌then◌else◌, List, Option, Some, None}
 use Rattle.std.specs.List.{last_or, filter_map}
 use Rattle.std.specs.Str.{bytes_eq}
+use Rattle.fwd_base.specs.declared.output_options.Form.{Form}
 use Rattle.fwd_base.specs.declared.output_options.Retries.{Retries}
 use Rattle.fwd_base.specs.declared.pattern.Pattern.{Pattern}
 use Rattle.fwd_parser.specs.declared.parser.Parser.{Parser}
@@ -9,13 +10,14 @@ use Rattle.fwd_grep.specs.declared.rules.GrepRule.{GrepRule}
 use Rattle.fwd_reshape.specs.declared.rules.Condition.{Condition}
 use Rattle.fwd_reshape.specs.declared.rules.Change.{Change}
 use Rattle.fwd_settings_schema.specs.declared.keys.Key.{Key}
-use Rattle.fwd_settings_schema.specs.declared.words.Word.{Word}
+use Rattle.fwd_settings_schema.specs.declared.words.LineFormat.{LineFormat}
+use Rattle.fwd_settings_schema.specs.declared.words.Operation.{Operation}
 use Rattle.fwd_settings_schema.specs.declared.properties.Value.{Value}
 use Rattle.fwd_settings_schema.specs.declared.properties.Value.TheVariants as value
 use Rattle.fwd_settings_schema.specs.declared.properties.Property.{Property}
 use Rattle.fwd_settings_schema.specs.Keys.{name_of}
 
--- the value of an entry with this key, compared by name
+-- the value of an entry with this key, if it is the same key
 abbrev pub value_for : Key → Property → Option Value
 value_for key item = if bytes_eq (name_of key) (name_of item.key) then Some item.value else None
 
@@ -35,9 +37,17 @@ abbrev pub as_truth : Option Value → Option Bool
 as_truth (Some (value.Truth b)) = Some b
 as_truth _ = None
 
-abbrev pub as_word : Option Value → Option Word
-as_word (Some (value.Word w)) = Some w
-as_word _ = None
+abbrev pub as_format : Option Value → Option LineFormat
+as_format (Some (value.Format f)) = Some f
+as_format _ = None
+
+abbrev pub as_form : Option Value → Option Form
+as_form (Some (value.Form f)) = Some f
+as_form _ = None
+
+abbrev pub as_operation : Option Value → Option Operation
+as_operation (Some (value.Operation o)) = Some o
+as_operation _ = None
 
 abbrev pub as_text : Option Value → Option (List ℕ)
 as_text (Some (value.Text t)) = Some t
@@ -57,8 +67,14 @@ port_at key properties = as_port (last_value key properties)
 abbrev pub truth_at : Key → List Property → Option Bool
 truth_at key properties = as_truth (last_value key properties)
 
-abbrev pub word_at : Key → List Property → Option Word
-word_at key properties = as_word (last_value key properties)
+abbrev pub format_at : Key → List Property → Option LineFormat
+format_at key properties = as_format (last_value key properties)
+
+abbrev pub form_at : Key → List Property → Option Form
+form_at key properties = as_form (last_value key properties)
+
+abbrev pub operation_at : Key → List Property → Option Operation
+operation_at key properties = as_operation (last_value key properties)
 
 abbrev pub text_at : Key → List Property → Option (List ℕ)
 text_at key properties = as_text (last_value key properties)

@@ -3,11 +3,11 @@
 ghost use Rattle.std.specs.Prelude.{◌≡◌, ◌++◌, ◌∷◌, [], IfOk, OnOk, unwrap_or};
 ghost use Rattle.std.specs.Option.{option_copied};
 ghost use Rattle.std.specs.List.{filter_map, last_or};
-ghost use Rattle.fwd_settings_schema.specs.Property.{last_value, number_at, port_at, truth_at, word_at, text_at, retries_at, last_in, pattern_in, parser_in, grep_in, condition_in, change_in, wildcard_in};
+ghost use Rattle.fwd_settings_schema.specs.Property.{last_value, number_at, port_at, truth_at, format_at, form_at, operation_at, text_at, retries_at, last_in, pattern_in, parser_in, grep_in, condition_in, change_in, wildcard_in};
 
 use crate::keys::Key;
-use crate::words::Word;
-use fwd_base::{Bytes, Items, Memory, Names, Pattern, Retries};
+use crate::words::{LineFormat, Operation};
+use fwd_base::{Bytes, Form, Items, Memory, Names, Pattern, Retries};
 use fwd_grep::{GrepRule, GrepRules};
 use fwd_parser::Parser;
 use fwd_reshape::{Change, Changes, Condition, Conditions, ModifyRules};
@@ -20,7 +20,9 @@ pub enum Value {
     Number(u64),
     Port(u16),
     Truth(bool),
-    Word(Word),
+    Format(LineFormat),
+    Form(Form),
+    Operation(Operation),
     Text(Bytes),
     Retries(Retries),
     Pattern(Pattern),
@@ -47,7 +49,7 @@ fn last_value(properties: &[Property], key: Key) -> Option<&Value>
 {
     let mut last = None;
     for item in properties {
-        if key.is_written_as(item.key) {
+        if key.is_same(item.key) {
             last = Some(&item.value);
         }
     }
@@ -81,11 +83,29 @@ pub fn truth_at(properties: &[Property], key: Key) -> Option<bool>
     }
 }
 
-pub fn word_at(properties: &[Property], key: Key) -> Option<Word>
-    ensures { result ≡ word_at key properties.now }
+pub fn format_at(properties: &[Property], key: Key) -> Option<LineFormat>
+    ensures { result ≡ format_at key properties.now }
 {
     match last_value(properties, key) {
-        Some(Value::Word(word)) => Some(*word),
+        Some(Value::Format(format)) => Some(*format),
+        _ => None,
+    }
+}
+
+pub fn form_at(properties: &[Property], key: Key) -> Option<Form>
+    ensures { result ≡ form_at key properties.now }
+{
+    match last_value(properties, key) {
+        Some(Value::Form(form)) => Some(*form),
+        _ => None,
+    }
+}
+
+pub fn operation_at(properties: &[Property], key: Key) -> Option<Operation>
+    ensures { result ≡ operation_at key properties.now }
+{
+    match last_value(properties, key) {
+        Some(Value::Operation(operation)) => Some(*operation),
         _ => None,
     }
 }
