@@ -1,4 +1,4 @@
-ghost use Rattle.std.specs.Prelude.{◌≡◌, ◌≤◌, true, Err};
+ghost use Rattle.std.specs.Prelude.{◌≡◌, ◌≤◌, true, length, OnOk, Err};
 ghost use Rattle.fwd_outside.specs.Cause.{HasCause};
 ghost use Rattle.fwd_outside.specs.Loop.{WaitFails, counts_after_wait};
 ghost use Rattle.fwd_outside.specs.DiskStates.{Files as DiskFiles};
@@ -11,6 +11,9 @@ ghost use Rattle.fwd_model.specs.Clock.{stopped, ticked};
 ghost use Rattle.fwd_model.specs.Limits.{paused};
 ghost use Rattle.fwd_model.specs.Routes.{rows_of};
 ghost use Rattle.fwd_model.specs.Counters.{tally_of};
+ghost use Rattle.fwd_model.specs.FollowedFiles.{settled_at};
+ghost use Rattle.fwd_model.specs.Settings.{paths_at};
+ghost use Rattle.fwd_engine_inputs.specs.FilesRepresent.{resumed_history};
 ghost use Rattle.fwd_theorem_trace.specs.Allowed.{EventAllowed};
 ghost use Rattle.fwd_theorem_crash.specs.CrashPoint.{CrashPoint};
 ghost use Rattle.fwd_engine_state.specs.RefinesAction.{with_disk, with_all};
@@ -21,8 +24,8 @@ ghost use Rattle.fwd_engine.specs.declared.engine.BeginErr.TheVariants as begin_
 ghost use Rattle.fwd_engine.specs.declared.engine.EngineStop.TheVariants as stop;
 
 use crate::{is_finished, step};
-use fwd_base::Memory;
 use fwd_base::limits::LONGEST_WAIT;
+use fwd_base::{InputId, Memory};
 use fwd_engine_recovery::{LoadErr, load};
 use fwd_engine_settings::RunSettings;
 use fwd_engine_state::Parts;
@@ -245,6 +248,23 @@ impl Engine {
         ensures { EngineAnswers self.now (λ s h. result ≡ ticked h) }
     {
         self.parts.state.ticked()
+    }
+
+    /// Returns the offset after the last whole line that was read from a followed file, by the index of its
+    /// path among those of the input. `None` if the input has no such path, or if nothing was read and no
+    /// reading resumed.
+    pub fn settled(&self, input: InputId, index: u64) -> Option<u64>
+        ensures { EngineAnswers self.now (λ s h. result ≡ settled_at s h input.0 index) }
+    {
+        self.parts.followed_files.settled(input, index as usize)
+    }
+
+    /// Resumes reading the files of a path at an offset, at each index of the path among those of the input.
+    /// After `Memory` the engine can't be used any more.
+    pub fn resume(&mut self, input: InputId, path: &[u8], place: u64) -> Result<(), Memory>
+        ensures { OnOk result ((s : AllSettings) (h : History) → IsAt self.old s h → IsAt self.new s (resumed_history input.0 path.now place (paths_at s input.0) (length (paths_at s input.0)) h)) }
+    {
+        self.parts.followed_files.resume(input, path, place)
     }
 
     pub fn alloc(&self) -> Global {

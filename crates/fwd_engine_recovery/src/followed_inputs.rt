@@ -36,6 +36,7 @@ fn copy_followed_input(alloc: Global, set: &InputSet) -> Result<InputSet, Memory
         tag: None,
         stored: false,
         mem_limit: None,
+        db: None,
         parser: Parser {
             shape: Shape::Plain,
             time: None,

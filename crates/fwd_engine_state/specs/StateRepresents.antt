@@ -9,7 +9,7 @@ use Rattle.fwd_flush.specs.FlushProgram.{link_in, delivery as delivery_of}
 use Rattle.fwd_settings.specs.declared.settings_types.AllSettings.{AllSettings}
 use Rattle.fwd_table.specs.Routes.{idle_at, routes_to}
 use Rattle.fwd_table.specs.Rows.{has_row}
-use Rattle.fwd_model.specs.Fact.{Fact, History, Route, Happened, Resumed, Polled, Disconnected, Malformed, Found, Offered, Accepted, Refused, ChunkClosed, Sent, OnRoute, MarkStarted, Marked, Removed, FileLeft, IoFailed}
+use Rattle.fwd_model.specs.Fact.{Fact, History, Route, Happened, Resumed, Saved, Polled, Disconnected, Malformed, Found, Offered, Accepted, Refused, ChunkClosed, Sent, OnRoute, MarkStarted, Marked, Removed, FileLeft, IoFailed}
 use Rattle.fwd_model.specs.Settings.{outputs_for, output_name, reads_stdin_at}
 use Rattle.fwd_model.specs.Clock.{clock, ticked, stopped, next_close}
 use Rattle.fwd_model.specs.RecoveredFile.{recovered_chunk, is_marked_done}
@@ -180,6 +180,7 @@ is_not_state_event s happening.Failed = true
 abbrev pub is_not_state_fact : AllSettings → Fact → Bool
 is_not_state_fact s (Happened happens) = is_not_state_event s happens
 is_not_state_fact s (Resumed input index place) = true
+is_not_state_fact s (Saved input index place) = true
 is_not_state_fact s (Polled input index long bytes) = true
 is_not_state_fact s (Disconnected conn) = true
 is_not_state_fact s (Malformed input) = false

@@ -4,5 +4,6 @@ pub mod DeviceActions
 pub mod Refinement
 pub mod RunOver
 pub mod Example
+pub mod ExampleOffsets
 pub mod Masks
 pub mod Outputs

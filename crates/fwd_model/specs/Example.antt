@@ -57,6 +57,7 @@ settings = record {
         tag = None;
         stored = true;
         mem_limit = None;
+        db = None;
         parser = plain;
       }
       ∷ record {
@@ -65,6 +66,7 @@ settings = record {
         tag = Some (codes "app");
         stored = false;
         mem_limit = None;
+        db = None;
         parser = plain;
       }
       ∷ [];

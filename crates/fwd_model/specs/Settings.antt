@@ -77,6 +77,10 @@ tag_at s input = unwrap_or (own_tag s input) []
 abbrev pub mem_limit_at : AllSettings → ℕ → Option ℕ
 mem_limit_at s input = option_and_then (λ (set : InputSet). set.mem_limit) (input_at s input)
 
+-- the database that keeps the offsets of the files that an input follows
+abbrev pub db_at : AllSettings → ℕ → Option (List ℕ)
+db_at s input = option_and_then (λ (set : InputSet). set.db) (input_at s input)
+
 -- where the chunks of an input are kept, and the folder of their files
 abbrev pub home_by : Bool → Home
 home_by true = Disk

@@ -207,6 +207,7 @@ pub fn input_from(
         tag,
         stored,
         mem_limit,
+        db: None,
         parser,
     })
 }

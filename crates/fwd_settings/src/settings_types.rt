@@ -49,6 +49,8 @@ pub struct InputSet {
     pub stored: bool,
     /// The bytes of chunks in memory at which the input pauses.
     pub mem_limit: Option<u64>,
+    /// The database that keeps the offsets of its followed files, if any.
+    pub db: Option<Bytes>,
     pub parser: Parser,
 }
 

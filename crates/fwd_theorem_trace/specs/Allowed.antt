@@ -1,11 +1,13 @@
 -- When each entry of a run may occur, given the entries before it.
 use Rattle.std.specs.Prelude.{◌≡◌, ◌⊎◌, ℕ, ◌+◌, nat_lt, true, false, List, [], ◌∷◌, length, Contains, Option, Some, None}
 use Rattle.fwd_base.specs.Limits.{longest_wait, numbers_end}
+use Rattle.fwd_outside.specs.Program.{entry}
 use Rattle.fwd_outside.specs.Loop.{LoopCall, Wait, Dial, DropConn}
 use Rattle.fwd_outside.specs.declared.happening.Happening.{Happening}
 use Rattle.fwd_outside.specs.declared.happening.Happening.TheVariants as happening
+use Rattle.fwd_keeper.specs.Keeper.{Put}
 use Rattle.fwd_settings.specs.declared.settings_types.AllSettings.{AllSettings}
-use Rattle.fwd_model.specs.Fact.{Fact, History, Batch, Placement, NoChunk, NewChunk, AppendedTo, Reason, TooLarge, NoNumber, NotStored, Route, Outcome, FlushStarted, InFlight, Retries, Delivered, Failed, Exhausted, Evicted, Happened, Resumed, Polled, Disconnected, Malformed, Found, Offered, Accepted, Refused, ChunkClosed, Sent, OnRoute, MarkStarted, Marked, Removed, FileLeft, IoFailed}
+use Rattle.fwd_model.specs.Fact.{Fact, History, Batch, Placement, NoChunk, NewChunk, AppendedTo, Reason, TooLarge, NoNumber, NotStored, Route, Outcome, FlushStarted, InFlight, Retries, Delivered, Failed, Exhausted, Evicted, Happened, Resumed, Saved, Polled, Disconnected, Malformed, Found, Offered, Accepted, Refused, ChunkClosed, Sent, OnRoute, MarkStarted, Marked, Removed, FileLeft, IoFailed}
 use Rattle.fwd_model.specs.Trace.{Call, OnLoop, OnDisk, OnFiles, OnKeeper, Note}
 use Rattle.fwd_model.specs.Settings.{saturating_plus, outputs_for}
 use Rattle.fwd_model.specs.Clock.{clock, stopped}
@@ -15,6 +17,7 @@ use Rattle.fwd_model.specs.Payloads.{tag_of_chunk}
 use Rattle.fwd_model.specs.Limits.{paused}
 use Rattle.fwd_model.specs.Dispatch.{may_start}
 use Rattle.fwd_model.specs.Notes.{is_empty}
+use Rattle.fwd_model.specs.KeptOffsets.{Tracked, tracked}
 use Rattle.fwd_theorem_trace.specs.Past.{Past, logged, last_event, last_fact, last_call}
 
 -- only recovered files are logged, numbered by their positions from 1 on
@@ -84,6 +87,14 @@ pub record IsFinished (s : AllSettings) (chunk : ℕ) (h : History) : Type 0 whe
   pub shut : is_closed h chunk ≡ true
   pub owed : owes s h chunk ≡ false
 
+-- a put of this offset of this followed file just succeeded
+pub record WasSaved (s : AllSettings) (input index place : ℕ) (past : Past) : Type 0 where
+  pub file : Tracked
+  pub among : Contains (tracked s) file
+  pub of : (file.input ≡ input) × (file.index ≡ index)
+  pub before : Past
+  pub is : past ≡ entry (OnKeeper (Put file.db file.path place)) (Some tt) ∷ before
+
 -- a wait just returned it, or it is the first `Stop`
 abbrev pub EventAllowed : AllSettings → Happening → Past → Type 0
 EventAllowed s brought past =
@@ -92,6 +103,7 @@ EventAllowed s brought past =
 abbrev pub FactAllowed : AllSettings → Fact → Past → Type 0
 FactAllowed s (Happened brought) past = EventAllowed s brought past
 FactAllowed s (Resumed input index place) past = IsLoading (logged past)
+FactAllowed s (Saved input index place) past = WasSaved s input index place past
 FactAllowed s (Polled input index long bytes) past = Unit {0}
 FactAllowed s (Disconnected conn) past = last_call past ≡ Some (OnLoop (DropConn conn))
 FactAllowed s (Malformed input) past = Unit {0}
