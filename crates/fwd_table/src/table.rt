@@ -214,8 +214,7 @@ impl Table {
         self.tries_so_far(chunk, output)
     }
 
-    /// Returns whether a route may be retried if its flush fails now. The program doesn't use it (it asks the
-    /// function `may_retry`): it is for callers that don't count tries themselves.
+    /// Returns whether a route may be retried if its flush fails now.
     pub fn may_retry(&self, chunk: ChunkId, output: OutputId, limit: Retries) -> bool
         ensures { result ≡ may_retry limit (tries_of chunk output self.now.rows) }
     {
@@ -223,8 +222,7 @@ impl Table {
     }
 
     /// Records the outcome of a flush. If the route may be retried, it is due `wait_s` seconds after `now`;
-    /// else it is resolved. The program calls it for retries alone: the other answers are for callers that leave
-    /// the decision to the table.
+    /// else it is resolved.
     pub fn answered(
         &mut self,
         chunk: ChunkId,
