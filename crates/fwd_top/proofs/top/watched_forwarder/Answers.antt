@@ -3,7 +3,7 @@ use Rattle.fwd_config.specs.Variables.{environment}
 use Rattle.fwd_top.specs.Results.{of_job}
 use Rattle.fwd_top.proofs.Writing.{done, done_heard, done_loop_cause, done_disk_cause, no_file_fault, refused, refused_heard, refused_loop, refused_disk, refused_out, no_cause, goes_later}
 use Rattle.fwd_top.proofs.GivenFiles.{done_files, refused_files, no_refusal}
-use Rattle.fwd_top.proofs.top.log_forwarder.Goals as goal
+use Rattle.fwd_top.proofs.top.watched_forwarder.Goals as goal
 
 -- ---- a job was done
 

@@ -1,0 +1,283 @@
+//! The journal of a run, lent to all that write.
+
+use crate::board::{Address, Pages};
+use crate::destination::{Destination, open_at_end};
+use crate::series::{AllSeries, Topic};
+use crate::source::{Names, Source};
+use crate::{Level, limit, line_of};
+use fwd_base::{Bytes, Memory, OutputId};
+use std::alloc::Global;
+use std::cell::{Cell, RefCell};
+use std::collections::HashMap;
+use std::fmt::Display;
+use std::io;
+use std::time::{Duration, Instant, SystemTime, UNIX_EPOCH};
+
+/// The most series of which `finish` tells.
+const MOST_SERIES: u32 = 4_096;
+
+/// The log of a run, and the board on which its pages are asked for and put. What it has is in cells, so it is
+/// lent by shared references. A write that fails, or that comes during another one, is passed over.
+#[derive(Drop)]
+pub struct Journal {
+    rt: HostRuntime,
+    level: Cell<Option<Level>>,
+    destination: RefCell<Destination>,
+    names: RefCell<Names>,
+    series: RefCell<AllSeries>,
+    /// The last reason for which a delivery failed, by output.
+    reasons: RefCell<HashMap<u32, Bytes>>,
+    /// The time of creation, if there is a clock.
+    begun: Option<Instant>,
+    /// Whether somebody waits for pages.
+    asked: Cell<bool>,
+    /// The pages that were made last, until they are taken.
+    pages: RefCell<Option<Pages>>,
+    /// Where pages are to be served, if they are.
+    server: RefCell<Option<Address>>,
+}
+
+fn millis_of(time: Duration) -> u64 {
+    time.as_millis().min(u64::MAX as u128) as u64
+}
+
+fn without_memory(_: Memory) -> io::Error {
+    io::Error::from(io::ErrorKind::OutOfMemory)
+}
+
+impl Journal {
+    fn to(rt: HostRuntime, level: Option<Level>, destination: Destination) -> Journal {
+        let alloc = rt.alloc();
+        Journal {
+            rt,
+            level: Cell::new(level),
+            destination: RefCell::new(destination),
+            names: RefCell::new(Names::new(alloc)),
+            series: RefCell::new(AllSeries::new(alloc)),
+            reasons: RefCell::new(HashMap::new(alloc)),
+            begun: Instant::now(&rt).ok(),
+            asked: Cell::new(false),
+            pages: RefCell::new(None),
+            server: RefCell::new(None),
+        }
+    }
+
+    /// Returns a journal that writes lines of this level to standard error; none if it is off.
+    pub fn new(rt: HostRuntime, level: Option<Level>) -> Journal {
+        Journal::to(rt, level, Destination::Stderr)
+    }
+
+    /// Returns a journal that keeps its lines in memory, for tests.
+    pub fn kept(rt: HostRuntime, level: Option<Level>) -> Journal {
+        Journal::to(rt, level, Destination::Kept(Bytes::new(rt.alloc())))
+    }
+
+    /// Returns a copy of the lines that are kept in memory.
+    pub fn lines(&self) -> Result<Bytes, Memory> {
+        let alloc = self.rt.alloc();
+        match self.destination.try_borrow() {
+            Ok(destination) => match &*destination {
+                Destination::Kept(text) => text.try_clone(alloc),
+                Destination::Stderr | Destination::File(_) => Ok(Bytes::new(alloc)),
+            },
+            Err(_) => Ok(Bytes::new(alloc)),
+        }
+    }
+
+    pub fn alloc(&self) -> Global {
+        self.rt.alloc()
+    }
+
+    /// Returns whether lines of a level are written.
+    pub fn tells(&self, level: Level) -> bool {
+        level.is_told(self.level.get())
+    }
+
+    /// Sets the level, and goes on in a file, if one is given. If that can't be opened, a line says so, and the
+    /// log stays where it is.
+    pub fn open(&self, level: Option<Level>, file: Option<&[u8]>) {
+        self.level.set(level);
+        let Some(path) = file else {
+            return;
+        };
+        match open_at_end(&self.rt, path) {
+            Ok(file) => {
+                let _ = self.destination.try_replace(Destination::File(file));
+            }
+            Err(error) => {
+                let path = str::from_utf8(path).unwrap_or("?");
+                let source = Source::Config;
+                self.write(
+                    Level::Warn,
+                    source,
+                    Topic::File,
+                    &format_args!(
+                        "Log_File {path} can't be opened: {error}; the log stays on standard error"
+                    ),
+                );
+            }
+        }
+    }
+
+    /// Sets the names of inputs and outputs.
+    pub fn name(&self, names: Names) {
+        let _ = self.names.try_replace(names);
+    }
+
+    /// Notes why a delivery of an output failed. The next line about the output's retries tells it.
+    pub fn note_reason(&self, output: OutputId, reason: &[u8]) {
+        if let Ok(mut reasons) = self.reasons.try_borrow_mut() {
+            if let Ok(reason) = Bytes::from_slice(self.rt.alloc(), reason) {
+                let _ = reasons.insert(output.0, reason);
+            }
+        }
+    }
+
+    /// Returns a copy of the reason that was noted last for an output.
+    pub fn reason_of(&self, output: OutputId) -> Option<Bytes> {
+        match self.reasons.try_borrow() {
+            Ok(reasons) => reasons.get(&output.0)?.try_clone(self.rt.alloc()).ok(),
+            Err(_) => None,
+        }
+    }
+
+    /// Forgets why a delivery of an output failed, as one has succeeded.
+    pub fn forget_reason(&self, output: OutputId) {
+        if let Ok(mut reasons) = self.reasons.try_borrow_mut() {
+            let _ = reasons.remove(&output.0);
+        }
+    }
+
+    /// Returns whether the limiter of a series allows a line now.
+    pub fn is_due(&self, source: Source, topic: Topic) -> bool {
+        match self.series.try_borrow() {
+            Ok(series) => series.limiter_of(source, topic).next <= self.passed(),
+            Err(_) => false,
+        }
+    }
+
+    /// Returns the milliseconds since creation.
+    pub fn passed(&self) -> u64 {
+        match (self.begun, Instant::now(&self.rt)) {
+            (Some(begun), Ok(now)) => millis_of(now.duration_since(begun)),
+            _ => 0,
+        }
+    }
+
+    /// Returns the milliseconds since 1970; 0 if there is no clock.
+    pub fn now(&self) -> u64 {
+        match SystemTime::now(&self.rt) {
+            Ok(now) => match now.duration_since(UNIX_EPOCH) {
+                Ok(time) => millis_of(time),
+                Err(_) => 0,
+            },
+            Err(_) => 0,
+        }
+    }
+
+    /// Writes a line at once.
+    fn put(&self, level: Level, source: Source, text: &[u8]) -> io::Result<()> {
+        let alloc = self.rt.alloc();
+        let source = match self.names.try_borrow() {
+            Ok(names) => source.text(alloc, &names).map_err(without_memory)?,
+            Err(_) => return Ok(()),
+        };
+        let line = line_of(alloc, self.now(), level, source.as_slice(), text).map_err(
+            without_memory,
+        )?;
+        match self.destination.try_borrow_mut() {
+            Ok(mut destination) => destination.write(&self.rt, line.as_slice()),
+            Err(_) => Ok(()),
+        }
+    }
+
+    /// Decides by the limiter of a series whether a line is told now. Returns how many were passed over, if so.
+    fn limited(&self, source: Source, topic: Topic) -> Option<u64> {
+        match self.series.try_borrow_mut() {
+            Ok(mut series) => {
+                let (told, limiter) = limit(series.limiter_of(source, topic), self.passed());
+                let _ = series.keep(source, topic, limiter);
+                told
+            }
+            Err(_) => None,
+        }
+    }
+
+    fn try_write(
+        &self,
+        level: Level,
+        source: Source,
+        topic: Topic,
+        text: &impl Display,
+    ) -> io::Result<()> {
+        let alloc = self.rt.alloc();
+        match self.limited(source, topic) {
+            Some(0) => {
+                let text = format!(in alloc; "{text}")?;
+                self.put(level, source, text.as_bytes())
+            }
+            Some(more) => {
+                let text = format!(in alloc; "{text} ({more} more like this)")?;
+                self.put(level, source, text.as_bytes())
+            }
+            None => Ok(()),
+        }
+    }
+
+    /// Writes a line, if the level asks for it and the limiter of its source and topic allows it.
+    pub fn write(&self, level: Level, source: Source, topic: Topic, text: &impl Display) {
+        if self.tells(level) {
+            let _ = self.try_write(level, source, topic, text);
+        }
+    }
+
+    /// Writes how many lines were passed over and not counted by a later one. The end of a run calls it.
+    pub fn finish(&self) {
+        for _ in 0..MOST_SERIES {
+            let passed_over = match self.series.try_borrow_mut() {
+                Ok(mut series) => series.take_passed_over(),
+                Err(_) => None,
+            };
+            let Some(series) = passed_over else {
+                return;
+            };
+            let (more, topic) = (series.limiter.passed_over, series.topic.word());
+            if let Ok(text) = format!(in self.rt.alloc();
+                "{more} more lines on {topic} were passed over"
+            ) {
+                let _ = self.put(Level::Info, series.source, text.as_bytes());
+            }
+        }
+    }
+
+    /// Has the pages served at this address, once the inputs are opened.
+    pub fn serve(&self, host: Bytes, port: u16) {
+        let _ = self.server.try_replace(Some(Address { host, port }));
+    }
+
+    /// Returns the address at which pages are to be served, once.
+    pub fn take_server(&self) -> Option<Address> {
+        self.server.try_take().ok().flatten()
+    }
+
+    /// Asks for pages. They come at the next reading of the clock.
+    pub fn ask(&self) {
+        self.asked.set(true);
+    }
+
+    /// Returns whether somebody asks for pages.
+    pub fn is_asked(&self) -> bool {
+        self.asked.get()
+    }
+
+    /// Puts pages on the board. Nobody asks for them then.
+    pub fn put_pages(&self, pages: Pages) {
+        self.asked.set(false);
+        let _ = self.pages.try_replace(Some(pages));
+    }
+
+    /// Takes the pages that were put since the last call.
+    pub fn take_pages(&self) -> Option<Pages> {
+        self.pages.try_take().ok().flatten()
+    }
+}

@@ -1,0 +1,48 @@
+//! Levels of log lines.
+
+ghost use Rattle.std.specs.Prelude.{◌≡◌};
+ghost use Rattle.fwd_log.specs.Level.{label_of, is_told, rank};
+
+/// How much a line matters.
+#[derive(Clone, Copy, Debug, PartialEq, Eq)]
+pub enum Level {
+    Error,
+    Warn,
+    Info,
+    Debug,
+}
+
+impl Level {
+    /// Returns the word of a line: five bytes, so that lines are aligned.
+    pub fn label(self) -> &'static [u8]
+        ensures { result.now ≡ label_of self }
+    {
+        match self {
+            Level::Error => b"error",
+            Level::Warn => b" warn",
+            Level::Info => b" info",
+            Level::Debug => b"debug",
+        }
+    }
+
+    fn rank(self) -> u8
+        ensures { result ≡ rank self }
+    {
+        match self {
+            Level::Error => 1,
+            Level::Warn => 2,
+            Level::Info => 3,
+            Level::Debug => 4,
+        }
+    }
+
+    /// Returns whether a log of this level tells a line. A log that is off tells none.
+    pub fn is_told(self, log: Option<Level>) -> bool
+        ensures { result ≡ is_told self log }
+    {
+        match log {
+            Some(most) => self.rank() <= most.rank(),
+            None => false,
+        }
+    }
+}

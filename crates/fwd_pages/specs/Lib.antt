@@ -1,0 +1,4 @@
+pub mod Count
+pub mod Health
+pub mod Metric
+pub mod Pages

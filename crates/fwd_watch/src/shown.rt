@@ -1,0 +1,57 @@
+//! What a watcher is told.
+
+use fwd_base::Names;
+use fwd_config::{ConfigKind, Place, Sections};
+use fwd_settings_schema::SettingKind;
+use fwd_table::{Table, Tally};
+
+/// What a run shows between two turns.
+#[derive(Clone, Copy)]
+pub struct Shown<'a> {
+    pub tally: &'a Tally,
+    pub table: &'a Table,
+    /// The paused inputs: bit `i` is input `i`.
+    pub paused: u64,
+    /// The clock at the stop, if there was one.
+    pub stopped: Option<u64>,
+}
+
+/// Is told how a run goes. What it does has no effect on the run, and no contract speaks of it.
+pub trait Watch {
+    /// A file of the configuration is refused, at this place.
+    fn refused_file(&mut self, kind: ConfigKind, place: &Place);
+
+    /// The settings of these sections are refused, at this place.
+    fn refused(&mut self, sections: &Sections, kind: SettingKind, place: &Place);
+
+    /// The settings of these sections are taken.
+    fn configured(&mut self, sections: &Sections);
+
+    /// The chunks on the disk are loaded, and the inputs will be opened. The names are those of the inputs and the
+    /// outputs.
+    fn begun(&mut self, inputs: &Names, outputs: &Names, shown: Shown<'_>);
+
+    /// The clock was read.
+    fn read_clock(&mut self, shown: Shown<'_>);
+
+    /// The run is over.
+    fn over(&mut self, shown: Shown<'_>);
+}
+
+/// The watcher that does nothing.
+#[derive(Clone, Copy, Debug)]
+pub struct Unwatched;
+
+impl Watch for Unwatched {
+    fn refused_file(&mut self, _: ConfigKind, _: &Place) {}
+
+    fn refused(&mut self, _: &Sections, _: SettingKind, _: &Place) {}
+
+    fn configured(&mut self, _: &Sections) {}
+
+    fn begun(&mut self, _: &Names, _: &Names, _: Shown<'_>) {}
+
+    fn read_clock(&mut self, _: Shown<'_>) {}
+
+    fn over(&mut self, _: Shown<'_>) {}
+}

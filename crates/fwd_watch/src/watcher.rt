@@ -1,0 +1,393 @@
+//! The watcher over a journal.
+
+use crate::changes::Risen;
+use crate::counts::Counts;
+use crate::pages::PageMaker;
+use crate::refusal::refusal_text;
+use crate::{Shown, Watch};
+use fwd_base::{Bytes, ChunkId, InputId, Memory, Names, OutputId, is_set};
+use fwd_config::{ConfigKind, Place, Sections};
+use fwd_log::{Journal, Level, Source, SourceNames, Topic};
+use fwd_log_settings::{LogSettings, log_settings};
+use fwd_outside::Home;
+use fwd_retry::Timer;
+use fwd_settings_schema::SettingKind;
+use fwd_table::{InputTally, OutputTally, Table};
+use std::alloc::Global;
+use std::fmt::Display;
+
+/// How many timers are looked at for the next try of an output.
+const MOST_TIMERS: u32 = 4;
+
+/// The watcher that writes into a journal, and puts pages on its board.
+#[derive(Drop)]
+pub struct Watcher<'j> {
+    journal: &'j Journal,
+    before: Counts,
+    paused: u64,
+    is_stopped: bool,
+    /// The outputs of which a flush failed and none was delivered since: bit `i` is output `i`.
+    failing: u64,
+    pages: PageMaker,
+}
+
+/// What is left in the table at the end of a run.
+#[derive(Clone, Copy, Debug)]
+struct Left {
+    in_memory: u64,
+    bytes_in_memory: u64,
+    in_files: u64,
+}
+
+fn left_in(table: &Table) -> Left {
+    let mut left = Left {
+        in_memory: 0,
+        bytes_in_memory: 0,
+        in_files: 0,
+    };
+    for place in 0..table.places() {
+        if let Some(row) = table.row(place) {
+            match row.home {
+                Home::Disk => left.in_files = left.in_files.saturating_add(1),
+                Home::Ram => {
+                    left.in_memory = left.in_memory.saturating_add(1);
+                    left.bytes_in_memory = left.bytes_in_memory.saturating_add(row.size);
+                }
+            }
+        }
+    }
+    left
+}
+
+/// Returns the first timer of an output after a time, if it is among the first few of all.
+fn next_try(table: &Table, output: OutputId, now: u64) -> Option<Timer> {
+    let mut after = Timer {
+        due: now,
+        chunk: ChunkId(u64::MAX),
+        output: OutputId(u32::MAX),
+    };
+    for _ in 0..MOST_TIMERS {
+        let timer = table.next_due(u64::MAX, Some(after))?;
+        if timer.output == output {
+            return Some(timer);
+        }
+        after = timer;
+    }
+    None
+}
+
+/// Returns an index as the number of an input or an output, of which there are few.
+fn number_of(index: usize) -> u32 {
+    u32::try_from(index).unwrap_or(u32::MAX)
+}
+
+fn bit_of(output: u32) -> u64 {
+    1u64.checked_shl(output).unwrap_or(0)
+}
+
+impl<'j> Watcher<'j> {
+    /// Returns the watcher of a run that begins.
+    pub fn new(alloc: Global, journal: &'j Journal) -> Watcher<'j> {
+        Watcher {
+            journal,
+            before: Counts::new(alloc),
+            paused: 0,
+            is_stopped: false,
+            failing: 0,
+            pages: PageMaker::new(alloc),
+        }
+    }
+
+    fn tell(&self, level: Level, source: Source, topic: Topic, text: &impl Display) {
+        self.journal.write(level, source, topic, text);
+    }
+
+    /// Returns why the last delivery of an output failed, after a colon; empty if no device said why.
+    fn reason(&self, output: OutputId) -> Result<String, Memory> {
+        let alloc = self.journal.alloc();
+        match self.journal.reason_of(output) {
+            Some(reason) => {
+                let reason = String::from_utf8_lossy(alloc, reason.as_slice())?;
+                Ok(format!(in alloc; ": {reason}")?)
+            }
+            None => Ok(String::new(alloc)),
+        }
+    }
+
+    fn tell_retries(&self, output: OutputId, risen: Risen, table: &Table) -> Result<(), Memory> {
+        let source = Source::Output(output);
+        if !self.journal.is_due(source, Topic::Retry) {
+            self.tell(Level::Warn, source, Topic::Retry, &"");
+            return Ok(());
+        }
+        let reason = self.reason(output)?;
+        let count = risen.retried;
+        let now = self.journal.now();
+        match next_try(table, output, now) {
+            Some(timer) => {
+                let seconds = timer.due.saturating_sub(now).saturating_add(999) / 1_000;
+                let chunk = timer.chunk.0;
+                let tries = table.tries(timer.chunk, output);
+                self.tell(
+                    Level::Warn,
+                    source,
+                    Topic::Retry,
+                    &format_args!(
+                        "{count} chunks can't be delivered{reason}; next try in {seconds} s (chunk {chunk}, {tries} tries so far)"
+                    ),
+                );
+            }
+            None => self.tell(
+                Level::Warn,
+                source,
+                Topic::Retry,
+                &format_args!("{count} chunks can't be delivered{reason}; they are tried again"),
+            ),
+        }
+        Ok(())
+    }
+
+    /// Tells of chunks that the output gives up.
+    fn tell_given_up(&self, output: OutputId, risen: Risen) -> Result<(), Memory> {
+        let source = Source::Output(output);
+        let reason = self.reason(output)?;
+        let (refused, spent, evicted) = (risen.refused, risen.spent, risen.evicted);
+        if 0 < refused {
+            let text = format_args!(
+                "{refused} chunks are given up, as the peer refused them{reason}"
+            );
+            self.tell(Level::Error, source, Topic::Refusal, &text);
+        }
+        if 0 < spent {
+            let text = format_args!(
+                "{spent} chunks are given up, as their retries are used up{reason}"
+            );
+            self.tell(Level::Error, source, Topic::GivenUp, &text);
+        }
+        if 0 < evicted {
+            let text = format_args!(
+                "{evicted} chunks are given up, as storage.total_limit_size is reached"
+            );
+            self.tell(Level::Error, source, Topic::GivenUp, &text);
+        }
+        Ok(())
+    }
+
+    fn tell_recovery(&mut self, output: OutputId) {
+        let bit = bit_of(output.0);
+        if self.failing & bit != 0 {
+            self.failing &= !bit;
+            self.journal.forget_reason(output);
+            self.tell(
+                Level::Info,
+                Source::Output(output),
+                Topic::Recovery,
+                &"delivers again",
+            );
+        }
+    }
+
+    fn compare_output(
+        &mut self,
+        index: usize,
+        now: OutputTally,
+        shown: Shown<'_>,
+    ) -> Result<(), Memory> {
+        let Some(before) = self.before.outputs.get(index).copied() else {
+            return Ok(());
+        };
+        if before == now {
+            return Ok(());
+        }
+        self.before.keep_output(index, now);
+        let output = OutputId(number_of(index));
+        let risen = Risen::between(before, now);
+        if 0 < risen.given_up() {
+            self.pages.note_failure(self.journal.passed());
+            self.failing |= bit_of(output.0);
+            self.tell_given_up(output, risen)?;
+        }
+        if 0 < risen.retried {
+            self.failing |= bit_of(output.0);
+            self.tell_retries(output, risen, shown.table)?;
+        } else if 0 < risen.delivered && risen.given_up() == 0 {
+            self.tell_recovery(output);
+        }
+        Ok(())
+    }
+
+    fn compare_input(&mut self, index: usize, now: InputTally) {
+        let Some(before) = self.before.inputs.get(index).copied() else {
+            return;
+        };
+        if before == now {
+            return;
+        }
+        self.before.keep_input(index, now);
+        let refused = now.refused.saturating_sub(before.refused);
+        if 0 < refused {
+            let source = Source::Input(InputId(number_of(index)));
+            let text = format_args!("{refused} batches or messages are refused");
+            self.tell(Level::Warn, source, Topic::Batch, &text);
+        }
+    }
+
+    /// Tells which inputs were paused, and which go on. At a stop all are paused, which is no news.
+    fn compare_paused(&mut self, paused: u64, inputs: usize) {
+        if paused == self.paused || self.is_stopped {
+            return;
+        }
+        let before = self.paused;
+        self.paused = paused;
+        for index in 0..inputs {
+            let input = number_of(index);
+            let source = Source::Input(InputId(input));
+            match (is_set(before, input), is_set(paused, input)) {
+                (false, true) => self.tell(
+                    Level::Warn,
+                    source,
+                    Topic::Pause,
+                    &"is paused, as its chunks in memory have reached Mem_Buf_Limit",
+                ),
+                (true, false) => self.tell(Level::Info, source, Topic::Pause, &"goes on"),
+                (false, false) | (true, true) => {}
+            }
+        }
+    }
+
+    fn compare_stop(&mut self, shown: Shown<'_>) {
+        if self.is_stopped || shown.stopped.is_none() {
+            return;
+        }
+        self.is_stopped = true;
+        let left = shown.table.len();
+        let text = format_args!(
+            "stops: inputs are closed, and {left} chunks are waited for until Grace is over"
+        );
+        self.tell(Level::Info, Source::Engine, Topic::Run, &text);
+    }
+
+    fn compare(&mut self, shown: Shown<'_>) -> Result<(), Memory> {
+        self.compare_stop(shown);
+        for (index, tally) in shown.tally.outputs.as_slice().iter().enumerate() {
+            self.compare_output(index, *tally, shown)?;
+        }
+        for (index, tally) in shown.tally.inputs.as_slice().iter().enumerate() {
+            self.compare_input(index, *tally);
+        }
+        self.compare_paused(shown.paused, shown.tally.inputs.len());
+        Ok(())
+    }
+
+    fn tell_loaded(&self, shown: Shown<'_>) {
+        let (loaded, unrouted, left) = (shown.tally.loaded, shown.tally.unrouted, shown.tally.left);
+        if 0 < loaded || 0 < unrouted || 0 < left {
+            let text = format_args!(
+                "{loaded} chunks are loaded; {unrouted} match no output, {left} files are left as they are"
+            );
+            self.tell(Level::Info, Source::Storage, Topic::Run, &text);
+        }
+    }
+
+    fn tell_left(&self, shown: Shown<'_>) {
+        let left = left_in(shown.table);
+        let (chunks, bytes, files) = (left.in_memory, left.bytes_in_memory, left.in_files);
+        if 0 < chunks {
+            let text = format_args!(
+                "Grace is over, and {chunks} chunks in memory with {bytes} bytes are dropped"
+            );
+            self.tell(Level::Warn, Source::Engine, Topic::GivenUp, &text);
+        }
+        if 0 < files {
+            let text = format_args!(
+                "Grace is over, and {files} chunks in files are left to the next run"
+            );
+            self.tell(Level::Warn, Source::Engine, Topic::Retry, &text);
+        }
+        if chunks == 0 && files == 0 {
+            self.tell(
+                Level::Info,
+                Source::Engine,
+                Topic::Recovery,
+                &"ends: all chunks are delivered or given up",
+            );
+        }
+    }
+
+    fn follow(&mut self, settings: LogSettings) {
+        let file = match &settings.file {
+            Some(path) => Some(path.as_slice()),
+            None => None,
+        };
+        self.journal.open(settings.level, file);
+        self.pages.check_health(settings.checks_health);
+        if let Some(server) = settings.server {
+            self.journal.serve(server.host, server.port);
+        }
+    }
+
+    fn name(&mut self, inputs: &Names, outputs: &Names) -> Result<(), Memory> {
+        let alloc = self.journal.alloc();
+        self.journal.name(SourceNames {
+            inputs: inputs.try_clone(alloc)?,
+            outputs: outputs.try_clone(alloc)?,
+        });
+        self.pages
+            .name(inputs.try_clone(alloc)?, outputs.try_clone(alloc)?);
+        Ok(())
+    }
+
+    fn tell_begun(&self, inputs: &Names, outputs: &Names) {
+        let (inputs, outputs) = (inputs.len(), outputs.len());
+        let text = format_args!("fuztreb begins with {inputs} inputs and {outputs} outputs");
+        self.tell(Level::Info, Source::Engine, Topic::Run, &text);
+    }
+}
+
+impl<'j> Watch for Watcher<'j> {
+    fn refused_file(&mut self, kind: ConfigKind, place: &Place) {
+        let alloc = self.journal.alloc();
+        if let Ok(file) = String::from_utf8_lossy(alloc, place.file.as_slice()) {
+            let line = place.line;
+            self.tell(
+                Level::Error,
+                Source::Config,
+                Topic::Run,
+                &format_args!("{file}:{line}: {kind}"),
+            );
+        }
+    }
+
+    fn refused(&mut self, sections: &Sections, kind: SettingKind, place: &Place) {
+        let alloc = self.journal.alloc();
+        if let Ok(text) = refusal_text(alloc, sections.as_slice(), kind, place) {
+            self.tell(Level::Error, Source::Config, Topic::Run, &text.as_str());
+        }
+    }
+
+    fn configured(&mut self, sections: &Sections) {
+        if let Ok(settings) = log_settings(self.journal.alloc(), sections) {
+            self.follow(settings);
+        }
+    }
+
+    fn begun(&mut self, inputs: &Names, outputs: &Names, shown: Shown<'_>) {
+        let _ = self.name(inputs, outputs);
+        let _ = self.before.copy(self.journal.alloc(), shown.tally);
+        self.paused = shown.paused;
+        self.tell_begun(inputs, outputs);
+        self.tell_loaded(shown);
+    }
+
+    fn read_clock(&mut self, shown: Shown<'_>) {
+        let _ = self.compare(shown);
+        self.pages.answer(self.journal, shown);
+    }
+
+    fn over(&mut self, shown: Shown<'_>) {
+        let _ = self.compare(shown);
+        self.pages.answer(self.journal, shown);
+        self.tell_left(shown);
+        self.journal.finish();
+    }
+}
