@@ -1,5 +1,5 @@
-//! The program `fwd`: it makes the devices of a live run, passes them to `log_forwarder`, and ends with the
-//! status that this returns and its line on standard error.
+//! The program `fwd`: it makes the devices of a live run and its watcher, passes them to `watched_forwarder`, and
+//! ends with the status that this returns and its line on standard error.
 #![tactic(auto)]
 
 mod arguments;
@@ -10,12 +10,17 @@ ghost use Rattle.fwd_outside.specs.Loop.{LoopGiven};
 
 use arguments::{environment, words};
 use fwd_base::{Bytes, Memory};
-use fwd_live::{FolderDisk, FolderFiles, LiveLoop, StdSink};
-use fwd_top::{Status, log_forwarder, status_line};
+use fwd_live::{Access, FolderDisk, FolderFiles, LiveLoop, Shared, StdSink};
+use fwd_log::{Journal, Level};
+use fwd_top::{Status, status_line, watched_forwarder};
+use fwd_watch::Watcher;
 use std::alloc::Global;
 use std::io::{self, ErrorKind, Write};
 use std::process::ExitCode;
 use std::thread::Threads;
+
+/// How often a listing is made again.
+const LISTING_RETRIES: u32 = 5;
 
 /// The line that is printed if there is no memory for the status line.
 const OUT_OF_MEMORY: &[u8] = b"out of memory\n";
@@ -28,35 +33,57 @@ fn status_without_loop(error: &io::Error) -> Status {
     }
 }
 
+/// Returns the level of the log until the configuration sets it. Only a live run has a log.
+fn first_level(words: &[String]) -> Option<Level> {
+    match words.first() {
+        Some(word) if word.as_str() == "run" => Some(Level::Info),
+        Some(_) | None => None,
+    }
+}
+
+/// Returns whether the words ask for a listing.
+fn is_listing(words: &[String]) -> bool {
+    match words.first() {
+        Some(word) => word.as_str() == "list",
+        None => false,
+    }
+}
+
 /// Makes the devices and runs the program. The caller picks the initial files, on the disk and beside it,
 /// and what the loop will bring.
-fn run(rt: &HostRuntime, threads: &(impl Threads + Sync)) -> Status
+fn run(
+    rt: &HostRuntime,
+    threads: &(impl Threads + Sync),
+    words: &[String],
+    env: &[(String, String)],
+) -> Status
     ghost given: { DiskGiven × (FilesGiven × LoopGiven) }
 {
-    let words = match words(rt) {
-        Ok(words) => words,
-        Err(status) => return status,
+    let access = if is_listing(words) {
+        Access::Reader
+    } else {
+        Access::Owner
     };
-    let Ok(env) = environment(rt) else {
-        return Status::Memory;
-    };
-    let mut outside = match LiveLoop::new(*rt) {
+    let shared = Shared::new(Journal::new(*rt, first_level(&words)));
+    let mut outside = match LiveLoop::new(*rt, &shared) {
         Ok(outside) => outside,
         Err(error) => return status_without_loop(&error),
     };
-    let mut disk = FolderDisk::new(*rt);
-    let mut files = FolderFiles::new(*rt);
+    let mut disk = FolderDisk::new(*rt, &shared, access);
+    let mut files = FolderFiles::new(*rt, &shared);
     let mut out = StdSink::new(*rt);
-    log_forwarder(
+    let mut watcher = Watcher::new(rt.alloc(), &shared.journal);
+    watched_forwarder(
         threads,
         rt.alloc(),
-        &words,
-        &env,
+        words,
+        env,
         &mut disk,
         &mut files,
         &mut outside,
         &mut out,
         u64::MAX,
+        &mut watcher,
     )
 }
 
@@ -77,8 +104,32 @@ fn print_status(rt: &HostRuntime, status: &Status) -> io::Result<()> {
     }
 }
 
+/// Runs the program. A listing whose disk failed is made again: a live run may have removed files meanwhile.
+/// Nothing was written then.
+fn run_words(rt: &HostRuntime, threads: &(impl Threads + Sync)) -> Status
+    ghost given: { DiskGiven × (FilesGiven × LoopGiven) }
+{
+    let words = match words(rt) {
+        Ok(words) => words,
+        Err(status) => return status,
+    };
+    let Ok(env) = environment(rt) else {
+        return Status::Memory;
+    };
+    let mut status = run(rt, threads, &words, &env);
+    if is_listing(&words) {
+        for _ in 0..LISTING_RETRIES {
+            if status != Status::DiskFault {
+                break;
+            }
+            status = run(rt, threads, &words, &env);
+        }
+    }
+    status
+}
+
 fn main(rt: HostRuntime) -> ExitCode {
-    let status = run(&rt, &rt);
+    let status = run_words(&rt, &rt);
     let _ = print_status(&rt, &status);
     ExitCode::from(status.number())
 }

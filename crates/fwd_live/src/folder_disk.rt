@@ -7,27 +7,38 @@ ghost use Rattle.fwd_outside.specs.declared.errors.DiskErr.TheVariants.{Failed};
 
 use crate::disk_calls::DiskCalls;
 use crate::folders::Folders;
+use crate::storage_root::Access;
+use fwd_live_poll::Shared;
 use fwd_outside::{Bytes, Disk, DiskErr, Names};
 use std::alloc::Global;
 
 /// Files by their paths, which survive a crash.
 #[derive(Drop)]
-pub struct FolderDisk {
-    folders: Folders,
+pub struct FolderDisk<'a> {
+    folders: Folders<'a>,
+    shared: &'a Shared,
     faults: u64,
     calls: DiskCalls,
 }
 
-impl FolderDisk {
+impl<'a> FolderDisk<'a> {
     /// Returns the disk with an empty log. The caller picks the initial files.
-    pub fn new(rt: HostRuntime) -> Self
+    pub fn new(rt: HostRuntime, shared: &'a Shared, access: Access) -> Self
         ghost given: { DiskGiven }
         ensures { (result.calls.given ≡ given) × (result.calls.entries ≡ []) }
     {
         FolderDisk {
-            folders: Folders::new(rt),
+            folders: Folders::new(rt, shared, access),
+            shared,
             faults: 0,
             calls: DiskCalls::new(),
+        }
+    }
+
+    /// Notes a write that failed, so that inputs are held back.
+    fn note_write(&self, answer: Option<()>) {
+        if answer.is_none() {
+            self.shared.disk_failed.set(true);
         }
     }
 
@@ -47,25 +58,28 @@ impl FolderDisk {
     }
 }
 
-impl Disk for FolderDisk {
+impl<'a> Disk for FolderDisk<'a> {
     ghost faults = { λ disk. disk.faults };
 
     ghost call_log = { λ disk. Some (disk.calls.given, disk.calls.entries) };
 
     fn place(&mut self, name: &[u8], bytes: &[u8]) -> Result<(), DiskErr> {
         let placed = self.folders.place(name, bytes)?;
+        self.note_write(placed);
         self.calls = self.calls.then(&(name, bytes, placed));
         self.result_of(placed)
     }
 
     fn write_at(&mut self, name: &[u8], at: u64, bytes: &[u8]) -> Result<(), DiskErr> {
         let written = self.folders.write_at(name, at, bytes)?;
+        self.note_write(written);
         self.calls = self.calls.then(&(name, at, bytes, written));
         self.result_of(written)
     }
 
     fn sync(&mut self, name: &[u8]) -> Result<(), DiskErr> {
         let synced = self.folders.sync(name)?;
+        self.note_write(synced);
         self.calls = self.calls.then(&(name, synced));
         self.result_of(synced)
     }

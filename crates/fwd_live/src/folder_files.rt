@@ -1,36 +1,68 @@
 //! `Files` on the file system, for the files that the program follows.
 
-ghost use Rattle.std.specs.Prelude.{Some, [], ◌≡◌, ◌≤◌, length, IfOk, IsErrOf};
+ghost use Rattle.std.specs.Prelude.{Some, [], ◌≡◌, IsErrOf};
 ghost use Rattle.fwd_outside.specs.Cause.{HasCause};
 ghost use Rattle.fwd_outside.specs.Files.{FilesGiven, outcome};
 ghost use Rattle.fwd_outside.specs.declared.errors.FileErr.TheVariants.{Failed};
 
+use crate::answer::answer_of;
+use crate::disk_log::tell_unread;
 use crate::files_calls::FilesCalls;
-use crate::folders::{LAST_OFFSET, read_to};
 use fwd_base::limits::LONGEST_READ;
+use fwd_live_files::FollowedFiles;
+use fwd_live_poll::{Shared, most_files};
 use fwd_outside::{Bytes, FileErr, Files};
 use std::alloc::Global;
-use std::fs::{self, File, OpenFile};
-use std::io;
+use std::time::Duration;
 
-/// Files by their paths. They are assumed not to change while they are read.
+/// For how many milliseconds another file with bytes has had a path before the one that was read to its end
+/// is left.
+const LINGER: u64 = 1_000;
+
+/// Within how many milliseconds a file is read again that is being written.
+const WRITTEN: u64 = 50;
+
+/// Followed files and configuration files. What a path stands for is what `FollowedFiles` says.
 #[derive(Drop)]
-pub struct FolderFiles {
-    rt: HostRuntime,
+pub struct FolderFiles<'a> {
+    files: FollowedFiles,
+    shared: &'a Shared,
     faults: u64,
     calls: FilesCalls,
 }
 
-impl FolderFiles {
+impl<'a> FolderFiles<'a> {
     /// Returns the files with an empty log. The caller picks the initial files.
-    pub fn new(rt: HostRuntime) -> Self
+    pub fn new(rt: HostRuntime, shared: &'a Shared) -> Self
         ghost given: { FilesGiven }
         ensures { (result.calls.given ≡ given) × (result.calls.entries ≡ []) }
     {
         FolderFiles {
-            rt,
+            files: FollowedFiles::new(rt, Duration::from_millis(LINGER), most_files(&rt)),
+            shared,
             faults: 0,
             calls: FilesCalls::new(),
+        }
+    }
+
+    /// Returns the number of bytes that a read gives at most: none while the disk fails.
+    fn most(&self) -> u64 {
+        if self.shared.disk_failed.get() {
+            0
+        } else {
+            LONGEST_READ
+        }
+    }
+
+    /// Tells the loop how many descriptors are held, and when the next reading is wanted after one that gave
+    /// this many bytes: at once if they were as many as a read gives at most.
+    fn share(&self, read: u64) {
+        self.shared.held_files.set(self.files.held());
+        if LONGEST_READ <= read {
+            self.shared.read_within.set(0);
+        } else if 1 <= read {
+            let within = self.shared.read_within.get().min(WRITTEN);
+            self.shared.read_within.set(within);
         }
     }
 
@@ -50,54 +82,32 @@ impl FolderFiles {
     }
 }
 
-fn open(rt: &HostRuntime, path: &[u8]) -> io::Result<File> {
-    match str::from_utf8(path) {
-        Ok(path) => fs::open(rt, path),
-        Err(_) => Err(io::Error::from(io::ErrorKind::InvalidInput)),
+fn length_of(answer: &Option<Bytes>) -> u64 {
+    match answer {
+        Some(bytes) => bytes.len() as u64,
+        None => 0,
     }
 }
 
-fn length_of(rt: &HostRuntime, path: &[u8]) -> io::Result<u64> {
-    Ok(open(rt, path)?.metadata()?.len())
-}
-
-/// Returns how many bytes a file has after an offset; 0 if that is unknown.
-fn rest_of(rt: &HostRuntime, path: &[u8], at: u64) -> u64 {
-    match length_of(rt, path) {
-        Ok(long) => long.saturating_sub(at),
-        Err(_) => 0,
-    }
-}
-
-/// Reads from an offset on until the buffer is full or the file ends.
-fn read_part(rt: &HostRuntime, path: &[u8], at: u64, mut part: Vec<u8>) -> io::Result<Bytes>
-    ensures { IfOk result (λ bytes. length bytes ≤ length part.items) }
-{
-    if at > LAST_OFFSET {
-        return Err(io::Error::from(io::ErrorKind::InvalidInput));
-    }
-    let file = open(rt, path)?;
-    let count = read_to(&file, &mut part, at)?;
-    part.truncate(count);
-    Ok(Bytes::from_vec(part))
-}
-
-impl Files for FolderFiles {
+impl<'a> Files for FolderFiles<'a> {
     ghost faults = { λ files. files.faults };
 
     ghost call_log = { λ files. Some (files.calls.given, files.calls.entries) };
 
     fn length(&mut self, path: &[u8]) -> Result<u64, FileErr> {
-        let answer = length_of(&self.rt, path).ok();
+        let outcome = self.files.length(path);
+        tell_unread(&self.shared.journal, path, &outcome);
+        let answer = answer_of(outcome)?;
+        self.share(0);
         self.calls = self.calls.then(&(path, answer));
         self.result_of(answer)
     }
 
     fn read_at(&mut self, alloc: Global, path: &[u8], at: u64, max: u64) -> Result<Bytes, FileErr> {
-        let mut part = Vec::new(alloc);
-        let most = max.min(LONGEST_READ).min(rest_of(&self.rt, path, at));
-        part.resize(most as usize, 0)?;
-        let answer = read_part(&self.rt, path, at, part).ok();
+        let outcome = self.files.read_at(alloc, path, at, self.most().min(max));
+        tell_unread(&self.shared.journal, path, &outcome);
+        let answer = answer_of(outcome)?;
+        self.share(length_of(&answer));
         self.calls = self.calls.then(&(path, at, max, &answer));
         self.result_of(answer)
     }

@@ -4,16 +4,16 @@ ghost use Rattle.std.specs.Prelude.{◌≤◌, All, IfOk, IfSome, length};
 ghost use Rattle.fwd_outside.specs.Disk.{IsFileName, IsListing};
 
 use crate::answer::answer_of;
-use crate::file_name::{FileName, TEMPORARY, complete_name, listing};
-use fwd_live_poll::{memory_error, text};
+use crate::disk_log::{tell, told};
+use crate::file_name::{TEMPORARY, complete_name, listing};
+use crate::storage_root::{Access, FILE_MODE, FOLDER_MODE, own_folder};
+use fwd_live_files::{LAST_OFFSET, read_to};
+use fwd_live_poll::{Shared, memory_error, text};
 use fwd_outside::{Bytes, Memory, Names};
 use std::alloc::Global;
-use std::fs::{self, DirEntry, File, OpenOptions};
+use std::fs::{self, DirBuilder, DirEntry, File, OpenOptions};
 use std::io::{self, ErrorKind, Write};
-use std::os::unix::fs::FileExt;
-
-/// The largest offset that the system takes.
-pub const LAST_OFFSET: u64 = 9_223_372_036_854_775_807;
+use std::os::unix::fs::{DirBuilderExt, FileExt, OpenOptionsExt};
 
 /// A file that is open for writing.
 #[derive(Drop)]
@@ -24,8 +24,12 @@ struct OpenFile {
 
 /// Files by their paths. The last one written stays open.
 #[derive(Drop)]
-pub struct Folders {
+pub struct Folders<'a> {
     rt: HostRuntime,
+    shared: &'a Shared,
+    access: Access,
+    /// Whether the storage folder is locked. The first listing of a run is that of its storage folder.
+    is_locked: bool,
     written: Option<OpenFile>,
     /// Folders that were fsynced, so that a crash can't remove them.
     synced_folders: Vec<Bytes>,
@@ -60,7 +64,9 @@ fn sync_folder(rt: &HostRuntime, folder: &str) -> io::Result<()> {
 /// Creates one folder, unless it exists, and fsyncs its parent. The parent of an existing one may be
 /// unreadable: then this program didn't create the folder.
 fn ensure_level(rt: &HostRuntime, level: &str) -> io::Result<()> {
-    match fs::create_dir(rt, level) {
+    let mut how = DirBuilder::new();
+    how.mode(FOLDER_MODE);
+    match how.create(rt, level) {
         Ok(()) => sync_folder(rt, folder_of(level)),
         Err(error) if error.kind() == ErrorKind::AlreadyExists => {
             match sync_folder(rt, folder_of(level)) {
@@ -94,7 +100,9 @@ fn ensure_folder(rt: &HostRuntime, folder: &str) -> io::Result<()> {
 }
 
 fn write_new(rt: &HostRuntime, part: &str, bytes: &[u8]) -> io::Result<File> {
-    let mut file = fs::create(rt, part)?;
+    let mut how = OpenOptions::new();
+    how.write(true).create(true).truncate(true).mode(FILE_MODE);
+    let mut file = how.open(rt, part)?;
     file.write_all(bytes)?;
     file.sync_all()?;
     Ok(file)
@@ -140,23 +148,6 @@ fn remove_file(rt: &HostRuntime, name: &[u8]) -> io::Result<()> {
     sync_folder(rt, folder_of(path))
 }
 
-/// Reads from an offset until the buffer is full or the file ends. Returns how many bytes were read.
-pub fn read_to(file: &File, part: &mut [u8], at: u64) -> io::Result<usize> {
-    let mut filled = 0usize;
-    for _ in 0..u64::MAX {
-        if part.len() <= filled {
-            break;
-        }
-        match file.read_at(&mut part[filled..], at.saturating_add(filled as u64)) {
-            Ok(0) => break,
-            Ok(count) => filled = filled.saturating_add(count),
-            Err(error) if error.kind() == ErrorKind::Interrupted => {}
-            Err(error) => return Err(error),
-        }
-    }
-    Ok(filled)
-}
-
 fn read_file(rt: &HostRuntime, alloc: Global, name: &[u8], at: u64, len: u64) -> io::Result<Bytes>
     ensures { IfOk result (λ bytes. length bytes ≤ len) }
 {
@@ -173,7 +164,7 @@ fn read_file(rt: &HostRuntime, alloc: Global, name: &[u8], at: u64, len: u64) ->
 }
 
 /// Returns the name of an entry; `None` if it isn't text, or isn't a complete file.
-fn name_of(alloc: Global, entry: io::Result<DirEntry>) -> io::Result<Option<FileName>>
+fn name_of(alloc: Global, entry: io::Result<DirEntry>) -> io::Result<Option<Bytes>>
     ensures { IfOk result (λ found. IfSome found IsFileName) }
 {
     match entry {
@@ -183,7 +174,7 @@ fn name_of(alloc: Global, entry: io::Result<DirEntry>) -> io::Result<Option<File
     }
 }
 
-fn names_in(rt: &HostRuntime, alloc: Global, folder: &[u8]) -> io::Result<Vec<FileName>>
+fn names_in(rt: &HostRuntime, alloc: Global, folder: &[u8]) -> io::Result<Vec<Bytes>>
     ensures { IfOk result (λ names. All IsFileName names.items) }
 {
     let mut names = Vec::new(alloc);
@@ -201,11 +192,14 @@ fn names_in(rt: &HostRuntime, alloc: Global, folder: &[u8]) -> io::Result<Vec<Fi
     Ok(names)
 }
 
-impl Folders {
-    pub fn new(rt: HostRuntime) -> Self {
+impl<'a> Folders<'a> {
+    pub fn new(rt: HostRuntime, shared: &'a Shared, access: Access) -> Self {
         let alloc = rt.alloc();
         Folders {
             rt,
+            shared,
+            access,
+            is_locked: false,
             written: None,
             synced_folders: Vec::new(alloc),
             unsynced: Vec::new(alloc),
@@ -248,7 +242,15 @@ impl Folders {
                 self.written = Some(OpenFile { name, file });
                 Ok(Some(()))
             }
-            Err(_) => Ok(None),
+            Err(error) => {
+                tell::<()>(
+                    &self.shared.journal,
+                    "created",
+                    name.as_slice(),
+                    &Err(error),
+                );
+                Ok(None)
+            }
         }
     }
 
@@ -263,9 +265,10 @@ impl Folders {
     fn open(&mut self, name: &[u8]) -> Result<Option<&File>, Memory> {
         if !self.is_open(name) {
             let kept = Bytes::from_slice(self.rt.alloc(), name)?;
-            self.written = match open_to_write(&self.rt, name) {
-                Ok(file) => Some(OpenFile { name: kept, file }),
-                Err(_) => None,
+            let opened = open_to_write(&self.rt, name);
+            self.written = match told(&self.shared.journal, "opened", name, opened) {
+                Some(file) => Some(OpenFile { name: kept, file }),
+                None => None,
             };
         }
         match &self.written {
@@ -276,10 +279,11 @@ impl Folders {
 
     /// Writes from an offset on. Returns `None` if the system refuses.
     pub fn write_at(&mut self, name: &[u8], at: u64, bytes: &[u8]) -> Result<Option<()>, Memory> {
-        match self.open(name)? {
-            Some(file) => Ok(write_to(file, at, bytes).ok()),
-            None => Ok(None),
-        }
+        let written = match self.open(name)? {
+            Some(file) => write_to(file, at, bytes),
+            None => return Ok(None),
+        };
+        Ok(told(&self.shared.journal, "written", name, written))
     }
 
     /// Fsyncs a file. Returns `None` if the system refuses, now or at an earlier fsync of this file.
@@ -293,7 +297,10 @@ impl Folders {
         }
         self.unsynced.push(kept)?;
         let answer = match &self.written {
-            Some(written) => written.file.sync_all().ok(),
+            Some(written) => {
+                let synced = written.file.sync_all();
+                told(&self.shared.journal, "synced", name, synced)
+            }
             None => None,
         };
         if answer.is_some() {
@@ -307,7 +314,8 @@ impl Folders {
         if self.is_open(name) {
             self.written = None;
         }
-        remove_file(&self.rt, name).ok()
+        let removed = remove_file(&self.rt, name);
+        told(&self.shared.journal, "removed", name, removed)
     }
 
     /// Reads from an offset on. Returns `None` if the system refuses.
@@ -320,15 +328,37 @@ impl Folders {
     ) -> Result<Option<Bytes>, Memory>
         ensures { IfOk result (λ answer. IfSome answer (λ bytes. length bytes ≤ len)) }
     {
-        answer_of(read_file(&self.rt, alloc, name, at, len))
+        let outcome = read_file(&self.rt, alloc, name, at, len);
+        tell(&self.shared.journal, "read", name, &outcome);
+        answer_of(outcome)
     }
 
-    /// Lists the names of the complete files in a folder. Returns `None` if the system refuses.
-    pub fn list(&self, alloc: Global, folder: &[u8]) -> Result<Option<Names>, Memory>
+    /// Creates the storage folder and locks it, before the first listing of a run that owns it.
+    fn lock(&mut self, folder: &[u8]) -> io::Result<()> {
+        if self.is_locked || self.access == Access::Reader {
+            return Ok(());
+        }
+        let folder = text(folder)?;
+        ensure_folder(&self.rt, folder)?;
+        own_folder(&self.rt, self.shared, folder)?;
+        self.is_locked = true;
+        Ok(())
+    }
+
+    /// Lists the names of the complete files in a folder. Returns `None` if the system refuses, or another run
+    /// has the storage folder.
+    pub fn list(&mut self, alloc: Global, folder: &[u8]) -> Result<Option<Names>, Memory>
         ensures { IfOk result (λ answer. IfSome answer IsListing) }
     {
-        match answer_of(names_in(&self.rt, alloc, folder))? {
-            Some(names) => Ok(Some(listing(alloc, names)?)),
+        let owned = self.lock(folder);
+        tell(&self.shared.journal, "locked", folder, &owned);
+        if answer_of(owned)?.is_none() {
+            return Ok(None);
+        }
+        let outcome = names_in(&self.rt, alloc, folder);
+        tell(&self.shared.journal, "listed", folder, &outcome);
+        match answer_of(outcome)? {
+            Some(names) => Ok(Some(listing(names)?)),
             None => Ok(None),
         }
     }

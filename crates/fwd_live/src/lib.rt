@@ -8,6 +8,7 @@
 
 mod answer;
 mod disk_calls;
+mod disk_log;
 mod file_name;
 mod files_calls;
 mod folder_disk;
@@ -17,12 +18,15 @@ mod live_loop;
 mod loop_calls;
 mod sink_calls;
 mod std_sink;
+mod storage_root;
 
 pub use disk_calls::{DiskCalls, DiskRecord, DiskStart};
 pub use files_calls::{FilesCalls, FilesRecord, FilesStart};
 pub use folder_disk::FolderDisk;
 pub use folder_files::FolderFiles;
+pub use fwd_live_poll::Shared;
 pub use live_loop::LiveLoop;
 pub use loop_calls::{LoopCalls, LoopRecord, LoopScript};
 pub use sink_calls::{SinkCalls, SinkRecord};
 pub use std_sink::StdSink;
+pub use storage_root::Access;

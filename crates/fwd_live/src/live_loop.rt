@@ -5,7 +5,7 @@ ghost use Rattle.fwd_outside.specs.Loop.{LoopGiven};
 
 use crate::answer::answer_of;
 use crate::loop_calls::LoopCalls;
-use fwd_live_poll::{Handed, Machine, USUAL_PATIENCE};
+use fwd_live_poll::{Handed, Machine, Shared, USUAL_PATIENCE};
 use fwd_outside::{
     Begun, ConnId, Dialed, Ends, Happening, InputId, LinkId, Loop, Memory, OutputId, Pushed,
     Replied,
@@ -17,23 +17,25 @@ use std::io;
 /// silent for longer than `USUAL_PATIENCE` of `fwd_live_poll`, or that sends more than 65,536 bytes before it
 /// has taken its payload.
 #[derive(Drop)]
-pub struct LiveLoop {
-    machine: Machine,
+pub struct LiveLoop<'a> {
+    machine: Machine<'a>,
+    shared: &'a Shared,
     faults: u64,
     happenings: u64,
     greatest: u64,
     calls: LoopCalls,
 }
 
-impl LiveLoop {
+impl<'a> LiveLoop<'a> {
     /// Returns the loop with an empty log. The caller picks what it is taken to bring.
-    pub fn new(rt: HostRuntime) -> io::Result<LiveLoop>
+    pub fn new(rt: HostRuntime, shared: &'a Shared) -> io::Result<LiveLoop<'a>>
         ghost brought: { LoopGiven }
         ensures { IfOk result (λ l. (l.calls.given ≡ brought) × (l.calls.entries ≡ [])) }
     {
-        let machine = Machine::new(rt, USUAL_PATIENCE)?;
+        let machine = Machine::new(rt, shared, USUAL_PATIENCE)?;
         Ok(LiveLoop {
             machine,
+            shared,
             faults: 0,
             happenings: 0,
             greatest: 0,
@@ -64,7 +66,7 @@ impl LiveLoop {
     }
 }
 
-impl Loop for LiveLoop {
+impl<'a> Loop for LiveLoop<'a> {
     ghost faults = { λ l. l.faults };
 
     ghost counts = { λ l. record { happenings = l.happenings; greatest = l.greatest; endless = true } };
@@ -86,6 +88,10 @@ impl Loop for LiveLoop {
     }
 
     fn wait(&mut self, alloc: Global, until: u64, paused: u64) -> Result<Happening, Memory> {
+        let read_within = self.shared.read_within.replace(u64::MAX);
+        self.machine
+            .note_files(read_within, self.shared.held_files.get());
+        self.machine.hold_back(self.shared)?;
         let happening = self.machine.wait(alloc, until, paused)?;
         self.calls = self.calls.then(&(until, paused, &happening));
         let misses = self.machine.take_misses();

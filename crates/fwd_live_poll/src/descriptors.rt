@@ -1,9 +1,9 @@
-//! The file descriptor budget of connections.
+//! The file descriptor budget of connections and followed files.
 
 use std::fs;
 
-/// Descriptors reserved for everything but connections: standard input and output, the poll, the disk,
-/// followed files.
+/// Descriptors reserved for everything but connections and followed files: standard input and output, the
+/// poll, the disk.
 const RESERVED: u64 = 64;
 
 /// The largest number of links that an output has at once.
@@ -24,14 +24,48 @@ fn limit(rt: &HostRuntime) -> Option<u64> {
     None
 }
 
-/// Returns the largest number of connections at once: it leaves the reserved descriptors, one for each
-/// input and some for each output, but is at least half of the limit.
-pub fn most_conns(rt: &HostRuntime, inputs: usize, outputs: usize) -> usize {
-    let Some(limit) = limit(rt) else {
-        return usize::MAX;
-    };
-    let links = MOST_LINKS.saturating_mul(outputs as u64);
-    let kept = RESERVED.saturating_add(inputs as u64).saturating_add(links);
-    let most = limit.saturating_sub(kept).max(limit / 2);
-    usize::try_from(most).unwrap_or(usize::MAX)
+/// Returns the largest number of followed files that are held open at once: a quarter of the limit.
+pub fn most_files(rt: &HostRuntime) -> usize {
+    match limit(rt) {
+        Some(limit) => usize::try_from(limit / 4).unwrap_or(usize::MAX),
+        None => usize::MAX,
+    }
+}
+
+/// How many connections there may be.
+#[derive(Clone, Copy, Debug, PartialEq, Eq)]
+pub struct Budget {
+    /// The largest number of connections and followed files at once.
+    most: usize,
+    /// The number of connections that there may be in any case.
+    least: usize,
+}
+
+impl Budget {
+    /// Returns a budget without limits.
+    pub fn unlimited() -> Budget {
+        Budget {
+            most: usize::MAX,
+            least: usize::MAX,
+        }
+    }
+
+    /// Returns the budget of the process: it leaves the reserved descriptors, one for each input and some for
+    /// each output, but has at least half of the limit for connections.
+    pub fn of(rt: &HostRuntime, inputs: usize, outputs: usize) -> Budget {
+        let Some(limit) = limit(rt) else {
+            return Budget::unlimited();
+        };
+        let links = MOST_LINKS.saturating_mul(outputs as u64);
+        let kept = RESERVED.saturating_add(inputs as u64).saturating_add(links);
+        Budget {
+            most: usize::try_from(limit.saturating_sub(kept)).unwrap_or(usize::MAX),
+            least: usize::try_from(limit / 2).unwrap_or(usize::MAX),
+        }
+    }
+
+    /// Returns the largest number of connections while followed files hold this many descriptors.
+    pub fn conns(self, held_files: usize) -> usize {
+        self.most.saturating_sub(held_files).max(self.least)
+    }
 }

@@ -13,12 +13,15 @@ mod machine;
 mod mask;
 mod names;
 mod patience;
+mod shared;
 mod signals;
 mod source;
 mod sources;
 
+pub use descriptors::most_files;
 pub use link::Handed;
 pub use machine::Machine;
-pub use names::{memory_error, text};
+pub use names::{memory_error, path_in, text};
 pub use patience::{Patience, USUAL_PATIENCE};
+pub use shared::{Shared, write_probe};
 pub use signals::pending_in;

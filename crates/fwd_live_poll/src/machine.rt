@@ -5,14 +5,16 @@ ghost use Rattle.fwd_outside.specs.Loop.{MayOccur};
 ghost use Rattle.fwd_live_poll.specs.Handed.{TakesAtMost};
 
 use crate::clock::Clock;
-use crate::descriptors::most_conns;
+use crate::descriptors::Budget;
 use crate::input::{Feed, Input, listen};
 use crate::link::{Handed, Link, Peer};
 use crate::names::{addresses_of, file_of_tag, memory_error, path_in, text};
 use crate::patience::Patience;
+use crate::shared::Shared;
 use crate::signals::asked_to_stop;
 use crate::source::Source;
 use crate::sources::Sources;
+use fwd_log::{Address, Journal, Level, Source as About, Topic};
 use fwd_outside::{ConnId, Ends, Happening, InEnd, InputId, LinkId, Memory, OutEnd, OutputId};
 use mio::net::TcpStream;
 use mio::unix::SourceFd;
@@ -37,18 +39,24 @@ const MOST_TICK_AGE: u64 = 10;
 /// The least number of milliseconds between two checks for signals.
 const SIGNAL_CHECK_INTERVAL: u64 = 200;
 
+/// The number of milliseconds between two probe writes, and between a failed write and the first.
+const PROBE_INTERVAL: u64 = 1_000;
+
 /// The system's part of an event loop.
 #[derive(Drop)]
-pub struct Machine {
+pub struct Machine<'a> {
     rt: HostRuntime,
+    journal: &'a Journal,
     poll: Poll,
     events: Events,
     outputs: Vec<OutEnd>,
-    sources: Sources,
+    sources: Sources<'a>,
     looks: u32,
     clock: Clock,
     /// The time of the last tick.
     last_tick: u64,
+    /// Within how many milliseconds of it the next tick comes, whatever the deadline is.
+    read_within: u64,
     /// Whether no event was returned since then.
     is_after_tick: bool,
     /// How many other events come before the next tick.
@@ -57,26 +65,31 @@ pub struct Machine {
     next_signal_check: u64,
     /// Whether a signal was found that asks the program to stop. `Stop` is returned once.
     is_stopping: bool,
+    /// The time of the next probe write, by the monotonic clock.
+    next_probe: u64,
 }
 
-impl Machine {
+impl<'a> Machine<'a> {
     /// Returns a machine with nothing open. A link breaks if its peer is silent for longer than this
     /// patience.
-    pub fn new(rt: HostRuntime, patience: Patience) -> io::Result<Machine> {
+    pub fn new(rt: HostRuntime, shared: &'a Shared, patience: Patience) -> io::Result<Machine<'a>> {
         let alloc = rt.alloc();
         Ok(Machine {
             rt,
+            journal: &shared.journal,
             poll: Poll::new(&rt)?,
             events: Events::with_capacity(alloc, EVENTS)?,
             outputs: Vec::new(alloc),
-            sources: Sources::new(rt, patience).map_err(memory_error)?,
+            sources: Sources::new(rt, &shared.journal, patience).map_err(memory_error)?,
             looks: 0,
             clock: Clock::new(&rt)?,
             last_tick: 0,
+            read_within: u64::MAX,
             is_after_tick: false,
             turns: 0,
             next_signal_check: 0,
             is_stopping: false,
+            next_probe: 0,
         })
     }
 
@@ -106,8 +119,52 @@ impl Machine {
         for end in ends.inputs.as_slice() {
             self.add_input(end)?;
         }
-        self.sources.most_conns = most_conns(&self.rt, ends.inputs.len(), ends.outputs.len());
+        self.sources.budget = Budget::of(&self.rt, ends.inputs.len(), ends.outputs.len());
+        self.serve_pages();
         Ok(())
+    }
+
+    /// Listens where the pages are to be served. The log says so, or why it can't; the run goes on without them.
+    fn serve_pages(&mut self) {
+        let Some(Address { host, port }) = self.journal.take_server() else {
+            return;
+        };
+        let name = text(host.as_slice()).unwrap_or("?");
+        match self.open_server(host.as_slice(), port) {
+            Ok(()) => {
+                let said = format_args!("serves its pages at {name} port {port}");
+                self.journal
+                    .write(Level::Info, About::Http, Topic::Listener, &said);
+            }
+            Err(reason) => {
+                let said = format_args!(
+                    "can't listen at {name} port {port}: {reason}; no pages are served"
+                );
+                self.journal
+                    .write(Level::Error, About::Http, Topic::Listener, &said);
+            }
+        }
+    }
+
+    /// Opens the server at the first address of the host that works.
+    fn open_server(&mut self, host: &[u8], port: u16) -> io::Result<()> {
+        let mut refusal = io::Error::from(ErrorKind::AddrNotAvailable);
+        for address in addresses_of(&self.rt, host, port)? {
+            match self
+                .sources
+                .server
+                .open(&self.rt, self.poll.registry(), address)
+            {
+                Ok(()) => return Ok(()),
+                Err(error) => refusal = error,
+            }
+        }
+        Err(refusal)
+    }
+
+    /// Returns the port of the server of pages.
+    pub fn page_port(&self) -> Option<u16> {
+        self.sources.server.port()
     }
 
     fn add_input(&mut self, end: &InEnd) -> io::Result<()> {
@@ -119,7 +176,14 @@ impl Machine {
         let registry = self.poll.registry();
         let (feed, queued) = match end {
             InEnd::Listen { host, port } => {
-                let listener = listen(&self.rt, registry, token, host.as_slice(), *port)?;
+                let listener = listen(
+                    &self.rt,
+                    registry,
+                    self.journal,
+                    input,
+                    host.as_slice(),
+                    *port,
+                )?;
                 (Feed::Listening(listener), false)
             }
             InEnd::Stdin => {
@@ -135,11 +199,23 @@ impl Machine {
             .map_err(memory_error)
     }
 
+    /// Notes what the followed files say: within how many milliseconds of the last tick they are to be read
+    /// again, and how many descriptors they hold.
+    pub fn note_files(&mut self, read_within: u64, held: usize) {
+        self.read_within = self.read_within.min(read_within);
+        self.sources.held_files = held;
+    }
+
+    /// Returns the latest time of the next tick: the deadline, or the next reading of followed files.
+    fn tick_at(&self, until: u64) -> u64 {
+        until.min(self.last_tick.saturating_add(self.read_within))
+    }
+
     /// Returns whether the next event has to be a tick.
     fn is_tick_due(&self, now: u64, until: u64) -> bool {
         until <= self.last_tick
             || (self.turns == 0
-                && (until <= now
+                && (self.tick_at(until) <= now
                     || (!self.sources.is_idle()
                         && MOST_TICK_AGE <= now.saturating_sub(self.last_tick))))
     }
@@ -152,6 +228,7 @@ impl Machine {
         }
         self.is_after_tick = true;
         self.last_tick = now;
+        self.read_within = u64::MAX;
     }
 
     /// Checks for signals, if a check is due. Returns whether it finds, for the first time, that one asks the
@@ -163,6 +240,20 @@ impl Machine {
         self.next_signal_check = passed.saturating_add(SIGNAL_CHECK_INTERVAL);
         self.is_stopping = asked_to_stop(&self.rt);
         self.is_stopping
+    }
+
+    /// Holds back all inputs while the disk fails, and tries once a second whether it takes writes again.
+    pub fn hold_back(&mut self, shared: &Shared) -> Result<(), Memory> {
+        if shared.disk_failed.get() {
+            let passed = self.clock.passed(&self.rt);
+            if !self.sources.is_holding() {
+                self.next_probe = passed.saturating_add(PROBE_INTERVAL);
+            } else if self.next_probe <= passed {
+                self.next_probe = passed.saturating_add(PROBE_INTERVAL);
+                shared.probe();
+            }
+        }
+        self.sources.hold(shared.disk_failed.get())
     }
 
     /// Polls for at most `most` milliseconds, and doesn't block if a source is left to be looked at.
@@ -205,6 +296,7 @@ impl Machine {
         ensures { IfOk result (MayOccur true paused) }
     {
         self.sources.pause(paused)?;
+        self.sources.answer_pages()?;
         for _ in 0..u64::MAX {
             let Ok(now) = self.clock.read(&self.rt) else {
                 return Ok(Happening::Failed);
@@ -214,6 +306,9 @@ impl Machine {
             self.sources.set_passed(passed)?;
             if self.is_tick_due(now, until) {
                 if self.finds_stop(passed) {
+                    let said = "a signal asks for the end";
+                    self.journal
+                        .write(Level::Info, About::Engine, Topic::Run, &said);
                     return Ok(Happening::Stop);
                 }
                 self.note_tick(now);
@@ -228,7 +323,7 @@ impl Machine {
                 return Ok(found);
             }
             self.turns = 0;
-            let next = until.min(self.sources.retry_at());
+            let next = self.tick_at(until).min(self.sources.retry_at());
             let most = next.saturating_sub(now);
             let walk = self.sources.scan_at().saturating_sub(passed);
             if !self.ask(most.min(walk))? {
@@ -245,7 +340,7 @@ impl Machine {
         self.poll.registry().register(&mut stream, token, both)?;
         let passed = self.clock.passed(&self.rt);
         self.sources.note_dial(passed);
-        Ok(Link::Connected(Peer::new(output, stream, passed)))
+        Ok(Link::Connected(Peer::new(self.rt.alloc(), output, stream, passed)))
     }
 
     /// Dials a peer, at its next address if the last one was never reached.
@@ -272,14 +367,14 @@ impl Machine {
     fn open(&mut self, output: OutputId, tag: &[u8], link: LinkId) -> io::Result<Link> {
         match self.outputs.get(output.0 as usize) {
             None => Err(io::Error::from(ErrorKind::NotFound)),
-            Some(OutEnd::Stdout) => Ok(Link::Stdout),
+            Some(OutEnd::Stdout) => Ok(Link::Stdout(output)),
             Some(OutEnd::Folder { path, file }) => {
                 let name = match file {
                     Some(name) => Some(name.as_slice()),
                     None => None,
                 };
                 let opened = open_to_append(&self.rt, path.as_slice(), name, tag)?;
-                Ok(Link::Appended(opened))
+                Ok(Link::Appended(output, opened))
             }
             Some(OutEnd::Peer { host, port }) => {
                 let addresses = addresses_of(&self.rt, host.as_slice(), *port)?;
@@ -290,7 +385,13 @@ impl Machine {
 
     /// Opens the link of this number.
     pub fn dial(&mut self, link: LinkId, output: OutputId, tag: &[u8]) -> io::Result<()> {
-        let opened = self.open(output, tag, link)?;
+        let opened = match self.open(output, tag, link) {
+            Ok(opened) => opened,
+            Err(error) => {
+                note_failure(self.journal, output, &error);
+                return Err(error);
+            }
+        };
         self.sources.links.insert(link.0, opened)?;
         Ok(())
     }
@@ -301,7 +402,14 @@ impl Machine {
     {
         let passed = self.clock.passed(&self.rt);
         match self.sources.links.get_mut(&link.0) {
-            Some(link) => link.push(&self.rt, bytes, passed),
+            Some(link) => {
+                let mut failure = None;
+                let handed = link.push(&self.rt, bytes, passed, &mut failure);
+                if let Some(error) = failure {
+                    note_failure(self.journal, link.output(), &error);
+                }
+                handed
+            }
             None => Handed::Broken,
         }
     }
@@ -330,6 +438,14 @@ impl Machine {
         self.rt.fill_bytes(&mut bytes)?;
         Ok(u64::from_le_bytes(bytes))
     }
+}
+
+/// Keeps why a link of an output failed, for the line on its retries.
+fn note_failure(journal: &Journal, output: OutputId, error: &io::Error) {
+    if let Ok(text) = format!(in journal.alloc(); "{error}") {
+        journal.note_reason(output, text.as_bytes());
+    }
+    journal.write(Level::Debug, About::Output(output), Topic::Link, error);
 }
 
 /// Opens a file of a folder for appending; without a name, the tag gives the name.

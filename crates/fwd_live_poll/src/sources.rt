@@ -5,12 +5,15 @@ ghost use Rattle.fwd_base.specs.Limits.{longest_piece};
 ghost use Rattle.fwd_outside.specs.Loop.{IsNotPaused, MayOccur};
 
 use crate::conn::Conn;
+use crate::descriptors::Budget;
 use crate::input::{Feed, Input};
 use crate::link::{Link, PeerState};
 use crate::mask::is_heard;
 use crate::patience::Patience;
 use crate::source::Source;
 use fwd_base::limits::LONGEST_PIECE;
+use fwd_live_http::{Again, Server};
+use fwd_log::{Journal, Level, Source as About, Topic};
 use fwd_outside::{Bytes, ConnId, Happening, InputId, LinkId, Memory, OutputId};
 use mio::event::Event;
 use mio::net::TcpStream;
@@ -18,7 +21,8 @@ use mio::unix::SourceFd;
 use mio::{Interest, Registry};
 use std::alloc::Global;
 use std::collections::{HashMap, VecDeque};
-use std::io::{ErrorKind, Read};
+use std::fmt::Display;
+use std::io::{self, ErrorKind, Read};
 use std::mem;
 use std::os::fd::AsRawFd;
 
@@ -36,19 +40,23 @@ enum Unread {
     /// The read has to be retried.
     Interrupted,
     Over,
-    Failed,
+    /// It failed with this error number of the system, if it gave one.
+    Failed(Option<i32>),
     Memory,
 }
 
 /// All sources.
 #[derive(Drop)]
-pub struct Sources {
+pub struct Sources<'a> {
     rt: HostRuntime,
+    journal: &'a Journal,
+    pub server: Server<'a>,
     pub inputs: Vec<Input>,
     pub conns: HashMap<u64, Conn>,
     pub links: HashMap<u64, Link>,
-    /// The largest number of connections at once.
-    pub most_conns: usize,
+    pub budget: Budget,
+    /// How many descriptors the followed files hold.
+    pub held_files: usize,
     /// How many connections to an output's peer were never established, by output.
     unanswered: HashMap<u32, u64>,
     /// Sources that may have something.
@@ -66,11 +74,29 @@ pub struct Sources {
     /// The time of the next scan for silent links, by that clock.
     scan_at: u64,
     paused: u64,
+    /// Whether all inputs are held back, as the disk fails.
+    is_holding: bool,
     /// The read buffer.
     part: Vec<u8>,
     newest: u64,
     /// Errors that no answer reports.
     misses: u64,
+}
+
+/// Returns the error with this number of the system.
+fn error_of(errno: Option<i32>) -> io::Error {
+    match errno {
+        Some(number) => io::Error::from_raw_os_error(number),
+        None => io::Error::from(ErrorKind::Other),
+    }
+}
+
+/// Returns why a silent link is broken.
+fn silence_of(standing: PeerState) -> &'static str {
+    match standing {
+        PeerState::Connecting => "no answer to the connection",
+        PeerState::Open | PeerState::Over => "the peer was silent for too long",
+    }
 }
 
 /// Reads once.
@@ -87,21 +113,28 @@ fn read_from<R: Read>(alloc: Global, from: &mut R, part: &mut [u8]) -> Result<By
         },
         Err(error) if error.kind() == ErrorKind::WouldBlock => Err(Unread::Nothing),
         Err(error) if error.kind() == ErrorKind::Interrupted => Err(Unread::Interrupted),
-        Err(_) => Err(Unread::Failed),
+        Err(error) => Err(Unread::Failed(error.raw_os_error())),
     }
 }
 
-impl Sources {
-    pub fn new(rt: HostRuntime, patience: Patience) -> Result<Sources, Memory> {
+impl<'a> Sources<'a> {
+    pub fn new(
+        rt: HostRuntime,
+        journal: &'a Journal,
+        patience: Patience,
+    ) -> Result<Sources<'a>, Memory> {
         let alloc = rt.alloc();
         let mut part = Vec::new(alloc);
         part.resize(LONGEST_PIECE, 0)?;
         Ok(Sources {
             rt,
+            journal,
+            server: Server::new(alloc, journal),
             inputs: Vec::new(alloc),
             conns: HashMap::new(alloc),
             links: HashMap::new(alloc),
-            most_conns: usize::MAX,
+            budget: Budget::unlimited(),
+            held_files: 0,
             unanswered: HashMap::new(alloc),
             ready: VecDeque::new(alloc),
             held: VecDeque::new(alloc),
@@ -112,6 +145,7 @@ impl Sources {
             passed: 0,
             scan_at: u64::MAX,
             paused: 0,
+            is_holding: false,
             part,
             newest: 0,
             misses: 0,
@@ -175,6 +209,9 @@ impl Sources {
     /// Sets the monotonic time, and queues links that were silent for too long.
     pub fn set_passed(&mut self, passed: u64) -> Result<(), Memory> {
         self.passed = passed;
+        if self.server.expire(passed) {
+            self.ready.push_back(Source::Page(0))?;
+        }
         if self.scan_at <= passed {
             self.scan_links()?;
         }
@@ -193,7 +230,7 @@ impl Sources {
                         self.ready.push_back(Source::Link(LinkId(*number)))?;
                     }
                 }
-                Link::Stdout | Link::Appended(_) => {}
+                Link::Stdout(_) | Link::Appended(_, _) => {}
             }
         }
         Ok(())
@@ -217,10 +254,30 @@ impl Sources {
     pub fn pause(&mut self, paused: u64) -> Result<(), Memory> {
         if paused != self.paused {
             self.paused = paused;
-            for _ in 0..self.held.len() {
-                if let Some(source) = self.held.pop_front() {
-                    self.ready.push_back(source)?;
-                }
+            self.queue_held()?;
+        }
+        Ok(())
+    }
+
+    /// Returns whether all inputs are held back.
+    pub fn is_holding(&self) -> bool {
+        self.is_holding
+    }
+
+    /// Holds back all inputs from now on, or lets those go on that aren't paused.
+    pub fn hold(&mut self, is_holding: bool) -> Result<(), Memory> {
+        if is_holding != self.is_holding {
+            self.is_holding = is_holding;
+            self.queue_held()?;
+        }
+        Ok(())
+    }
+
+    /// Queues the sources again that were held back.
+    fn queue_held(&mut self) -> Result<(), Memory> {
+        for _ in 0..self.held.len() {
+            if let Some(source) = self.held.pop_front() {
+                self.ready.push_back(source)?;
             }
         }
         Ok(())
@@ -235,6 +292,7 @@ impl Sources {
             Source::Input(input) => self.mark_input(input),
             Source::Conn(conn) => self.mark_conn(conn, event),
             Source::Link(link) => self.mark_link(link, event),
+            Source::Page(number) => self.server.mark(number),
         };
         if queues {
             self.ready.push_back(source)?;
@@ -287,8 +345,8 @@ impl Sources {
                 }
                 !mem::replace(&mut peer.queued, true)
             }
-            Some(Link::Stdout) => false,
-            Some(Link::Appended(_)) => false,
+            Some(Link::Stdout(_)) => false,
+            Some(Link::Appended(_, _)) => false,
             None => false,
         }
     }
@@ -306,8 +364,56 @@ impl Sources {
             Some(Source::Input(input)) => self.look_at_input(alloc, registry, input, paused),
             Some(Source::Conn(conn)) => self.look_at_conn(alloc, conn, paused),
             Some(Source::Link(link)) => self.look_at_link(alloc, link),
+            Some(Source::Page(number)) => {
+                self.look_at_page(alloc, registry, number)?;
+                Ok(None)
+            }
             None => Ok(None),
         }
+    }
+
+    /// Looks at a number of the server of pages. It gives no event.
+    fn look_at_page(
+        &mut self,
+        alloc: Global,
+        registry: &Registry,
+        number: u64,
+    ) -> Result<(), Memory> {
+        let again = self.server.look(alloc, registry, number, self.passed)?;
+        self.queue_again(again)
+    }
+
+    fn queue_again(&mut self, again: Again) -> Result<(), Memory> {
+        if let Some(number) = again.asker {
+            self.ready.push_back(Source::Page(number))?;
+        }
+        if again.listener {
+            self.ready.push_back(Source::Page(0))?;
+        }
+        Ok(())
+    }
+
+    /// Has pages that came to the board written to those who wait for them.
+    pub fn answer_pages(&mut self) -> Result<(), Memory> {
+        for number in self.server.answer(self.rt.alloc())? {
+            self.ready.push_back(Source::Page(number))?;
+        }
+        Ok(())
+    }
+
+    /// Keeps why a link of an output broke or never opened, for the line on its retries.
+    fn note_broken(&self, output: OutputId, reason: &impl Display) {
+        if let Ok(text) = format!(in self.rt.alloc(); "{reason}") {
+            self.journal.note_reason(output, text.as_bytes());
+        }
+        let about = About::Output(output);
+        self.journal.write(Level::Debug, about, Topic::Link, reason);
+    }
+
+    /// Writes a line on an input's peers.
+    fn tell_peer(&self, level: Level, input: InputId, text: &impl Display) {
+        self.journal
+            .write(level, About::Input(input), Topic::Peer, text);
     }
 
     fn look_at_input(
@@ -319,17 +425,19 @@ impl Sources {
     ) -> Result<Option<Happening>, Memory>
         ensures { IfOk result (λ found. IfSome found (MayOccur true paused)) }
     {
-        if !is_heard(paused, input) {
+        if self.is_holding || !is_heard(paused, input) {
             self.held.push_back(Source::Input(input))?;
             return Ok(None);
         }
-        let is_full = self.most_conns <= self.conns.len();
+        let is_full = self.budget.conns(self.held_files) <= self.conns.len();
         let Some(there) = self.inputs.get(input.0 as usize) else {
             return Ok(None);
         };
         match &there.feed {
             Feed::Listening(_) if is_full => {
                 self.refused.push_back(Source::Input(input))?;
+                let text = "has as many peers as there are descriptors for; others wait";
+                self.tell_peer(Level::Warn, input, &text);
                 Ok(None)
             }
             Feed::Listening(listener) => match listener.accept() {
@@ -339,6 +447,7 @@ impl Sources {
                     Ok(conn.map(|conn| Happening::Joined { input, conn }))
                 }
                 Err(error) => {
+                    self.tell_unaccepted(input, &error);
                     self.accept_later(input, error.kind())?;
                     Ok(None)
                 }
@@ -348,6 +457,13 @@ impl Sources {
                 self.look_at_stdin(alloc, registry, input, watched, paused)
             }
             Feed::Quiet => Ok(None),
+        }
+    }
+
+    fn tell_unaccepted(&self, input: InputId, error: &io::Error) {
+        if error.kind() != ErrorKind::WouldBlock {
+            let text = format_args!("no peer can be accepted: {error}");
+            self.tell_peer(Level::Warn, input, &text);
         }
     }
 
@@ -443,8 +559,11 @@ impl Sources {
                 self.end_stdin(registry, input, watched);
                 Ok(Some(Happening::InputEnd { input }))
             }
-            Unread::Failed => {
+            Unread::Failed(errno) => {
                 self.miss();
+                let error = error_of(errno);
+                let text = format_args!("standard input can't be read: {error}");
+                self.tell_peer(Level::Error, input, &text);
                 self.end_stdin(registry, input, watched);
                 Ok(Some(Happening::InputEnd { input }))
             }
@@ -501,7 +620,7 @@ impl Sources {
             return Ok(None);
         };
         let input = conn.input;
-        if !is_heard(paused, input) {
+        if self.is_holding || !is_heard(paused, input) {
             self.held.push_back(Source::Conn(id))?;
             return Ok(None);
         }
@@ -545,8 +664,11 @@ impl Sources {
                 self.end_conn(id);
                 Ok(Some(Happening::Gone { input, conn: id }))
             }
-            Unread::Failed => {
+            Unread::Failed(errno) => {
                 self.miss();
+                let error = error_of(errno);
+                let text = format_args!("a peer is lost: {error}");
+                self.tell_peer(Level::Warn, input, &text);
                 self.leave(id);
                 Ok(Some(Happening::Gone { input, conn: id }))
             }
@@ -579,9 +701,10 @@ impl Sources {
                 if !peer.writable {
                     return Ok(None);
                 }
-                if !peer.is_established() {
+                if let Some(error) = peer.dial_error() {
                     peer.standing = PeerState::Over;
                     let output = peer.output;
+                    self.note_broken(output, &error);
                     self.note_unanswered(output)?;
                     self.miss();
                     return Ok(Some(Happening::Broken { link }));
@@ -607,8 +730,14 @@ impl Sources {
         let mut stream = &peer.stream;
         match read_from(alloc, &mut stream, &mut self.part) {
             Ok(bytes) => {
-                if !peer.note_received(bytes.len(), self.passed) {
+                let output = peer.output;
+                let fits = peer.note_received(bytes.len(), self.passed);
+                if let Some(refusal) = peer.keep_refusal(bytes.as_slice()) {
+                    self.journal.note_reason(output, refusal);
+                }
+                if !fits {
                     peer.standing = PeerState::Over;
+                    self.note_broken(output, &"the peer sent too much before it took its payload");
                     self.miss();
                     return Ok(Some(Happening::Broken { link }));
                 }
@@ -636,7 +765,10 @@ impl Sources {
                 if self.passed < peer.silent_at(self.patience) {
                     return Ok(None);
                 }
+                let why = silence_of(peer.standing);
                 peer.standing = PeerState::Over;
+                let output = peer.output;
+                self.note_broken(output, &why);
                 self.miss();
                 Ok(Some(Happening::Broken { link }))
             }
@@ -647,10 +779,16 @@ impl Sources {
             }
             Unread::Over => {
                 peer.standing = PeerState::Over;
+                let output = peer.output;
+                if !peer.has_refusal() {
+                    self.note_broken(output, &"the peer closed the connection");
+                }
                 Ok(Some(Happening::Broken { link }))
             }
-            Unread::Failed => {
+            Unread::Failed(errno) => {
                 peer.standing = PeerState::Over;
+                let output = peer.output;
+                self.note_broken(output, &error_of(errno));
                 self.miss();
                 Ok(Some(Happening::Broken { link }))
             }

@@ -1,9 +1,11 @@
 //! A disk in the folders of the machine.
 
-use fwd_live::FolderDisk;
+use crate::stage::quiet;
+use fwd_live::{Access, FolderDisk, Shared};
 use fwd_outside::{Bytes, Disk, DiskErr, Memory};
 use std::alloc::Global;
 use std::fs;
+use std::os::unix::fs::MetadataExt;
 use std::test::Fail;
 
 /// A call on the disk with the answer that is wanted, or what another program does to the folders meanwhile.
@@ -60,12 +62,12 @@ const STEPS: &[Step] = &[
     Step::Lists("fwd_test_live/a/b", &["4"]),
 ];
 
-fn new_disk(rt: HostRuntime) -> FolderDisk {
-    FolderDisk::new(rt)
+fn new_disk(rt: HostRuntime, shared: &Shared, access: Access) -> FolderDisk<'_> {
+    FolderDisk::new(rt, shared, access)
 }
 
 fn reads(
-    disk: &mut FolderDisk,
+    disk: &mut FolderDisk<'_>,
     alloc: Global,
     name: &str,
     at: u64,
@@ -77,7 +79,7 @@ fn reads(
 }
 
 fn lists(
-    disk: &mut FolderDisk,
+    disk: &mut FolderDisk<'_>,
     alloc: Global,
     folder: &str,
     names: &[&str],
@@ -98,7 +100,7 @@ fn fails<T>(answer: &Result<T, DiskErr>) -> bool {
     matches!(answer, Err(DiskErr::Failed))
 }
 
-fn is_so(disk: &mut FolderDisk, rt: HostRuntime, step: Step) -> bool {
+fn is_so(disk: &mut FolderDisk<'_>, rt: HostRuntime, step: Step) -> bool {
     let alloc = rt.alloc();
     match step {
         Step::Place(name, bytes) => disk.place(name.as_bytes(), bytes).is_ok(),
@@ -120,7 +122,7 @@ fn is_so(disk: &mut FolderDisk, rt: HostRuntime, step: Step) -> bool {
 }
 
 /// The place of the first step whose answer differs.
-fn first_other(disk: &mut FolderDisk, rt: HostRuntime) -> usize {
+fn first_other(disk: &mut FolderDisk<'_>, rt: HostRuntime) -> usize {
     for (place, step) in STEPS.iter().enumerate() {
         if !is_so(disk, rt, *step) {
             return place;
@@ -132,9 +134,53 @@ fn first_other(disk: &mut FolderDisk, rt: HostRuntime) -> usize {
 #[test]
 fn a_disk_answers(rt: HostRuntime) {
     let _ = fs::remove_dir_all(&rt, "fwd_test_live");
-    let steps = first_other(&mut new_disk(rt), rt);
+    let shared = quiet(rt);
+    let steps = first_other(&mut new_disk(rt, &shared, Access::Owner), rt);
     let _ = fs::remove_dir_all(&rt, "fwd_test_live");
     assert!(rt; steps == STEPS.len(), "step {steps}");
+}
+
+const LOCKED: &str = "fwd_test_live_locked";
+
+/// Whether a disk lists the folder, which is empty. The lock stays with what it shares.
+fn is_listed(rt: HostRuntime, shared: &Shared, access: Access) -> bool {
+    let mut disk = new_disk(rt, shared, access);
+    matches!(lists(&mut disk, rt.alloc(), LOCKED, &[]), Ok(true))
+}
+
+fn has_mode(rt: HostRuntime, path: &str, mode: u32) -> bool {
+    match fs::metadata(&rt, path) {
+        Ok(metadata) => metadata.mode() & 0o777 == mode,
+        Err(_) => false,
+    }
+}
+
+#[test]
+fn a_reader_makes_nothing(rt: HostRuntime) {
+    let listed = is_listed(rt, &quiet(rt), Access::Reader);
+    assert!(rt; listed && fs::metadata(&rt, LOCKED).is_err());
+}
+
+#[test]
+fn a_folder_has_one_owner(rt: HostRuntime) {
+    let shared = quiet(rt);
+    let first = is_listed(rt, &shared, Access::Owner);
+    let second = is_listed(rt, &quiet(rt), Access::Owner);
+    let reader = is_listed(rt, &quiet(rt), Access::Reader);
+    let private = has_mode(rt, LOCKED, 0o700) && has_mode(rt, "fwd_test_live_locked/.lock", 0o600);
+    let _ = fs::remove_dir_all(&rt, LOCKED);
+    assert!(rt; first && !second && reader && private && !shared.disk_failed.get());
+}
+
+fn place_nowhere(rt: HostRuntime, shared: &Shared) -> bool {
+    let mut disk = new_disk(rt, shared, Access::Reader);
+    fails(&disk.place(b"/dev/null/x", b"x"))
+}
+
+#[test]
+fn a_write_that_fails_is_noted(rt: HostRuntime) {
+    let shared = quiet(rt);
+    assert!(rt; place_nowhere(rt, &shared) && shared.disk_failed.get());
 }
 
 /// More bytes than any batch has.
@@ -146,20 +192,21 @@ fn large(alloc: Global) -> Result<Bytes, Memory> {
     Ok(Bytes::from_vec(bytes))
 }
 
-fn place_large(disk: &mut FolderDisk, alloc: Global) -> Result<(), DiskErr> {
+fn place_large(disk: &mut FolderDisk<'_>, alloc: Global) -> Result<(), DiskErr> {
     let bytes = large(alloc)?;
     disk.place(b"fwd_test_live_large/1", bytes.as_slice())?;
     disk.write_at(b"fwd_test_live_large/1", 1, bytes.as_slice())
 }
 
-fn read_large(disk: &mut FolderDisk, alloc: Global) -> Result<bool, DiskErr> {
+fn read_large(disk: &mut FolderDisk<'_>, alloc: Global) -> Result<bool, DiskErr> {
     let read = disk.read(alloc, b"fwd_test_live_large/1", 0, u64::MAX)?;
     Ok(read.len() == LARGE + 1)
 }
 
 #[test]
 fn a_large_file_is_written_and_read(rt: HostRuntime) -> Result<(), Fail> {
-    let mut disk = new_disk(rt);
+    let shared = quiet(rt);
+    let mut disk = new_disk(rt, &shared, Access::Owner);
     let placed = place_large(&mut disk, rt.alloc());
     let read = read_large(&mut disk, rt.alloc());
     fs::remove_dir_all(&rt, "fwd_test_live_large")?;

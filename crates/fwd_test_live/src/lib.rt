@@ -8,6 +8,10 @@ mod disk;
 #[cfg(test)]
 mod files;
 #[cfg(test)]
+mod haste;
+#[cfg(test)]
+mod rotation;
+#[cfg(test)]
 mod scenes;
 #[cfg(test)]
 mod signals;

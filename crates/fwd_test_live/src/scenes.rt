@@ -1,7 +1,8 @@
 //! Scenes of the loop with its peers.
 
-use crate::stage::{Output, Stage, ends, new_loop, new_stage};
+use crate::stage::{Output, Stage, ends, new_loop, new_stage, quiet};
 use crate::steps::{Step, take};
+use fwd_live::Shared;
 use fwd_outside::{Begun, Loop, OutEnd, Pushed, Replied};
 use std::net::TcpListener;
 use std::test::Fail;
@@ -30,6 +31,17 @@ const SCENES: &[Scene] = &[
             Step::Close,
             Step::Gone(1),
             Step::Reply(1, b"ok", Replied::Broken),
+        ],
+    },
+    Scene {
+        name: "inputs are held back until a probe write succeeds",
+        output: Output::Stdout,
+        steps: &[
+            Step::Connect,
+            Step::Joined(1),
+            Step::Send(b"x"),
+            Step::Held,
+            Step::Piece(b"x"),
         ],
     },
     // A peer that closes with unread bytes resets its connection.
@@ -177,7 +189,7 @@ const SCENES: &[Scene] = &[
 ];
 
 /// The place of the first step that goes otherwise.
-fn first_other(stage: &mut Stage, rt: HostRuntime, steps: &[Step]) -> Result<usize, Fail> {
+fn first_other(stage: &mut Stage<'_>, rt: HostRuntime, steps: &[Step]) -> Result<usize, Fail> {
     for (place, step) in steps.iter().enumerate() {
         if !take(stage, rt, *step)? {
             return Ok(place);
@@ -187,7 +199,8 @@ fn first_other(stage: &mut Stage, rt: HostRuntime, steps: &[Step]) -> Result<usi
 }
 
 fn played(rt: HostRuntime, scene: &Scene) -> Result<usize, Fail> {
-    let mut stage = new_stage(rt, scene.output)?;
+    let shared = quiet(rt);
+    let mut stage = new_stage(rt, &shared, scene.output)?;
     first_other(&mut stage, rt, scene.steps)
 }
 
@@ -202,7 +215,8 @@ fn scenes_go_as_they_say(rt: HostRuntime) -> Result<(), Fail> {
 
 fn is_taken(rt: HostRuntime, port: u16) -> Result<bool, Fail> {
     let ends = ends(rt.alloc(), port, OutEnd::Stdout)?;
-    Ok(new_loop(rt)?.start(&ends) == Begun::Failed)
+    let shared = quiet(rt);
+    Ok(new_loop(rt, &shared)?.start(&ends) == Begun::Failed)
 }
 
 #[test]

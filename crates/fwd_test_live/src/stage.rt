@@ -1,6 +1,7 @@
 //! A loop that is started, with its peers on loopback.
 
-use fwd_live::LiveLoop;
+use fwd_live::{LiveLoop, Shared};
+use fwd_log::Journal;
 use fwd_outside::{Begun, Bytes, Ends, Happening, InEnd, InputId, Items, Loop, Memory, OutEnd};
 use std::alloc::Global;
 use std::io;
@@ -29,12 +30,18 @@ pub enum Output {
 
 /// A loop, the listener for its output, and the peers that are connected, the last of which is the one that acts.
 #[derive(Drop)]
-pub struct Stage {
-    pub live: LiveLoop,
+pub struct Stage<'a> {
+    pub live: LiveLoop<'a>,
+    pub shared: &'a Shared,
     pub listener: TcpListener,
     pub peers: Vec<TcpStream>,
     /// The bytes that were taken until no more were.
     pub taken: u64,
+}
+
+/// Returns what the devices share, with a log that writes nothing.
+pub fn quiet(rt: HostRuntime) -> Shared {
+    Shared::new(Journal::new(rt, None))
 }
 
 fn local(alloc: Global) -> Result<Bytes, Memory> {
@@ -81,40 +88,46 @@ pub fn ends(alloc: Global, port: u16, output: OutEnd) -> Result<Ends, Memory> {
     })
 }
 
-pub fn new_loop(rt: HostRuntime) -> io::Result<LiveLoop> {
-    LiveLoop::new(rt)
+pub fn new_loop(rt: HostRuntime, shared: &Shared) -> io::Result<LiveLoop<'_>> {
+    LiveLoop::new(rt, shared)
 }
 
-fn starts(live: &mut LiveLoop, alloc: Global, output: OutEnd) -> Result<bool, Memory> {
+fn starts(live: &mut LiveLoop<'_>, alloc: Global, output: OutEnd) -> Result<bool, Memory> {
     let ends = ends(alloc, 0, output)?;
     Ok(live.start(&ends) == Begun::Ready)
 }
 
-fn started(rt: HostRuntime, output: OutEnd) -> Result<LiveLoop, Fail> {
-    let mut live = new_loop(rt)?;
+fn started(rt: HostRuntime, shared: &Shared, output: OutEnd) -> Result<LiveLoop<'_>, Fail> {
+    let mut live = new_loop(rt, shared)?;
     if starts(&mut live, rt.alloc(), output)? {
         return Ok(live);
     }
     Err(Fail::from("the loop can't be started"))
 }
 
-fn listening(rt: HostRuntime, output: Output, listener: &TcpListener) -> Result<LiveLoop, Fail> {
+fn listening<'a>(
+    rt: HostRuntime,
+    shared: &'a Shared,
+    output: Output,
+    listener: &TcpListener,
+) -> Result<LiveLoop<'a>, Fail> {
     let port = listener.local_addr()?.port();
-    started(rt, end_of(rt.alloc(), output, port)?)
+    started(rt, shared, end_of(rt.alloc(), output, port)?)
 }
 
 /// A stage with a loop that is started and has this output.
-pub fn new_stage(rt: HostRuntime, output: Output) -> Result<Stage, Fail> {
+pub fn new_stage(rt: HostRuntime, shared: &Shared, output: Output) -> Result<Stage<'_>, Fail> {
     let listener = TcpListener::bind(&rt, "127.0.0.1:0")?;
     Ok(Stage {
-        live: listening(rt, output, &listener)?,
+        live: listening(rt, shared, output, &listener)?,
+        shared,
         listener,
         peers: Vec::new(rt.alloc()),
         taken: 0,
     })
 }
 
-pub fn clock(live: &mut LiveLoop, alloc: Global) -> Result<u64, Memory> {
+pub fn clock(live: &mut LiveLoop<'_>, alloc: Global) -> Result<u64, Memory> {
     match live.wait(alloc, 0, 0)? {
         Happening::Tick { now } => Ok(now),
         _ => Ok(0),
@@ -123,7 +136,7 @@ pub fn clock(live: &mut LiveLoop, alloc: Global) -> Result<u64, Memory> {
 
 /// The next event that isn't a clock reading. `End` if none comes until then.
 fn next_until(
-    live: &mut LiveLoop,
+    live: &mut LiveLoop<'_>,
     alloc: Global,
     last: u64,
     paused: u64,
@@ -139,13 +152,13 @@ fn next_until(
 }
 
 /// The next event that isn't a clock reading. `End` if none comes in time.
-pub fn next(live: &mut LiveLoop, alloc: Global) -> Result<Happening, Memory> {
+pub fn next(live: &mut LiveLoop<'_>, alloc: Global) -> Result<Happening, Memory> {
     let last = clock(live, alloc)?.saturating_add(PATIENCE);
     next_until(live, alloc, last, 0)
 }
 
-/// Whether no event comes for some milliseconds while the input is paused.
-pub fn is_quiet(live: &mut LiveLoop, alloc: Global) -> Result<bool, Memory> {
+/// Whether no event comes for some milliseconds while these inputs are paused.
+pub fn is_quiet(live: &mut LiveLoop<'_>, alloc: Global, paused: u64) -> Result<bool, Memory> {
     let last = clock(live, alloc)?.saturating_add(30);
-    Ok(next_until(live, alloc, last, 1)? == Happening::End)
+    Ok(next_until(live, alloc, last, paused)? == Happening::End)
 }

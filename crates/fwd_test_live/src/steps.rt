@@ -49,6 +49,8 @@ pub enum Step {
     Gone(u64),
     /// Nothing comes while the input is paused.
     Quiet,
+    /// A write of the disk has failed, and nothing comes for a while.
+    Held,
     Reply(u64, &'static [u8], Replied),
     /// Replies to the first connection until no more is taken.
     ReplyMuch,
@@ -74,7 +76,7 @@ pub enum Step {
     Words,
 }
 
-fn connect(stage: &mut Stage, rt: HostRuntime) -> Result<bool, Fail> {
+fn connect(stage: &mut Stage<'_>, rt: HostRuntime) -> Result<bool, Fail> {
     let port = stage.live.port(INPUT).unwrap_or(0);
     stage
         .peers
@@ -82,7 +84,7 @@ fn connect(stage: &mut Stage, rt: HostRuntime) -> Result<bool, Fail> {
     Ok(true)
 }
 
-fn connect_many(stage: &mut Stage, rt: HostRuntime, count: usize) -> Result<bool, Fail> {
+fn connect_many(stage: &mut Stage<'_>, rt: HostRuntime, count: usize) -> Result<bool, Fail> {
     for _ in 0..count {
         if !connect(stage, rt)? || !send(&mut stage.peers, b"line\n")? {
             return Ok(false);
@@ -152,7 +154,11 @@ fn receive_now(peer: &mut TcpStream, part: &mut [u8]) -> io::Result<Option<u64>>
 }
 
 /// The number of bytes that the peer gets to the end of the connection, while the loop goes on.
-fn receive_later(live: &mut LiveLoop, alloc: Global, peer: &mut TcpStream) -> Result<u64, Fail> {
+fn receive_later(
+    live: &mut LiveLoop<'_>,
+    alloc: Global,
+    peer: &mut TcpStream,
+) -> Result<u64, Fail> {
     peer.set_nonblocking(true)?;
     let mut part = [0; 4096];
     let mut all = 0u64;
@@ -169,7 +175,7 @@ fn receive_later(live: &mut LiveLoop, alloc: Global, peer: &mut TcpStream) -> Re
     Ok(0)
 }
 
-fn receive_taken_later(stage: &mut Stage, alloc: Global) -> Result<bool, Fail> {
+fn receive_taken_later(stage: &mut Stage<'_>, alloc: Global) -> Result<bool, Fail> {
     match stage.peers.last_mut() {
         Some(peer) => {
             let taken = stage.taken;
@@ -197,7 +203,7 @@ fn end_sending(peers: &mut Vec<TcpStream>) -> io::Result<bool> {
     }
 }
 
-fn brings(live: &mut LiveLoop, alloc: Global, wanted: &Happening) -> Result<bool, Memory> {
+fn brings(live: &mut LiveLoop<'_>, alloc: Global, wanted: &Happening) -> Result<bool, Memory> {
     Ok(next(live, alloc)? == *wanted)
 }
 
@@ -215,7 +221,7 @@ fn gone(number: u64) -> Happening {
     }
 }
 
-fn brings_piece(live: &mut LiveLoop, alloc: Global, wanted: &[u8]) -> Result<bool, Memory> {
+fn brings_piece(live: &mut LiveLoop<'_>, alloc: Global, wanted: &[u8]) -> Result<bool, Memory> {
     match next(live, alloc)? {
         Happening::Piece {
             input,
@@ -226,12 +232,12 @@ fn brings_piece(live: &mut LiveLoop, alloc: Global, wanted: &[u8]) -> Result<boo
     }
 }
 
-fn is_piece(live: &mut LiveLoop, alloc: Global) -> Result<bool, Memory> {
+fn is_piece(live: &mut LiveLoop<'_>, alloc: Global) -> Result<bool, Memory> {
     Ok(matches!(next(live, alloc)?, Happening::Piece { .. }))
 }
 
 /// Whether half of so many events are pieces.
-fn brings_pieces(live: &mut LiveLoop, alloc: Global, events: usize) -> Result<bool, Memory> {
+fn brings_pieces(live: &mut LiveLoop<'_>, alloc: Global, events: usize) -> Result<bool, Memory> {
     let mut pieces = 0usize;
     for _ in 0..events {
         if is_piece(live, alloc)? {
@@ -241,14 +247,14 @@ fn brings_pieces(live: &mut LiveLoop, alloc: Global, events: usize) -> Result<bo
     Ok(pieces == events / 2)
 }
 
-fn brings_back(live: &mut LiveLoop, alloc: Global, wanted: &[u8]) -> Result<bool, Memory> {
+fn brings_back(live: &mut LiveLoop<'_>, alloc: Global, wanted: &[u8]) -> Result<bool, Memory> {
     match next(live, alloc)? {
         Happening::Back { link: _, bytes } => Ok(bytes.as_slice() == wanted),
         _ => Ok(false),
     }
 }
 
-fn reply_much(live: &mut LiveLoop) -> u64 {
+fn reply_much(live: &mut LiveLoop<'_>) -> u64 {
     let mut taken = 0u64;
     for _ in 0..TRIES {
         if live.reply(ConnId(1), &PART) != Replied::Taken {
@@ -259,7 +265,7 @@ fn reply_much(live: &mut LiveLoop) -> u64 {
     taken
 }
 
-fn push_much(live: &mut LiveLoop) -> u64 {
+fn push_much(live: &mut LiveLoop<'_>) -> u64 {
     let mut taken = 0u64;
     for _ in 0..TRIES {
         let Pushed::Took(count) = live.push(LinkId(1), &PART) else {
@@ -270,11 +276,11 @@ fn push_much(live: &mut LiveLoop) -> u64 {
     taken
 }
 
-fn dial(live: &mut LiveLoop, number: u64) -> bool {
+fn dial(live: &mut LiveLoop<'_>, number: u64) -> bool {
     live.dial(OUTPUT, b"fwd_test_live.a/b") == Dialed::Link(LinkId(number))
 }
 
-fn dial_fails(live: &mut LiveLoop, alloc: Global) -> Result<bool, Memory> {
+fn dial_fails(live: &mut LiveLoop<'_>, alloc: Global) -> Result<bool, Memory> {
     match live.dial(OUTPUT, b"app") {
         Dialed::Link(link) => brings(live, alloc, &Happening::Broken { link }),
         Dialed::Refused => Ok(true),
@@ -288,7 +294,7 @@ fn has_file(rt: HostRuntime, path: &str, text: &str) -> io::Result<bool> {
     Ok(has)
 }
 
-fn sleep(live: &mut LiveLoop, alloc: Global) -> Result<bool, Memory> {
+fn sleep(live: &mut LiveLoop<'_>, alloc: Global) -> Result<bool, Memory> {
     let last = clock(live, alloc)?.saturating_add(40);
     match live.wait(alloc, last, 0)? {
         Happening::Tick { now } => Ok(last <= now),
@@ -307,7 +313,7 @@ fn spend(rt: &HostRuntime, millis: u64) -> io::Result<()> {
     Ok(())
 }
 
-fn time_first(live: &mut LiveLoop, rt: HostRuntime) -> Result<bool, Fail> {
+fn time_first(live: &mut LiveLoop<'_>, rt: HostRuntime) -> Result<bool, Fail> {
     let first = clock(live, rt.alloc())?;
     spend(&rt, 20)?;
     match live.wait(rt.alloc(), u64::MAX, 0)? {
@@ -316,7 +322,7 @@ fn time_first(live: &mut LiveLoop, rt: HostRuntime) -> Result<bool, Fail> {
     }
 }
 
-fn joins_late(live: &mut LiveLoop, rt: HostRuntime, number: u64) -> Result<bool, Fail> {
+fn joins_late(live: &mut LiveLoop<'_>, rt: HostRuntime, number: u64) -> Result<bool, Fail> {
     let mut call_log = clock(live, rt.alloc())?;
     for _ in 0..10u32 {
         spend(&rt, 2)?;
@@ -328,13 +334,13 @@ fn joins_late(live: &mut LiveLoop, rt: HostRuntime, number: u64) -> Result<bool,
     Ok(false)
 }
 
-fn words_differ(live: &mut LiveLoop) -> Result<bool, Memory> {
+fn words_differ(live: &mut LiveLoop<'_>) -> Result<bool, Memory> {
     let first = live.word()?;
     Ok(first != live.word()? || first != live.word()?)
 }
 
 /// Whether the step goes as it says.
-pub fn take(stage: &mut Stage, rt: HostRuntime, step: Step) -> Result<bool, Fail> {
+pub fn take(stage: &mut Stage<'_>, rt: HostRuntime, step: Step) -> Result<bool, Fail> {
     let alloc = rt.alloc();
     match step {
         Step::Connect => connect(stage, rt),
@@ -352,7 +358,11 @@ pub fn take(stage: &mut Stage, rt: HostRuntime, step: Step) -> Result<bool, Fail
         Step::Piece(bytes) => Ok(brings_piece(&mut stage.live, alloc, bytes)?),
         Step::Pieces(events) => Ok(brings_pieces(&mut stage.live, alloc, events)?),
         Step::Gone(number) => Ok(brings(&mut stage.live, alloc, &gone(number))?),
-        Step::Quiet => Ok(is_quiet(&mut stage.live, alloc)?),
+        Step::Quiet => Ok(is_quiet(&mut stage.live, alloc, 1)?),
+        Step::Held => {
+            stage.shared.disk_failed.set(true);
+            Ok(is_quiet(&mut stage.live, alloc, 0)?)
+        }
         Step::Reply(conn, bytes, wanted) => Ok(stage.live.reply(ConnId(conn), bytes) == wanted),
         Step::ReplyMuch => {
             stage.taken = reply_much(&mut stage.live);

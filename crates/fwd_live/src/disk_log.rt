@@ -1,0 +1,41 @@
+//! What the log says of failed calls on files.
+
+use fwd_log::{Journal, Level, Source, Topic};
+use std::io;
+
+/// Writes a line on a call that failed.
+fn write_failure(journal: &Journal, what: &str, name: &[u8], error: &io::Error) {
+    if !journal.tells(Level::Error) {
+        return;
+    }
+    if let Ok(name) = String::from_utf8_lossy(journal.alloc(), name) {
+        let text = format_args!("{name} can't be {what}: {error}");
+        journal.write(Level::Error, Source::Storage, Topic::File, &text);
+    }
+}
+
+/// Writes a line if a call failed.
+pub fn tell<T>(journal: &Journal, what: &str, name: &[u8], outcome: &io::Result<T>) {
+    match outcome {
+        Ok(_) => {}
+        Err(error) => write_failure(journal, what, name, error),
+    }
+}
+
+/// Returns what a call gave; `None` if it failed, and the log says so.
+pub fn told<T>(journal: &Journal, what: &str, name: &[u8], outcome: io::Result<T>) -> Option<T> {
+    tell(journal, what, name, &outcome);
+    outcome.ok()
+}
+
+/// Writes a line if a followed file, or a file of the configuration, can't be read.
+pub fn tell_unread<T>(journal: &Journal, path: &[u8], outcome: &io::Result<T>) {
+    let error = match outcome {
+        Ok(_) => return,
+        Err(error) => error,
+    };
+    if let Ok(path) = String::from_utf8_lossy(journal.alloc(), path) {
+        let text = format_args!("{path} can't be read: {error}");
+        journal.write(Level::Warn, Source::Files, Topic::File, &text);
+    }
+}

@@ -1,0 +1,93 @@
+//! The followed files of a run, by their paths.
+
+ghost use Rattle.std.specs.Prelude.{◌≤◌, IfOk, length};
+
+use crate::followed_path::FollowedPath;
+use fwd_base::Bytes;
+use std::alloc::Global;
+use std::collections::HashMap;
+use std::io::{self, ErrorKind};
+use std::time::Duration;
+
+/// Files that are read by their paths, through rotations. Of a path it tells a stream: the bytes of one file
+/// after another, where the length is told as 0 once when the next one begins.
+#[derive(Drop)]
+pub struct FollowedFiles {
+    rt: HostRuntime,
+    paths: HashMap<Vec<u8>, FollowedPath>,
+    linger: Duration,
+    most: usize,
+    held: usize,
+}
+
+/// Returns a path without a file; an error if it isn't UTF-8.
+fn followed_path(alloc: Global, path: &[u8]) -> io::Result<FollowedPath> {
+    match str::from_utf8(path) {
+        Ok(path) => Ok(FollowedPath::new(alloc, String::from_str(alloc, path)?)),
+        Err(_) => Err(io::Error::from(ErrorKind::InvalidInput)),
+    }
+}
+
+impl FollowedFiles {
+    /// Returns the files with none open. A file that was read to its end is left when another one with bytes
+    /// has had its path for `linger`. Paths get a handle while fewer than `most` are held; others are read by
+    /// name, in the file that has the path at each call.
+    pub fn new(rt: HostRuntime, linger: Duration, most: usize) -> Self {
+        FollowedFiles {
+            rt,
+            paths: HashMap::new(rt.alloc()),
+            linger,
+            most,
+            held: 0,
+        }
+    }
+
+    /// Returns how many handles are held, with those that paths keep the right to.
+    pub fn held(&self) -> usize {
+        self.held
+    }
+
+    /// Adds a path, unless it is there.
+    fn ensure_path(&mut self, path: &[u8]) -> io::Result<()> {
+        if self.paths.contains_key(path) {
+            return Ok(());
+        }
+        let alloc = self.rt.alloc();
+        let followed = followed_path(alloc, path)?;
+        self.paths.insert(Vec::from_slice(alloc, path)?, followed)?;
+        Ok(())
+    }
+
+    /// Notes how many handles a path has now, and had before.
+    fn note_held(&mut self, before: usize, now: usize) {
+        self.held = self.held.saturating_sub(before).saturating_add(now);
+    }
+
+    /// Returns the length of a path's stream; 0 where another file begins.
+    pub fn length(&mut self, path: &[u8]) -> io::Result<u64> {
+        self.ensure_path(path)?;
+        let Some(followed) = self.paths.get_mut(path) else {
+            return Err(io::Error::from(ErrorKind::NotFound));
+        };
+        let before = followed.held();
+        let length = followed.length(&self.rt, self.linger, self.held < self.most);
+        let now = followed.held();
+        self.note_held(before, now);
+        length
+    }
+
+    /// Reads at most `max` bytes of a path's stream from a position on. No bytes mean the end.
+    pub fn read_at(&mut self, alloc: Global, path: &[u8], at: u64, max: u64) -> io::Result<Bytes>
+        ensures { IfOk result (λ bytes. length bytes ≤ max) }
+    {
+        self.ensure_path(path)?;
+        let Some(followed) = self.paths.get_mut(path) else {
+            return Err(io::Error::from(ErrorKind::NotFound));
+        };
+        let before = followed.held();
+        let read = followed.read_at(&self.rt, alloc, at, max);
+        let now = followed.held();
+        self.note_held(before, now);
+        read
+    }
+}

@@ -1,0 +1,238 @@
+//! A path, with the file that stands for it, and those that have had the path since.
+
+ghost use Rattle.std.specs.Prelude.{◌≤◌, IfOk, length};
+
+use crate::copies::find_copy;
+use crate::identity::identity_of;
+use crate::reading::read_named;
+use crate::standing::{Finding, Progress, Standing};
+use fwd_base::Bytes;
+use std::alloc::Global;
+use std::collections::VecDeque;
+use std::time::{Duration, Instant};
+use std::{fs, io};
+
+/// How many newer files of a path are held open while an older one is read.
+const MOST_NEWER: usize = 8;
+
+/// How a path is read.
+#[derive(Drop)]
+enum Hold {
+    /// No file is open. The next one is read from where this says.
+    Closed(Progress),
+    /// A file is open.
+    Open(Standing),
+    /// Each call opens the file that then has the path.
+    Named,
+}
+
+/// A file that has got the path while an older one is read.
+#[derive(Drop)]
+struct Newer {
+    file: Standing,
+    since: Instant,
+}
+
+/// A path, with the file that stands for it.
+#[derive(Drop)]
+pub struct FollowedPath {
+    path: String,
+    hold: Hold,
+    newer: VecDeque<Newer>,
+}
+
+/// Adds the file that has the path now, if it has bytes and is none that is known. If the path names the file
+/// that stands for it, no other is newer.
+fn note_newer(
+    rt: &HostRuntime,
+    path: &str,
+    standing: &Standing,
+    newer: &mut VecDeque<Newer>,
+) -> io::Result<()> {
+    let about = fs::metadata(rt, path)?;
+    let identity = identity_of(&about);
+    if identity == standing.identity() {
+        newer.clear();
+        return Ok(());
+    }
+    let is_last = match newer.back() {
+        Some(last) => last.file.identity() == identity,
+        None => false,
+    };
+    if is_last || about.len() == 0 || MOST_NEWER <= newer.len() {
+        return Ok(());
+    }
+    let file = Standing::open(rt, path, Progress::Restarted)?;
+    let since = Instant::now(rt)?;
+    newer.push_back(Newer { file, since })?;
+    Ok(())
+}
+
+/// Returns whether a newer file has had the path for this long.
+fn is_superseded(rt: &HostRuntime, newer: &VecDeque<Newer>, linger: Duration) -> bool {
+    match (newer.front(), Instant::now(rt)) {
+        (Some(next), Ok(now)) => linger <= now.duration_since(next.since),
+        (Some(_), Err(_)) => false,
+        (None, _) => false,
+    }
+}
+
+impl FollowedPath {
+    /// Returns the path, with no file open.
+    pub fn new(alloc: Global, path: String) -> Self {
+        FollowedPath {
+            path,
+            hold: Hold::Closed(Progress::Unread),
+            newer: VecDeque::new(alloc),
+        }
+    }
+
+    /// Returns how many handles the path has, with one that it keeps the right to.
+    pub fn held(&self) -> usize {
+        let own = match &self.hold {
+            Hold::Open(_) => 1,
+            Hold::Closed(Progress::Restarted) => 1,
+            Hold::Closed(Progress::Unread | Progress::Reading) => 0,
+            Hold::Named => 0,
+        };
+        self.newer.len().saturating_add(own)
+    }
+
+    /// Reads the path by name from now on.
+    fn use_name(&mut self) {
+        self.hold = Hold::Named;
+        self.newer.clear();
+    }
+
+    /// Opens the file of the path if none is open, unless it is read by name, as it is without a handle.
+    fn ensure_open(&mut self, rt: &HostRuntime, may_hold: bool) -> io::Result<()> {
+        let progress = match &self.hold {
+            Hold::Closed(progress) => *progress,
+            Hold::Open(_) | Hold::Named => return Ok(()),
+        };
+        if may_hold || progress == Progress::Restarted {
+            let opened = Standing::open(rt, self.path.as_str(), progress)?;
+            self.hold = Hold::Open(opened);
+        } else {
+            self.use_name();
+        }
+        Ok(())
+    }
+
+    /// Asks the open file, after the path's own. A path that is read by name has no identity. A file that
+    /// can't be asked is read by name from then on, as its handle may be of no use any more.
+    fn find(&mut self, rt: &HostRuntime) -> io::Result<Finding> {
+        let found = match &mut self.hold {
+            Hold::Open(standing) => {
+                let _ = note_newer(rt, self.path.as_str(), standing, &mut self.newer);
+                standing.find()
+            }
+            Hold::Closed(_) | Hold::Named => Ok(Finding::Unidentified),
+        };
+        if found.is_err() {
+            self.use_name();
+        }
+        found
+    }
+
+    /// Returns the length of a file that was truncated: it goes on in its copy if there is one, and begins
+    /// anew if not.
+    fn after_truncation(&mut self, rt: &HostRuntime) -> io::Result<u64> {
+        let Hold::Open(standing) = &mut self.hold else {
+            return Ok(0);
+        };
+        if let Ok(Some((copy, identity))) = find_copy(rt, self.path.as_str(), standing) {
+            standing.go_on_in(copy, identity);
+            if let Finding::Length(length) = standing.find()? {
+                return Ok(length);
+            }
+        }
+        standing.restart();
+        Ok(0)
+    }
+
+    /// Returns whether the file, which was read to its end, is to be left.
+    fn is_left(&mut self, rt: &HostRuntime, has_name: bool, linger: Duration) -> bool {
+        let Hold::Open(standing) = &mut self.hold else {
+            return false;
+        };
+        if !self.newer.is_empty() {
+            return standing.is_copy() || is_superseded(rt, &self.newer, linger);
+        }
+        !has_name && standing.was_removed(rt, linger)
+    }
+
+    /// Returns whether the last line of the file is unfinished. The next read then ends it.
+    fn end_line(&mut self) -> bool {
+        match &mut self.hold {
+            Hold::Open(standing) => standing.end_line(),
+            Hold::Closed(_) | Hold::Named => false,
+        }
+    }
+
+    /// Leaves the file for the next one of the path.
+    fn leave(&mut self, rt: &HostRuntime) -> io::Result<()> {
+        self.hold = match self.newer.pop_front() {
+            Some(next) => Hold::Open(next.file),
+            None => Hold::Closed(Progress::Restarted),
+        };
+        self.ensure_open(rt, true)
+    }
+
+    /// Returns the length of the path's stream. It is 0 where another file begins. If the path has no handle
+    /// yet, it gets one where it may.
+    pub fn length(
+        &mut self,
+        rt: &HostRuntime,
+        linger: Duration,
+        may_hold: bool,
+    ) -> io::Result<u64> {
+        self.ensure_open(rt, may_hold)?;
+        match self.find(rt)? {
+            Finding::Length(length) => Ok(length),
+            Finding::End(length, has_name) => {
+                if !self.is_left(rt, has_name, linger) {
+                    return Ok(length);
+                }
+                if self.end_line() {
+                    return Ok(length.saturating_add(1));
+                }
+                self.leave(rt)?;
+                Ok(0)
+            }
+            Finding::Truncated => self.after_truncation(rt),
+            Finding::Unidentified => {
+                self.use_name();
+                Ok(fs::metadata(rt, self.path.as_str())?.len())
+            }
+        }
+    }
+
+    /// Returns whether a read at this position follows the last one.
+    fn is_expected(&self, at: u64) -> bool {
+        match &self.hold {
+            Hold::Open(standing) => standing.is_expected(at),
+            Hold::Closed(_) | Hold::Named => true,
+        }
+    }
+
+    /// Reads at most `max` bytes of the path's stream from a position on. A read that doesn't follow the last
+    /// one is of another reader of the path, so that the path is read by name from then on.
+    pub fn read_at(
+        &mut self,
+        rt: &HostRuntime,
+        alloc: Global,
+        at: u64,
+        max: u64,
+    ) -> io::Result<Bytes>
+        ensures { IfOk result (λ bytes. length bytes ≤ max) }
+    {
+        if !self.is_expected(at) {
+            self.use_name();
+        }
+        match &mut self.hold {
+            Hold::Open(standing) => standing.read_at(alloc, at, max),
+            Hold::Closed(_) | Hold::Named => read_named(rt, alloc, self.path.as_str(), at, max),
+        }
+    }
+}

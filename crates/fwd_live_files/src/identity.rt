@@ -1,0 +1,41 @@
+//! Which file it is.
+
+use std::fs::Metadata;
+use std::os::unix::fs::MetadataExt;
+
+/// The device and the inode of a file, which a rename doesn't change.
+#[derive(Clone, Copy, Debug, PartialEq, Eq)]
+pub struct Identity {
+    device: u64,
+    inode: u64,
+}
+
+/// Returns the identity that the metadata has.
+pub fn identity_of(about: &Metadata) -> Identity {
+    Identity {
+        device: about.dev(),
+        inode: about.ino(),
+    }
+}
+
+/// The time of a file's last change, in seconds and nanoseconds.
+#[derive(Clone, Copy, Debug, PartialEq, Eq)]
+pub struct Changed {
+    seconds: i64,
+    nanos: i64,
+}
+
+impl Changed {
+    /// Returns the time that the metadata has.
+    pub fn of(about: &Metadata) -> Changed {
+        Changed {
+            seconds: about.mtime(),
+            nanos: about.mtime_nsec(),
+        }
+    }
+
+    /// Returns whether this time is before another one.
+    pub fn is_before(self, other: Changed) -> bool {
+        self.seconds < other.seconds || (self.seconds == other.seconds && self.nanos < other.nanos)
+    }
+}
