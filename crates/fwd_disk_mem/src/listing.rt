@@ -1,6 +1,6 @@
 //! The names in a folder.
 
-ghost use Rattle.std.specs.Prelude.{◌≡◌, ℕ, map, IfOk, OnOk, MatchOption, Contains};
+ghost use Rattle.std.specs.Prelude.{◌≡◌, ℕ, List, map, IfOk, OnOk, MatchOption, Contains};
 ghost use Rattle.fwd_outside.specs.Disk.{IsListing};
 ghost use Rattle.fwd_outside.specs.DiskStates.{IsUnder};
 ghost use Rattle.fwd_disk_mem.specs.FileTable.{file_of};
