@@ -6,7 +6,7 @@ use fwd_base::{Bytes, Memory};
 use fwd_log::Pages;
 use mio::net::TcpStream;
 use std::alloc::Global;
-use std::io::{ErrorKind, Read, Write};
+use std::io::{self, ErrorKind, Read, Write};
 
 /// A connection is closed after so many milliseconds.
 pub const PATIENCE: u64 = 10_000;
@@ -36,6 +36,18 @@ pub enum Look {
     Asks,
     /// It is over.
     Over,
+}
+
+/// Reads once.
+fn read_some(stream: &TcpStream, part: &mut [u8]) -> io::Result<usize> {
+    let mut from = stream;
+    from.read(part)
+}
+
+/// Writes once.
+fn write_some(stream: &TcpStream, bytes: &[u8]) -> io::Result<usize> {
+    let mut to = stream;
+    to.write(bytes)
 }
 
 /// A connection that asks for a page.
@@ -90,8 +102,7 @@ impl Asker {
     fn read(&mut self, alloc: Global) -> Result<Look, Memory> {
         let mut part = [0; PART];
         let room = PART.min(LONGEST_HEAD.saturating_sub(self.head.len()));
-        let mut stream = &self.stream;
-        match stream.read(&mut part[..room]) {
+        match read_some(&self.stream, &mut part[..room]) {
             Ok(0) => Ok(Look::Over),
             Ok(count) => {
                 self.head.extend_from_slice(&part[..count.min(PART)])?;
@@ -111,8 +122,7 @@ impl Asker {
         if rest.is_empty() {
             return Look::Over;
         }
-        let mut stream = &self.stream;
-        match stream.write(rest) {
+        match write_some(&self.stream, rest) {
             Ok(count) => {
                 *at = at.saturating_add(count);
                 Look::More

@@ -1,6 +1,6 @@
 //! The text of a log line.
 
-ghost use Rattle.std.specs.Prelude.{◌≡◌, ◌++◌, pos, map, IfOk, OnOk};
+ghost use Rattle.std.specs.Prelude.{◌≡◌, ◌++◌, pos, map, unsigned_abs, IfOk, OnOk};
 ghost use Rattle.jiff_core.specs.Date.{epoch_day};
 ghost use Rattle.fwd_log.specs.Line.{two_digits, shown, day_of, date_text, clock_text, head_text, IsAppendedTime, IsLine};
 
@@ -35,10 +35,17 @@ fn push_two(text: &mut Bytes, number: u64) -> Result<(), Memory>
     text.push_decimal(number)
 }
 
+/// Returns how many years a date is from the year 0.
+fn year_of(date: Date) -> u16
+    ensures { result ≡ unsigned_abs date.year }
+{
+    date.year.unsigned_abs()
+}
+
 fn push_date(text: &mut Bytes, date: Date) -> Result<(), Memory>
     ensures { OnOk result (text.new ≡ text.old ++ date_text date) }
 {
-    text.push_decimal(u64::from(date.year.unsigned_abs()))?;
+    text.push_decimal(u64::from(year_of(date)))?;
     text.push(b'/')?;
     push_two(text, u64::from(date.month))?;
     text.push(b'/')?;
