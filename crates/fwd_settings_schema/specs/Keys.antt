@@ -300,10 +300,10 @@ covers part.HttpOutput (target.Output output.Http) = true
 covers _ _ = false
 
 abbrev pub is_row_of : Target → List ℕ → Row → Bool
-is_row_of target name row = covers row.0 target && is_key_named name row.1.0
+is_row_of target name row = covers row.0 target && is_key_named name row.1
 
 abbrev pub row_of : Target → List ℕ → Option Row
 row_of target name = find (is_row_of target name) table
 
 abbrev pub key_of : Target → List ℕ → Option (Key × Kind)
-key_of target name = option_map (λ row. row.1) (row_of target name)
+key_of target name = option_map (λ row. (row.1, row.2)) (row_of target name)
