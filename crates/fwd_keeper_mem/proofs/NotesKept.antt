@@ -1,6 +1,6 @@
 -- The fields of a keeper in memory after one more note.
 use Rattle.std.proofs.Common.{◌≡◌, ℕ, ◌+◌, ◌≤◌, ◌==◌, Bool, true, false, not, ◌||◌, cond, if◌then◌else◌, List, [], ◌∷◌, ◌++◌, length, Option, Some, None, refl, sym, ◌∙◌, ap, subst, append_assoc, arith}
-use Rattle.std.specs.Prelude.{Contains, is_some}
+use Rattle.std.specs.Prelude.{Contains}
 use Rattle.std.proofs.lemmas.List.{append-nil}
 use Rattle.std.proofs.lemmas.List.Folds.{list_any-append}
 use Rattle.std.proofs.Math.Bool.{or-false}
@@ -15,8 +15,8 @@ use Rattle.fwd_keeper_mem.specs.declared.mem_keeper.KeeperNote.{KeeperNote}
 use Rattle.fwd_keeper_mem.specs.declared.mem_keeper.KeeperNote.TheVariants.{Get, Put, FailAt}
 use Rattle.fwd_keeper_mem.specs.KeeperState.{KeeperState}
 use Rattle.fwd_keeper_mem.specs.KeeperAnswers.{calls_by, calls_in, to_fail, fails_in, works, offsets_after, offsets_after_all, answer_after, IsPlayed}
-use Rattle.fwd_keeper_mem.specs.MemKeeper.{IsKept, entry_of, entries_of, offsets_now, works_now}
-use Rattle.fwd_keeper_mem.specs.Offsets.{HasOffset, HasOffsetIf, SameOffsets}
+use Rattle.fwd_keeper_mem.specs.MemKeeper.{IsKept, entry_of, entries_of, offsets_by, offsets_now, works_now}
+use Rattle.fwd_keeper_mem.specs.Offsets.{HasOffset, SameOffsets}
 
 -- ---- one more entry
 
@@ -143,14 +143,14 @@ module _ (given now : KeeperGiven) (notes : List KeeperNote) (calls : ℕ) (fail
   pub keeps_get : (db path : List ℕ) (answer : Option (Option ℕ)) → answer ≡ answer_after given (entries_of notes) (keeper.Get db path) → IsKept given now (notes ++ Get db path answer ∷ []) (calls + 1) fails
   keeps_get db path answer is = keeps now (Get db path answer) (calls + 1) fails (may_get given (entries_of notes) db path answer is) is kept.same refl same_numbers
 
-  same_put : (db path : List ℕ) (place : ℕ) (answer : Option (Unit {0})) (after : KeeperGiven) → HasOffsetIf (is_some answer) db path place now after
+  same_put : (db path : List ℕ) (place : ℕ) (answer : Option (Unit {0})) (after : KeeperGiven) → SameOffsets after (offsets_by now (Put db path place answer))
       → SameOffsets after (offsets_after (offsets_now given notes) (keeper.Put db path place) answer)
   same_put db path place (Some done) after has other_db other_path =
       has other_db other_path ∙ ap (λ (o : Option ℕ). if is_of other_db other_path db path then Some place else o) (kept.same other_db other_path)
   same_put db path place None after has other_db other_path = has other_db other_path ∙ kept.same other_db other_path
 
   pub keeps_put : (db path : List ℕ) (place : ℕ) (answer : Option (Unit {0})) (after : KeeperGiven) → answer ≡ answer_after given (entries_of notes) (keeper.Put db path place)
-      → HasOffsetIf (is_some answer) db path place now after → IsKept given after (notes ++ Put db path place answer ∷ []) (calls + 1) fails
+      → SameOffsets after (offsets_by now (Put db path place answer)) → IsKept given after (notes ++ Put db path place answer ∷ []) (calls + 1) fails
   keeps_put db path place answer after is has = keeps after (Put db path place answer) (calls + 1) fails tt is (same_put db path place answer after has) refl same_numbers
 
   pub keeps_number : (call : ℕ) (numbers : List ℕ) → ((n : ℕ) → list_any (is_at (nat_cmp n)) numbers ≡ cond (is_at (nat_cmp call) n) true (list_any (is_at (nat_cmp n)) fails))
@@ -174,12 +174,11 @@ module _ (held old : KeeperState) (view : held ≡ old) (now : KeeperGiven) (cal
       let here : answer ≡ answer_after held.given (entries_of held.notes) (keeper.Get db2 path2) = rw (same_db, same_path, view) is in
       subst (λ (notes : List KeeperNote). IsKept held.given now notes (calls + 1) fails) (sym noted) (keeps_get held.given now held.notes calls fails kept db2 path2 answer here)
 
-  pub put_kept : (db db2 path path2 : List ℕ) (place : ℕ) (answer : Option (Unit {0})) (after : KeeperGiven) (new : List KeeperNote) → answer ≡ answer_after old.given (entries_of old.notes) (keeper.Put db path place) → db2 ≡ db → path2 ≡ path
-      → HasOffsetIf (is_some answer) db path place now after → new ≡ held.notes ++ Put db2 path2 place answer ∷ [] → IsKept held.given after new (calls + 1) fails
-  put_kept db db2 path path2 place answer after new is same_db same_path has noted =
-      let here : answer ≡ answer_after held.given (entries_of held.notes) (keeper.Put db2 path2 place) = rw (same_db, same_path, view) is in
-      let has2 : HasOffsetIf (is_some answer) db2 path2 place now after = rw (same_db, same_path) has in
-      subst (λ (notes : List KeeperNote). IsKept held.given after notes (calls + 1) fails) (sym noted) (keeps_put held.given now held.notes calls fails kept db2 path2 place answer after here has2)
+  pub put_kept : (db db2 path path2 : List ℕ) (place : ℕ) (answer : Option (Unit {0})) (after : KeeperGiven) (new : List KeeperNote) → answer ≡ answer_after old.given (entries_of old.notes) (keeper.Put db path place)
+      → SameOffsets after (offsets_by now (Put db2 path2 place answer)) → new ≡ held.notes ++ Put db2 path2 place answer ∷ [] → IsKept held.given after new (calls + 1) fails
+  put_kept db db2 path path2 place answer after new is has noted =
+      let here : answer ≡ answer_after held.given (entries_of held.notes) (keeper.Put db2 path2 place) = subst (λ (h : KeeperState). answer ≡ answer_after h.given (entries_of h.notes) (keeper.Put db2 path2 place)) (sym view) is in
+      subst (λ (notes : List KeeperNote). IsKept held.given after notes (calls + 1) fails) (sym noted) (keeps_put held.given now held.notes calls fails kept db2 path2 place answer after here has)
 
 -- ---- the answers, by the fields of the struct
 
@@ -222,3 +221,9 @@ module _ (held old : KeeperState) (view : held ≡ old) (new : List KeeperNote) 
       → (held.given ≡ old.given) × (entries_of new ≡ entries_of old.notes ++ entry (keeper.Put db path place) logged ∷ [])
   logs_put place answer logged is noted = logs held old view new (Put db path place logged) (Put db2 path2 place answer)
       (ap (λ (d : List ℕ). Put d path2 place answer) same_db ∙ ap (λ (p : List ℕ). Put db p place answer) same_path ∙ ap (λ (a : Option (Unit {0})). Put db path place a) is) noted
+
+-- the offsets after a put that was done
+pub set_by : (note : KeeperNote) (db path : List ℕ) (place : ℕ) (answer : Option (Unit {0})) (done : Unit {0}) (old new : KeeperGiven) → note ≡ Put db path place answer → answer ≡ Some done
+    → HasOffset db path place old new → SameOffsets new (offsets_by old note)
+set_by note db path place answer done old new is some has =
+    subst (λ (n : KeeperNote). SameOffsets new (offsets_by old n)) (sym (is ∙ ap (λ (a : Option (Unit {0})). Put db path place a) some)) has

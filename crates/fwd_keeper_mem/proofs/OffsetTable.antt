@@ -7,7 +7,7 @@ use Rattle.std.proofs.lemmas.List.Quantifiers.{position-Some}
 use Rattle.std.proofs.lemmas.Iterator.Adapters.{position_from-zero}
 use Rattle.fwd_keeper.specs.Keeper.{KeeperGiven, found, is_of}
 use Rattle.fwd_keeper.proofs.HeldOffsets.{both}
-use Rattle.fwd_keeper_mem.specs.Offsets.{HasOffset, HasOffsetIf, SameOffsets}
+use Rattle.fwd_keeper_mem.specs.Offsets.{HasOffset}
 
 -- a database and a path, and their offset
 abbrev Row : Type 0

@@ -1,5 +1,5 @@
 -- A keeper in memory: its record of calls, its offsets after it, and its answers.
-use Rattle.std.specs.Prelude.{◌≡◌, ℕ, ◌+◌, ◌-◌, ◌^◌, min, ◌==◌, Bool, List, [], ◌∷◌, ◌++◌, map, Option, Some, None, Result, Ok, Err}
+use Rattle.std.specs.Prelude.{◌≡◌, ℕ, ◌+◌, ◌-◌, ◌^◌, min, ◌==◌, Bool, List, [], ◌∷◌, ◌++◌, Option, Some, None, Result, Ok, Err}
 use Rattle.std.specs.Ordering.{nat_cmp}
 use Rattle.std.specs.List.{list_any}
 use Rattle.std.specs.BTreeMap.{is_at}
@@ -11,7 +11,7 @@ use Rattle.fwd_keeper.specs.declared.errors.KeepErr.TheVariants as keep_err
 use Rattle.fwd_keeper_mem.specs.declared.mem_keeper.KeeperNote.{KeeperNote}
 use Rattle.fwd_keeper_mem.specs.declared.mem_keeper.KeeperNote.TheVariants.{Get, Put, FailAt}
 use Rattle.fwd_keeper_mem.specs.KeeperState.{KeeperState}
-use Rattle.fwd_keeper_mem.specs.KeeperAnswers.{calls_in, fails_in, works, offsets_after_all, IsPlayed}
+use Rattle.fwd_keeper_mem.specs.KeeperAnswers.{calls_in, fails_in, works, offsets_after, offsets_after_all, IsPlayed}
 use Rattle.fwd_keeper_mem.specs.Offsets.{SameOffsets}
 
 -- the entry of the call log of a note
@@ -30,6 +30,10 @@ log_of held = Some (held.given, entries_of held.notes)
 -- the offsets after these notes
 abbrev pub offsets_now : KeeperGiven → List KeeperNote → KeeperGiven
 offsets_now given notes = offsets_after_all given (entries_of notes)
+
+-- the offsets after one note
+abbrev pub offsets_by : KeeperGiven → KeeperNote → KeeperGiven
+offsets_by offsets note = offsets_after offsets (entry_of note).call (entry_of note).answer
 
 -- whether the next call isn't to fail
 abbrev pub works_now : KeeperState → Bool

@@ -1,5 +1,5 @@
 -- Offsets by database and path, of which one is set.
-use Rattle.std.specs.Prelude.{◌≡◌, ℕ, Bool, true, false, if◌then◌else◌, List, Some}
+use Rattle.std.specs.Prelude.{◌≡◌, ℕ, if◌then◌else◌, List, Some}
 use Rattle.fwd_keeper.specs.Keeper.{KeeperGiven, found, is_of}
 
 -- the same offset for each path
@@ -12,8 +12,3 @@ HasOffset db path place old new =
     (other_db other_path : List ℕ)
     → found new other_db other_path
     ≡ (if is_of other_db other_path db path then Some place else found old other_db other_path)
-
--- so if the offset was set; otherwise all are unchanged
-abbrev pub HasOffsetIf : Bool → List ℕ → List ℕ → ℕ → KeeperGiven → KeeperGiven → Type 0
-HasOffsetIf true db path place old new = HasOffset db path place old new
-HasOffsetIf false db path place old new = SameOffsets new old

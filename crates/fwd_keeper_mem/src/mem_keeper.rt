@@ -7,11 +7,11 @@ ghost use Rattle.fwd_keeper.specs.Keeper as keeper;
 ghost use Rattle.fwd_keeper.specs.Keeper.{KeeperGiven, IsConsistentLog, outcome};
 ghost use Rattle.fwd_keeper.specs.declared.errors.KeepErr.TheVariants.{Failed};
 ghost use Rattle.fwd_keeper_mem.specs.KeeperAnswers.{IsPlayed, answer_after};
-ghost use Rattle.fwd_keeper_mem.specs.MemKeeper.{Answered, entries_of, log_of, offsets_now, with_note, works_now};
+ghost use Rattle.fwd_keeper_mem.specs.MemKeeper.{Answered, entries_of, log_of, offsets_by, offsets_now, with_note, works_now};
 ghost use Rattle.fwd_keeper_mem.specs.Offsets.{SameOffsets};
 ghost use Rattle.fwd_keeper_mem.specs.declared.mem_keeper.KeeperNote.TheVariants as note;
 
-use crate::offsets::{Offset, copy_of, offset_of, set_if};
+use crate::offsets::{Offset, copy_of, offset_of, set};
 use fwd_base::{Bytes, Memory};
 use fwd_keeper::{KeepErr, Keeper};
 use std::alloc::Global;
@@ -62,6 +62,25 @@ impl Model for MemKeeper {
     ghost use Rattle.fwd_keeper_mem.specs.MemKeeper.{IsKept};
 
     ghost invariant = { λ m. IsKept m.given.items m.current.items m.notes.items m.calls m.fails.keys };
+}
+
+/// Changes the offsets as a note says: a put that was done sets one. `Err` leaves them unchanged.
+fn apply(alloc: Global, offsets: &mut Vec<Offset>, note: &KeeperNote) -> Result<(), Memory>
+    ensures ok { OnOk result (SameOffsets offsets.new.items (offsets_by offsets.old.items note.now)) }
+    ensures err { OnErr result (offsets.new.items ≡ offsets.old.items) }
+{
+    match note {
+        KeeperNote::Put {
+            db,
+            path,
+            place,
+            done,
+        } => match done {
+            Some(_) => set(alloc, offsets, db.as_slice(), path.as_slice(), *place),
+            None => Ok(()),
+        },
+        KeeperNote::Get { .. } | KeeperNote::FailAt { .. } => Ok(()),
+    }
 }
 
 impl MemKeeper {
@@ -182,24 +201,20 @@ impl Keeper for MemKeeper {
         ensures cause { HasCause self.old.faults self.new.faults (IsErrOf result Failed) }
     {
         let answer = self.done(db, path, place);
+        let db = Bytes::from_slice(self.alloc, db)?;
+        let path = Bytes::from_slice(self.alloc, path)?;
         let note = KeeperNote::Put {
-            db: Bytes::from_slice(self.alloc, db)?,
-            path: Bytes::from_slice(self.alloc, path)?,
+            db,
+            path,
             place,
             done: answer,
         };
         self.notes.reserve(1)?;
-        set_if(
-            self.alloc,
-            &mut self.current,
-            answer.is_some(),
-            (db, path),
-            place,
-        )?;
+        apply(self.alloc, &mut self.current, &note)?;
         self.notes.push_reserved(note);
         self.calls += 1;
         match answer {
-            Some(()) => Ok(()),
+            Some(done) => Ok(done),
             None => {
                 self.faults = self.faults.saturating_add(1);
                 Err(KeepErr::Failed)

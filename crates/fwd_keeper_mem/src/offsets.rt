@@ -1,8 +1,8 @@
 //! Offsets by database and path.
 
-ghost use Rattle.std.specs.Prelude.{◌≡◌, ℕ, position, if◌then◌else◌, IfOk, OnOk, OnErr, Some};
+ghost use Rattle.std.specs.Prelude.{◌≡◌, position, IfOk, OnOk, OnErr};
 ghost use Rattle.fwd_keeper.specs.Keeper.{found, is_of};
-ghost use Rattle.fwd_keeper_mem.specs.Offsets.{HasOffset, HasOffsetIf};
+ghost use Rattle.fwd_keeper_mem.specs.Offsets.{HasOffset};
 
 use fwd_base::{Bytes, Memory};
 use std::alloc::Global;
@@ -39,7 +39,7 @@ pub fn offset_of(offsets: &[Offset], db: &[u8], path: &[u8]) -> Option<u64>
 }
 
 /// Sets the offset of a path. `Err` leaves the offsets unchanged.
-fn set(
+pub fn set(
     alloc: Global,
     offsets: &mut Vec<Offset>,
     db: &[u8],
@@ -58,23 +58,6 @@ fn set(
             ),
             place,
         ))?,
-    }
-    Ok(())
-}
-
-/// Sets the offset of a path if `done`. `Err` leaves the offsets unchanged.
-pub fn set_if(
-    alloc: Global,
-    offsets: &mut Vec<Offset>,
-    done: bool,
-    key: (&[u8], &[u8]),
-    place: u64,
-) -> Result<(), Memory>
-    ensures ok { OnOk result (HasOffsetIf done key.0.now key.1.now place offsets.old.items offsets.new.items) }
-    ensures err { OnErr result (offsets.new.items ≡ offsets.old.items) }
-{
-    if done {
-        set(alloc, offsets, key.0, key.1, place)?;
     }
     Ok(())
 }
