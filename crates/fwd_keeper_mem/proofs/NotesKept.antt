@@ -1,6 +1,6 @@
 -- The fields of a keeper in memory after one more note.
 use Rattle.std.proofs.Common.{◌≡◌, ℕ, ◌+◌, ◌≤◌, ◌==◌, Bool, true, false, not, ◌||◌, cond, if◌then◌else◌, List, [], ◌∷◌, ◌++◌, length, Option, Some, None, refl, sym, ◌∙◌, ap, subst, append_assoc, arith}
-use Rattle.std.specs.Prelude.{Contains}
+use Rattle.std.specs.Prelude.{Contains, Result, Ok, Err, OnOk}
 use Rattle.std.proofs.lemmas.List.{append-nil}
 use Rattle.std.proofs.lemmas.List.Folds.{list_any-append}
 use Rattle.std.proofs.Math.Bool.{or-false}
@@ -222,8 +222,19 @@ module _ (held old : KeeperState) (view : held ≡ old) (new : List KeeperNote) 
   logs_put place answer logged is noted = logs held old view new (Put db path place logged) (Put db2 path2 place answer)
       (ap (λ (d : List ℕ). Put d path2 place answer) same_db ∙ ap (λ (p : List ℕ). Put db p place answer) same_path ∙ ap (λ (a : Option (Unit {0})). Put db path place a) is) noted
 
--- the offsets after a put that was done
-pub set_by : (note : KeeperNote) (db path : List ℕ) (place : ℕ) (answer : Option (Unit {0})) (done : Unit {0}) (old new : KeeperGiven) → note ≡ Put db path place answer → answer ≡ Some done
-    → HasOffset db path place old new → SameOffsets new (offsets_by old note)
-set_by note db path place answer done old new is some has =
-    subst (λ (n : KeeperNote). SameOffsets new (offsets_by old n)) (sym (is ∙ ap (λ (a : Option (Unit {0})). Put db path place a) some)) has
+-- ---- the offsets after a put
+
+module _ (note : KeeperNote) (db path : List ℕ) (place : ℕ) (answer : Option (Unit {0})) (old new : KeeperGiven) (is : note ≡ Put db path place answer) where
+  by_answer : (given : Option (Unit {0})) → answer ≡ given → SameOffsets new (offsets_by old (Put db path place given)) → SameOffsets new (offsets_by old note)
+  by_answer given same has =
+      subst (λ (n : KeeperNote). SameOffsets new (offsets_by old n)) (sym (is ∙ ap (λ (a : Option (Unit {0})). Put db path place a) same)) has
+
+  -- it was done
+  pub set_by : {T E : Type 0} (r : Result T E) (db2 path2 : List ℕ) (done : Unit {0}) → answer ≡ Some done → db2 ≡ db → path2 ≡ path → OnOk r (HasOffset db2 path2 place old new) → OnOk r (SameOffsets new (offsets_by old note))
+  set_by (Ok x) db2 path2 done some same_db same_path has =
+      by_answer (Some done) some (subst (λ (d : List ℕ). HasOffset d path place old new) same_db (subst (λ (p : List ℕ). HasOffset db2 p place old new) same_path has))
+  set_by (Err e) db2 path2 done some same_db same_path has = tt
+
+  -- it failed
+  pub kept_by : answer ≡ None → SameOffsets new old → SameOffsets new (offsets_by old note)
+  kept_by none same = by_answer None none same
