@@ -1,4 +1,4 @@
-use Rattle.std.proofs.Common.{sym, ◌∙◌, ap, Some}
+use Rattle.std.proofs.Common.{sym}
 use Rattle.fwd_keeper_mem.proofs.OffsetTable.{found_at, not_found}
 use Rattle.fwd_keeper_mem.proofs.offsets.offset_of.Goals as goal
 
