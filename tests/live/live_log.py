@@ -170,6 +170,16 @@ def log_file_that_cannot_be_opened(room):
     holds(told(log, "info", "input tcp.0", "listens at"), f"the log doesn't go on: {log}")
 
 
+def unread_values(room):
+    """A value of the log's keys that isn't of its kind counts as not given, and the log warns of it."""
+    port, collector = free_port(), Collector(free_port())
+    with Program(room, "unread_values", configuration(port, collector.port, "Log_Level loud"), words=("-n", "2")) as program:
+        program.end()
+        log = lines_of(program.stderr())
+    holds(told(log, "warn", "config", "main.conf:6: Log_Level loud counts as not given: one of off, error"), f"the value isn't told: {log}")
+    holds(told(log, "info", "engine", "begins"), f"the level isn't info: {log}")
+
+
 def page(port, path, patience=10):
     """The status and the text of a page."""
     try:
@@ -307,4 +317,4 @@ def hostile_askers(room):
     collector.close()
 
 
-CASES = (logged, quiet, given_up, refused, log_file_that_cannot_be_opened, asked, hostile_askers)
+CASES = (logged, quiet, given_up, refused, unread_values, log_file_that_cannot_be_opened, asked, hostile_askers)

@@ -1,6 +1,6 @@
 //! What keys there are, and what their values may be, in words.
 
-use fwd_settings_schema::{Key, OutputPlugin, SectionKind, SettingKind, Target, same_name};
+use fwd_settings_schema::{OutputPlugin, SectionKind, SettingKind, Target, key_of, same_name};
 
 /// The names of all keys, as they are mostly written. Those that a section doesn't have are left out by `has_key`.
 const NAMES: &[&str] = &[
@@ -112,7 +112,7 @@ pub fn key_names() -> &'static [&'static str] {
 
 /// Returns whether a section or plugin has a key of this name.
 pub fn has_key(target: Target, name: &[u8]) -> bool {
-    Key::of(target, name).is_some()
+    key_of(target, name).is_some()
 }
 
 /// Returns the plugins of a kind of section.

@@ -13,6 +13,7 @@ mod counts;
 mod pages;
 mod refusal;
 mod shown;
+mod unread;
 mod watcher;
 
 pub use refusal::refusal_text;

@@ -4,9 +4,10 @@ use crate::changes::Risen;
 use crate::counts::Counts;
 use crate::pages::PageMaker;
 use crate::refusal::refusal_text;
+use crate::unread::{is_service, wanted_of};
 use crate::{Shown, Watch};
 use fwd_base::{Bytes, ChunkId, InputId, Memory, Names, OutputId, is_set};
-use fwd_config::{ConfigKind, Place, Sections};
+use fwd_config::{ConfigKind, Entry, Place, Section, Sections};
 use fwd_log::{Journal, Level, Source, SourceNames, Topic};
 use fwd_log_settings::{LogSettings, log_settings};
 use fwd_outside::Home;
@@ -314,6 +315,31 @@ impl<'j> Watcher<'j> {
         }
     }
 
+    fn tell_unread(&self, entry: &Entry, wanted: &str) -> Result<(), Memory> {
+        let alloc = self.journal.alloc();
+        let file = String::from_utf8_lossy(alloc, entry.place.file.as_slice())?;
+        let key = String::from_utf8_lossy(alloc, entry.key.as_slice())?;
+        let value = String::from_utf8_lossy(alloc, entry.value.as_slice())?;
+        let line = entry.place.line;
+        let text = format_args!("{file}:{line}: {key} {value} counts as not given: {wanted}");
+        self.tell(Level::Warn, Source::Config, Topic::File, &text);
+        Ok(())
+    }
+
+    /// Warns of values of the log's keys that can't be read.
+    fn tell_all_unread(&self, sections: &[Section]) -> Result<(), Memory> {
+        for section in sections {
+            if is_service(section) {
+                for entry in section.entries.as_slice() {
+                    if let Some(wanted) = wanted_of(entry.key.as_slice(), entry.value.as_slice()) {
+                        self.tell_unread(entry, wanted)?;
+                    }
+                }
+            }
+        }
+        Ok(())
+    }
+
     fn follow(&mut self, settings: LogSettings) {
         let file = match &settings.file {
             Some(path) => Some(path.as_slice()),
@@ -369,6 +395,7 @@ impl<'j> Watch for Watcher<'j> {
         if let Ok(settings) = log_settings(self.journal.alloc(), sections) {
             self.follow(settings);
         }
+        let _ = self.tell_all_unread(sections.as_slice());
     }
 
     fn begun(&mut self, inputs: &Names, outputs: &Names, shown: Shown<'_>) {
