@@ -9,7 +9,7 @@ import time
 from live_room import HOST, NOBODY, PATIENCE, Collector, Program, free_port, holds, until
 from live_stored import STORED, Sender, killed, send_message
 
-DISK_FAULT = (4, b"disk fault\n")
+DISK_FAULT = 4
 
 
 def stored(port, collector, folder="chunks", flush="0.2"):
@@ -18,8 +18,9 @@ def stored(port, collector, folder="chunks", flush="0.2"):
 
 def ends_with_disk_fault(program):
     begun = time.monotonic()
-    ended = program.end(), program.stderr()
-    holds(ended == DISK_FAULT, f"it ended with {ended}")
+    status, told = program.end(), program.stderr().decode(errors="replace").splitlines()
+    holds(status == DISK_FAULT and told[-1] == "disk fault", f"it ended with {status}: {told}")
+    holds(any("[storage]" in line for line in told[:-1]), f"the log doesn't say why: {told}")
     holds(time.monotonic() - begun < 5, "it didn't end at once")
 
 
@@ -130,8 +131,9 @@ FULL = """[SERVICE]
     Retry_Limit no_limits
 """
 
-# How long the disk is full, and after how many seconds nothing may be lost any more.
+# How long the disk is full, and after how many seconds inputs are held back.
 FULL_SECONDS, HELD_AFTER = 5, 1.5
+
 
 class Lines:
     """Writes a hundred numbered lines a second, and keeps when."""
@@ -183,9 +185,9 @@ def mounted(folder):
 def fill(path):
     """Fills the file system to its last byte."""
     with open(path, "wb", buffering=0) as file:
-        for size in (65_536, 4_096, 1):
+        for size, most in ((65_536, 1_000_000), (4_096, 16), (1, 4_096)):
             try:
-                while True:
+                for _ in range(most):
                     file.write(b"x" * size)
             except OSError:
                 pass
@@ -228,7 +230,7 @@ def outage(room, program, ports, collector):
 
 
 def a_disk_is_full_for_a_while(room):
-    """One batch is refused, and what comes behind it waits with its sender."""
+    """One batch is refused, and what comes after it waits with its sender."""
     forward, tcp, collector = free_port(), free_port(), Collector(free_port())
     folder = os.path.join(room.path, "outage")
     os.mkdir(folder)
