@@ -104,7 +104,8 @@ impl<'a> Files for FolderFiles<'a> {
     }
 
     fn read_at(&mut self, alloc: Global, path: &[u8], at: u64, max: u64) -> Result<Bytes, FileErr> {
-        let outcome = self.files.read_at(alloc, path, at, self.most().min(max));
+        let most = self.most().min(max);
+        let outcome = self.files.read_at(alloc, path, at, most);
         tell_unread(&self.shared.journal, path, &outcome);
         let answer = answer_of(outcome)?;
         self.share(length_of(&answer));
