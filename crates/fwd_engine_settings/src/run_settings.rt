@@ -244,23 +244,24 @@ impl RunSettings {
         }
     }
 
+    /// The name that stands for an output in chunk files.
     pub fn output_name(&self, output: OutputId) -> &[u8]
         ensures { result.now ≡ output_name self.now output.0 }
     {
         match self.output(output) {
-            Some(set) => set.name.as_slice(),
+            Some(set) => set.id.as_slice(),
             None => &[],
         }
     }
 
-    /// Returns the names of the outputs whose glob matches a tag, in the order of the configuration.
+    /// Returns the names that stand in chunk files for the outputs whose glob matches a tag, in the order of the configuration.
     pub fn names(&self, alloc: Global, tag: &[u8]) -> Result<Names, Memory>
         ensures { IfOk result (λ names. names ≡ names_for self.now tag.now) }
     {
         let mut names = Names::new(alloc);
         for output in self.settings.outputs.as_slice() {
             if glob_matches(output, tag) {
-                names.push(Bytes::from_slice(alloc, output.name.as_slice())?)?;
+                names.push(Bytes::from_slice(alloc, output.id.as_slice())?)?;
             }
         }
         Ok(names)

@@ -97,8 +97,9 @@ input_name s input = option_map_or (λ (set : InputSet). set.name) (input_at s i
 abbrev pub output_at : AllSettings → ℕ → Option OutputSet
 output_at s output = slice_get s.outputs output
 
+-- the name that stands for an output in chunk files
 abbrev pub output_name : AllSettings → ℕ → List ℕ
-output_name s output = option_map_or (λ (set : OutputSet). set.name) (output_at s output) []
+output_name s output = option_map_or (λ (set : OutputSet). set.id) (output_at s output) []
 
 -- the outputs whose glob matches a tag, by their numbers
 abbrev pub outputs_for : AllSettings → List ℕ → List ℕ
@@ -114,7 +115,7 @@ places_of (output_kind.Stdout form) = 1
 places_of (output_kind.File folder file form) = 1
 places_of (output_kind.Tcp host port form) = most_peer_flushes
 places_of (output_kind.Forward host port ack whole_time) = most_peer_flushes
-places_of (output_kind.Http host port uri form) = most_peer_flushes
+places_of (output_kind.Http host port uri form options) = most_peer_flushes
 
 abbrev pub slots_at : Option OutputSet → ℕ
 slots_at None = 0

@@ -5,6 +5,8 @@ use Rattle.fwd_base.specs.Limits.{longest_head}
 use Rattle.fwd_flush.specs.declared.judgement.Judged.{Judged}
 use Rattle.fwd_flush.specs.declared.judgement.Judged.TheVariants.{More, Right, Wrong, Fatal}
 use Rattle.httparse.specs.Grammar.{ResponseHead, ReadsResponse, status_code}
+use Rattle.fwd_out_http.specs.declared.statuses.StatusRange.{StatusRange}
+use Rattle.fwd_out_http.specs.Statuses.{is_retried}
 use Rattle.fwd_out_http.specs.Reply.{most_fields, is_interim}
 
 -- the bytes start with this head, which has at most `most_fields` fields, and this rest follows it
@@ -31,17 +33,19 @@ pub record HasHead (reply : List ℕ) (status : ℕ) : Type 0 where
 abbrev pub HasNoHead : List ℕ → Type 0
 HasNoHead reply = (status : ℕ) → HasHead reply status → ⊥
 
--- a status for delivered records, and a status for a retry
-abbrev pub IsGood : ℕ → Type 0
-IsGood status = (200 ≤ status) × (status ≤ 299)
+-- a status for a retry, one of these ranges or one that is always retried, and a status for delivered records
+abbrev pub IsBusy : List StatusRange → ℕ → Type 0
+IsBusy ranges status = (is_retried ranges status ≡ true) ⊎ (status ≡ 429) ⊎ ((500 ≤ status) × (status ≤ 599))
 
-abbrev pub IsBusy : ℕ → Type 0
-IsBusy status = (status ≡ 429) ⊎ ((500 ≤ status) × (status ≤ 599))
+abbrev pub IsGood : List StatusRange → ℕ → Type 0
+IsGood ranges status = (is_retried ranges status ≡ false) × (200 ≤ status) × (status ≤ 299)
 
 -- the judgement of a reply: by its head, or by its length if it has none
-abbrev pub IsJudged : List ℕ → Judged → Type 0
-IsJudged reply Right = (status : ℕ) × HasHead reply status × IsGood status
-IsJudged reply Wrong =
-    ((status : ℕ) × HasHead reply status × IsBusy status) ⊎ (HasNoHead reply × (longest_head ≤ length reply))
-IsJudged reply Fatal = (status : ℕ) × HasHead reply status × (IsGood status → ⊥) × (IsBusy status → ⊥)
-IsJudged reply More = HasNoHead reply × (length reply < longest_head)
+abbrev pub IsJudged : List StatusRange → List ℕ → Judged → Type 0
+IsJudged ranges reply Right = (status : ℕ) × HasHead reply status × IsGood ranges status
+IsJudged ranges reply Wrong =
+    ((status : ℕ) × HasHead reply status × IsBusy ranges status)
+    ⊎ (HasNoHead reply × (longest_head ≤ length reply))
+IsJudged ranges reply Fatal =
+    (status : ℕ) × HasHead reply status × (IsGood ranges status → ⊥) × (IsBusy ranges status → ⊥)
+IsJudged ranges reply More = HasNoHead reply × (length reply < longest_head)

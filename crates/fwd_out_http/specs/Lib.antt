@@ -1,4 +1,6 @@
+pub mod Fields
 pub mod Request
+pub mod Statuses
 pub mod Reply
 pub mod Head
 pub mod FirstHead

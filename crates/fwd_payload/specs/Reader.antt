@@ -16,7 +16,7 @@ wants (Http reader) = true
 -- the judgement of a reply
 abbrev pub judges : Reader → List ℕ → Judged
 judges (End reader) reply = end_judges reader reply
-judges (Http reader) reply = http_judged reply
+judges (Http reader) reply = http_judged reader.retried reply
 
 -- the payload, whether a reply is wanted, and its judgement are these
 abbrev pub SendsAndJudges : Delivery → List ℕ → Reader → Type 0

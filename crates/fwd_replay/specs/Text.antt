@@ -29,7 +29,7 @@ is_stdout (output_kind.Stdout form) = true
 is_stdout (output_kind.File folder file form) = false
 is_stdout (output_kind.Tcp host port form) = false
 is_stdout (output_kind.Forward host port ack whole_time) = false
-is_stdout (output_kind.Http host port uri form) = false
+is_stdout (output_kind.Http host port uri form options) = false
 
 -- bit i is set if output i is a standard output
 abbrev pub stdout_mask : List OutputSet → ℕ

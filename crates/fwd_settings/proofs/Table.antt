@@ -10,7 +10,7 @@ use Rattle.fwd_parser.specs.declared.parser.Parser.{Parser}
 use Rattle.fwd_settings_schema.specs.declared.error_kind.SettingKind.{SettingKind}
 use Rattle.fwd_settings_schema.specs.declared.error_kind.SettingKind.TheVariants.{BadNumber, BadChoice}
 use Rattle.fwd_settings_schema.specs.Number.{positive_of, within}
-use Rattle.fwd_settings_schema.specs.Text.{is_tag_text, is_plain_text, is_visible_text, is_uri_text}
+use Rattle.fwd_settings_schema.specs.Text.{is_tag_text, is_id_text, is_plain_text, is_visible_text, is_uri_text}
 use Rattle.fwd_config.specs.declared.section.Entry.{Entry}
 use Rattle.fwd_settings_schema.specs.declared.keys.Key.{Key}
 use Rattle.fwd_settings_schema.specs.declared.keys.Kind.{Kind}
@@ -23,10 +23,10 @@ use Rattle.fwd_settings_schema.specs.declared.properties.Value.TheVariants as va
 use Rattle.fwd_settings_schema.specs.declared.properties.Property.{Property}
 use Rattle.fwd_settings_schema.specs.Keys.{name_of, Row, table, covers, is_row_of, row_of, key_of, is_key_named}
 use Rattle.fwd_settings_schema.specs.Property.{value_for, last_value}
-use Rattle.fwd_settings.specs.Reading.{Reading, known}
-use Rattle.fwd_settings.specs.Values.{or_else, when, value_of, property_value, key_property, entry_property}
-use Rattle.fwd_settings.specs.Requirements.{IsTagText}
-use Rattle.fwd_settings.proofs.Always.{Always, always_then, always_at}
+use Rattle.fwd_settings.specs.Reading.{Reading, Checked, known, fault}
+use Rattle.fwd_settings.specs.Values.{or_else, when, value_of, id_value, property_value, key_property, entry_property}
+use Rattle.fwd_settings.specs.Requirements.{IsTagText, IsIdText}
+use Rattle.fwd_settings.proofs.Always.{Always, always_then, always_known, always_at}
 
 -- ---- values by their kind
 
@@ -56,8 +56,13 @@ IsOfPlain plain.Visible v = IsTextSo is_visible_text v
 IsOfPlain plain.Uri v = IsTextSo is_uri_text v
 IsOfPlain _ v = Unit {0}
 
+abbrev pub IsIdValue : Value → Type 0
+IsIdValue (value.Id name place) = IsIdText name
+IsIdValue _ = ⊥
+
 abbrev pub IsOfKind : Kind → Value → Type 0
 IsOfKind (kind.Plain plain) v = IsOfPlain plain v
+IsOfKind kind.Id v = IsIdValue v
 IsOfKind _ v = Unit {0}
 
 within_is : (least most n : ℕ) (m : ℕ) → within least most n ≡ Some m → least ≤ m
@@ -136,9 +141,25 @@ plain_is plain.Retries text v is = tt
 plain_is plain.Visible text v is = text_so is_visible_text text v (is_visible_text text) refl is
 plain_is plain.Uri text v is = text_so is_uri_text text v (is_uri_text text) refl is
 plain_is plain.Types text v is = tt
+plain_is plain.Statuses text v is = tt
+plain_is plain.Header text v is = tt
+plain_is plain.Printable text v is = tt
 plain_is plain.Condition text v is = tt
 plain_is (plain.Change word) text v is = tt
 plain_is plain.Wildcard text v is = tt
+
+id_text_is : (text : List ℕ) (first second third fourth : Bool) → nat_lt 0 (length text) ≡ first → nat_le (length text) 255 ≡ second → is_utf8 text ≡ third → (first && (second && (third && fourth))) ≡ true → IsIdText text
+id_text_is text true true true fourth a b c all = (grind (arith, nat_tests, a), grind (arith, nat_tests, b), IsUtf8-from_is_utf8 text c)
+id_text_is text true true false fourth a b c all = absurd (cc all)
+id_text_is text true false third fourth a b c all = absurd (cc all)
+id_text_is text false second third fourth a b c all = absurd (cc all)
+
+id_is : (entry : Entry) (test : Bool) → is_id_text entry.value ≡ test → (v : Value) → ◌≡◌ {A = Checked Value} (if test then Ok (value.Id entry.value entry.place) else Err (fault BadChoice entry.place)) (Ok v) → IsIdValue v
+id_is entry true so v is = subst IsIdValue (ok_value is) (id_text_is entry.value _ _ _ _ refl refl refl so)
+  where
+    ok_value : ◌≡◌ {A = Checked Value} (Ok (value.Id entry.value entry.place)) (Ok v) → value.Id entry.value entry.place ≡ v
+    ok_value e = cc
+id_is entry false so v is = absurd (cc is)
 
 -- any result, if nothing is required of it
 always_any : {X : Type 0} (reading : Reading X) → Always (λ _. Unit {0}) reading
@@ -155,6 +176,7 @@ module _ (by_name : Entry → Reading Parser) where
   always_value (kind.Plain p) entry = always_at (IsOfPlain p) entry.place (value_of p entry.value) (plain_is p entry.value)
   always_value kind.Pattern entry = always_any (property_value by_name kind.Pattern entry)
   always_value (kind.Grep exclude) entry = always_any (property_value by_name (kind.Grep exclude) entry)
+  always_value kind.Id entry = always_known (IsOfKind kind.Id) (id_value entry) (id_is entry (is_id_text entry.value) refl)
   always_value kind.Parser entry = always_any (property_value by_name kind.Parser entry)
 
   always_key : (p : Target) (entry : Entry) (o : Option (Key × Kind)) → key_of p entry.key ≡ o → Always (IsPropertyOf p entry) (key_property by_name entry o)

@@ -75,8 +75,9 @@ abbrev pub with_filter : PartialSettings → Checked FilterStep → Checked Part
 with_filter partial (Ok step) = Ok (record partial { filters = partial.filters ++ step ∷ [] })
 with_filter partial (Err refusal) = Err refusal
 
-abbrev pub with_output : PartialSettings → OutputSet → PartialSettings
-with_output partial set = record partial { outputs = partial.outputs ++ set ∷ [] }
+abbrev pub with_output : PartialSettings → Checked OutputSet → Checked PartialSettings
+with_output partial (Ok set) = Ok (record partial { outputs = partial.outputs ++ set ∷ [] })
+with_output partial (Err refusal) = Err refusal
 
 -- the settings so far, with those of a section added
 abbrev pub with_target : Bool → PartialSettings → Target → Place → List Property → Checked PartialSettings
@@ -88,7 +89,7 @@ with_target path partial (target.Input plugin) place properties =
 with_target path partial (target.Filter plugin) place properties =
     with_filter partial (filter_from plugin place properties)
 with_target path partial (target.Output plugin) place properties =
-    Ok (with_output partial (output_from plugin partial.outputs properties))
+    with_output partial (output_from plugin place partial.outputs properties)
 
 -- A section is checked in five steps: its header, its Name if it requires one, its plugin, each entry in
 -- order, and what else is required.

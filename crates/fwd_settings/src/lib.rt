@@ -25,5 +25,6 @@ pub use fwd_outside::{Ends, InEnd, InEnds, OutEnd, OutEnds};
 pub use fwd_settings_schema::SettingKind;
 pub use sections::settings;
 pub use settings_types::{
-    AllSettings, InputKind, InputSet, InputSets, OutputKind, OutputSet, OutputSets, Service,
+    AllSettings, HttpOptions, InputKind, InputSet, InputSets, OutputKind, OutputSet, OutputSets,
+    Service,
 };

@@ -7,10 +7,11 @@ ghost use Rattle.fwd_settings.specs.Values.{value_of, or_else, when};
 ghost use Rattle.fwd_settings_schema.specs.declared.keys.Plain.TheVariants as plain;
 
 use fwd_base::{Bytes, Form, number, parse_size};
+use fwd_out_http::is_field_value;
 use fwd_settings_schema::{
     ChangeWord, LineFormat, Plain, SettingKind, Value, change, condition, field_types, file_form,
-    flush_ms, is_false, is_plain, is_tag, is_uri, is_visible, line_format, nest_operation,
-    parser_format, port, positive, record_form, retries, store, sync, truth,
+    flush_ms, header, is_false, is_plain, is_tag, is_uri, is_visible, line_format, nest_operation,
+    parser_format, port, positive, record_form, retries, status_ranges, store, sync, truth,
 };
 use std::alloc::Global;
 
@@ -116,6 +117,23 @@ fn read_types(alloc: Global, text: &[u8]) -> Result<Value, SettingKind>
     text_if(alloc, field_types(alloc, text)?.is_some(), text)
 }
 
+fn read_statuses(alloc: Global, text: &[u8]) -> Result<Value, SettingKind>
+    ensures ok { IfOk result (λ value. value_of plain.Statuses text.now ≡ Ok value) }
+    ensures err { IfErr result (λ kind. kind ≢ Memory → value_of plain.Statuses text.now ≡ Err kind) }
+{
+    text_if(alloc, status_ranges(alloc, text)?.is_some(), text)
+}
+
+fn read_header(alloc: Global, text: &[u8]) -> Result<Value, SettingKind>
+    ensures ok { IfOk result (λ value. value_of plain.Header text.now ≡ Ok value) }
+    ensures err { IfErr result (λ kind. kind ≢ Memory → value_of plain.Header text.now ≡ Err kind) }
+{
+    match header(alloc, text)? {
+        Some(field) => Ok(Value::Header(field)),
+        None => Err(SettingKind::BadChoice),
+    }
+}
+
 fn read_condition(alloc: Global, text: &[u8]) -> Result<Value, SettingKind>
     ensures ok { IfOk result (λ value. value_of plain.Condition text.now ≡ Ok value) }
     ensures err { IfErr result (λ kind. kind ≢ Memory → value_of plain.Condition text.now ≡ Err kind) }
@@ -165,6 +183,9 @@ pub fn read_plain(alloc: Global, plain: Plain, text: &[u8]) -> Result<Value, Set
         Plain::Visible => text_if(alloc, is_visible(text), text),
         Plain::Uri => text_if(alloc, is_uri(text), text),
         Plain::Types => read_types(alloc, text),
+        Plain::Statuses => read_statuses(alloc, text),
+        Plain::Header => read_header(alloc, text),
+        Plain::Printable => text_if(alloc, is_field_value(text), text),
         Plain::Condition => read_condition(alloc, text),
         Plain::Change(word) => read_change(alloc, word, text),
         Plain::Wildcard => Ok(Value::Wildcard(Bytes::from_slice(alloc, text)?)),

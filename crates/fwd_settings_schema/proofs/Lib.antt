@@ -1,3 +1,4 @@
 pub mod Split
 pub mod FieldTypes
+pub mod StatusRanges
 pub mod Collect

@@ -134,6 +134,11 @@ name_of key.Host = codes "host"
 name_of key.RequireAck = codes "require_ack_response"
 name_of key.TimeAsInteger = codes "time_as_integer"
 name_of key.Uri = codes "uri"
+name_of key.RetryStatus = codes "retry_status"
+name_of key.Header = codes "header"
+name_of key.HttpUser = codes "http_user"
+name_of key.HttpPasswd = codes "http_passwd"
+name_of key.StorageId = codes "storage.id"
 
 -- a row of the table: where the key stands, the key, and how its value is read there
 abbrev pub Row : Type 0
@@ -222,6 +227,7 @@ table =
     (part.EachOutput, key.Alias, kind.Plain plain.Ignored) ∷
     (part.EachOutput, key.LogLevel, kind.Plain plain.Ignored) ∷
     (part.EachOutput, key.Workers, kind.Plain plain.Ignored) ∷
+    (part.EachOutput, key.StorageId, kind.Id) ∷
     (part.StdoutOutput, key.Format, kind.Plain plain.RecordForm) ∷
     (part.FileOutput, key.Path, kind.Plain plain.Text) ∷
     (part.FileOutput, key.File, kind.Plain plain.Text) ∷
@@ -238,6 +244,10 @@ table =
     (part.HttpOutput, key.Port, kind.Plain plain.Port) ∷
     (part.HttpOutput, key.Uri, kind.Plain plain.Uri) ∷
     (part.HttpOutput, key.Format, kind.Plain plain.RecordForm) ∷
+    (part.HttpOutput, key.RetryStatus, kind.Plain plain.Statuses) ∷
+    (part.HttpOutput, key.Header, kind.Plain plain.Header) ∷
+    (part.HttpOutput, key.HttpUser, kind.Plain plain.Printable) ∷
+    (part.HttpOutput, key.HttpPasswd, kind.Plain plain.Printable) ∷
     []
 
 -- the kind of section with this name

@@ -1,11 +1,13 @@
 -- The entries of a section: keys with the values read for them, in order.
-use Rattle.std.specs.Prelude.{ℕ, Bool, if◌then◌else◌, List, Option, Some, None}
+use Rattle.std.specs.Prelude.{ℕ, Bool, if◌then◌else◌, List, count_by, Option, Some, None, is_some}
 use Rattle.std.specs.List.{last_or, filter_map}
 use Rattle.std.specs.Str.{bytes_eq}
 use Rattle.fwd_base.specs.declared.output_options.Form.{Form}
 use Rattle.fwd_base.specs.declared.output_options.Retries.{Retries}
 use Rattle.fwd_base.specs.declared.pattern.Pattern.{Pattern}
 use Rattle.fwd_parser.specs.declared.parser.Parser.{Parser}
+use Rattle.fwd_out_http.specs.declared.fields.HeaderField.{HeaderField}
+use Rattle.fwd_config.specs.declared.section.Place.{Place}
 use Rattle.fwd_grep.specs.declared.rules.GrepRule.{GrepRule}
 use Rattle.fwd_reshape.specs.declared.rules.Condition.{Condition}
 use Rattle.fwd_reshape.specs.declared.rules.Change.{Change}
@@ -57,6 +59,14 @@ abbrev pub as_retries : Option Value → Option Retries
 as_retries (Some (value.Retries r)) = Some r
 as_retries _ = None
 
+abbrev pub as_id : Option Value → Option (List ℕ)
+as_id (Some (value.Id name place)) = Some name
+as_id _ = None
+
+abbrev pub as_id_place : Option Value → Option Place
+as_id_place (Some (value.Id name place)) = Some place
+as_id_place _ = None
+
 -- the number, the text and so on of the last entry with a key
 abbrev pub number_at : Key → List Property → Option ℕ
 number_at key properties = as_number (last_value key properties)
@@ -78,6 +88,12 @@ operation_at key properties = as_operation (last_value key properties)
 
 abbrev pub text_at : Key → List Property → Option (List ℕ)
 text_at key properties = as_text (last_value key properties)
+
+abbrev pub id_at : Key → List Property → Option (List ℕ)
+id_at key properties = as_id (last_value key properties)
+
+abbrev pub id_place_at : Key → List Property → Option Place
+id_place_at key properties = as_id_place (last_value key properties)
 
 abbrev pub retries_at : Key → List Property → Option Retries
 retries_at key properties = as_retries (last_value key properties)
@@ -124,6 +140,19 @@ wildcard_in item = wildcard_of item.value
     wildcard_of : Value → Option (List ℕ)
     wildcard_of (value.Wildcard w) = Some w
     wildcard_of _ = None
+
+abbrev pub header_in : Property → Option HeaderField
+header_in item = header_of item.value
+  where
+    header_of : Value → Option HeaderField
+    header_of (value.Header h) = Some h
+    header_of _ = None
+
+abbrev pub is_header : Property → Bool
+is_header item = is_some (header_in item)
+
+abbrev pub header_count : List Property → ℕ
+header_count properties = count_by is_header properties
 
 -- the last of them
 abbrev pub last_in : {X : Type 0} → (Property → Option X) → List Property → Option X

@@ -1,4 +1,4 @@
--- The rules of `grep` and `modify`, by the text of a configuration.
+-- The rules of `grep` and `modify`, and header fields, by the text of a configuration.
 use Rattle.std.specs.Prelude.{ℕ, Bool, false, not, ◌==◌, ◌&&◌, nat_lt, if◌then◌else◌, List, [], ◌∷◌, length, codes, Option, Some, None, option_map}
 use Rattle.std.specs.Str.{str_eq_ignore_ascii_case, byte}
 use Rattle.fwd_reshape.specs.declared.rules.Condition.{Condition}
@@ -7,6 +7,8 @@ use Rattle.fwd_reshape.specs.declared.rules.Change.{Change}
 use Rattle.fwd_reshape.specs.declared.rules.Change.TheVariants as change
 use Rattle.fwd_settings_schema.specs.declared.rules.ChangeWord.{ChangeWord}
 use Rattle.fwd_settings_schema.specs.declared.rules.ChangeWord.TheVariants as word
+use Rattle.fwd_out_http.specs.declared.fields.HeaderField.{HeaderField}
+use Rattle.fwd_out_http.specs.Fields.{is_field_name, is_field_value}
 use Rattle.fwd_settings_schema.specs.Text.{first_word, rest}
 
 -- a key: it isn't empty and doesn't begin with a dollar
@@ -28,6 +30,13 @@ key_and_rest_of text =
 abbrev pub two_keys : List ℕ → Option (List ℕ × List ℕ)
 two_keys text =
     if is_key (first_word text) && is_key (rest text) then Some (first_word text, rest text) else None
+
+-- a header field: its name is the first word, and its value the whole rest
+abbrev pub header_of : List ℕ → Option HeaderField
+header_of text =
+    if is_field_name (first_word text) && (nat_lt 0 (length (rest text)) && is_field_value (rest text))
+    then Some (record { name = first_word text; value = rest text })
+    else None
 
 -- a condition, by its first word, case ignored
 abbrev pub condition_of : List ℕ → Option Condition

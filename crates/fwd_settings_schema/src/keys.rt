@@ -79,6 +79,11 @@ pub enum Key {
     RequireAck,
     TimeAsInteger,
     Uri,
+    RetryStatus,
+    Header,
+    HttpUser,
+    HttpPasswd,
+    StorageId,
 }
 
 /// How to read a value.
@@ -89,6 +94,8 @@ pub enum Kind {
     Pattern,
     /// The name of a parser.
     Parser,
+    /// A name that stands for an output in chunk files.
+    Id,
     /// A key and a pattern.
     Grep { exclude: bool },
 }
@@ -142,6 +149,12 @@ pub enum Plain {
     Retries,
     /// Words `key:type`.
     Types,
+    /// Statuses, and classes of statuses.
+    Statuses,
+    /// The name and the value of a header field.
+    Header,
+    /// Printable ASCII.
+    Printable,
     /// A condition of `modify`.
     Condition,
     /// A rule of `modify`.
@@ -226,6 +239,11 @@ impl Key {
             Key::RequireAck => b"require_ack_response",
             Key::TimeAsInteger => b"time_as_integer",
             Key::Uri => b"uri",
+            Key::RetryStatus => b"retry_status",
+            Key::Header => b"header",
+            Key::HttpUser => b"http_user",
+            Key::HttpPasswd => b"http_passwd",
+            Key::StorageId => b"storage.id",
         }
     }
 

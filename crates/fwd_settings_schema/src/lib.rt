@@ -12,6 +12,7 @@ mod plugins;
 mod properties;
 mod rules;
 mod section_kind;
+mod statuses;
 mod table;
 mod texts;
 mod truth_words;
@@ -23,14 +24,15 @@ pub use keys::{Key, Kind, Plain};
 pub use numbers::{flush_ms, port, positive, retries};
 pub use plugins::{FORWARD_PORT, FilterPlugin, HTTP_PORT, InputPlugin, OutputPlugin, TCP_PORT};
 pub use properties::{
-    Properties, Property, Value, form_at, format_at, grep_rules, last_parser, last_pattern,
-    modify_rules, number_at, operation_at, own_text, port_at, retries_at, text_at, text_or,
-    truth_at, wildcards,
+    Properties, Property, Value, form_at, format_at, grep_rules, header_count, id_at, id_place_at,
+    last_parser, last_pattern, modify_rules, number_at, operation_at, own_text, port_at,
+    push_headers, retries_at, text_at, text_or, truth_at, wildcards,
 };
-pub use rules::{ChangeWord, change, condition, key_and_rest};
+pub use rules::{ChangeWord, change, condition, header, key_and_rest};
 pub use section_kind::{SectionKind, Target};
+pub use statuses::status_ranges;
 pub use table::{Part, key_of};
-pub use texts::{is_plain, is_tag, is_uri, is_visible, parts_at, same_name};
+pub use texts::{is_id, is_plain, is_tag, is_uri, is_visible, parts_at, same_name};
 pub use truth_words::{is_false, truth};
 pub use types::field_types;
 pub use words::{

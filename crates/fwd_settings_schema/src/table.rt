@@ -104,6 +104,12 @@ const VISIBLE: Kind = Kind::Plain(Plain::Visible);
 
 const URI: Kind = Kind::Plain(Plain::Uri);
 
+const STATUSES: Kind = Kind::Plain(Plain::Statuses);
+
+const HEADER: Kind = Kind::Plain(Plain::Header);
+
+const PRINTABLE: Kind = Kind::Plain(Plain::Printable);
+
 const TABLE: &[Row] = &[
     (Part::Service, Key::Flush, FLUSH),
     (Part::Service, Key::Grace, NUMBER),
@@ -190,6 +196,7 @@ const TABLE: &[Row] = &[
     (Part::EachOutput, Key::Alias, IGNORED),
     (Part::EachOutput, Key::LogLevel, IGNORED),
     (Part::EachOutput, Key::Workers, IGNORED),
+    (Part::EachOutput, Key::StorageId, Kind::Id),
     (Part::StdoutOutput, Key::Format, RECORD_FORM),
     (Part::FileOutput, Key::Path, TEXT),
     (Part::FileOutput, Key::File, TEXT),
@@ -206,6 +213,10 @@ const TABLE: &[Row] = &[
     (Part::HttpOutput, Key::Port, PORT),
     (Part::HttpOutput, Key::Uri, URI),
     (Part::HttpOutput, Key::Format, RECORD_FORM),
+    (Part::HttpOutput, Key::RetryStatus, STATUSES),
+    (Part::HttpOutput, Key::Header, HEADER),
+    (Part::HttpOutput, Key::HttpUser, PRINTABLE),
+    (Part::HttpOutput, Key::HttpPasswd, PRINTABLE),
 ];
 
 /// Returns whether a part has a section or plugin in it.

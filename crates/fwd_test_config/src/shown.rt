@@ -6,8 +6,8 @@ use fwd_grep::GrepRules;
 use fwd_parser::{FieldTypes, Parser, Shape, TypeKind};
 use fwd_reshape::{Change, Condition, LiftRule, ModifyRules, NestRule};
 use fwd_settings::{
-    AllSettings, Ends, Form, InEnd, InputKind, InputSet, OutEnd, OutputKind, OutputSet, Retries,
-    Service, SettingFault,
+    AllSettings, Ends, Form, HttpOptions, InEnd, InputKind, InputSet, OutEnd, OutputKind,
+    OutputSet, Retries, Service, SettingFault,
 };
 
 /// The kind of a refusal, its line and its file.
@@ -310,13 +310,29 @@ fn show_output_kind(out: &mut String, kind: &OutputKind) -> Result<(), Memory> {
             port,
             uri,
             form,
+            options,
         } => {
             show_peer(out, host, *port)?;
             let uri = text(uri);
             write!(out, " {uri}")?;
-            show_form(out, *form)
+            show_form(out, *form)?;
+            show_options(out, options)
         }
     }
+}
+
+fn show_options(out: &mut String, options: &HttpOptions) -> Result<(), Memory> {
+    for range in options.retried.as_slice() {
+        let first = range.first;
+        let last = range.last;
+        write!(out, " retried {first} {last}")?;
+    }
+    for field in options.fields.as_slice() {
+        let name = text(&field.name);
+        let value = text(&field.value);
+        write!(out, " {name}: {value}")?;
+    }
+    Ok(())
 }
 
 fn show_output(out: &mut String, set: &OutputSet) -> Result<(), Memory> {
