@@ -580,7 +580,7 @@ module _ (path : Bool) (s : PartialSettings) (place : Place) (properties : List 
     outputs_named = sound.outputs_named;
     ids = sound.ids;
     ids_differ = sound.ids_differ;
-  requests = sound.requests;
+    requests = sound.requests;
     tagged = sound.tagged;
     stored = sound.stored;
   })
