@@ -1,5 +1,5 @@
 -- The judgement as a function of a reply's bytes agrees with that of its head.
-use Rattle.std.proofs.Common.{◌≡◌, inl, inr, ℕ, ◌<◌, ◌≤◌, Bool, true, false, ◌||◌, cond, eqb, List, length, take, refl, ap, ◌∙◌, arith, Option, Some, None}
+use Rattle.std.proofs.Common.{◌≡◌, ◌⊎◌, inl, inr, ℕ, ◌<◌, ◌≤◌, Bool, true, false, ◌||◌, cond, eqb, List, length, take, refl, ap, ◌∙◌, arith, Option, Some, None}
 use Rattle.std.specs.Prelude.{nat_le}
 use Rattle.std.proofs.lemmas.Bool.Decides.{nat_tests}
 use Rattle.fwd_base.specs.Limits.{longest_head}
@@ -24,7 +24,7 @@ has_head reply status has = found_status (take longest_head reply) status (recor
 module _ (ranges : List StatusRange) where
   good_is_right : (status : ℕ) → IsGood ranges status → by_status ranges status ≡ Right
   good_is_right status good =
-      let test : is_between 200 299 status ≡ true = let low = good.1.0 in let high = good.1.1 in grind (arith, nat_tests) in
+      let test : is_between 200 299 status ≡ true = let low = good.1 in let high = good.2 in grind (arith, nat_tests) in
       rw (good.0, test) refl
 
   busy_is_wrong : (status : ℕ) → IsBusy ranges status → by_status ranges status ≡ Wrong

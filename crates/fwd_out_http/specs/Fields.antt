@@ -1,8 +1,12 @@
 -- Fields of a request's head besides those that it always has.
-use Rattle.std.specs.Prelude.{ℕ, Bool, ◌&&◌, nat_lt, nat_le, List, length, IsTrue}
-use Rattle.std.specs.List.{list_all, AllByRecursion}
+use Rattle.std.specs.Prelude.{ℕ, Bool, ◌==◌, ◌&&◌, nat_lt, nat_le, List, length, codes, IsTrue}
+use Rattle.std.specs.List.{list_all, list_any, AllByRecursion}
 use Rattle.httparse.specs.Grammar.{is_token_byte}
 use Rattle.fwd_out_http.specs.declared.fields.HeaderField.{HeaderField}
+
+-- the bytes of a token that are neither letters nor digits
+abbrev pub is_mark : ℕ → Bool
+is_mark byte = list_any (λ mark. mark == byte) (codes "!#$%&'*+-.^_`|~")
 
 -- a name is a token (RFC 9110, section 5.6.2)
 abbrev pub is_field_name : List ℕ → Bool

@@ -2,7 +2,7 @@
 
 ghost use Rattle.std.specs.Prelude.{◌≡◌};
 ghost use Rattle.httparse.specs.Grammar.{is_token_byte};
-ghost use Rattle.fwd_out_http.specs.Fields.{is_field_name, is_field_value, is_printable};
+ghost use Rattle.fwd_out_http.specs.Fields.{is_mark, is_field_name, is_field_value, is_printable};
 
 use fwd_base::{Bytes, Items};
 
@@ -16,12 +16,18 @@ pub struct HeaderField {
 /// Fields, in order.
 pub type HeaderFields = Items<HeaderField>;
 
+fn is_mark(byte: u8) -> bool
+    ensures { result ≡ is_mark byte }
+{
+    b"!#$%&'*+-.^_`|~".iter().any(|mark| *mark == byte)
+}
+
 /// Returns whether a byte may stand in the name of a field.
 #[tactic(auto, unfolding(httparse::specs::Grammar::is_token_byte))]
 fn is_token_byte(byte: u8) -> bool
     ensures { result ≡ is_token_byte byte }
 {
-    byte.is_ascii_alphanumeric() || b"!#$%&'*+-.^_`|~".iter().any(|mark| *mark == byte)
+    byte.is_ascii_alphanumeric() || is_mark(byte)
 }
 
 /// Returns whether a text may be the name of a field: letters and digits of ASCII and the marks of a token.

@@ -106,7 +106,7 @@ abbrev ArePropertiesOf : Target → Property → Type 0
 ArePropertiesOf p item = (name : List ℕ) × (how : Kind) × (key_of p name ≡ Some (item.key, how)) × IsOfKind how item.value
 
 properties_in : (p : Target) (entry : Entry) (item : Property) → IsPropertyOf p entry item → ArePropertiesOf p item
-properties_in p entry item is = (entry.key, is)
+properties_in p entry item is = (entry.key, is.0, is.1, is.2)
 
 abbrev is_positive : Kind → Bool
 is_positive (kind.Plain plain.Positive) = true
@@ -156,7 +156,7 @@ text_of_kind _ v so of = absurd (cc so)
 
 module _ (by_name : Key) (test : Kind → Bool) (P : Value → Type 0) (gives : (k : Kind) (v : Value) → test k ≡ true → IsOfKind k v → P v) (p : Target) (rows : list_all (row_passes p by_name test) table ≡ true) where
   of_named : (item : Property) → ArePropertiesOf p item → bytes_eq (name_of by_name) (name_of item.key) ≡ true → P item.value
-  of_named item is same = gives is.1.0 item.value (kind_passes by_name test p rows item.key is.1.0 is.0 is.1.1.0 same) is.1.1.1
+  of_named item is same = gives is.1 item.value (kind_passes by_name test p rows item.key is.1 is.0 is.2 same) is.3
 
   last_of_named : (properties : List Property) → AllByRecursion (ArePropertiesOf p) properties → Holds P (last_value by_name properties)
   last_of_named properties all = last_holds by_name P properties (all_so (ArePropertiesOf p) (λ s. bytes_eq (name_of by_name) (name_of s.key) ≡ true → P s.value) of_named properties all)
@@ -339,7 +339,7 @@ name_short plugin n ascii short few =
     lit_lt n few = omega arith
 
 name_tag : (plugin : List ℕ) (n : ℕ) → list_all (λ b. nat_lt b 128) plugin ≡ true → length plugin ≤ 20 → n ≤ 64 → IsTagText (plugin ++ codes "." ++ decimal n)
-name_tag plugin n ascii short few = let is = name_short plugin n ascii short few in (is.0, omega (arith, is.1.0), is.1.1)
+name_tag plugin n ascii short few = let is = name_short plugin n ascii short few in (is.0, omega (arith, is.1), is.2)
 
 -- ---- an input
 
@@ -620,7 +620,7 @@ path_property : (entries : List Entry) (properties : List Property) → Pairs (I
 path_property [] [] pairs any = absurd (cc any)
 path_property [] (x ∷ properties) pairs any = absurd pairs
 path_property (e ∷ entries) [] pairs any = absurd pairs
-path_property (e ∷ entries) (x ∷ properties) pairs any = by_test (is_path_said x) (is_path_entry e) (path_property entries properties pairs.1) (ap names_path pairs.0.1.0) any
+path_property (e ∷ entries) (x ∷ properties) pairs any = by_test (is_path_said x) (is_path_entry e) (path_property entries properties pairs.1) (ap names_path pairs.0.1) any
   where
     by_test : (b c : Bool) → (list_any is_path_entry entries ≡ true → NamesPath properties) → c ≡ b → (c || list_any is_path_entry entries) ≡ true → (b || list_any is_path_said properties) ≡ true
     by_test true c later same so = refl

@@ -1,5 +1,5 @@
 -- What the table says of each key of a section or plugin, and so of its entries.
-use Rattle.std.proofs.Common.{◌≡◌, ℕ, ◌≤◌, Bool, true, false, cond, not, ◌&&◌, ◌||◌, nat_le, nat_lt, if◌then◌else◌, List, [], ◌∷◌, length, Option, Some, None, Result, Ok, Err, IsSome, refl, subst, arith, option_and_then, option_map}
+use Rattle.std.proofs.Common.{◌≡◌, ℕ, ◌≤◌, Bool, true, false, cond, not, ◌&&◌, ◌||◌, nat_le, nat_lt, if◌then◌else◌, List, [], ◌∷◌, length, Option, Some, None, Result, Ok, Err, IsSome, refl, sym, subst, arith, option_and_then, option_map}
 use Rattle.std.specs.List.{AllByRecursion, find, filter_map, last_or, list_all, list_any, cons_option}
 use Rattle.std.specs.Str.{bytes_eq, is_utf8}
 use Rattle.std.proofs.lemmas.Bool.Decides.{nat_tests}
@@ -204,7 +204,7 @@ found_passes {X = X} test found (first ∷ keys) k all is = here (test first) (f
 
 -- each row of a section or plugin with this key has a kind that passes the test
 abbrev pub row_passes : Target → Key → (Kind → Bool) → Row → Bool
-row_passes p by_name test row = not (covers row.0 p && bytes_eq (name_of by_name) (name_of row.1.0)) || test row.1.1
+row_passes p by_name test row = not (covers row.0 p && bytes_eq (name_of by_name) (name_of row.1)) || test row.2
 
 found_is : {X : Type 0} (found : X → Bool) (rows : List X) (x : X) → find found rows ≡ Some x → found x ≡ true
 found_is found [] x is = absurd (cc is)
@@ -221,19 +221,24 @@ first_so : (a b : Bool) → (a && b) ≡ true → a ≡ true
 first_so true b so = refl
 first_so false b so = absurd (cc so)
 
-module _ (by_name : Key) (test : Kind → Bool) (p : Target) (all : list_all (row_passes p by_name test) table ≡ true) where
-  by_tests : (a b : Bool) (row : Row) → covers row.0 p ≡ a → bytes_eq (name_of by_name) (name_of row.1.0) ≡ b → a ≡ true → b ≡ true → row_passes p by_name test row ≡ true → test row.1.1 ≡ true
-  by_tests a b row covered same a_so b_so passes = cc
+both_so : (a b t : Bool) → a ≡ true → b ≡ true → (not (a && b) || t) ≡ true → t ≡ true
+both_so true true t a_so b_so passes = passes
+both_so true false t a_so b_so passes = absurd (cc b_so)
+both_so false b t a_so b_so passes = absurd (cc a_so)
 
-  by_row : (k : Key) (how : Kind) (name : List ℕ) (o : Option Row) → row_of p name ≡ o → option_map (λ (row : Row). row.1) o ≡ Some (k, how) → bytes_eq (name_of by_name) (name_of k) ≡ true → test how ≡ true
+module _ (by_name : Key) (test : Kind → Bool) (p : Target) (all : list_all (row_passes p by_name test) table ≡ true) where
+  by_row : (k : Key) (how : Kind) (name : List ℕ) (o : Option Row) → row_of p name ≡ o → option_map (λ (row : Row). (row.1, row.2)) o ≡ Some (k, how) → bytes_eq (name_of by_name) (name_of k) ≡ true → test how ≡ true
   by_row k how name None found is same = absurd (cc is)
   by_row k how name (Some row) found is same =
-      let parts : row.1 ≡ (k, how) = pair_is is in
+      let parts : (row.1, row.2) ≡ (k, how) = pair_is is in
       let passes : row_passes p by_name test row ≡ true = found_passes (row_passes p by_name test) (is_row_of p name) table row all found in
-      let covered : covers row.0 p ≡ true = first_so (covers row.0 p) (is_key_named name row.1.0) (found_is (is_row_of p name) table row found) in
-      cc
+      let covered : covers row.0 p ≡ true = first_so (covers row.0 p) (is_key_named name row.1) (found_is (is_row_of p name) table row found) in
+      let named : bytes_eq (name_of by_name) (name_of row.1) ≡ true =
+      subst (λ (x : Key). bytes_eq (name_of by_name) (name_of x) ≡ true) (sym (ap (λ (q : Key × Kind). q.0) parts)) same in
+      subst (λ (h : Kind). test h ≡ true) (ap (λ (q : Key × Kind). q.1) parts)
+      (both_so (covers row.0 p) (bytes_eq (name_of by_name) (name_of row.1)) (test row.2) covered named passes)
     where
-      pair_is : ◌≡◌ {A = Option (Key × Kind)} (Some row.1) (Some (k, how)) → row.1 ≡ (k, how)
+      pair_is : ◌≡◌ {A = Option (Key × Kind)} (Some (row.1, row.2)) (Some (k, how)) → (row.1, row.2) ≡ (k, how)
       pair_is e = cc
 
   pub kind_passes : (k : Key) (how : Kind) (name : List ℕ) → key_of p name ≡ Some (k, how) → bytes_eq (name_of by_name) (name_of k) ≡ true → test how ≡ true
