@@ -1,6 +1,7 @@
 //! Fields of a request's head besides those that it always has.
 
 ghost use Rattle.std.specs.Prelude.{◌≡◌};
+ghost use Rattle.std.specs.List.{list_all};
 ghost use Rattle.httparse.specs.Grammar.{is_token_byte};
 ghost use Rattle.fwd_out_http.specs.Fields.{is_mark, is_field_name, is_field_value, is_printable};
 
@@ -30,11 +31,17 @@ fn is_token_byte(byte: u8) -> bool
     byte.is_ascii_alphanumeric() || is_mark(byte)
 }
 
+fn are_token_bytes(name: &[u8]) -> bool
+    ensures { result ≡ list_all is_token_byte name.now }
+{
+    name.iter().all(|byte| is_token_byte(*byte))
+}
+
 /// Returns whether a text may be the name of a field: letters and digits of ASCII and the marks of a token.
 pub fn is_field_name(name: &[u8]) -> bool
     ensures { result ≡ is_field_name name.now }
 {
-    !name.is_empty() && name.iter().all(|byte| is_token_byte(*byte))
+    !name.is_empty() && are_token_bytes(name)
 }
 
 fn is_printable(byte: u8) -> bool
