@@ -148,7 +148,7 @@ header_in item = header_of item.value
     header_of (value.Header h) = Some h
     header_of _ = None
 
-abbrev pub is_header : Property → Bool
+unfoldable pub is_header : Property → Bool
 is_header item = is_some (header_in item)
 
 abbrev pub header_count : List Property → ℕ

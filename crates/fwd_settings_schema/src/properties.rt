@@ -1,9 +1,9 @@
 //! The entries of a section with the values read for them.
 
-ghost use Rattle.std.specs.Prelude.{◌≡◌, ◌++◌, ◌∷◌, [], IfOk, OnOk, unwrap_or};
+ghost use Rattle.std.specs.Prelude.{◌≡◌, ◌++◌, ◌∷◌, [], IfOk, OnOk, unwrap_or, count_by};
 ghost use Rattle.std.specs.Option.{option_copied};
 ghost use Rattle.std.specs.List.{filter_map, last_or};
-ghost use Rattle.fwd_settings_schema.specs.Property.{last_value, number_at, port_at, truth_at, format_at, form_at, operation_at, text_at, id_at, id_place_at, retries_at, last_in, pattern_in, parser_in, grep_in, condition_in, change_in, wildcard_in, header_in, is_header, header_count};
+ghost use Rattle.fwd_settings_schema.specs.Property.{last_value, number_at, port_at, truth_at, format_at, form_at, operation_at, text_at, id_at, id_place_at, retries_at, last_in, pattern_in, parser_in, grep_in, condition_in, change_in, wildcard_in, header_in, is_header};
 
 use crate::keys::Key;
 use crate::words::{LineFormat, Operation};
@@ -318,6 +318,7 @@ pub fn push_headers(
     Ok(())
 }
 
+#[tactic(auto, unfolding(crate::specs::Property::is_header))]
 fn is_header(item: &Property) -> bool
     ensures { result ≡ is_header item.now }
 {
@@ -326,7 +327,7 @@ fn is_header(item: &Property) -> bool
 
 /// Returns how many header fields an http output has.
 pub fn header_count(properties: &[Property]) -> usize
-    ensures { result ≡ header_count properties.now }
+    ensures { result ≡ count_by is_header properties.now }
 {
     properties.iter().filter(|item| is_header(item)).count()
 }
