@@ -179,7 +179,7 @@ def mounted(folder):
     os.mkdir(folder)
     if os.geteuid() != 0:
         return False
-    return subprocess.run(["mount", "-t", "tmpfs", "-o", "size=4m", "tmpfs", folder], stderr=subprocess.DEVNULL).returncode == 0
+    return subprocess.run(["mount", "-t", "tmpfs", "-o", "size=16m", "tmpfs", folder], stderr=subprocess.DEVNULL).returncode == 0
 
 
 def fill(path):
@@ -230,7 +230,7 @@ def outage(room, program, ports, collector):
 
 
 def a_disk_is_full_for_a_while(room):
-    """One batch is refused, and what comes after it waits with its sender."""
+    """Nothing is refused, and what comes waits with its sender."""
     forward, tcp, collector = free_port(), free_port(), Collector(free_port())
     folder = os.path.join(room.path, "outage")
     os.mkdir(folder)
@@ -253,9 +253,9 @@ def a_disk_is_full_for_a_while(room):
         found = arrived(collector)
         holds(set(acknowledged) <= found["n"], "an acknowledged message is lost")
         refused = sum(int(one) for one in re.findall(r"refused ([0-9]+)", report))
-        holds(refused == 1, f"{refused} batches were refused: {report}")
+        holds(refused == 0, f"{refused} batches were refused: {report}")
         lost = {word: len(times) - len(found[word]) for word, times in sent.items()}
-        holds(sum(count > 0 for count in lost.values()) <= 1 and sum(lost.values()) <= 100, f"lost are {lost}")
+        holds(not any(lost.values()), f"lost are {lost}")
     finally:
         subprocess.run(["umount", "-l", f"{folder}/full"])
 

@@ -6,7 +6,7 @@ ghost use Rattle.fwd_outside.specs.Disk.{IsFileName, IsListing};
 use crate::answer::answer_of;
 use crate::disk_log::{tell, told};
 use crate::file_name::{TEMPORARY, complete_name, listing};
-use crate::storage_root::{Access, FILE_MODE, FOLDER_MODE, own_folder};
+use crate::storage_root::{Access, FILE_MODE, FOLDER_MODE, is_full, own_folder};
 use fwd_live_files::{LAST_OFFSET, read_to};
 use fwd_live_poll::{Shared, memory_error, text};
 use fwd_outside::{Bytes, Memory, Names};
@@ -232,12 +232,22 @@ impl<'a> Folders<'a> {
         }
     }
 
+    /// Creates a file. If there is no room for it, it gets that of the reserve.
+    fn place_with_reserve(&mut self, name: &[u8], part: &[u8], bytes: &[u8]) -> io::Result<File> {
+        match self.place_in_folder(name, part, bytes) {
+            Err(error) if is_full(&error) && self.shared.release() => {
+                self.place_in_folder(name, part, bytes)
+            }
+            outcome => outcome,
+        }
+    }
+
     /// Creates a file, and its folder if it is missing. Returns `None` if the system refuses.
     pub fn place(&mut self, name: &[u8], bytes: &[u8]) -> Result<Option<()>, Memory> {
         let mut part = Bytes::from_slice(self.rt.alloc(), name)?;
         part.extend_from_slice(TEMPORARY.as_bytes())?;
         let name = Bytes::from_slice(self.rt.alloc(), name)?;
-        match self.place_in_folder(name.as_slice(), part.as_slice(), bytes) {
+        match self.place_with_reserve(name.as_slice(), part.as_slice(), bytes) {
             Ok(file) => {
                 self.written = Some(OpenFile { name, file });
                 Ok(Some(()))
@@ -277,13 +287,18 @@ impl<'a> Folders<'a> {
         }
     }
 
-    /// Writes from an offset on. Returns `None` if the system refuses.
+    /// Writes from an offset on. If there is no room for it, it gets that of the reserve. Returns `None` if the
+    /// system refuses.
     pub fn write_at(&mut self, name: &[u8], at: u64, bytes: &[u8]) -> Result<Option<()>, Memory> {
-        let written = match self.open(name)? {
-            Some(file) => write_to(file, at, bytes),
-            None => return Ok(None),
+        let shared = self.shared;
+        let Some(file) = self.open(name)? else {
+            return Ok(None);
         };
-        Ok(told(&self.shared.journal, "written", name, written))
+        let written = match write_to(file, at, bytes) {
+            Err(error) if is_full(&error) && shared.release() => write_to(file, at, bytes),
+            outcome => outcome,
+        };
+        Ok(told(&shared.journal, "written", name, written))
     }
 
     /// Fsyncs a file. Returns `None` if the system refuses, now or at an earlier fsync of this file.

@@ -39,7 +39,7 @@ const MOST_TICK_AGE: u64 = 10;
 /// The least number of milliseconds between two checks for signals.
 const SIGNAL_CHECK_INTERVAL: u64 = 200;
 
-/// The number of milliseconds between two probe writes, and between a failed write and the first.
+/// The number of milliseconds between two tries to fill the reserve, and between a failed write and the first.
 const PROBE_INTERVAL: u64 = 1_000;
 
 /// The system's part of an event loop.
@@ -65,7 +65,7 @@ pub struct Machine<'a> {
     next_signal_check: u64,
     /// Whether a signal was found that asks the program to stop. `Stop` is returned once.
     is_stopping: bool,
-    /// The time of the next probe write, by the monotonic clock.
+    /// The time of the next try to fill the reserve, by the monotonic clock.
     next_probe: u64,
 }
 
@@ -242,7 +242,7 @@ impl<'a> Machine<'a> {
         self.is_stopping
     }
 
-    /// Holds back all inputs while the disk fails, and tries once a second whether it takes writes again.
+    /// Holds back all inputs while the disk fails, and tries once a second to fill the reserve.
     pub fn hold_back(&mut self, shared: &Shared) -> Result<(), Memory> {
         if shared.disk_failed.get() {
             let passed = self.clock.passed(&self.rt);

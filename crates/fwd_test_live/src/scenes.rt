@@ -34,7 +34,7 @@ const SCENES: &[Scene] = &[
         ],
     },
     Scene {
-        name: "inputs are held back until a probe write succeeds",
+        name: "inputs are held back until the reserve is filled",
         output: Output::Stdout,
         steps: &[
             Step::Connect,
