@@ -38,6 +38,11 @@ pub enum Look {
     Over,
 }
 
+/// Returns what the bytes so far ask for.
+fn request_in(head: &Bytes) -> Request {
+    read_request(head.as_slice())
+}
+
 /// Reads once.
 fn read_some(stream: &TcpStream, part: &mut [u8]) -> io::Result<usize> {
     let mut from = stream;
@@ -106,7 +111,8 @@ impl Asker {
             Ok(0) => Ok(Look::Over),
             Ok(count) => {
                 self.head.extend_from_slice(&part[..count.min(PART)])?;
-                self.take(alloc, read_request(self.head.as_slice()))
+                let request = request_in(&self.head);
+                self.take(alloc, request)
             }
             Err(error) if error.kind() == ErrorKind::WouldBlock => Ok(Look::Later),
             Err(error) if error.kind() == ErrorKind::Interrupted => Ok(Look::More),
