@@ -57,11 +57,11 @@ pub resumed_engine : (old new : Engine) (s : AllSettings) (h : History) (input p
     → new.run ≡ old.run → new.parts.state ≡ old.parts.state → new.parts.input_streams ≡ old.parts.input_streams → new.parts.store ≡ old.parts.store
     → FilesRepresent s new.parts.followed_files (resumed_history input path place (paths_at s input) (length (paths_at s input)) h)
     → IsAt old s h → IsAt new s (resumed_history input path place (paths_at s input) (length (paths_at s input)) h)
-resumed_engine old new s h input place path run states hears holds follows at =
+resumed_engine old new s h input place path runs states hears holds follows at =
     let others = others_after s old.parts input place path (paths_at s input) (length (paths_at s input)) h
     (record { state = at.shows.state; input_streams = at.shows.input_streams; store = at.shows.store; sound = at.shows.sound }) in
     record {
-      settings = rw run at.settings;
+      settings = rw runs at.settings;
       shows = record {
         state = rw states others.state;
         input_streams = rw hears others.input_streams;
