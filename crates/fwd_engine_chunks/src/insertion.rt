@@ -1,4 +1,4 @@
-ghost use Rattle.std.specs.Prelude.{◌≡◌, ◌≤◌, ◌<◌, ◌∷◌, true, false, length, Option, None, Some, IsTrue, IsSome};
+ghost use Rattle.std.specs.Prelude.{◌≡◌, ◌≤◌, ◌<◌, ◌∷◌, ℕ, true, false, length, Option, None, Some, IsTrue, IsSome};
 ghost use Rattle.fwd_base.specs.Limits.{longest_tag};
 ghost use Rattle.fwd_outside.specs.declared.home.Home.TheVariants as home_of;
 ghost use Rattle.fwd_settings.specs.declared.settings_types.AllSettings.{AllSettings};
@@ -122,6 +122,18 @@ fn refuse_after_fault<D: Disk>(
     Ok(false)
 }
 
+/// Returns whether the store has a folder if one is needed. This is true of each store that represents a
+/// history.
+fn has_folder(store: &Store, home: Home) -> bool
+    ensures needed { result ≡ true → home ≡ home_of.Disk → IsSome store.now.root }
+    ensures always { (s : AllSettings) (h : History) (input : ℕ) → MeetsRequirements s → home ≡ home_at s input → StoreRepresents s store.now h → result ≡ true }
+{
+    match home {
+        Home::Disk => store.has_root(),
+        Home::Ram => true,
+    }
+}
+
 /// Returns whether the store can accept a batch: it has a folder if one is needed, and the open chunk has
 /// room. This is true of each store that represents a history.
 fn can_accept(store: &Store, input: InputId, tag: &[u8], home: Home) -> bool
@@ -129,11 +141,10 @@ fn can_accept(store: &Store, input: InputId, tag: &[u8], home: Home) -> bool
     ensures room { result ≡ true → IsTrue (has_room store.now (chunk_for store.now input.0 tag.now)) }
     ensures always { (s : AllSettings) (h : History) → MeetsRequirements s → home ≡ home_at s input.0 → StoreRepresents s store.now h → IsSound s h None → result ≡ true }
 {
-    let has_folder = match home {
-        Home::Disk => store.has_root(),
-        Home::Ram => true,
-    };
-    has_folder && store.has_room(input, tag)
+    if !has_folder(store, home) {
+        return false;
+    }
+    store.has_room(input, tag)
 }
 
 /// Puts a batch that matches an output into the open chunk of its input and tag, or into a new one.

@@ -189,7 +189,7 @@ carried_first s b n h out link f still is = carried_by s h (Accepted b (NewChunk
     one f r k =
         let o = k.0 in
         let apart : (n == r.chunk) ≡ false = ne_eqb n r.chunk (λ e. absurd (cc (sym still ∙ ap (is_closed h) e ∙ o.4.0))) in
-        let first = found_append r.chunk (chunks_of h) _ apart in
+        let first : find (λ (c : ChunkInfo). c.number == r.chunk) (chunks_of (Accepted b (NewChunk n) ∷ h)) ≡ find (λ (c : ChunkInfo). c.number == r.chunk) (chunks_of h) = found_append r.chunk (chunks_of h) _ apart in
         ((o.0, o.1, o.2 ∙ same_delivery s h (Accepted b (NewChunk n) ∷ h) r refl (tag_same h _ r.chunk first), (still_for s h _ r first o.3.0, o.3.1), o.4), k.1, k.2, k.3)
 
 pub carried_found : (s : AllSettings) (n : ℕ) (stream name bytes : List ℕ) (h : History) (out : Option Route) (link : ℕ) (f : Option FlushAttempt) → next h ≤ n

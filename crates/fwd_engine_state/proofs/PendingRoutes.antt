@@ -6,7 +6,7 @@ use Rattle.std.specs.Option.{option_map_or}
 use Rattle.std.proofs.lemmas.Bool.{cases_Bool, ne_eqb, eqb-true}
 use Rattle.fwd_settings.specs.declared.settings_types.AllSettings.{AllSettings}
 use Rattle.fwd_table.specs.Routes.{is_to}
-use Rattle.fwd_table.specs.Rows.{row_at, has_row, tries_of}
+use Rattle.fwd_table.specs.Rows.{row_at, tries_of}
 use Rattle.fwd_table.specs.declared.row.Row.{Row}
 use Rattle.fwd_table.specs.declared.route.Route.{Route as Owed}
 use Rattle.fwd_model.specs.Fact.{History, Route}
@@ -103,7 +103,7 @@ pending_tries s h r pending =
     let number = number_is r.chunk (chunks_of h) c found.1 in
     let left : not (is_resolved s h (route c.number r.output)) ≡ true = ap (λ (n : ℕ). not (is_resolved s h (route n r.output))) number ∙ ap not pending.1 in
     let kept = kept_in (λ o. not (is_resolved s h (route c.number o))) r.output (outputs_for s c.tag) found.2 left in
-    let row = row_there s h r.chunk (chunks_of h) c found.1 (some_there r.output (owed s h c) kept) in
+    let row : row_at (chunk_id r.chunk) (rows_of s h) ≡ Some (row_of s h c) = row_there s h r.chunk (chunks_of h) c found.1 (some_there r.output (owed s h c) kept) in
     rw (row, entry_there s h c.number r.output (owed s h c) kept) (ap (λ (n : ℕ). tries h (route n r.output)) number)
 
 -- an idle route is pending
