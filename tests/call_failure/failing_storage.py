@@ -1,0 +1,225 @@
+"""Runs whose calls on the storage folder fail."""
+import os
+import re
+import socket
+import time
+
+from failing import Failure, calls_in, count_in, failed_of, free_port
+from live_room import HOST, Collector, Failed, Program, content, holds, until
+from live_stored import send_message
+
+CONFIGURATION = """[SERVICE]
+    Flush 0.2
+    Grace 20
+    storage.path chunks
+    storage.sync full
+    scheduler.base 1
+    scheduler.cap 1
+[INPUT]
+    Name forward
+    Listen 127.0.0.1
+    Port {forward}
+    storage.type filesystem
+[INPUT]
+    Name tcp
+    Listen 127.0.0.1
+    Port {tcp}
+    storage.type filesystem
+[INPUT]
+    Name stdin
+[OUTPUT]
+    Name file
+    Match *
+    File written
+    Format json_lines
+[OUTPUT]
+    Name tcp
+    Match *
+    Host 127.0.0.1
+    Port {collector}
+    Format json_lines
+    Retry_Limit no_limits
+"""
+
+LINE = re.compile(rb'\{"date":[0-9]+\.[0-9]{9},"(n|line)":([0-9]+)\}')
+# For how many seconds a message is sent again until it is acknowledged, and what is pending may take to come.
+LONGEST = 20
+DONE, DISK_FAULT = 0, 4
+
+
+class Setting:
+    """The ports of a run, and its collector, which isn't there yet."""
+
+    def __init__(self):
+        self.forward, self.tcp, self.collector = free_port(), free_port(), Collector(free_port())
+
+    def configuration(self):
+        return CONFIGURATION.format(forward=self.forward, tcp=self.tcp, collector=self.collector.port)
+
+
+def has_begun(program, port):
+    """Whether the program listens. It may have ended before."""
+
+    def begun():
+        if program.process.poll() is not None:
+            return "ended"
+        try:
+            socket.create_connection((HOST, port), timeout=5).close()
+            return "listens"
+        except OSError:
+            return None
+
+    return until(begun, "the program listens or ends", LONGEST) == "listens"
+
+
+def is_acknowledged(program, port, number):
+    """Sends a message until it is acknowledged, over another connection where one breaks."""
+    last = time.monotonic() + LONGEST
+    while program.process.poll() is None and time.monotonic() < last:
+        try:
+            with socket.create_connection((HOST, port), timeout=5) as link:
+                send_message(link, number)
+                return True
+        except OSError:
+            time.sleep(0.02)
+    return False
+
+
+def send_line(port, number):
+    try:
+        with socket.create_connection((HOST, port), timeout=5) as link:
+            link.sendall(b'{"line":%d}\n' % number)
+    except OSError:
+        pass
+
+
+def messages_in(text):
+    """The numbers of the messages in the whole lines of a text. Each line has to be one that was sent."""
+    found = [LINE.fullmatch(line) for line in text.split(b"\n")[:-1]]
+    holds(all(found), f"a line came that nobody sent: {text[:300]!r}")
+    return {int(one[2]) for one in found if one[1] == b"n"}
+
+
+def came_to(collector):
+    return set().union(*(messages_in(bytes(stream)) for stream in list(collector.streams)))
+
+
+def wait_for(ready):
+    """Waits for what may not come where a call failed."""
+    try:
+        until(ready, "", LONGEST)
+    except Failed:
+        pass
+
+
+class Stored:
+    """Two runs over one storage folder, in the first of which a call fails."""
+
+    def __init__(self, room, name, found, failure):
+        self.room, self.name, self.failure = room, name, failure
+        self.folder = os.path.join(room.path, name)
+        self.acknowledged, self.taken = set(found), set()
+        os.makedirs(self.folder)
+
+    def take(self, files):
+        """Puts files of an earlier run into the storage folder."""
+        for name, data in files.items():
+            os.makedirs(os.path.dirname(f"{self.folder}/chunks/{name}"), exist_ok=True)
+            with open(f"{self.folder}/chunks/{name}", "wb") as file:
+                file.write(data)
+
+    def first(self):
+        """The run in which the call fails. Returns its status and its report."""
+        setting = Setting()
+        before = self.failure.before(self.room, f"{self.folder}/chunks", f"{self.folder}/calls")
+        with Program(self.room, self.name, setting.configuration(), before=before) as program:
+            if has_begun(program, setting.forward):
+                self.send_all(program, setting)
+                wait_for(lambda: self.acknowledged <= came_to(setting.collector) or program.process.poll() is not None)
+            status = program.stop()
+            self.end(setting)
+            return status, program.stdout(), program.stderr()
+
+    def send_all(self, program, setting):
+        """Two messages come before there is a collector, so that the file's outcome is recorded; another one comes then."""
+        self.send(program, setting, (100, 101))
+        wait_for(lambda: 101 in messages_in(content(f"{self.folder}/written")) or program.process.poll() is not None)
+        setting.collector.open()
+        self.send(program, setting, (102,))
+
+    def send(self, program, setting, numbers):
+        for number in numbers:
+            send_line(setting.tcp, number)
+            if is_acknowledged(program, setting.forward, number):
+                self.acknowledged.add(number)
+            else:
+                holds(program.process.poll() is not None, f"message {number} isn't acknowledged")
+
+    def end(self, setting):
+        setting.collector.close()
+        self.taken |= came_to(setting.collector)
+
+    def second(self):
+        """A run without failures, which delivers what is pending and ends."""
+        setting = Setting()
+        setting.collector.open()
+        with Program(self.room, self.name, setting.configuration()) as program:
+            status, report = program.stop(), program.stdout()
+            complaint = program.stderr().decode(errors="replace")
+        self.end(setting)
+        holds(status == DONE, f"the second run ended with status {status}: {complaint}")
+        holds(count_in(report, "owed") == 0, f"the second run left something: {report.decode()}")
+
+    def calls(self):
+        return calls_in(f"{self.folder}/calls")
+
+    def check_first(self, status, report, complaint):
+        """The run went on and counted the failure, or it ended at once for it."""
+        call = failed_of(self.calls())
+        if status == DISK_FAULT:
+            holds(call and not report and complaint.endswith(b"disk fault\n"), f"it ended with {complaint!r} and {report!r}")
+            return
+        holds(status == DONE, f"it ended with status {status}: {complaint.decode(errors='replace')}")
+        faults = count_in(report, "faults")
+        if call and not self.is_probe_for_room(call):
+            holds(faults >= 1, f"no fault is counted: {report.decode()}")
+        holds(call or faults == 0, f"{faults} faults are counted though no call failed")
+
+    def is_probe_for_room(self, call):
+        """The write that tries for room, at the start or once a call has failed, is no call of the disk."""
+        return call.kind == "write" and call.path.endswith("/.lock") and self.failure.error != Failure().error
+
+    def check_lost(self):
+        lost = self.acknowledged - self.taken
+        holds(not lost, f"acknowledged messages are lost: {sorted(lost)}")
+        missing = self.acknowledged - messages_in(content(f"{self.folder}/written"))
+        holds(not missing, f"the output file lacks acknowledged messages: {sorted(missing)}")
+
+
+def found_by(room):
+    """What an earlier run leaves that is killed: files of the storage folder, and the messages that were acknowledged."""
+    setting, numbers = Setting(), (0, 1, 2)
+    with Program(room, "earlier", setting.configuration()) as program:
+        holds(has_begun(program, setting.forward), f"the earlier run ended: {program.stderr()!r}")
+        for number in numbers:
+            holds(is_acknowledged(program, setting.forward, number), f"message {number} isn't acknowledged")
+        until(lambda: 2 in messages_in(content(program.path("written"))), "the output file has the messages")
+        program.process.kill()
+        program.process.wait()
+    root = program.path("chunks")
+    paths = [os.path.join(at, name) for at, _, names in os.walk(root) for name in names]
+    return {os.path.relpath(path, root): content(path) for path in paths}, numbers, content(program.path("written"))
+
+
+def tried(room, name, found, failure):
+    """Two runs; in the first one the call fails. Returns the status of the first one and its calls."""
+    files, numbers, written = found
+    runs = Stored(room, name, numbers, failure)
+    runs.take(files)
+    with open(f"{runs.folder}/written", "wb") as file:
+        file.write(written)
+    status, report, complaint = runs.first()
+    runs.check_first(status, report, complaint)
+    runs.second()
+    runs.check_lost()
+    return status, runs.calls()
