@@ -1,4 +1,5 @@
 """Runs whose calls on the storage folder fail."""
+import dataclasses
 import os
 import re
 import socket
@@ -41,7 +42,7 @@ CONFIGURATION = """[SERVICE]
     Retry_Limit no_limits
 """
 
-LINE = re.compile(rb'\{"date":[0-9]+\.[0-9]{9},"(n|line)":([0-9]+)\}')
+LINE = re.compile(rb'\{"date":[0-9]+\.[0-9]{9},"(n|line|log)":"?([0-9]+)"?\}')
 # For how many seconds a message is sent again until it is acknowledged, and what is pending may take to come.
 LONGEST = 20
 DONE, DISK_FAULT = 0, 4
@@ -116,29 +117,29 @@ class Stored:
     """Two runs over one storage folder, in the first of which a call fails."""
 
     def __init__(self, room, name, found, failure):
+        """`found` is what an earlier run left."""
         self.room, self.name, self.failure = room, name, failure
         self.folder = os.path.join(room.path, name)
-        self.acknowledged, self.taken = set(found), set()
-        os.makedirs(self.folder)
-
-    def take(self, files):
-        """Puts files of an earlier run into the storage folder."""
-        for name, data in files.items():
-            os.makedirs(os.path.dirname(f"{self.folder}/chunks/{name}"), exist_ok=True)
-            with open(f"{self.folder}/chunks/{name}", "wb") as file:
+        self.acknowledged, self.taken, self.status = set(found.acknowledged), set(), None
+        for path, data in found.files.items():
+            os.makedirs(os.path.dirname(f"{self.folder}/{path}"), exist_ok=True)
+            with open(f"{self.folder}/{path}", "wb") as file:
                 file.write(data)
+
+    def setting(self):
+        return Setting()
 
     def first(self):
         """The run in which the call fails. Returns its status and its report."""
-        setting = Setting()
+        setting = self.setting()
         before = self.failure.before(self.room, f"{self.folder}/chunks", f"{self.folder}/calls")
         with Program(self.room, self.name, setting.configuration(), before=before) as program:
             if has_begun(program, setting.forward):
                 self.send_all(program, setting)
                 wait_for(lambda: self.acknowledged <= came_to(setting.collector) or program.process.poll() is not None)
-            status = program.stop()
+            self.status = program.stop()
             self.end(setting)
-            return status, program.stdout(), program.stderr()
+            return self.status, program.stdout(), program.stderr()
 
     def send_all(self, program, setting):
         """Two messages come before there is a collector, so that the file's outcome is recorded; another one comes then."""
@@ -161,7 +162,7 @@ class Stored:
 
     def second(self):
         """A run without failures, which delivers what is pending and ends."""
-        setting = Setting()
+        setting = self.setting()
         setting.collector.open()
         with Program(self.room, self.name, setting.configuration()) as program:
             status, report = program.stop(), program.stdout()
@@ -196,8 +197,16 @@ class Stored:
         holds(not missing, f"the output file lacks acknowledged messages: {sorted(missing)}")
 
 
+@dataclasses.dataclass(frozen=True)
+class Found:
+    """What an earlier run leaves: files, by their paths, and the messages that were acknowledged."""
+
+    files: dict
+    acknowledged: tuple
+
+
 def found_by(room):
-    """What an earlier run leaves that is killed: files of the storage folder, and the messages that were acknowledged."""
+    """A run that is killed when the output file has the messages, and no collector."""
     setting, numbers = Setting(), (0, 1, 2)
     with Program(room, "earlier", setting.configuration()) as program:
         holds(has_begun(program, setting.forward), f"the earlier run ended: {program.stderr()!r}")
@@ -206,20 +215,14 @@ def found_by(room):
         until(lambda: 2 in messages_in(content(program.path("written"))), "the output file has the messages")
         program.process.kill()
         program.process.wait()
-    root = program.path("chunks")
-    paths = [os.path.join(at, name) for at, _, names in os.walk(root) for name in names]
-    return {os.path.relpath(path, root): content(path) for path in paths}, numbers, content(program.path("written"))
+    paths = [os.path.join(at, name) for at, _, names in os.walk(program.path("chunks")) for name in names]
+    return Found({os.path.relpath(path, program.folder): content(path) for path in [*paths, program.path("written")]}, numbers)
 
 
 def tried(room, name, found, failure):
     """Two runs; in the first one the call fails. Returns the status of the first one and its calls."""
-    files, numbers, written = found
-    runs = Stored(room, name, numbers, failure)
-    runs.take(files)
-    with open(f"{runs.folder}/written", "wb") as file:
-        file.write(written)
-    status, report, complaint = runs.first()
-    runs.check_first(status, report, complaint)
+    runs = Stored(room, name, found, failure)
+    runs.check_first(*runs.first())
     runs.second()
     runs.check_lost()
-    return status, runs.calls()
+    return runs.status, runs.calls()
