@@ -3,7 +3,8 @@
 
    CALL_FAILURE_ON is an absolute path, or `stdout`. CALL_FAILURE_AT is the number of the call that fails, from 1; 0 is none.
    CALL_FAILURE_ERRNO is the error that it gives. With CALL_FAILURE_KIND only calls of that kind are counted. With
-   CALL_FAILURE_MADE the call is made before it is said to have failed. CALL_FAILURE_LOG names the file that gets a line for each
+   CALL_FAILURE_MADE=1 the call is made before it is said to have failed; with CALL_FAILURE_UNMADE=1 one that changes a file is
+   said to have been made, and isn't. CALL_FAILURE_LOG names the file that gets a line for each
    call: its number, its kind, its path, and `failed` or `made`. */
 #define _GNU_SOURCE
 #include <dirent.h>
@@ -21,15 +22,21 @@
 #include <unistd.h>
 
 #define NEXT(name) static typeof(&name) next; if (!next) next = (typeof(&name))dlsym(RTLD_NEXT, #name)
-/* Makes a call, or lets it fail. */
-#define ANSWER(fails, call) do { if (!(fails)) return call; if (is_made()) (void)!call; errno = number_in("CALL_FAILURE_ERRNO"); return -1; } while (0)
+/* Makes a call, or lets it fail. `told` is what it gives where it only says that it was made. */
+#define ANSWER(fails, call, told) do { \
+    if (!(fails)) return call; \
+    if (has("CALL_FAILURE_MADE")) (void)!call; \
+    if (has("CALL_FAILURE_UNMADE") && (told) >= 0) return told; \
+    errno = number_in("CALL_FAILURE_ERRNO"); \
+    return -1; \
+  } while (0)
 
 static int number_in(const char *name) {
   const char *number = getenv(name);
   return number ? atoi(number) : 0;
 }
 
-static int is_made(void) { return number_in("CALL_FAILURE_MADE"); }
+static int has(const char *name) { return number_in(name) == 1; }
 
 /* Counts and writes down a call, and says whether it is to fail. */
 static int counted(const char *kind, const char *path) {
@@ -80,7 +87,7 @@ int open(const char *name, int flags, ...) {
   va_start(more, flags);
   mode_t mode = flags & O_CREAT ? va_arg(more, mode_t) : 0;
   va_end(more);
-  ANSWER(fails_on("open", AT_FDCWD, name), next(name, flags, mode));
+  ANSWER(fails_on("open", AT_FDCWD, name), next(name, flags, mode), -1);
 }
 
 int openat(int folder, const char *name, int flags, ...) {
@@ -89,70 +96,70 @@ int openat(int folder, const char *name, int flags, ...) {
   va_start(more, flags);
   mode_t mode = flags & O_CREAT ? va_arg(more, mode_t) : 0;
   va_end(more);
-  ANSWER(fails_on("open", folder, name), next(folder, name, flags, mode));
+  ANSWER(fails_on("open", folder, name), next(folder, name, flags, mode), -1);
 }
 
 int statx(int folder, const char *restrict name, int flags, unsigned mask, struct statx *restrict found) {
   NEXT(statx);
-  ANSWER(fails_on(name[0] ? "stat" : "fstat", folder, name), next(folder, name, flags, mask, found));
+  ANSWER(fails_on(name[0] ? "stat" : "fstat", folder, name), next(folder, name, flags, mask, found), -1);
 }
 
 ssize_t getdents64(int fd, void *entries, size_t length) {
   NEXT(getdents64);
-  ANSWER(fails("list", fd), next(fd, entries, length));
+  ANSWER(fails("list", fd), next(fd, entries, length), -1);
 }
 
 ssize_t read(int fd, void *bytes, size_t length) {
   NEXT(read);
-  ANSWER(fails("read", fd), next(fd, bytes, length));
+  ANSWER(fails("read", fd), next(fd, bytes, length), -1);
 }
 
 ssize_t pread(int fd, void *bytes, size_t length, off_t at) {
   NEXT(pread);
-  ANSWER(fails("read", fd), next(fd, bytes, length, at));
+  ANSWER(fails("read", fd), next(fd, bytes, length, at), -1);
 }
 
 ssize_t write(int fd, const void *bytes, size_t length) {
   NEXT(write);
-  ANSWER(fails("write", fd) || fails_at_output(fd), next(fd, bytes, length));
+  ANSWER(fails("write", fd) || fails_at_output(fd), next(fd, bytes, length), (ssize_t)length);
 }
 
 ssize_t pwrite(int fd, const void *bytes, size_t length, off_t at) {
   NEXT(pwrite);
-  ANSWER(fails("write", fd), next(fd, bytes, length, at));
+  ANSWER(fails("write", fd), next(fd, bytes, length, at), (ssize_t)length);
 }
 
 int fsync(int fd) {
   NEXT(fsync);
-  ANSWER(fails("sync", fd), next(fd));
+  ANSWER(fails("sync", fd), next(fd), 0);
 }
 
 int fdatasync(int fd) {
   NEXT(fdatasync);
-  ANSWER(fails("sync", fd), next(fd));
+  ANSWER(fails("sync", fd), next(fd), 0);
 }
 
 int ftruncate(int fd, off_t length) {
   NEXT(ftruncate);
-  ANSWER(fails("truncate", fd), next(fd, length));
+  ANSWER(fails("truncate", fd), next(fd, length), 0);
 }
 
 int flock(int fd, int how) {
   NEXT(flock);
-  ANSWER(fails("lock", fd), next(fd, how));
+  ANSWER(fails("lock", fd), next(fd, how), 0);
 }
 
 int mkdir(const char *name, mode_t mode) {
   NEXT(mkdir);
-  ANSWER(fails_on("mkdir", AT_FDCWD, name), next(name, mode));
+  ANSWER(fails_on("mkdir", AT_FDCWD, name), next(name, mode), 0);
 }
 
 int rename(const char *from, const char *to) {
   NEXT(rename);
-  ANSWER(fails_on("rename", AT_FDCWD, from), next(from, to));
+  ANSWER(fails_on("rename", AT_FDCWD, from), next(from, to), 0);
 }
 
 int unlink(const char *name) {
   NEXT(unlink);
-  ANSWER(fails_on("unlink", AT_FDCWD, name), next(name));
+  ANSWER(fails_on("unlink", AT_FDCWD, name), next(name), 0);
 }

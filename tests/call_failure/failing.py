@@ -36,7 +36,9 @@ class Failure:
     at: int = 0
     error: int = errno.EIO
     kind: str = ""
+    # It is made all the same; or it isn't made, and says that it was.
     made: bool = False
+    unmade: bool = False
 
     def variables(self, room, on, log):
         """The variables of a run whose calls on a path, or on `stdout`, are counted."""
@@ -47,7 +49,8 @@ class Failure:
             "CALL_FAILURE_AT": str(self.at),
             "CALL_FAILURE_ERRNO": str(self.error),
             "CALL_FAILURE_KIND": self.kind,
-            "CALL_FAILURE_MADE": "1" if self.made else "0",
+            "CALL_FAILURE_MADE": str(int(self.made)),
+            "CALL_FAILURE_UNMADE": str(int(self.unmade)),
         }
 
     def before(self, room, on, log):
@@ -55,8 +58,10 @@ class Failure:
         return "export " + " ".join(f"{name}={value}" for name, value in self.variables(room, on, log).items())
 
     def told(self):
-        done = ", though it was made" if self.made else ""
-        return f"{errno.errorcode[self.error]} of {'a ' + self.kind if self.kind else 'any call'}{done}"
+        what = f"a {self.kind}" if self.kind else "any call"
+        if self.unmade:
+            return f"{what} isn't made and says that it was"
+        return f"{errno.errorcode[self.error]} of {what}" + (", though it was made" if self.made else "")
 
 
 @dataclasses.dataclass(frozen=True)

@@ -12,11 +12,12 @@ that of a file fault. On standard output: what is written is a prefix, and the s
 taken is printed again.
 
 Each pass counts the calls of a run first and then lets each of them fail in a run of its own. It prints a line for each pass,
-and one for each wrong run, with the number of its call.
+and one for each wrong run, with the number of its call. The status is 1 if a run is wrong, and with `--unmade` if none is.
 """
 import argparse
 import collections
 import concurrent.futures
+import dataclasses
 import errno
 import os
 import subprocess
@@ -37,15 +38,16 @@ EIO, ENOSPC = Failure(), Failure(error=errno.ENOSPC, kind="write")
 def options_of(words):
     parser = argparse.ArgumentParser(prog="tests/call_failure/run", description=__doc__, formatter_class=argparse.RawDescriptionHelpFormatter)
     parser.add_argument("--program", required=True, help="the built program")
-    parser.add_argument("--every", type=int, default=1, metavar="N", help="let each Nth call fail (%(default)s)")
+    parser.add_argument("--runs", type=int, default=1_000, metavar="N", help="at most so many runs of a pass: every second, third, .. call fails where there are more (%(default)s)")
     parser.add_argument("--from", dest="first", type=int, default=1, metavar="N", help="the first call that fails (%(default)s)")
     parser.add_argument("--upto", type=int, metavar="N", help="the last one, in place of the last of the run")
+    parser.add_argument("--unmade", action="store_true", help="in place of all passes, writes to the storage folder say that they were made and aren't: this must be noticed")
     parser.add_argument("--list", action="store_true", help="print each call that failed, and the status")
     parser.add_argument("names", nargs="*", metavar="PASS", help="passes whose names begin so; without names, all")
     return parser.parse_args(words)
 
 
-def passes(room):
+def passes(room, unmade):
     """The passes: a name, how a call fails, and what makes a run in which it does."""
     found = failing_storage.found_by(room)
 
@@ -55,6 +57,8 @@ def passes(room):
     def run_of(make, *words):
         return lambda name, failure: make(room, name, *words, failure)
 
+    if unmade:
+        return {"storage_unmade": (Failure(kind="write", unmade=True), stored)}
     lists = ("list", "-p", "../earlier/chunks")
     return {
         "storage": (EIO, stored),
@@ -78,7 +82,7 @@ class Pass:
 
     def one(self, at):
         """A run, and what is wrong with it."""
-        failure = Failure(at, self.failure.error, self.failure.kind, self.failure.made)
+        failure = dataclasses.replace(self.failure, at=at)
         try:
             status, calls = self.make(f"{self.name}.{at}", failure)
             return at, status, calls, None
@@ -105,7 +109,8 @@ class Pass:
             print(f"{self.name}: without a failure: {wrong}", flush=True)
             return
         upto = min(len(calls), self.options.upto or len(calls))
-        tries = range(self.options.first, upto + 1, self.options.every)
+        first = self.options.first
+        tries = range(first, upto + 1, max(1, -(-(upto - first + 1) // self.options.runs)))
         for result in threads.map(self.one, tries):
             self.note(room, *result)
         ends = ", ".join(f"{count} {'not reached' if end == 'not reached' else f'with status {end}'}" for end, count in sorted(self.results.items(), key=str))
@@ -119,13 +124,13 @@ def main(words):
         room = Room(path, options.program)
         subprocess.run(["cc", "-O1", "-shared", "-fPIC", "-o", f"{path}/call_failure.so", f"{HERE}/call_failure.c", "-ldl"], check=True)
         os.chmod(f"{path}/call_failure.so", 0o755)
-        for name, (failure, make) in passes(room).items():
+        for name, (failure, make) in passes(room, options.unmade).items():
             if not options.names or any(name.startswith(begin) for begin in options.names):
                 one = Pass(name, failure, make, options)
                 one.make_all(room, threads)
                 wrong += one.wrong
     print(f"call_failure: {wrong} wrong")
-    return 1 if wrong else 0
+    return 1 if bool(wrong) != options.unmade else 0
 
 
 if __name__ == "__main__":
