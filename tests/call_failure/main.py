@@ -103,10 +103,10 @@ class Pass:
 
     def make_all(self, room, threads):
         """Counts the calls of a run without failures, and lets each of them fail."""
-        at, status, calls, wrong = self.one(0)
-        if wrong:
+        _, _, calls, wrong = self.one(0)
+        if wrong or not calls:
             self.wrong += 1
-            print(f"{self.name}: without a failure: {wrong}", flush=True)
+            print(f"{self.name}: without a failure: {wrong or 'no call is counted'}", flush=True)
             return
         upto = min(len(calls), self.options.upto or len(calls))
         first = self.options.first
