@@ -339,6 +339,10 @@ fn show_output(out: &mut String, set: &OutputSet) -> Result<(), Memory> {
     let name = text(&set.name);
     let glob = text(&set.glob);
     write!(out, "\n{name} {glob}")?;
+    if set.id != set.name {
+        let id = text(&set.id);
+        write!(out, " id {id}")?;
+    }
     show_output_kind(out, &set.kind)?;
     match set.retries {
         Retries::Times(times) => write!(out, " retries {times}")?,
