@@ -41,8 +41,7 @@ pub fn own_folder(rt: &HostRuntime, shared: &Shared, folder: &str) -> io::Result
         Err(error) if is_full(&error) => shared.note_failure(),
         Err(error) => return Err(error),
     }
-    shared.keep_lock(file);
-    Ok(())
+    shared.keep_lock(rt.alloc(), file)
 }
 
 /// Returns whether a write failed for want of room alone.

@@ -1,6 +1,7 @@
 //! What the devices of a live run share.
 
 use fwd_log::{Journal, Level, Source, Topic};
+use std::alloc::Global;
 use std::cell::Cell;
 use std::fs::File;
 use std::io::{self, ErrorKind};
@@ -30,8 +31,8 @@ pub struct Shared {
     /// The log of the run.
     pub journal: Journal,
 
-    /// The lock file of the storage folder, if the run has one. The lock ends when this is dropped.
-    lock_file: Cell<Option<File>>,
+    /// The lock file of the storage folder, if the run has one. It stays open until the process ends.
+    lock_file: Cell<Option<&'static File>>,
 }
 
 impl Shared {
@@ -45,9 +46,11 @@ impl Shared {
         }
     }
 
-    /// Keeps the locked file until the end.
-    pub fn keep_lock(&self, file: File) {
-        self.lock_file.set(Some(file));
+    /// Keeps the locked file open until the process ends. Fails only if memory is out.
+    pub fn keep_lock(&self, alloc: Global, file: File) -> io::Result<()> {
+        let kept: &'static File = Box::leak(Box::new(alloc, file)?);
+        self.lock_file.set(Some(kept));
+        Ok(())
     }
 
     /// Notes a write that failed, so that inputs are held back.
@@ -60,22 +63,16 @@ impl Shared {
     /// Gives the room of the reserve to a write that failed, which is noted. Returns whether there was any.
     pub fn release(&self) -> bool {
         self.note_failure();
-        let Some(file) = self.lock_file.replace(None) else {
-            return false;
-        };
-        let released = empty_reserve(&file);
-        self.lock_file.set(Some(file));
-        matches!(released, Ok(true))
+        match self.lock_file.get() {
+            Some(file) => matches!(empty_reserve(file), Ok(true)),
+            None => false,
+        }
     }
 
     /// Tries to fill the reserve, and lets inputs go on if that succeeds. Without a lock file there is none.
     pub fn probe(&self) {
-        let filled = match self.lock_file.replace(None) {
-            Some(file) => {
-                let filled = fill_reserve(&file);
-                self.lock_file.set(Some(file));
-                filled.is_ok()
-            }
+        let filled = match self.lock_file.get() {
+            Some(file) => fill_reserve(file).is_ok(),
             None => true,
         };
         if filled && self.disk_failed.replace(false) {

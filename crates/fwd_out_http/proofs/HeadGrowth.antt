@@ -1,7 +1,7 @@
 -- A head grows field by field.
 use Rattle.std.proofs.Common.{◌≡◌, ℕ, ◌+◌, ◌<◌, List, [], ◌∷◌, ◌++◌, length, take, get_or, sym, ap, ◌∙◌, append_assoc}
 use Rattle.std.proofs.lemmas.List.{append-nil, take_more}
-use Rattle.fwd_out_http.specs.declared.fields.HeaderField.{HeaderField}
+use Rattle.fwd_http.specs.declared.fields.HeaderField.{HeaderField}
 use Rattle.fwd_out_http.specs.Request.{field, further_fields}
 
 pub line_grows : (out first uri last one two : List ℕ) → one ≡ out ++ first → two ≡ one ++ uri → two ++ last ≡ out ++ (first ++ uri ++ last)

@@ -5,8 +5,8 @@ use Rattle.std.proofs.lemmas.Bool.Decides.{nat_tests}
 use Rattle.fwd_base.specs.Limits.{longest_head}
 use Rattle.fwd_flush.specs.declared.judgement.Judged.{Judged}
 use Rattle.fwd_flush.specs.declared.judgement.Judged.TheVariants.{More, Right, Wrong, Fatal}
-use Rattle.fwd_out_http.specs.declared.statuses.StatusRange.{StatusRange}
-use Rattle.fwd_out_http.specs.Statuses.{is_retried}
+use Rattle.fwd_http.specs.declared.statuses.StatusRange.{StatusRange}
+use Rattle.fwd_http.specs.Statuses.{is_retried}
 use Rattle.fwd_out_http.specs.Reply.{is_between, status_in, by_status, judged_by, http_judged}
 use Rattle.fwd_out_http.specs.Head.{HasHead, HasNoHead, IsGood, IsBusy, IsJudged}
 use Rattle.fwd_out_http.proofs.Readings.{status_found, found_status}

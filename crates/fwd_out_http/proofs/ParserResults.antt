@@ -11,7 +11,7 @@ use Rattle.httparse.specs.declared.spans.HeaderSpan.{HeaderSpan}
 use Rattle.httparse.specs.declared.spans.ResponseSpans.{ResponseSpans}
 use Rattle.fwd_out_http.specs.Reply.{is_interim, finished, Reading, status_read, status_in, whole_lines, most_fields, judged_by, http_judged}
 use Rattle.fwd_out_http.specs.Head.{BeginsWith, IsHead, First, Later}
-use Rattle.fwd_out_http.specs.declared.statuses.StatusRange.{StatusRange}
+use Rattle.fwd_http.specs.declared.statuses.StatusRange.{StatusRange}
 use Rattle.fwd_out_http.specs.FirstHead.{StartsWithHead, StartsWithNoHead}
 use Rattle.fwd_out_http.proofs.Heads.{reads_on, reads_head, head-lines, line_text}
 use Rattle.fwd_out_http.proofs.Readings.{status_found, finished_interim, finished_whole, whole_stays}

@@ -17,8 +17,8 @@ use Rattle.httparse.specs.Spans.{name_and_value}
 use Rattle.httparse.proofs.GrammarLemmas.{print_request-append}
 use Rattle.httparse.proofs.TrimLemmas.{trim_ows_space, AllPass-reverse}
 use Rattle.fwd_out_http.specs.Request.{content_type, request_line, field, further_fields, server, http_head, IsVisible, IsUri, ReadsBack}
-use Rattle.fwd_out_http.specs.declared.fields.HeaderField.{HeaderField}
-use Rattle.fwd_out_http.specs.Fields.{is_printable, AreHeaderFields}
+use Rattle.fwd_http.specs.declared.fields.HeaderField.{HeaderField}
+use Rattle.fwd_http.specs.Fields.{is_printable, AreHeaderFields}
 
 -- each byte is visible
 abbrev AreVisible : List ℕ → Type 0

@@ -5,8 +5,8 @@ use Rattle.fwd_base.specs.Limits.{longest_head}
 use Rattle.fwd_flush.specs.declared.judgement.Judged.{Judged}
 use Rattle.fwd_flush.specs.declared.judgement.Judged.TheVariants.{More, Right, Wrong, Fatal}
 use Rattle.httparse.specs.Grammar.{ResponseHead, ReadsResponse, status_code}
-use Rattle.fwd_out_http.specs.declared.statuses.StatusRange.{StatusRange}
-use Rattle.fwd_out_http.specs.Statuses.{is_retried}
+use Rattle.fwd_http.specs.declared.statuses.StatusRange.{StatusRange}
+use Rattle.fwd_http.specs.Statuses.{is_retried}
 use Rattle.fwd_out_http.specs.Reply.{most_fields, is_interim}
 
 -- the bytes start with this head, which has at most `most_fields` fields, and this rest follows it

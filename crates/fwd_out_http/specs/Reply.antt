@@ -10,8 +10,8 @@ use Rattle.fwd_frames.specs.Lines.{ended_parts}
 use Rattle.fwd_flush.specs.declared.judgement.Judged.{Judged}
 use Rattle.fwd_flush.specs.declared.judgement.Judged.TheVariants.{More, Right, Wrong, Fatal}
 use Rattle.httparse.specs.Grammar.{is_token_byte, is_value_byte}
-use Rattle.fwd_out_http.specs.declared.statuses.StatusRange.{StatusRange}
-use Rattle.fwd_out_http.specs.Statuses.{is_retried}
+use Rattle.fwd_http.specs.declared.statuses.StatusRange.{StatusRange}
+use Rattle.fwd_http.specs.Statuses.{is_retried}
 
 -- the largest number of fields of a head
 abbrev pub most_fields : ℕ

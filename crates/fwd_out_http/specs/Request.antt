@@ -8,7 +8,7 @@ use Rattle.fwd_event.specs.declared.event.Event.{Event}
 use Rattle.fwd_out_text.specs.Payload.{payload_of}
 use Rattle.httparse.specs.Grammar.{RequestHead, ReadsRequest, trim_ows}
 use Rattle.httparse.specs.Spans.{name_and_value}
-use Rattle.fwd_out_http.specs.declared.fields.HeaderField.{HeaderField}
+use Rattle.fwd_http.specs.declared.fields.HeaderField.{HeaderField}
 
 -- the media type of a format
 abbrev pub content_type : Form → List ℕ

@@ -4,10 +4,10 @@ ghost use Rattle.std.specs.Prelude.{◌≡◌, IfOk, IfSome, IfNone};
 ghost use Rattle.fwd_out_http.specs.Reply.{by_status, is_interim, status_in, http_judged};
 ghost use Rattle.fwd_out_http.specs.FirstHead.{StartsWithHead, StartsWithNoHead};
 
-use crate::statuses::{StatusRange, StatusRanges, copy_of, is_retried};
 use fwd_base::Memory;
 use fwd_base::limits::LONGEST_HEAD;
 use fwd_flush::{Judged, ReplyReader};
+use fwd_http::{StatusRange, StatusRanges, copy_of, is_retried};
 use httparse::Status;
 use httparse::spans::{EMPTY_HEADER_SPAN, parse_response};
 use std::alloc::Global;

@@ -5,9 +5,9 @@ ghost use Rattle.fwd_base.specs.declared.output_options.Form.TheVariants.{MsgPac
 ghost use Rattle.fwd_event.specs.Event.{EventFits};
 ghost use Rattle.fwd_out_http.specs.Request.{content_type, field, further_fields, http_head, http_payload, http_request, request_line, server};
 
-use crate::fields::HeaderField;
 use fwd_base::{Bytes, Form, Memory};
 use fwd_event::Events;
+use fwd_http::HeaderField;
 use fwd_out_text::payload_text;
 use itoa::Buffer;
 use std::alloc::Global;

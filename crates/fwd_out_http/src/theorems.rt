@@ -3,12 +3,12 @@
 ghost use Rattle.std.specs.Prelude.{◌≡◌, ◌↔◌, ℕ, ◌^◌, ◌<◌, List, length};
 ghost use Rattle.fwd_base.specs.declared.output_options.Form.{Form};
 ghost use Rattle.fwd_flush.specs.declared.judgement.Judged.{Judged};
-ghost use Rattle.fwd_out_http.specs.declared.fields.HeaderField.{HeaderField};
-ghost use Rattle.fwd_out_http.specs.Fields.{AreHeaderFields};
+ghost use Rattle.fwd_http.specs.declared.fields.HeaderField.{HeaderField};
+ghost use Rattle.fwd_http.specs.Fields.{AreHeaderFields};
 ghost use Rattle.fwd_out_http.specs.Request.{IsVisible, IsUri, ReadsBack};
 ghost use Rattle.fwd_out_http.specs.Reply.{http_judged};
 ghost use Rattle.fwd_out_http.specs.Head.{IsJudged};
-ghost use Rattle.fwd_out_http.specs.declared.statuses.StatusRange.{StatusRange};
+ghost use Rattle.fwd_http.specs.declared.statuses.StatusRange.{StatusRange};
 
 /// The head of a request is read back by the grammar of request heads in `httparse`: its method, its URI
 /// and its fields, with the length of the body. The body follows it.

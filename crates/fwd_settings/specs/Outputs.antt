@@ -5,7 +5,7 @@ use Rattle.std.specs.Str.{bytes_eq}
 use Rattle.base64.specs.Engines.{standard}
 use Rattle.base64.specs.GeneralPurpose.{encode_of}
 use Rattle.fwd_config.specs.declared.section.Place.{Place}
-use Rattle.fwd_out_http.specs.declared.fields.HeaderField.{HeaderField}
+use Rattle.fwd_http.specs.declared.fields.HeaderField.{HeaderField}
 use Rattle.fwd_settings_schema.specs.declared.error_kind.SettingKind.TheVariants.{TooMany, BadChoice}
 use Rattle.fwd_base.specs.declared.output_options.Form.TheVariants as form
 use Rattle.fwd_base.specs.declared.output_options.Retries.TheVariants.{Times}
@@ -13,7 +13,7 @@ use Rattle.fwd_settings.specs.declared.settings_types.OutputKind.{OutputKind}
 use Rattle.fwd_settings.specs.declared.settings_types.OutputKind.TheVariants as output
 use Rattle.fwd_settings.specs.declared.settings_types.OutputSet.{OutputSet}
 use Rattle.fwd_settings.specs.declared.settings_types.HttpOptions.{HttpOptions}
-use Rattle.fwd_out_http.specs.declared.statuses.StatusRange.{StatusRange}
+use Rattle.fwd_http.specs.declared.statuses.StatusRange.{StatusRange}
 use Rattle.fwd_settings_schema.specs.Statuses.{statuses_of}
 use Rattle.fwd_settings_schema.specs.declared.plugins.OutputPlugin.{OutputPlugin}
 use Rattle.fwd_settings_schema.specs.declared.plugins.OutputPlugin.TheVariants as plugin

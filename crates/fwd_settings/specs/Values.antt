@@ -10,7 +10,7 @@ use Rattle.fwd_settings_schema.specs.Text.{truth_of, is_false_word, is_tag_text,
 use Rattle.fwd_settings_schema.specs.Types.{types_of}
 use Rattle.fwd_settings_schema.specs.Statuses.{statuses_of}
 use Rattle.fwd_settings_schema.specs.Rule.{key_and_rest_of, header_of, condition_of, change_of}
-use Rattle.fwd_out_http.specs.Fields.{is_field_value}
+use Rattle.fwd_http.specs.Fields.{is_field_value}
 use Rattle.fwd_config.specs.declared.section.Place.{Place}
 use Rattle.fwd_config.specs.declared.section.Entry.{Entry}
 use Rattle.fwd_settings_schema.specs.declared.keys.Key.{Key}

@@ -15,7 +15,7 @@ use crate::{HttpOptions, OutputKind, OutputSet};
 use base64::engine::general_purpose::STANDARD;
 use fwd_base::{Bytes, Form, Memory, Retries};
 use fwd_config::Place;
-use fwd_out_http::{HeaderField, HeaderFields, StatusRanges};
+use fwd_http::{HeaderField, HeaderFields, StatusRanges};
 use fwd_settings_schema::{
     FORWARD_PORT, HTTP_PORT, Key, OutputPlugin, Property, SettingKind, TCP_PORT, form_at,
     header_count, id_at, id_place_at, number_at, own_text, port_at, push_headers, retries_at,

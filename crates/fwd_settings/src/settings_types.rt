@@ -2,7 +2,7 @@
 
 use fwd_base::{Bytes, Form, Items, Names, Retries};
 use fwd_filters::FilterSteps;
-use fwd_out_http::{HeaderFields, StatusRanges};
+use fwd_http::{HeaderFields, StatusRanges};
 use fwd_parser::Parser;
 
 /// The settings of the engine itself.

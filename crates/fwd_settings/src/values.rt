@@ -7,7 +7,7 @@ ghost use Rattle.fwd_settings.specs.Values.{value_of, or_else, when};
 ghost use Rattle.fwd_settings_schema.specs.declared.keys.Plain.TheVariants as plain;
 
 use fwd_base::{Bytes, Form, number, parse_size};
-use fwd_out_http::is_field_value;
+use fwd_http::is_field_value;
 use fwd_settings_schema::{
     ChangeWord, LineFormat, Plain, SettingKind, Value, change, condition, field_types, file_form,
     flush_ms, header, is_false, is_plain, is_tag, is_uri, is_visible, line_format, nest_operation,

@@ -1,7 +1,7 @@
 -- How statuses are read word by word.
 use Rattle.std.proofs.Common.{◌≡◌, ℕ, suc, ◌+◌, ◌<◌, ◌≤◌, List, [], ◌∷◌, ◌++◌, length, drop, get_or, Option, Some, None, refl, sym, ap, ◌∙◌, arith, add-one, drop-cons, append_assoc}
 use Rattle.std.proofs.lemmas.List.{append-nil, drop_all}
-use Rattle.fwd_out_http.specs.declared.statuses.StatusRange.{StatusRange}
+use Rattle.fwd_http.specs.declared.statuses.StatusRange.{StatusRange}
 use Rattle.fwd_settings_schema.specs.Types.{in_front}
 use Rattle.fwd_settings_schema.specs.Statuses.{status_range_of, ranges_of_words}
 

@@ -6,7 +6,7 @@ use Rattle.fwd_base.specs.declared.output_options.Form.{Form}
 use Rattle.fwd_base.specs.declared.output_options.Retries.{Retries}
 use Rattle.fwd_base.specs.declared.pattern.Pattern.{Pattern}
 use Rattle.fwd_parser.specs.declared.parser.Parser.{Parser}
-use Rattle.fwd_out_http.specs.declared.fields.HeaderField.{HeaderField}
+use Rattle.fwd_http.specs.declared.fields.HeaderField.{HeaderField}
 use Rattle.fwd_config.specs.declared.section.Place.{Place}
 use Rattle.fwd_grep.specs.declared.rules.GrepRule.{GrepRule}
 use Rattle.fwd_reshape.specs.declared.rules.Condition.{Condition}

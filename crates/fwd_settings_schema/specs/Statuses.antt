@@ -2,7 +2,7 @@
 use Rattle.std.specs.Prelude.{ℕ, ◌*◌, ◌+◌, ◌-◌, if◌then◌else◌, List, [], ◌∷◌, codes, Option, Some, None, option_map}
 use Rattle.std.specs.Str.{str_eq_ignore_ascii_case}
 use Rattle.fwd_base.specs.Number.{is_digits}
-use Rattle.fwd_out_http.specs.declared.statuses.StatusRange.{StatusRange}
+use Rattle.fwd_http.specs.declared.statuses.StatusRange.{StatusRange}
 use Rattle.fwd_settings_schema.specs.Text.{parts_of}
 use Rattle.fwd_settings_schema.specs.Types.{in_front}
 

@@ -10,7 +10,7 @@ use crate::words::{LineFormat, Operation};
 use fwd_base::{Bytes, Form, Items, Memory, Names, Pattern, Retries};
 use fwd_config::Place;
 use fwd_grep::{GrepRule, GrepRules};
-use fwd_out_http::{HeaderField, HeaderFields};
+use fwd_http::{HeaderField, HeaderFields};
 use fwd_parser::Parser;
 use fwd_reshape::{Change, Changes, Condition, Conditions, ModifyRules};
 use std::alloc::Global;

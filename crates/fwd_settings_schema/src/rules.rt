@@ -5,7 +5,7 @@ ghost use Rattle.fwd_settings_schema.specs.Rule.{is_key, one_key, key_and_rest_o
 
 use crate::texts::{same_name, split_word};
 use fwd_base::{Bytes, Memory};
-use fwd_out_http::{HeaderField, is_field_name, is_field_value};
+use fwd_http::{HeaderField, is_field_name, is_field_value};
 use fwd_reshape::{Change, Condition};
 use std::alloc::Global;
 

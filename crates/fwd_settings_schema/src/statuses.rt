@@ -5,7 +5,7 @@ ghost use Rattle.fwd_settings_schema.specs.Statuses.{from_to, one_status, status
 
 use crate::texts::{parts_at, same_name};
 use fwd_base::{Memory, Names, is_digits};
-use fwd_out_http::{StatusRange, StatusRanges};
+use fwd_http::{StatusRange, StatusRanges};
 use std::alloc::Global;
 
 /// Parses statuses: words of three digits, or `3xx` or `4xx` for a class, separated by blanks or commas.

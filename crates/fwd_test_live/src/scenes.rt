@@ -33,17 +33,6 @@ const SCENES: &[Scene] = &[
             Step::Reply(1, b"ok", Replied::Broken),
         ],
     },
-    Scene {
-        name: "inputs are held back until the reserve is filled",
-        output: Output::Stdout,
-        steps: &[
-            Step::Connect,
-            Step::Joined(1),
-            Step::Send(b"x"),
-            Step::Held,
-            Step::Piece(b"x"),
-        ],
-    },
     // A peer that closes with unread bytes resets its connection.
     Scene {
         name: "a peer that resets is gone, and others are heard",

@@ -32,7 +32,6 @@ pub enum Output {
 #[derive(Drop)]
 pub struct Stage<'a> {
     pub live: LiveLoop<'a>,
-    pub shared: &'a Shared,
     pub listener: TcpListener,
     pub peers: Vec<TcpStream>,
     /// The bytes that were taken until no more were.
@@ -120,7 +119,6 @@ pub fn new_stage(rt: HostRuntime, shared: &Shared, output: Output) -> Result<Sta
     let listener = TcpListener::bind(&rt, "127.0.0.1:0")?;
     Ok(Stage {
         live: listening(rt, shared, output, &listener)?,
-        shared,
         listener,
         peers: Vec::new(rt.alloc()),
         taken: 0,

@@ -1,7 +1,7 @@
 //! Statuses that are retried besides those that always are.
 
 ghost use Rattle.std.specs.Prelude.{◌≡◌, IfOk};
-ghost use Rattle.fwd_out_http.specs.Statuses.{has_status, is_retried};
+ghost use Rattle.fwd_http.specs.Statuses.{has_status, is_retried};
 
 use fwd_base::{Items, Memory};
 use std::alloc::Global;

@@ -1,7 +1,7 @@
 -- Statuses that are retried besides those that always are.
 use Rattle.std.specs.Prelude.{ℕ, Bool, ◌&&◌, nat_le, List}
 use Rattle.std.specs.List.{list_any}
-use Rattle.fwd_out_http.specs.declared.statuses.StatusRange.{StatusRange}
+use Rattle.fwd_http.specs.declared.statuses.StatusRange.{StatusRange}
 
 -- a status is in a range
 abbrev pub has_status : ℕ → StatusRange → Bool

@@ -3,7 +3,7 @@
 ghost use Rattle.std.specs.Prelude.{◌≡◌};
 ghost use Rattle.std.specs.List.{list_all};
 ghost use Rattle.httparse.specs.Grammar.{is_token_byte};
-ghost use Rattle.fwd_out_http.specs.Fields.{is_mark, is_field_name, is_field_value, is_printable};
+ghost use Rattle.fwd_http.specs.Fields.{is_mark, is_field_name, is_field_value, is_printable};
 
 use fwd_base::{Bytes, Items};
 

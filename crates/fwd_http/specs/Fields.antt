@@ -2,7 +2,7 @@
 use Rattle.std.specs.Prelude.{ℕ, Bool, ◌==◌, ◌&&◌, nat_lt, nat_le, List, length, codes, IsTrue}
 use Rattle.std.specs.List.{list_all, list_any, AllByRecursion}
 use Rattle.httparse.specs.Grammar.{is_token_byte}
-use Rattle.fwd_out_http.specs.declared.fields.HeaderField.{HeaderField}
+use Rattle.fwd_http.specs.declared.fields.HeaderField.{HeaderField}
 
 -- the bytes of a token that are neither letters nor digits
 abbrev pub is_mark : ℕ → Bool
