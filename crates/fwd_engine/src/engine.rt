@@ -243,6 +243,13 @@ impl Engine {
         self.parts.state.stopped()
     }
 
+    /// Returns how many reads for a flush found damaged content. The history doesn't have them.
+    pub fn damaged_reads(&self) -> u64
+        ensures { result ≡ self.now.parts.state.damaged }
+    {
+        self.parts.state.damaged_reads()
+    }
+
     /// The number of ticks that were handled.
     pub fn ticks(&self) -> u64
         ensures { EngineAnswers self.now (λ s h. result ≡ ticked h) }

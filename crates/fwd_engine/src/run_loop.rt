@@ -39,6 +39,7 @@ pub fn shown_of(engine: &Engine) -> Shown<'_> {
         table: engine.table(),
         paused: engine.paused(),
         stopped: engine.stopped(),
+        damaged: engine.damaged_reads(),
     }
 }
 

@@ -308,7 +308,7 @@ impl<'a> Machine<'a> {
                 if self.finds_stop(passed) {
                     let said = "a signal asks for the end";
                     self.journal
-                        .write(Level::Info, About::Engine, Topic::Run, &said);
+                        .write(Level::Info, About::Engine, Topic::Signal, &said);
                     return Ok(Happening::Stop);
                 }
                 self.note_tick(now);

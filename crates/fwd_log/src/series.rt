@@ -7,8 +7,12 @@ use std::alloc::Global;
 /// What lines of a source have in common.
 #[derive(Clone, Copy, Debug, PartialEq, Eq)]
 pub enum Topic {
-    /// The beginning and the end of a run.
+    /// The beginning of a run.
     Run,
+    /// A signal that asks for the stop.
+    Signal,
+    /// The stop of a run.
+    Stop,
     Listener,
     /// Peers that an input accepts, refuses or drops.
     Peer,
@@ -39,6 +43,8 @@ impl Topic {
     pub fn word(self) -> &'static str {
         match self {
             Topic::Run => "the run",
+            Topic::Signal => "signals",
+            Topic::Stop => "the stop",
             Topic::Listener => "listeners",
             Topic::Peer => "peers",
             Topic::Link => "links",

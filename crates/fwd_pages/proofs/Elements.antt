@@ -43,3 +43,7 @@ pairs_more {X} line names counts i d e name old text next same within named befo
 
 pub pairs_all : {X : Type 0} (names : List (List ℕ)) (counts : List X) (i : ℕ) → length counts ≡ length names → length names ≤ i → take i (zip names counts) ≡ zip names counts
 pairs_all names counts i same whole = take_all i (zip names counts) (rw (length-zip names counts) (omega (arith, same, whole)))
+
+-- two lists between three texts
+pub two_lists : (first one middle two last : List ℕ) → (((([] ++ first) ++ one) ++ middle) ++ two) ++ last ≡ first ++ one ++ middle ++ two ++ last
+two_lists first one middle two last = simp append_assoc refl

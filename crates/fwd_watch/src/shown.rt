@@ -14,6 +14,8 @@ pub struct Shown<'a> {
     pub paused: u64,
     /// The clock at the stop, if there was one.
     pub stopped: Option<u64>,
+    /// How many reads for a flush found damaged content.
+    pub damaged: u64,
 }
 
 /// Is told how a run goes. What it does has no effect on the run, and no contract speaks of it.

@@ -27,6 +27,8 @@ pub struct Watcher<'j> {
     before: Counts,
     paused: u64,
     is_stopped: bool,
+    /// How many reads of chunks found damaged content.
+    damaged: u64,
     /// The outputs of which a flush failed and none was delivered since: bit `i` is output `i`.
     failing: u64,
     pages: PageMaker,
@@ -94,6 +96,7 @@ impl<'j> Watcher<'j> {
             before: Counts::new(alloc),
             paused: 0,
             is_stopped: false,
+            damaged: 0,
             failing: 0,
             pages: PageMaker::new(alloc),
         }
@@ -265,11 +268,22 @@ impl<'j> Watcher<'j> {
         let text = format_args!(
             "stops: inputs are closed, and {left} chunks are waited for until Grace is over"
         );
-        self.tell(Level::Info, Source::Engine, Topic::Run, &text);
+        self.tell(Level::Info, Source::Engine, Topic::Stop, &text);
+    }
+
+    /// Tells of reads of chunks that found damaged content.
+    fn compare_damaged(&mut self, damaged: u64) {
+        let risen = damaged.saturating_sub(self.damaged);
+        self.damaged = damaged;
+        if 0 < risen {
+            let text = format_args!("{risen} reads of chunk files found damaged content");
+            self.tell(Level::Error, Source::Storage, Topic::File, &text);
+        }
     }
 
     fn compare(&mut self, shown: Shown<'_>) -> Result<(), Memory> {
         self.compare_stop(shown);
+        self.compare_damaged(shown.damaged);
         for (index, tally) in shown.tally.outputs.as_slice().iter().enumerate() {
             self.compare_output(index, *tally, shown)?;
         }
