@@ -2,8 +2,8 @@
 //! `HTTP_Listen`, `HTTP_Port` and `Health_Check` of the SERVICE sections.
 //!
 //! `log_settings` returns exactly `log_settings_of`: of a key given twice the last entry counts. It refuses nothing:
-//! the settings of the engine are read first, and refuse a wrong value of one of these keys at its place, as of any
-//! other. The engine's settings don't have these values, so no contract of a run speaks of its log.
+//! a value that it can't read counts as not given, and the watcher warns of it at its place. The engine's settings
+//! don't have these values, so no contract of a run speaks of its log.
 #![tactic(auto)]
 
 mod entry;

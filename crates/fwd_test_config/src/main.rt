@@ -1,5 +1,5 @@
 //! Vectors of the configuration: each row of `stdin` is an operation with its arguments, and the program
-//! prints what comes of it. `stdout` has what the pages of Fluent Bit's manual and `docs/CONFIGURATION.md`
+//! prints what comes of it. `stdout` has what the pages of Fluent Bit's manual and `docs/configuration.md`
 //! say. Comments and empty lines are printed as they are.
 #![tactic(auto)]
 

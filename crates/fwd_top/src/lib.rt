@@ -7,7 +7,7 @@
 //! comes. If memory runs out, the calls are a prefix of these, and the texts of earlier runs are kept.
 //! Over files with a call log whose calls return the existing bytes and don't fail, text and status are
 //! those of these bytes; for `gen` those of the two generated texts. Which settings sections have is a
-//! relation, because the platform decides whether a text is a pattern. `docs/PROMISE.md` states the
+//! relation, because the platform decides whether a text is a pattern. `docs/guarantees.md` states the
 //! clauses `promise` and `crashes` in words.
 #![tactic(auto)]
 
