@@ -27,7 +27,7 @@ pub enum SettingKind {
     /// A required key is missing.
     #[error("a key is missing")]
     Missing,
-    /// There are more inputs or outputs than the limit.
+    /// There are more inputs or outputs, or Header entries of an output, than the limit.
     #[error("too many")]
     TooMany,
     /// A value isn't a pattern.

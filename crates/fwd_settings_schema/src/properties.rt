@@ -329,7 +329,13 @@ fn is_header(item: &Property) -> bool
 pub fn header_count(properties: &[Property]) -> usize
     ensures { result ≡ count_by is_header properties.now }
 {
-    properties.iter().filter(|item| is_header(item)).count()
+    let mut count = 0;
+    for item in properties {
+        if is_header(item) {
+            count += 1;
+        }
+    }
+    count
 }
 
 /// Appends the wildcard of an entry, if it has one.
