@@ -2,7 +2,7 @@
 
 use crate::choices::{has_key, key_names, plugins_of, wanted};
 use fwd_config::{Entry, Place, Section};
-use fwd_settings_schema::{SectionKind, SettingKind, Target, same_name};
+use fwd_settings_schema::{InputPlugin, SectionKind, SettingKind, Target, same_name};
 use std::alloc::{AllocError, Global};
 
 /// Appends bytes, or their readable part.
@@ -129,7 +129,12 @@ fn push_missing(alloc: Global, text: &mut String, section: &Section) -> Result<(
         return text.push_str(" has no Name");
     }
     match target_of(section) {
-        Some(Target::Input(_)) => text.push_str(" has no Path"),
+        Some(Target::Input(InputPlugin::Tail)) if value_of(section, b"path").is_none() => {
+            text.push_str(" has no Path")
+        }
+        Some(Target::Input(_)) => {
+            text.push_str(" has storage.type filesystem, and no SERVICE section has a storage.path")
+        }
         Some(Target::Parser) => text.push_str(" has no Format, or a regex parser no Regex"),
         Some(Target::Filter(_)) => text.push_str(" has no Operation, Nest_under or Nested_under"),
         Some(Target::Service) | Some(Target::Output(_)) | None => text.push_str(" lacks a key"),
@@ -152,7 +157,9 @@ fn push_reason(
             push_text(alloc, text, section.name.as_slice())?;
             text.push_str(": one of SERVICE, INPUT, PARSER, FILTER, OUTPUT")
         }
-        (SettingKind::TooMany, _) => text.push_str("more than 64 inputs or outputs"),
+        (SettingKind::TooMany, _) => text.push_str(
+            "more than 64 inputs or outputs, or 32 Header entries",
+        ),
         (_, Some(entry)) => push_value(alloc, text, section, kind, entry),
         (_, None) => {
             push_part(alloc, text, section)?;
@@ -160,6 +167,17 @@ fn push_reason(
             text.push_str(why.as_str())
         }
     }
+}
+
+/// Appends a place, if there is one: a fault such as too little memory has none.
+fn push_place(alloc: Global, text: &mut String, place: &Place) -> Result<(), AllocError> {
+    if place.line == 0 {
+        return Ok(());
+    }
+    push_text(alloc, text, place.file.as_slice())?;
+    let line = place.line;
+    let number = format!(in alloc; ":{line}: ")?;
+    text.push_str(number.as_str())
 }
 
 /// Returns the line that says why settings are refused: the place, and the section's part, key, value and choices.
@@ -170,10 +188,7 @@ pub fn refusal_text(
     place: &Place,
 ) -> Result<String, AllocError> {
     let mut text = String::new(alloc);
-    push_text(alloc, &mut text, place.file.as_slice())?;
-    let line = place.line;
-    let number = format!(in alloc; ":{line}: ")?;
-    text.push_str(number.as_str())?;
+    push_place(alloc, &mut text, place)?;
     match section_at(sections, place) {
         Some(section) => push_reason(alloc, &mut text, section, kind, place)?,
         None => {

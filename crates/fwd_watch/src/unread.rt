@@ -1,7 +1,8 @@
 //! Values of the log's keys that can't be read.
 
-use fwd_config::Section;
+use fwd_config::{Entry, Section};
 use fwd_settings_schema::{port, same_name, truth};
+use std::alloc::{AllocError, Global};
 
 /// The words of `Log_Level`.
 const LEVELS: &[&str] = &["off", "error", "warn", "warning", "info", "debug", "trace"];
@@ -16,7 +17,7 @@ fn is_level(value: &[u8]) -> bool {
 }
 
 /// Returns what the value of a key of the log has to be, if it isn't.
-pub fn wanted_of(key: &[u8], value: &[u8]) -> Option<&'static str> {
+fn wanted_of(key: &[u8], value: &[u8]) -> Option<&'static str> {
     if same_name(key, b"log_level") && !is_level(value) {
         return Some("one of off, error, warn, info, debug, trace");
     }
@@ -31,6 +32,39 @@ pub fn wanted_of(key: &[u8], value: &[u8]) -> Option<&'static str> {
 }
 
 /// Returns whether a section sets the service.
-pub fn is_service(section: &Section) -> bool {
+fn is_service(section: &Section) -> bool {
     same_name(section.name.as_slice(), b"service")
+}
+
+/// Appends that the value of an entry counts as not given.
+fn push_unread(
+    alloc: Global,
+    text: &mut String,
+    entry: &Entry,
+    wanted: &str,
+) -> Result<(), AllocError> {
+    let file = String::from_utf8_lossy(alloc, entry.place.file.as_slice())?;
+    let key = String::from_utf8_lossy(alloc, entry.key.as_slice())?;
+    let value = String::from_utf8_lossy(alloc, entry.value.as_slice())?;
+    let line = entry.place.line;
+    let gap = if text.is_empty() { "" } else { "; " };
+    let more = format!(in alloc;
+        "{gap}{file}:{line}: {key} {value} counts as not given: {wanted}"
+    )?;
+    text.push_str(more.as_str())
+}
+
+/// Returns which values of the log's keys can't be read, and what they have to be; empty if all can.
+pub fn unread_text(alloc: Global, sections: &[Section]) -> Result<String, AllocError> {
+    let mut text = String::new(alloc);
+    for section in sections {
+        if is_service(section) {
+            for entry in section.entries.as_slice() {
+                if let Some(wanted) = wanted_of(entry.key.as_slice(), entry.value.as_slice()) {
+                    push_unread(alloc, &mut text, entry, wanted)?;
+                }
+            }
+        }
+    }
+    Ok(text)
 }

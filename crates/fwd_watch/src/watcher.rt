@@ -4,10 +4,10 @@ use crate::changes::Risen;
 use crate::counts::Counts;
 use crate::pages::PageMaker;
 use crate::refusal::refusal_text;
-use crate::unread::{is_service, wanted_of};
+use crate::unread::unread_text;
 use crate::{Shown, Watch};
 use fwd_base::{Bytes, ChunkId, InputId, Memory, Names, OutputId, is_set};
-use fwd_config::{ConfigKind, Entry, Place, Section, Sections};
+use fwd_config::{ConfigKind, Place, Section, Sections};
 use fwd_log::{Journal, Level, Source, SourceNames, Topic};
 use fwd_log_settings::{LogSettings, log_settings};
 use fwd_outside::Home;
@@ -307,6 +307,13 @@ impl<'j> Watcher<'j> {
     fn tell_left(&self, shown: Shown<'_>) {
         let left = left_in(shown.table);
         let (chunks, bytes, files) = (left.in_memory, left.bytes_in_memory, left.in_files);
+        if shown.stopped.is_none() {
+            let text = format_args!(
+                "breaks off: {chunks} chunks in memory with {bytes} bytes are dropped, and {files} chunks in files are left to the next run"
+            );
+            self.tell(Level::Error, Source::Engine, Topic::GivenUp, &text);
+            return;
+        }
         if 0 < chunks {
             let text = format_args!(
                 "Grace is over, and {chunks} chunks in memory with {bytes} bytes are dropped"
@@ -329,27 +336,11 @@ impl<'j> Watcher<'j> {
         }
     }
 
-    fn tell_unread(&self, entry: &Entry, wanted: &str) -> Result<(), Memory> {
-        let alloc = self.journal.alloc();
-        let file = String::from_utf8_lossy(alloc, entry.place.file.as_slice())?;
-        let key = String::from_utf8_lossy(alloc, entry.key.as_slice())?;
-        let value = String::from_utf8_lossy(alloc, entry.value.as_slice())?;
-        let line = entry.place.line;
-        let text = format_args!("{file}:{line}: {key} {value} counts as not given: {wanted}");
-        self.tell(Level::Warn, Source::Config, Topic::File, &text);
-        Ok(())
-    }
-
-    /// Warns of values of the log's keys that can't be read.
-    fn tell_all_unread(&self, sections: &[Section]) -> Result<(), Memory> {
-        for section in sections {
-            if is_service(section) {
-                for entry in section.entries.as_slice() {
-                    if let Some(wanted) = wanted_of(entry.key.as_slice(), entry.value.as_slice()) {
-                        self.tell_unread(entry, wanted)?;
-                    }
-                }
-            }
+    /// Warns of values of the log's keys that can't be read, in one line.
+    fn tell_unread(&self, sections: &[Section]) -> Result<(), Memory> {
+        let text = unread_text(self.journal.alloc(), sections)?;
+        if !text.is_empty() {
+            self.tell(Level::Warn, Source::Config, Topic::File, &text.as_str());
         }
         Ok(())
     }
@@ -409,7 +400,7 @@ impl<'j> Watch for Watcher<'j> {
         if let Ok(settings) = log_settings(self.journal.alloc(), sections) {
             self.follow(settings);
         }
-        let _ = self.tell_all_unread(sections.as_slice());
+        let _ = self.tell_unread(sections.as_slice());
     }
 
     fn begun(&mut self, inputs: &Names, outputs: &Names, shown: Shown<'_>) {
