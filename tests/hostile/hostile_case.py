@@ -198,7 +198,7 @@ def told(row):
 
 
 def page(rows):
-    """Prints the table as docs/HOSTILE.md has it."""
+    """Prints the table as tests/hostile/results.md has it."""
     print("| Case | What bounds the memory | Peak (bound), MB | Good lines, the slowest | Peers | Bytes | Processors | Verdict |")
     print("|---|---|---:|---:|---:|---:|---:|---|")
     for row in rows:

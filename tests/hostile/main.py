@@ -26,7 +26,7 @@ def options_of(words):
     parser.add_argument("--row-seconds", type=float, default=20, help="how long connections come one after another (%(default)s)")
     parser.add_argument("--row-connections", type=int, default=0, help="how many come, in place of a time")
     parser.add_argument("--stream-bytes", type=int, default=1_000_000_000, help="bytes without a line feed (%(default)s)")
-    parser.add_argument("--page", action="store_true", help="print the table as docs/HOSTILE.md has it")
+    parser.add_argument("--page", action="store_true", help="print the table as tests/hostile/results.md has it")
     parser.add_argument("cases", nargs="*", metavar="CASE", help="only these: " + ", ".join(it.name for it in CASES))
     return parser.parse_args(words)
 
