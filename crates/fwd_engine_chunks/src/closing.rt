@@ -16,7 +16,7 @@ use std::alloc::Global;
 
 /// Closes an open chunk, which may be full: its routes become idle, and the limits of its outputs are
 /// enforced. The store may have removed it from its open chunks already.
-pub fn shut<D: Disk>(
+pub fn close<D: Disk>(
     run: &RunSettings,
     parts: &mut Parts,
     disk: &mut D,
@@ -53,7 +53,7 @@ pub fn close_all<D: Disk>(run: &RunSettings, parts: &mut Parts, disk: &mut D) ->
 {
     let chunks = open_chunks_of(parts.state.alloc(), parts.state.table())?;
     for chunk in &chunks {
-        shut(run, parts, disk, *chunk)?;
+        close(run, parts, disk, *chunk)?;
     }
     Ok(())
 }

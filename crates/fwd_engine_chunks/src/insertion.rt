@@ -19,7 +19,7 @@ ghost use Rattle.fwd_engine_state.specs.PartsRepresent.{PartsRepresent, PartsRep
 ghost use Rattle.fwd_engine_state.specs.RefinesAction.{with_disk, RefinesAccepting};
 ghost use Rattle.fwd_engine_chunks.specs.BatchOutcome.{IsEncoded, AcceptsAs, StoreIsAhead, place_of, behind, SizesMatch, StoreHasTaken, goes_on, failed_history, WasOpen, refuses_after_fault};
 
-use crate::shut;
+use crate::close;
 use fwd_base::limits::FULL_CHUNK;
 use fwd_base::{ChunkId, InputId, Memory};
 use fwd_engine_settings::{RunSettings, lemma_output_names_fit};
@@ -41,7 +41,7 @@ fn close_if_full<D: Disk>(
     ensures later { D.faults disk.old ≤ D.faults disk.new }
 {
     if bytes >= FULL_CHUNK {
-        shut(run, parts, disk, chunk)
+        close(run, parts, disk, chunk)
     } else {
         Ok(())
     }
@@ -117,7 +117,7 @@ fn refuse_after_fault<D: Disk>(
     parts.state.count_fault();
     parts.state.count_refused(input);
     if let Some(chunk) = sealed {
-        shut(run, parts, disk, chunk)?;
+        close(run, parts, disk, chunk)?;
     }
     Ok(false)
 }

@@ -19,5 +19,5 @@ mod insertion;
 mod resolution;
 
 pub use acceptance::accept;
-pub use closing::{close_all, shut};
+pub use closing::{close, close_all};
 pub use resolution::settle;

@@ -15,7 +15,7 @@ use fwd_outside::{Disk, Loop};
 use fwd_payload::Content;
 
 /// Starts a flush of a route if it may start.
-fn turn<L: Loop, D: Disk>(
+fn start_if_allowed<L: Loop, D: Disk>(
     run: &RunSettings,
     parts: &mut Parts,
     outside: &mut L,
@@ -60,7 +60,7 @@ pub fn walk<L: Loop, D: Disk>(
     let routes = parts.state.due_routes()?;
     let mut content = Content::new(parts.state.alloc());
     for route in &routes {
-        turn(run, parts, outside, disk, *route, &mut content)?;
+        start_if_allowed(run, parts, outside, disk, *route, &mut content)?;
     }
     Ok(())
 }

@@ -114,10 +114,10 @@ impl InputStreams {
     /// fault that broke the stream after them, if there is one. After `Memory` all is unchanged.
     pub fn feed_peer_messages(&mut self, conn: ConnId, bytes: &[u8]) -> Result<Fed, Memory>
         ensures notes { OnOk result ((input : InputId) → StreamsNoteWhere self.old self.new (λ s h. stream_of s h input.0 conn.0 ≡ Some (MessageStream conn.0)) (Happened (happening.Piece input conn bytes.now))) }
-        ensures messages { StreamsAnswer self.old (λ s h. IfOk result (λ feed_reader. all_content feed_reader.messages ≡ completed_messages (said s h (MessageStream conn.0)) bytes.now)) }
-        ensures fault { StreamsAnswer self.old (λ s h. IfOk result (λ feed_reader. is_some feed_reader.fault ≡ becomes_malformed (said s h (MessageStream conn.0)) bytes.now)) }
+        ensures messages { StreamsAnswer self.old (λ s h. IfOk result (λ fed. all_content fed.messages ≡ completed_messages (said s h (MessageStream conn.0)) bytes.now)) }
+        ensures fault { StreamsAnswer self.old (λ s h. IfOk result (λ fed. is_some fed.fault ≡ becomes_malformed (said s h (MessageStream conn.0)) bytes.now)) }
         // The messages can be encoded again.
-        ensures fits { IfOk result (λ feed_reader. All ContentFits (all_content feed_reader.messages)) }
+        ensures fits { IfOk result (λ fed. All ContentFits (all_content fed.messages)) }
         ensures err { OnErr result (StreamsUnchanged self.old self.new) }
     {
         self.wires.feed(self.alloc, conn.0, bytes)

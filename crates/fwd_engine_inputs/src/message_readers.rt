@@ -20,11 +20,11 @@ pub struct MessageReaders {
 /// Feeds the next bytes of a stream, and returns the messages that end in them.
 fn feed_reader(wire: &mut ForwardConn, piece: &[u8]) -> Result<Fed, Memory>
     ensures messages { (stream : List ℕ) → wire.old ≡ ending stream →
-        IfOk result (λ feed_reader. all_content feed_reader.messages ≡ completed_messages stream piece.now) }
+        IfOk result (λ fed. all_content fed.messages ≡ completed_messages stream piece.now) }
     ensures fault { (stream : List ℕ) → wire.old ≡ ending stream →
-        IfOk result (λ feed_reader. is_some feed_reader.fault ≡ becomes_malformed stream piece.now) }
+        IfOk result (λ fed. is_some fed.fault ≡ becomes_malformed stream piece.now) }
     ensures wire { (stream : List ℕ) → wire.old ≡ ending stream → OnOk result (wire.new ≡ ending (stream ++ piece.now)) }
-    ensures fits { IfOk result (λ feed_reader. All ContentFits (all_content feed_reader.messages)) }
+    ensures fits { IfOk result (λ fed. All ContentFits (all_content fed.messages)) }
     ensures err { OnErr result (wire.new ≡ wire.old) }
 {
     wire.feed(piece)
@@ -45,12 +45,12 @@ impl MessageReaders {
     /// `Memory` all of them do.
     pub fn feed(&mut self, alloc: Global, conn: u64, piece: &[u8]) -> Result<Fed, Memory>
         ensures messages { (stream : List ℕ) → reader_in self.old conn ≡ ending stream →
-            IfOk result (λ feed_reader. all_content feed_reader.messages ≡ completed_messages stream piece.now) }
+            IfOk result (λ fed. all_content fed.messages ≡ completed_messages stream piece.now) }
         ensures fault { (stream : List ℕ) → reader_in self.old conn ≡ ending stream →
-            IfOk result (λ feed_reader. is_some feed_reader.fault ≡ becomes_malformed stream piece.now) }
+            IfOk result (λ fed. is_some fed.fault ≡ becomes_malformed stream piece.now) }
         ensures wires { (stream : List ℕ) → reader_in self.old conn ≡ ending stream →
             OnOk result ((n : ℕ) → reader_in self.new n ≡ (if conn == n then ending (stream ++ piece.now) else reader_in self.old n)) }
-        ensures fits { IfOk result (λ feed_reader. All ContentFits (all_content feed_reader.messages)) }
+        ensures fits { IfOk result (λ fed. All ContentFits (all_content fed.messages)) }
         ensures err { OnErr result ((n : ℕ) → reader_in self.new n ≡ reader_in self.old n) }
     {
         match self.wires.get_mut(&conn) {

@@ -81,7 +81,7 @@ impl Chunks {
     }
 
     /// Closes a chunk: its routes are due at `now`.
-    pub fn shut(&mut self, chunk: ChunkId, now: u64)
+    pub fn close(&mut self, chunk: ChunkId, now: u64)
         ensures rows { self.new.rows ≡ on_chunk chunk (shut_at now) self.old.rows }
         ensures top { self.new.top ≡ self.old.top }
     {

@@ -120,7 +120,7 @@ impl State {
     {
         self.chunks
             .insert(chunk, None, Home::Disk, place.tag, size, owed);
-        self.chunks.shut(chunk, 0);
+        self.chunks.close(chunk, 0);
         self.counts.add_loaded();
     }
 
@@ -189,7 +189,7 @@ impl State {
     pub fn close_chunk(&mut self, chunk: ChunkId)
         ensures { StateNotesWhere self.old self.new (λ s h. chunk.0 < next h) (ChunkClosed chunk.0) }
     {
-        self.chunks.shut(chunk, self.clock);
+        self.chunks.close(chunk, self.clock);
     }
 
     /// Adds bytes that connections of an output took.

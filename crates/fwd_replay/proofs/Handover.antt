@@ -98,7 +98,7 @@ module _ (s : AllSettings) (start : Start) (planned : Life) where
       comes = lived over.history Over;
       is = is_life over.trace (lived over.history Over) (course_after (course_of start planned) over.trace).files over.stands;
       last = λ _. uncut;
-      call_log = ap (λ (t : List ℕ). reported t ending.Over) (is ∙ text_is shown s planned going.script over.trace over.history over.stands.loop);
+      reports = ap (λ (t : List ℕ). reported t ending.Over) (is ∙ text_is shown s planned going.script over.trace over.history over.stands.loop);
     }
 
     pub failed_ends : (shown : Shown) → LoopHasFailed s start planned going seen held → EndsIn shown s most start planned (reported [] ending.LoopFailed)
@@ -107,7 +107,7 @@ module _ (s : AllSettings) (start : Start) (planned : Life) where
       comes = lived failed.history LoopFailed;
       is = is_life failed.trace (lived failed.history LoopFailed) (course_after (course_of start planned) failed.trace).files failed.stands;
       last = λ is. absurd (cc is);
-      call_log = refl;
+      reports = refl;
     }
 
   -- a run that has taken all turns
@@ -129,15 +129,15 @@ module _ (s : AllSettings) (start : Start) (planned : Life) where
           uncut = under.stands.uncut;
         };
         last = λ over. absurd (cc over);
-        call_log = ap (λ (t : List ℕ). reported t ending.TurnsSpent) (is ∙ text_is shown s planned going.script under.trace h under.stands.loop);
+        reports = ap (λ (t : List ℕ). reported t ending.TurnsSpent) (is ∙ text_is shown s planned going.script under.trace h under.stands.loop);
       }
 
   -- one that ended before a turn
   pub load_ends : (shown : Shown) (most : ℕ) → EndedAs s start planned (lived [] DiskFailed) → EndsIn shown s most start planned (reported [] ending.DiskFailed)
-  load_ends shown most ended = record { trace = ended.trace; comes = lived [] DiskFailed; is = ended.is most; last = λ over. absurd (cc over); call_log = refl }
+  load_ends shown most ended = record { trace = ended.trace; comes = lived [] DiskFailed; is = ended.is most; last = λ over. absurd (cc over); reports = refl }
 
   pub start_ends : (shown : Shown) (most : ℕ) (h : History) → EndedAs s start planned (lived h LoopFailed) → EndsIn shown s most start planned (reported [] ending.LoopFailed)
-  start_ends shown most h ended = record { trace = ended.trace; comes = lived h LoopFailed; is = ended.is most; last = λ over. absurd (cc over); call_log = refl }
+  start_ends shown most h ended = record { trace = ended.trace; comes = lived h LoopFailed; is = ended.is most; last = λ over. absurd (cc over); reports = refl }
 
 -- ---- the disk after a crash
 

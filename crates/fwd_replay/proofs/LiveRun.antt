@@ -53,7 +53,7 @@ module _ (s : AllSettings) (ticks : Option ℕ) (turns : ℕ) where
 
   -- a call on the disk failed
   pub disk_failed : (a b : CallLogs) (reported : Reported) → Completes a b (recovers s) None → reported ≡ record { text = []; ending = ending.DiskFailed } → RunsToEnd s ticks turns a b reported
-  disk_failed a b reported did is = record { lived = lived [] DiskFailed; did = loaded a b None did; call_log = is }
+  disk_failed a b reported did is = record { lived = lived [] DiskFailed; did = loaded a b None did; reports = is }
 
   -- memory ran out while it ran
   begins_run : (a b c : CallLogs) (ends : Ends) (h : History) → ends ≡ ends_of s → Completes a b (recovers s) (Some h) → IsBegun b c (after_recovery s ends ticks turns (Some h)) → BeginsRun s ticks turns a c
@@ -64,13 +64,13 @@ module _ (s : AllSettings) (ticks : Option ℕ) (turns : ℕ) where
 
   -- its run, to its end or to where memory ran out
   pub ran_on : {E : Type 0} (a b c : CallLogs) (ends : Ends) (h : History) → ends ≡ ends_of s → Completes a b (recovers s) (Some h) → (r : Result Reported E) → ActionProduces s (after_recovery s ends ticks turns (Some h)) b c r → RunProduces s ticks turns a c r
-  ran_on a b c ends h are did (Ok x) has = record { lived = has.lived; did = whole_run a b c ends h has.lived are did has.did; call_log = has.call_log }
+  ran_on a b c ends h are did (Ok x) has = record { lived = has.lived; did = whole_run a b c ends h has.lived are did has.did; reports = has.reports }
   ran_on a b c ends h are did (Err e) began = begins_run a b c ends h are did began
 
 -- the call log of a run
 pub run_told : {E : Type 0} (s : AllSettings) (run : Action RunResult) (a b : CallLogs) (engine : Engine) (end : RunEnd) (ran : RanToEnd a b s run engine end) (r : Result Reported E)
     → IfOk r (λ x. x ≡ reported_by (report s ran.history) (end_of end)) → ActionProduces s run a b r
-run_told s run a b engine end ran (Ok x) is = record { lived = lived ran.history (end_of end); did = ran.did; call_log = is }
+run_told s run a b engine end ran (Ok x) is = record { lived = lived ran.history (end_of end); did = ran.did; reports = is }
 run_told s run a b engine end ran (Err e) is = (Return (lived ran.history (end_of end)), ran.did)
 
 -- the result of a run

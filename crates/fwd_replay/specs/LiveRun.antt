@@ -16,7 +16,7 @@ pub record RunsToEnd (s : AllSettings) (ticks : Option ℕ) (turns : ℕ) (old n
     (reported : Reported) : Type 0 where
   pub lived : RunResult
   pub did : Completes old new (life s (ends_of s) ticks turns) lived
-  pub call_log : reported ≡ reported_by (report s lived.history) lived.end
+  pub reports : reported ≡ reported_by (report s lived.history) lived.end
 
 -- they were the first ones of the reference model
 abbrev pub BeginsRun : AllSettings → Option ℕ → ℕ → CallLogs → CallLogs → Type 0
@@ -40,7 +40,7 @@ pub record HasRun (s : AllSettings) (run : Action RunResult) (old new : CallLogs
     (reported : Reported) : Type 0 where
   pub lived : RunResult
   pub did : Completes old new run lived
-  pub call_log : reported ≡ reported_by (report s lived.history) lived.end
+  pub reports : reported ≡ reported_by (report s lived.history) lived.end
 
 -- to its end, or to where memory ran out
 abbrev pub ActionProduces : {E : Type 0} → AllSettings → Action RunResult → CallLogs → CallLogs

@@ -81,7 +81,7 @@ pub record EndsIn (shown : Shown) (s : AllSettings) (turns : ℕ) (start : Start
   pub comes : RunResult
   pub is : IsLife s turns start planned trace comes
   pub last : comes.end ≡ Over → planned.cut ≡ None
-  pub call_log : replayed ≡ reported_by (life_text shown s trace comes.history) comes.end
+  pub reports : replayed ≡ reported_by (life_text shown s trace comes.history) comes.end
 
 -- ---- a run that is cut
 

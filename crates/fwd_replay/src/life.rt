@@ -354,7 +354,7 @@ fn run_prepared(
     requires sound { MeetsRequirements settings }
     requires named { IsNamed named.now settings }
     requires ends { ends.now ≡ ends_of settings }
-    requires call_log { (begins : Start) × IsSetUp begins life.now disk.old files.old }
+    requires devices { (begins : Start) × IsSetUp begins life.now disk.old files.old }
     ensures { (begins : Start) → IsSetUp begins life.now disk.old files.old → IfOk result (ProducesOutcome named.now.shown settings most begins life.now disk.new files.new) }
 {
     match start(rt, alloc, settings, ends, life, disk) {

@@ -99,7 +99,7 @@ fn run_and_drop<L: Loop, D: Disk, F: Files>(
     ensures files_later { F.faults files.old ≤ F.faults files.new }
 {
     watch.begun(&named.inputs, &named.outputs, shown_of(&engine));
-    let call_log = run_engine(
+    let outcome = run_engine(
         rt,
         alloc,
         named,
@@ -114,7 +114,7 @@ fn run_and_drop<L: Loop, D: Disk, F: Files>(
     );
     watch.over(shown_of(&engine));
     let _given_back = engine.finish();
-    call_log
+    outcome
 }
 
 /// Begins an engine with the names and endpoints of its settings, and runs it.

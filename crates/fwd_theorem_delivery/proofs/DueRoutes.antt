@@ -177,7 +177,7 @@ module _ (s : AllSettings) where
   turn_begins : (h : History) (r : Route) (own : List TraceEntry) → IsTurn s h (history_after own h) r own → (flushes_begun own ≡ []) ⊎ (flushes_begun own ≡ r ∷ [])
   turn_begins h r own (MayNot may idle) = inl (ap flushes_begun idle.none)
   turn_begins h r own (Starts may once) = inr once.begun
-  turn_begins h r own (InVain may vain) = inl (in_vain own h vain.call_log)
+  turn_begins h r own (InVain may vain) = inl (in_vain own h vain.only_failure)
   turn_begins h r own (NotHeld none idle) = inl (ap flushes_begun idle.none)
 
   walked_some : (rs : List Route) (h : History) (es : List TraceEntry) (new : History) → IsDispatched s rs h es new → SomeOf (flushes_begun es) rs

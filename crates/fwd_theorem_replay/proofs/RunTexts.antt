@@ -62,10 +62,10 @@ module _ (shown : Shown) (s : AllSettings) (turns : ℕ) (start start2 : Start) 
       (passes (life s (ends_of s) None turns) (beginning (given_of planned)) (disk_of start planned) (disk_of start2 planned) (course_of start planned) e.trace f.trace e.is.asked f.is.asked (Return e.comes) f.comes
       (alike_disks start start2 planned similar) e.is.way f.is.way (ended one e) (ended2 other f))
       in
-      f.call_log
+      f.reports
       ∙ ap (λ (l : List TraceEntry). reported_by (life_text shown s l f.comes.history) f.comes.end) same.0
       ∙ ap (λ (l : RunResult). reported_by (life_text shown s e.trace l.history) l.end) same.1
-      ∙ sym e.call_log
+      ∙ sym e.reports
 
   -- one that ends isn't cut
   no_cut : {X : Type 0} (replayed : Reported) (c : CutRun) → EndsIn shown s turns start planned replayed → IsCut s turns start2 planned c → X

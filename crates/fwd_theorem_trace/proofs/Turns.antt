@@ -46,12 +46,12 @@ BeginsNothing h (Return x) = x ≡ h
 BeginsNothing h (Ask call go) = IsQuiet call × ((answer : Answer call) → BeginsNothing (history_after_call call h) (go answer))
 
 pub record WentQuietly (h new : History) (es : List TraceEntry) : Type 0 where
-  pub call_log : new ≡ history_after es h
+  pub follows : new ≡ history_after es h
   pub dialled : dials es ≡ []
   pub begun : flushes_begun es ≡ []
 
 quietly_way : (p : Action History) (h : History) (es : List TraceEntry) (new : History) → BeginsNothing h p → Execution p es (Return new) → WentQuietly h new es
-quietly_way (Return x) h [] new quiet way = let is : x ≡ new = cc way in record { call_log = sym is ∙ quiet; dialled = refl; begun = refl }
+quietly_way (Return x) h [] new quiet way = let is : x ≡ new = cc way in record { follows = sym is ∙ quiet; dialled = refl; begun = refl }
 quietly_way (Return x) h (e ∷ es) new quiet way = absurd way
 quietly_way (Ask call go) h [] new quiet way = absurd (cc way)
 quietly_way (Ask call go) h (e ∷ es) new quiet way =
@@ -59,7 +59,7 @@ quietly_way (Ask call go) h (e ∷ es) new quiet way =
   where
     more : WentQuietly (history_after_call call h) new es → WentQuietly h new (entry call way.0 ∷ es)
     more went = record {
-      call_log = went.call_log;
+      follows = went.follows;
       dialled = ap (λ (l : List (ℕ × List ℕ)). l ++ dials es) quiet.0.dials_none ∙ went.dialled;
       begun = ap (λ (l : List Route). l ++ flushes_begun es) quiet.0.begins_none ∙ went.begun;
     }
@@ -137,7 +137,7 @@ module _ (s : AllSettings) where
   quietly_dialed r h d answer = quietly_links (dialed_on d not_started answer) h (λ (progress : Progress). notes_calls s r 0 progress h) (links_dialed_on d not_started answer) (λ progress. quietly_lands r 0 progress h)
 
   pub record Started (h new : History) (r : Route) (es : List TraceEntry) : Type 0 where
-    pub call_log : new ≡ history_after es h
+    pub follows : new ≡ history_after es h
     pub once : StartsOnce h r es
 
   started_here : (r : Route) (events : List Event) (h new : History) (es : List TraceEntry) → Execution (starts_with s r events h) es (Return new) → Started h new r es
@@ -150,7 +150,7 @@ module _ (s : AllSettings) where
       subst (λ (x : TraceEntry). Started h new r (x ∷ f ∷ es)) (sym way.1)
       (subst (λ (x : TraceEntry). Started h new r (entry (Note (OnRoute r (FlushStarted events))) way.0 ∷ x ∷ es)) (sym way.2.1)
       (record {
-        call_log = went.call_log;
+        follows = went.follows;
         once = record { begun = ap (λ (l : List Route). r ∷ l) went.begun; dialled = ap (λ (l : List (ℕ × List ℕ)). (r.output, tag_of_chunk h r.chunk) ∷ l) went.dialled };
       }))
 
@@ -159,7 +159,7 @@ module _ (s : AllSettings) where
   Reads h new r es = (new ≡ history_after es h) × (StartsOnce h r es ⊎ ((dials es ≡ []) × ((new ≡ h) ⊎ (new ≡ IoFailed ∷ h))))
 
   reads_whole : (b : Bool) (r : Route) (events : List Event) (h new : History) (es : List TraceEntry) → Execution (cond b (starts_with s r events h) (Return h)) es (Return new) → Reads h new r es
-  reads_whole true r events h new es way = let now = started_here r events h new es way in (now.call_log, inl now.once)
+  reads_whole true r events h new es way = let now = started_here r events h new es way in (now.follows, inl now.once)
   reads_whole false r events h new [] way = let is : h ≡ new = cc way in (sym is, inr (refl, inl (sym is)))
   reads_whole false r events h new (e ∷ es) way = absurd way
 
@@ -179,20 +179,20 @@ module _ (s : AllSettings) where
       subst (λ (x : TraceEntry). Reads h new r (x ∷ es)) (sym way.1) (by (reads_first (go way.0) next r h new es more way.2))
     where
       by : Reads h new r es → Reads h new r (entry (OnDisk call) way.0 ∷ es)
-      by (call_log, inl once) = (call_log, inl (record { begun = once.begun; dialled = once.dialled }))
-      by (call_log, inr vain) = (call_log, inr vain)
+      by (follows, inl once) = (follows, inl (record { begun = once.begun; dialled = once.dialled }))
+      by (follows, inr vain) = (follows, inr vain)
 
   abbrev Turned : History → History → Route → List TraceEntry → Type 0
   Turned h new r es = (new ≡ history_after es h) × IsTurn s h new r es
 
   read_turned : (h new : History) (r : Route) (es : List TraceEntry) → may_start s h r ≡ true → IsInFile (kept_of s h r.chunk) → Reads h new r es → Turned h new r es
-  read_turned h new r es may held (call_log, inl once) = (call_log, Starts may once)
-  read_turned h new r es may held (call_log, inr (none, left)) = (call_log, InVain may (record { held = held; dialled = none; call_log = left }))
+  read_turned h new r es may held (follows, inl once) = (follows, Starts may once)
+  read_turned h new r es may held (follows, inr (none, left)) = (follows, InVain may (record { held = held; dialled = none; only_failure = left }))
 
   turned_as : (kept : Option Kept) (r : Route) (h new : History) (es : List TraceEntry) → kept_of s h r.chunk ≡ kept → may_start s h r ≡ true → Execution (begins_as s r kept h) es (Return new) → Turned h new r es
   turned_as None r h new [] is may way = let same : h ≡ new = cc way in (sym same, NotHeld is (record { none = refl; same = sym same }))
   turned_as None r h new (e ∷ es) is may way = absurd way
-  turned_as (Some (InMemory content)) r h new es is may way = let now = started_here r (records_of h r.chunk) h new es way in (now.call_log, Starts may now.once)
+  turned_as (Some (InMemory content)) r h new es is may way = let now = started_here r (records_of h r.chunk) h new es way in (now.follows, Starts may now.once)
   turned_as (Some (InFile head)) r h new es is may way =
       read_turned h new r es may (subst IsInFile (sym is) tt)
       (reads_first (read_content_program (InFile head)) (after_read s r (size_of (InFile head)) h) r h new es (λ bytes more on. reads_behind r (size_of (InFile head)) bytes h new more on) way)

@@ -47,7 +47,7 @@ pub record StartsOnce (h : History) (r : Route) (own : List TraceEntry) : Type 0
 pub record ReadFails (s : AllSettings) (h new : History) (r : Route) (own : List TraceEntry) : Type 0 where
   pub held : IsInFile (kept_of s h r.chunk)
   pub dialled : dials own ≡ []
-  pub call_log : (new ≡ h) ⊎ (new ≡ IoFailed ∷ h)
+  pub only_failure : (new ≡ h) ⊎ (new ≡ IoFailed ∷ h)
 
 -- nothing is called or logged
 pub record IsIdleTurn (h new : History) (own : List TraceEntry) : Type 0 where

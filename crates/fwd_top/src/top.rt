@@ -179,6 +179,9 @@ pub fn watched_forwarder<D: Disk, F: Files, L: Loop, S: Sink>(
 /// `list -p FOLDER` list the chunk files under a folder of the disk, each with its content. The words
 /// `gen -n COUNT` use no device: a load of COUNT lines is generated and replayed, and its reports alone
 /// are written. At most `turns` events are taken.
+///
+/// Nothing in the program calls it: `main` calls `watched_forwarder`, which has the same contract, and a
+/// watcher besides. It is for those who read the contract, and for tests without a watcher.
 pub fn log_forwarder<D: Disk, F: Files, L: Loop, S: Sink>(
     rt: &(impl Threads + Sync),
     alloc: Global,

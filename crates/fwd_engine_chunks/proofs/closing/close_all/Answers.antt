@@ -34,8 +34,8 @@ loop-chunk-init g c = (
       ),
 )
 
-pub returns-in_err-shut-clause-acts : goal.returns-in_err-shut-clause-acts
-returns-in_err-shut-clause-acts g c others h shows =
+pub returns-in_err-close-clause-acts : goal.returns-in_err-close-clause-acts
+returns-in_err-close-clause-acts g c others h shows =
     let s = c.args.run.now in
     let so_far = c.loop-chunk.invariant.1 others h shows in
     let none : ChunkId = record { 0 = 0 } in
@@ -44,12 +44,12 @@ returns-in_err-shut-clause-acts g c others h shows =
     let ns : List ℕ = map (λ (chunk : ChunkId). chunk.0) (drop (c.loop-chunk.chunk-index + 1) c.deref-chunk-items.result.now) in
     let each = rw more at so_far.2 in
     let left = rw more at so_far.3 in
-    refines_err _ (closes_all s h) c.from_residual-in_err-shut.result c.from_residual-in_err-shut.ensures.0
-    (begun_trans left (begun_bind {p = shuts s n so_far.0} (closes_by s ns) (c.in_err-shut.ensures.acts others so_far.0 (may_close s c.loop-chunk.parts so_far.0 n so_far.1 each.0 each.1))))
+    refines_err _ (closes_all s h) c.from_residual-in_err-close.result c.from_residual-in_err-close.ensures.0
+    (begun_trans left (begun_bind {p = shuts s n so_far.0} (closes_by s ns) (c.in_err-close.ensures.acts others so_far.0 (may_close s c.loop-chunk.parts so_far.0 n so_far.1 each.0 each.1))))
 
 pub loop-chunk-preserved : goal.loop-chunk-preserved
 loop-chunk-preserved g c = (
-  let before = c.loop-chunk.invariant.0 in let later = c.in_ok-shut.ensures.later in omega (arith, before, later),
+  let before = c.loop-chunk.invariant.0 in let later = c.in_ok-close.ensures.later in omega (arith, before, later),
   λ others h shows.
       let s = c.args.run.now in
       let so_far = c.loop-chunk.invariant.1 others h shows in
@@ -60,12 +60,12 @@ loop-chunk-preserved g c = (
       let ns : List ℕ = map (λ (chunk : ChunkId). chunk.0) (drop (c.loop-chunk.chunk-index + 1) c.deref-chunk-items.result.now) in
       let each = rw more at so_far.2 in
       let left = rw more at so_far.3 in
-      let acted = c.in_ok-shut.ensures.acts others now (may_close s c.loop-chunk.parts now n so_far.1 each.0 each.1) in
+      let acted = c.in_ok-close.ensures.acts others now (may_close s c.loop-chunk.parts now n so_far.1 each.0 each.1) in
       let closed : Closed n now acted.result = ended (Closed n now) (shuts s n now) acted.result acted.did (shuts_closed s n now) in (
         acted.result,
         acted.shows,
         open_still n now acted.result ns closed each.2 each.3,
-        goes_on left (leads_bind {p = shuts s n now} (closes_by s ns) acted.did (stays (with_disk (g.D.Disk.call_log c.shut.new.disk) others) (closes_by s ns acted.result))),
+        goes_on left (leads_bind {p = shuts s n now} (closes_by s ns) acted.did (stays (with_disk (g.D.Disk.call_log c.close.new.disk) others) (closes_by s ns acted.result))),
       ),
 )
 

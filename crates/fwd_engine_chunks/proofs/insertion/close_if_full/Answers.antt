@@ -17,7 +17,7 @@ returns-then-bytes-ge-FULL_CHUNK-clause-acts g c others h shown still given is =
     let s = c.args.run.now in
     let n = c.args.chunk.0 in
     let full : nat_le full_chunk (size h n) ≡ true = ap (nat_le full_chunk) (sym is) ∙ le-leb _ _ c.if-bytes-ge-FULL_CHUNK.true in
-    rw full (c.shut.ensures.acts others h (closing_when_full s c.args.parts.now h n shown still given))
+    rw full (c.close.ensures.acts others h (closing_when_full s c.args.parts.now h n shown still given))
 
 pub returns-else-bytes-ge-FULL_CHUNK-clause-acts : goal.returns-else-bytes-ge-FULL_CHUNK-clause-acts
 unfolding closes_if_full

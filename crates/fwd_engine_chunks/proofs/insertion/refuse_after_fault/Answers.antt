@@ -18,8 +18,8 @@ use Rattle.fwd_engine_chunks.specs.BatchOutcome.{StoreIsAhead, failed_history}
 use Rattle.fwd_engine_chunks.proofs.StoreOutcome.{RepresentsBatch, given_up_behind, closing_failed}
 use Rattle.fwd_engine_chunks.proofs.insertion.refuse_after_fault.Goals as goal
 
-pub returns-in_err-shut-clause-acts : goal.returns-in_err-shut-clause-acts
-returns-in_err-shut-clause-acts g c others h b input ahead was_open =
+pub returns-in_err-close-clause-acts : goal.returns-in_err-close-clause-acts
+returns-in_err-close-clause-acts g c others h b input ahead was_open =
     let s = c.args.run.now in
     let n = c.in-Some.chunk.0 in
     let is_ahead : StoreIsAhead s c.args.parts.now h (failed_history b h (Some c.in-Some.chunk)) = rw c.in-Some.is at ahead in
@@ -31,10 +31,10 @@ returns-in_err-shut-clause-acts g c others h b input ahead was_open =
     rw c.in-Some.is
     (refines_err (RepresentsBatch s _) _ c.from_residual.result c.from_residual.ensures.0
     (begun_trans (fact_noted _ IoFailed (λ _. note_then (Refused b NotStored) (IoFailed ∷ offered) (λ (at : History). bind (shuts s n at) ends_refused)))
-    (begun_trans (fact_noted _ (Refused b NotStored) (λ _. bind (shuts s n last) ends_refused)) (begun_bind ends_refused (c.in_err-shut.ensures.acts others last closing)))))
+    (begun_trans (fact_noted _ (Refused b NotStored) (λ _. bind (shuts s n last) ends_refused)) (begun_bind ends_refused (c.in_err-close.ensures.acts others last closing)))))
 
-pub returns-in_ok-shut-clause-acts : goal.returns-in_ok-shut-clause-acts
-returns-in_ok-shut-clause-acts g c others h b input ahead was_open =
+pub returns-in_ok-close-clause-acts : goal.returns-in_ok-close-clause-acts
+returns-in_ok-close-clause-acts g c others h b input ahead was_open =
     let s = c.args.run.now in
     let n = c.in-Some.chunk.0 in
     let is_ahead : StoreIsAhead s c.args.parts.now h (failed_history b h (Some c.in-Some.chunk)) = rw c.in-Some.is at ahead in
@@ -46,7 +46,7 @@ returns-in_ok-shut-clause-acts g c others h b input ahead was_open =
     rw c.in-Some.is
     (completes_note_then (RepresentsBatch s _ false) _ _ IoFailed offered (λ (at : History). note_then (Refused b NotStored) at (λ (at : History). bind (shuts s n at) ends_refused))
     (completes_note_then (RepresentsBatch s _ false) _ _ (Refused b NotStored) (IoFailed ∷ offered) (λ (at : History). bind (shuts s n at) ends_refused)
-    (given_up_behind s _ _ _ (shuts s n last) (c.in_ok-shut.ensures.acts others last closing))))
+    (given_up_behind s _ _ _ (shuts s n last) (c.in_ok-close.ensures.acts others last closing))))
 
 pub returns-in_default-clause-acts : goal.returns-in_default-clause-acts
 returns-in_default-clause-acts g c others h b input ahead was_open =

@@ -28,18 +28,18 @@ loop-route-init g c = (
   omega (arith, c.in_ok-routes.ensures.damaged),
 )
 
-pub returns-in_err-turn-clause-acts : goal.returns-in_err-turn-clause-acts
-returns-in_err-turn-clause-acts g c others h shows =
+pub returns-in_err-start_if_allowed-clause-acts : goal.returns-in_err-start_if_allowed-clause-acts
+returns-in_err-start_if_allowed-clause-acts g c others h shows =
     let s = c.args.run.now in
     let so_far = c.loop-route.invariant.3 others h shows in
     let none : RouteId = record { chunk = record { 0 = 0 }; output = record { 0 = 0 } } in
     let left = rw (drop_more c.deref-route-items.result.now c.loop-route.route-index none c.loop-route-test.true) at so_far.2 in
-    refines_err _ _ c.from_residual-in_err-turn.result c.from_residual-in_err-turn.ensures.0
-    (begun_trans left (begun_bind (turns s (map route_of (drop (c.loop-route.route-index + 1) c.deref-route-items.result.now))) (c.in_err-turn.ensures.acts others so_far.0 so_far.1)))
+    refines_err _ _ c.from_residual-in_err-start_if_allowed.result c.from_residual-in_err-start_if_allowed.ensures.0
+    (begun_trans left (begun_bind (turns s (map route_of (drop (c.loop-route.route-index + 1) c.deref-route-items.result.now))) (c.in_err-start_if_allowed.ensures.acts others so_far.0 so_far.1)))
 
 pub loop-route-preserved : goal.loop-route-preserved
 loop-route-preserved g c = (
-  no_event_composed c.loop-route.invariant.0 c.in_ok-turn.ensures.unheard,
+  no_event_composed c.loop-route.invariant.0 c.in_ok-start_if_allowed.ensures.unheard,
   omega arith,
   omega arith,
   λ others h shows.
@@ -47,7 +47,7 @@ loop-route-preserved g c = (
       let so_far = c.loop-route.invariant.3 others h shows in
       let none : RouteId = record { chunk = record { 0 = 0 }; output = record { 0 = 0 } } in
       let left = rw (drop_more c.deref-route-items.result.now c.loop-route.route-index none c.loop-route-test.true) at so_far.2 in
-      let acted = c.in_ok-turn.ensures.acts others so_far.0 so_far.1 in
+      let acted = c.in_ok-start_if_allowed.ensures.acts others so_far.0 so_far.1 in
       (acted.result, acted.shows, goes_on left (leads_bind (turns s (map route_of (drop (c.loop-route.route-index + 1) c.deref-route-items.result.now))) acted.did (stays _ _))),
   omega arith,
 )

@@ -3,11 +3,11 @@ use Rattle.fwd_engine_inputs.proofs.StreamMessages.{gives_in, keeps_in, breaks_i
 use Rattle.fwd_engine_inputs.proofs.message_readers.feed_reader.Goals as goal
 
 pub returns-clause-messages : goal.returns-clause-messages
-returns-clause-messages c = gives_in (λ feed_reader. all_content feed_reader.messages) (λ feed_reader. feed_reader.fault) c.args.piece.now c.args.wire.now c.feed.new.self c.feed.result c.feed.ensures.messages
+returns-clause-messages c = gives_in (λ fed. all_content fed.messages) (λ fed. fed.fault) c.args.piece.now c.args.wire.now c.feed.new.self c.feed.result c.feed.ensures.messages
 
 pub returns-clause-fault : goal.returns-clause-fault
 returns-clause-fault c =
-    breaks_in (λ feed_reader. all_content feed_reader.messages) (λ feed_reader. feed_reader.fault) c.args.piece.now c.args.wire.now c.feed.new.self c.feed.result c.feed.ensures.messages c.feed.ensures.fault
+    breaks_in (λ fed. all_content fed.messages) (λ fed. fed.fault) c.args.piece.now c.args.wire.now c.feed.new.self c.feed.result c.feed.ensures.messages c.feed.ensures.fault
 
 pub returns-clause-wire : goal.returns-clause-wire
-returns-clause-wire c = keeps_in (λ feed_reader. all_content feed_reader.messages) (λ feed_reader. feed_reader.fault) c.args.piece.now c.args.wire.now c.feed.new.self c.feed.result c.feed.ensures.messages
+returns-clause-wire c = keeps_in (λ fed. all_content fed.messages) (λ fed. fed.fault) c.args.piece.now c.args.wire.now c.feed.new.self c.feed.result c.feed.ensures.messages

@@ -1,7 +1,7 @@
 use Rattle.fwd_replay.proofs.life.run_life.Goals as goal
 
-pub run_prepared-requires-clause-call_log : goal.run_prepared-requires-clause-call_log
-run_prepared-requires-clause-call_log g c =
+pub run_prepared-requires-clause-devices : goal.run_prepared-requires-clause-devices
+run_prepared-requires-clause-devices g c =
     let finds = c.requires.finds in
     λ κs below. (finds.0, c.in_ok-set_up.ensures finds.0 finds.1)
 

@@ -22,8 +22,8 @@ returns c stream name bytes s h out before is =
     let fresh = before.fresh n past in
     let moved = rows_found s n stream name bytes h fresh it.chunk it.found c.args.owed it.owes (next h) before.numbers past in
     record {
-      rows = c.shut.ensures.rows ∙ ap (on_chunk c.args.chunk (shut_at 0)) (c.insert.ensures.rows above ∙ (λ i. before.rows i ++ opened c.args.chunk None Disk (sym it.of_tag i) (sym it.of_size i) c.args.owed ∷ [])) ∙ moved;
-      top = λ m first rise. subst (λ (k : ℕ). k < m) (sym (c.shut.ensures.top ∙ c.insert.ensures.top above)) (rise_last 0 m (chunks_of h) _ (subst (NumbersRise 0 m) (chunks_found s n stream name bytes h fresh it.chunk it.found) rise));
+      rows = c.close.ensures.rows ∙ ap (on_chunk c.args.chunk (shut_at 0)) (c.insert.ensures.rows above ∙ (λ i. before.rows i ++ opened c.args.chunk None Disk (sym it.of_tag i) (sym it.of_size i) c.args.owed ∷ [])) ∙ moved;
+      top = λ m first rise. subst (λ (k : ℕ). k < m) (sym (c.close.ensures.top ∙ c.insert.ensures.top above)) (rise_last 0 m (chunks_of h) _ (subst (NumbersRise 0 m) (chunks_found s n stream name bytes h fresh it.chunk it.found) rise));
       flights = λ link. carried_found s n stream name bytes h out link _ past (before.flights link);
       time = before.time;
       ticks = before.ticks;

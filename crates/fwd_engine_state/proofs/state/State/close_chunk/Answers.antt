@@ -13,8 +13,8 @@ returns c s h out before within =
     let n = c.args.chunk.0 in
     let moved = rows_shut s n h in
     record {
-      rows = c.shut.ensures.rows ∙ (λ i. on_chunk c.args.chunk (shut_at (before.time i)) (before.rows i)) ∙ moved;
-      top = λ m first rise. subst (λ (k : ℕ). k < m) (sym c.shut.ensures.top) (before.top m first rise);
+      rows = c.close.ensures.rows ∙ (λ i. on_chunk c.args.chunk (shut_at (before.time i)) (before.rows i)) ∙ moved;
+      top = λ m first rise. subst (λ (k : ℕ). k < m) (sym c.close.ensures.top) (before.top m first rise);
       flights = λ link. carried_shut s n h out link _ (before.flights link);
       time = before.time;
       ticks = before.ticks;

@@ -9,7 +9,7 @@ use Rattle.fwd_engine_inputs.proofs.FileSteps as followed_files
 use Rattle.fwd_engine_state.specs.PartsRepresent.{PartsRepresentIdle}
 use Rattle.fwd_engine_state.proofs.InvariantSteps.{sound_shut}
 use Rattle.fwd_engine_chunks.specs.Evictions.{IsClosedAtRest}
-use Rattle.fwd_engine_chunks.proofs.closing.shut.Goals as goal
+use Rattle.fwd_engine_chunks.proofs.closing.close.Goals as goal
 
 pub returns-clause-acts : goal.returns-clause-acts
 unfolding shuts

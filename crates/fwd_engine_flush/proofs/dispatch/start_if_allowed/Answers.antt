@@ -8,7 +8,7 @@ use Rattle.fwd_model.specs.FlushActions.{turn}
 use Rattle.fwd_model.proofs.Refinement.{completes_idle}
 use Rattle.fwd_engine_state.specs.Views.{route_of}
 use Rattle.fwd_engine_state.proofs.CounterSteps.{no_event_first}
-use Rattle.fwd_engine_flush.proofs.dispatch.turn.Goals as goal
+use Rattle.fwd_engine_flush.proofs.dispatch.start_if_allowed.Goals as goal
 
 idle_first : (s : AllSettings) (h : History) (r : Route) → may_start s h r ≡ true → is_idle s h r ≡ true
 idle_first s h r may = elim (cases_Bool (is_idle s h r)) [ inl is ↦ is | inr isnt ↦ absurd (cc (rw isnt at may)) ]
