@@ -181,7 +181,7 @@ pub fn watched_forwarder<D: Disk, F: Files, L: Loop, S: Sink>(
 /// are written. At most `turns` events are taken.
 ///
 /// Nothing in the program calls it: `main` calls `watched_forwarder`, which has the same contract, and a
-/// watcher besides. It is for those who read the contract, and for tests without a watcher.
+/// watcher besides. It is for those who read the contract, and for callers without a watcher.
 pub fn log_forwarder<D: Disk, F: Files, L: Loop, S: Sink>(
     rt: &(impl Threads + Sync),
     alloc: Global,

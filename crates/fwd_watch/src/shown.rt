@@ -18,25 +18,25 @@ pub struct Shown<'a> {
     pub damaged: u64,
 }
 
-/// Is told how a run goes. What it does has no effect on the run, and no contract speaks of it.
+/// Watches how a run goes. What it does has no effect on the run, and no contract speaks of it.
 pub trait Watch {
-    /// A file of the configuration is refused, at this place.
+    /// Notes that the program refuses a file of the configuration, at this place.
     fn refused_file(&mut self, kind: ConfigKind, place: &Place);
 
-    /// The settings of these sections are refused, at this place.
+    /// Notes that the program refuses the settings of these sections, at this place.
     fn refused(&mut self, sections: &Sections, kind: SettingKind, place: &Place);
 
-    /// The settings of these sections are taken.
+    /// Notes that the program takes the settings of these sections.
     fn configured(&mut self, sections: &Sections);
 
-    /// The chunks on the disk are loaded, and the inputs will be opened. The names are those of the inputs and the
-    /// outputs.
+    /// Notes that the engine has loaded the chunks on the disk, and is about to open the inputs. The names are
+    /// those of the inputs and the outputs.
     fn begun(&mut self, inputs: &Names, outputs: &Names, shown: Shown<'_>);
 
-    /// The clock was read.
+    /// Notes that the engine has read the clock.
     fn read_clock(&mut self, shown: Shown<'_>);
 
-    /// The run is over.
+    /// Notes that the run is over.
     fn over(&mut self, shown: Shown<'_>);
 }
 
