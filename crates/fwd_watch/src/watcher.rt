@@ -346,13 +346,19 @@ impl<'j> Watcher<'j> {
     }
 
     fn follow(&mut self, settings: LogSettings) {
-        let file = match &settings.file {
+        let LogSettings {
+            level,
+            file,
+            server,
+            checks_health,
+        } = settings;
+        let file = match &file {
             Some(path) => Some(path.as_slice()),
             None => None,
         };
-        self.journal.open(settings.level, file);
-        self.pages.check_health(settings.checks_health);
-        if let Some(server) = settings.server {
+        self.journal.open(level, file);
+        self.pages.check_health(checks_health);
+        if let Some(server) = server {
             self.journal.serve(server.host, server.port);
         }
     }
