@@ -1,7 +1,7 @@
 //! The copy of a file that was truncated, which has what stood unread in it.
 
-use crate::identity::{Changed, Identity, identity_of};
-use crate::standing::Standing;
+use crate::identity::{ChangeTime, Identity, identity_of};
+use crate::stream_file::StreamFile;
 use std::fs::{self, DirEntry, File};
 use std::io;
 
@@ -19,11 +19,11 @@ fn folder_and_name(path: &str) -> (&str, &str) {
 fn open_copy(
     rt: &HostRuntime,
     entry: &DirEntry,
-    of: &Standing,
+    of: &StreamFile,
 ) -> io::Result<Option<(File, Identity)>> {
     let about = entry.metadata()?;
-    let may_be = about.is_file() && of.reached() < about.len();
-    if !may_be || Changed::of(&about).is_before(of.changed()) {
+    let may_be = about.is_file() && of.offset() < about.len();
+    if !may_be || ChangeTime::of(&about).is_before(of.change_time()) {
         return Ok(None);
     }
     let identity = identity_of(&about);
@@ -43,7 +43,7 @@ fn open_copy(
 pub fn find_copy(
     rt: &HostRuntime,
     path: &str,
-    of: &Standing,
+    of: &StreamFile,
 ) -> io::Result<Option<(File, Identity)>> {
     let (folder, name) = folder_and_name(path);
     for entry in fs::read_dir(rt, folder)? {

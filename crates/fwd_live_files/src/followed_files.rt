@@ -9,8 +9,8 @@ use std::collections::HashMap;
 use std::io::{self, ErrorKind};
 use std::time::Duration;
 
-/// Files that are read by their paths, through rotations. Of a path it tells a stream: the bytes of one file
-/// after another, where the length is told as 0 once when the next one begins.
+/// Files that are read by their paths, through rotations. A path gives a stream: the bytes of one file after
+/// another, where the length is given as 0 once when the next one begins.
 #[derive(Drop)]
 pub struct FollowedFiles {
     rt: HostRuntime,
@@ -69,9 +69,9 @@ impl FollowedFiles {
         let Some(followed) = self.paths.get_mut(path) else {
             return Err(io::Error::from(ErrorKind::NotFound));
         };
-        let before = followed.held();
+        let before = followed.handles();
         let length = followed.length(&self.rt, self.linger, self.held < self.most);
-        let now = followed.held();
+        let now = followed.handles();
         self.note_held(before, now);
         length
     }
@@ -84,9 +84,9 @@ impl FollowedFiles {
         let Some(followed) = self.paths.get_mut(path) else {
             return Err(io::Error::from(ErrorKind::NotFound));
         };
-        let before = followed.held();
+        let before = followed.handles();
         let read = followed.read_at(&self.rt, alloc, at, max);
-        let now = followed.held();
+        let now = followed.handles();
         self.note_held(before, now);
         read
     }

@@ -5,7 +5,7 @@ ghost use Rattle.std.specs.Prelude.{◌≤◌, IfOk, length};
 use crate::copies::find_copy;
 use crate::identity::identity_of;
 use crate::reading::read_named;
-use crate::standing::{Finding, Progress, Standing};
+use crate::stream_file::{Finding, Progress, StreamFile};
 use fwd_base::Bytes;
 use std::alloc::Global;
 use std::collections::VecDeque;
@@ -21,7 +21,7 @@ enum Hold {
     /// No file is open. The next one is read from where this says.
     Closed(Progress),
     /// A file is open.
-    Open(Standing),
+    Open(StreamFile),
     /// Each call opens the file that then has the path.
     Named,
 }
@@ -29,7 +29,7 @@ enum Hold {
 /// A file that has got the path while an older one is read.
 #[derive(Drop)]
 struct Newer {
-    file: Standing,
+    file: StreamFile,
     since: Instant,
 }
 
@@ -46,12 +46,12 @@ pub struct FollowedPath {
 fn note_newer(
     rt: &HostRuntime,
     path: &str,
-    standing: &Standing,
+    current: &StreamFile,
     newer: &mut VecDeque<Newer>,
 ) -> io::Result<()> {
     let about = fs::metadata(rt, path)?;
     let identity = identity_of(&about);
-    if identity == standing.identity() {
+    if identity == current.identity() {
         newer.clear();
         return Ok(());
     }
@@ -62,7 +62,7 @@ fn note_newer(
     if is_last || about.len() == 0 || MOST_NEWER <= newer.len() {
         return Ok(());
     }
-    let file = Standing::open(rt, path, Progress::Restarted)?;
+    let file = StreamFile::open(rt, path, Progress::Restarted)?;
     let since = Instant::now(rt)?;
     newer.push_back(Newer { file, since })?;
     Ok(())
@@ -88,7 +88,7 @@ impl FollowedPath {
     }
 
     /// Returns how many handles the path has, with one that it keeps the right to.
-    pub fn held(&self) -> usize {
+    pub fn handles(&self) -> usize {
         let own = match &self.hold {
             Hold::Open(_) => 1,
             Hold::Closed(Progress::Restarted) => 1,
@@ -111,7 +111,7 @@ impl FollowedPath {
             Hold::Open(_) | Hold::Named => return Ok(()),
         };
         if may_hold || progress == Progress::Restarted {
-            let opened = Standing::open(rt, self.path.as_str(), progress)?;
+            let opened = StreamFile::open(rt, self.path.as_str(), progress)?;
             self.hold = Hold::Open(opened);
         } else {
             self.use_name();
@@ -123,9 +123,9 @@ impl FollowedPath {
     /// can't be asked is read by name from then on, as its handle may be of no use any more.
     fn find(&mut self, rt: &HostRuntime) -> io::Result<Finding> {
         let found = match &mut self.hold {
-            Hold::Open(standing) => {
-                let _ = note_newer(rt, self.path.as_str(), standing, &mut self.newer);
-                standing.find()
+            Hold::Open(file) => {
+                let _ = note_newer(rt, self.path.as_str(), file, &mut self.newer);
+                file.find()
             }
             Hold::Closed(_) | Hold::Named => Ok(Finding::Unidentified),
         };
@@ -138,34 +138,34 @@ impl FollowedPath {
     /// Returns the length of a file that was truncated: it goes on in its copy if there is one, and begins
     /// anew if not.
     fn after_truncation(&mut self, rt: &HostRuntime) -> io::Result<u64> {
-        let Hold::Open(standing) = &mut self.hold else {
+        let Hold::Open(file) = &mut self.hold else {
             return Ok(0);
         };
-        if let Ok(Some((copy, identity))) = find_copy(rt, self.path.as_str(), standing) {
-            standing.go_on_in(copy, identity);
-            if let Finding::Length(length) = standing.find()? {
+        if let Ok(Some((copy, identity))) = find_copy(rt, self.path.as_str(), file) {
+            file.go_on_in(copy, identity);
+            if let Finding::Length(length) = file.find()? {
                 return Ok(length);
             }
         }
-        standing.restart();
+        file.restart();
         Ok(0)
     }
 
     /// Returns whether the file, which was read to its end, is to be left.
     fn is_left(&mut self, rt: &HostRuntime, has_name: bool, linger: Duration) -> bool {
-        let Hold::Open(standing) = &mut self.hold else {
+        let Hold::Open(file) = &mut self.hold else {
             return false;
         };
         if !self.newer.is_empty() {
-            return standing.is_copy() || is_superseded(rt, &self.newer, linger);
+            return file.is_copy() || is_superseded(rt, &self.newer, linger);
         }
-        !has_name && standing.was_removed(rt, linger)
+        !has_name && file.was_removed(rt, linger)
     }
 
     /// Returns whether the last line of the file is unfinished. The next read then ends it.
     fn end_line(&mut self) -> bool {
         match &mut self.hold {
-            Hold::Open(standing) => standing.end_line(),
+            Hold::Open(file) => file.end_line(),
             Hold::Closed(_) | Hold::Named => false,
         }
     }
@@ -211,7 +211,7 @@ impl FollowedPath {
     /// Returns whether a read at this position follows the last one.
     fn is_expected(&self, at: u64) -> bool {
         match &self.hold {
-            Hold::Open(standing) => standing.is_expected(at),
+            Hold::Open(file) => file.is_expected(at),
             Hold::Closed(_) | Hold::Named => true,
         }
     }
@@ -231,7 +231,7 @@ impl FollowedPath {
             self.use_name();
         }
         match &mut self.hold {
-            Hold::Open(standing) => standing.read_at(alloc, at, max),
+            Hold::Open(file) => file.read_at(alloc, at, max),
             Hold::Closed(_) | Hold::Named => read_named(rt, alloc, self.path.as_str(), at, max),
         }
     }

@@ -20,22 +20,22 @@ pub fn identity_of(about: &Metadata) -> Identity {
 
 /// The time of a file's last change, in seconds and nanoseconds.
 #[derive(Clone, Copy, Debug, PartialEq, Eq)]
-pub struct Changed {
+pub struct ChangeTime {
     seconds: i64,
     nanos: i64,
 }
 
-impl Changed {
+impl ChangeTime {
     /// Returns the time that the metadata has.
-    pub fn of(about: &Metadata) -> Changed {
-        Changed {
+    pub fn of(about: &Metadata) -> ChangeTime {
+        ChangeTime {
             seconds: about.mtime(),
             nanos: about.mtime_nsec(),
         }
     }
 
     /// Returns whether this time is before another one.
-    pub fn is_before(self, other: Changed) -> bool {
+    pub fn is_before(self, other: ChangeTime) -> bool {
         self.seconds < other.seconds || (self.seconds == other.seconds && self.nanos < other.nanos)
     }
 }

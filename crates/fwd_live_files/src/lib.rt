@@ -1,8 +1,8 @@
 //! Followed files, read through rotations. A path stands for one file after another: a file that was renamed
 //! is read to its end first, and only then the one that has its path.
 //!
-//! `FollowedFiles` tells lengths and bytes by path, `FollowedPath` decides which file stands for a path, and
-//! a `Standing` is such a file with what was read of it. `find_copy` finds the copy of a file that was
+//! `FollowedFiles` gives lengths and bytes by path, `FollowedPath` decides which file stands for a path, and
+//! a `StreamFile` is such a file with what was read of it. `find_copy` finds the copy of a file that was
 //! truncated.
 #![tactic(auto)]
 
@@ -11,7 +11,7 @@ mod followed_files;
 mod followed_path;
 mod identity;
 mod reading;
-mod standing;
+mod stream_file;
 
 pub use followed_files::FollowedFiles;
 pub use reading::{LAST_OFFSET, read_to};

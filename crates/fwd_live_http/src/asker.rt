@@ -1,7 +1,8 @@
 //! A connection that asks for a page.
 
 use crate::reply::{Plain, with_page, without_page};
-use crate::request::{LONGEST_HEAD, Page, Request, read_request};
+use crate::request::{Page, Request, read_request};
+use fwd_base::limits::LONGEST_HEAD;
 use fwd_base::{Bytes, Memory};
 use fwd_log::Pages;
 use mio::net::TcpStream;

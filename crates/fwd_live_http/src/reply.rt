@@ -1,4 +1,4 @@
-//! Replies.
+//! Replies to requests for pages.
 
 use crate::request::Page;
 use fwd_base::{Bytes, Memory};

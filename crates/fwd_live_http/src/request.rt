@@ -1,10 +1,8 @@
-//! Requests.
+//! Requests for pages: what the head of one asks for.
 
+use fwd_base::limits::LONGEST_HEAD;
 use httparse::Status;
 use httparse::spans::{EMPTY_HEADER_SPAN, parse_request};
-
-/// The most bytes of a request's head.
-pub const LONGEST_HEAD: usize = 8_192;
 
 /// The most headers of a request.
 const MOST_HEADERS: usize = 64;

@@ -33,7 +33,7 @@ impl Again {
     }
 }
 
-/// A server of pages. Number 0 is its listener, and the numbers from 1 on are its connections. It is told what the
+/// A server of pages. Number 0 is its listener, and the numbers from 1 on are its connections. It takes what the
 /// poll reports of them, and returns which of them have to be looked at.
 #[derive(Drop)]
 pub struct Server<'j> {
@@ -75,14 +75,6 @@ impl<'j> Server<'j> {
         }
         self.listener = Some(listener);
         Ok(())
-    }
-
-    /// Returns the port of the listener.
-    pub fn port(&self) -> Option<u16> {
-        match &self.listener {
-            Some(listener) => Some(listener.local_addr().ok()?.port()),
-            None => None,
-        }
     }
 
     fn asker(&mut self, number: u64) -> Option<&mut Asker> {

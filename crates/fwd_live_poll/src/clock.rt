@@ -14,9 +14,9 @@ pub struct Clock {
     since: Instant,
     /// The last reading.
     last: u64,
-    /// The monotonic time of creation, and the milliseconds passed since then at the last query.
+    /// The monotonic time of creation, and the milliseconds from then to the last query.
     begun: Instant,
-    passed: u64,
+    uptime: u64,
 }
 
 fn millis_of(time: Duration) -> u64 {
@@ -39,35 +39,35 @@ impl Clock {
             since: begun,
             last: 0,
             begun,
-            passed: 0,
+            uptime: 0,
         })
     }
 
     /// Returns the milliseconds since creation, by the monotonic clock. If that can't be read, returns the
     /// last value.
-    pub fn passed(&mut self, rt: &HostRuntime) -> u64
-        ensures rises { self.old.passed ≤ result }
-        ensures kept { self.new.passed ≡ result }
+    pub fn uptime(&mut self, rt: &HostRuntime) -> u64
+        ensures rises { self.old.uptime ≤ result }
+        ensures kept { self.new.uptime ≡ result }
         ensures last { self.new.last ≡ self.old.last }
         ensures sure { self.new.sure ≡ self.old.sure }
     {
         if let Ok(instant) = Instant::now(rt) {
-            let passed = millis_of(instant.duration_since(self.begun));
-            self.passed = self.passed.max(passed);
+            let uptime = millis_of(instant.duration_since(self.begun));
+            self.uptime = self.uptime.max(uptime);
         }
-        self.passed
+        self.uptime
     }
 
     /// Returns the time in milliseconds.
     pub fn read(&mut self, rt: &HostRuntime) -> io::Result<u64>
         ensures rises { IfOk result (λ now. self.old.last ≤ now) }
         ensures kept { IfOk result (λ now. self.new.last ≡ now) }
-        ensures passed { self.new.passed ≡ self.old.passed }
+        ensures uptime { self.new.uptime ≡ self.old.uptime }
     {
         let reading = read_machine(rt)?;
         let instant = Instant::now(rt)?;
-        let passed = millis_of(instant.duration_since(self.since));
-        let steady = self.sure.saturating_add(passed);
+        let advance = millis_of(instant.duration_since(self.since));
+        let steady = self.sure.saturating_add(advance);
         if steady <= reading {
             self.sure = reading;
             self.since = instant;

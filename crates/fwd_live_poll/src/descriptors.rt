@@ -1,13 +1,11 @@
 //! The file descriptor budget of connections and followed files.
 
+use fwd_base::limits::MOST_PEER_FLUSHES;
 use std::fs;
 
 /// Descriptors reserved for everything but connections and followed files: standard input and output, the
 /// poll, the disk.
 const RESERVED: u64 = 64;
-
-/// The largest number of links that an output has at once.
-const MOST_LINKS: u64 = 4;
 
 /// Returns the process's limit on descriptors; `None` if the system doesn't say, or there is none.
 fn limit(rt: &HostRuntime) -> Option<u64> {
@@ -43,20 +41,20 @@ pub struct Budget {
 
 impl Budget {
     /// Returns a budget without limits.
-    pub fn unlimited() -> Budget {
+    pub fn without_limits() -> Budget {
         Budget {
             most: usize::MAX,
             least: usize::MAX,
         }
     }
 
-    /// Returns the budget of the process: it leaves the reserved descriptors, one for each input and some for
-    /// each output, but has at least half of the limit for connections.
+    /// Returns the budget of the process: it leaves the reserved descriptors, one for each input and those of
+    /// the links of each output, but has at least half of the limit for connections.
     pub fn of(rt: &HostRuntime, inputs: usize, outputs: usize) -> Budget {
         let Some(limit) = limit(rt) else {
-            return Budget::unlimited();
+            return Budget::without_limits();
         };
-        let links = MOST_LINKS.saturating_mul(outputs as u64);
+        let links = MOST_PEER_FLUSHES.saturating_mul(outputs as u64);
         let kept = RESERVED.saturating_add(inputs as u64).saturating_add(links);
         Budget {
             most: usize::try_from(limit.saturating_sub(kept)).unwrap_or(usize::MAX),

@@ -13,6 +13,7 @@ mod machine;
 mod mask;
 mod names;
 mod patience;
+mod piece;
 mod shared;
 mod signals;
 mod source;

@@ -47,7 +47,7 @@ pub enum PeerState {
 pub struct Peer {
     pub output: OutputId,
     pub stream: TcpStream,
-    pub standing: PeerState,
+    pub state: PeerState,
     /// Whether a push found it full, so that room has to be reported.
     pub wants_room: bool,
     pub readable: bool,
@@ -91,7 +91,7 @@ impl Peer {
         Peer {
             output,
             stream,
-            standing: PeerState::Connecting,
+            state: PeerState::Connecting,
             wants_room: false,
             readable: false,
             writable: false,
@@ -104,22 +104,22 @@ impl Peer {
 
     /// Returns whether room has to be reported, once for each push that found the link full.
     pub fn take_room_event(&mut self) -> bool {
-        let note_tick = self.wants_room && self.writable;
-        if note_tick {
+        let is_due = self.wants_room && self.writable;
+        if is_due {
             self.wants_room = false;
         }
-        note_tick
+        is_due
     }
 
     /// Marks the connection as established.
     pub fn open(&mut self, now: u64) {
-        self.standing = PeerState::Open;
+        self.state = PeerState::Open;
         self.since = now;
     }
 
     /// Returns the time at which its silence becomes too long.
     pub fn silent_at(&self, patience: Patience) -> u64 {
-        match self.standing {
+        match self.state {
             PeerState::Connecting => self.since.saturating_add(patience.dial),
             PeerState::Open => self.since.saturating_add(patience.silence),
             PeerState::Over => u64::MAX,
@@ -130,7 +130,7 @@ impl Peer {
     /// yet.
     pub fn mark_due(&mut self) -> bool {
         self.readable = true;
-        match self.standing {
+        match self.state {
             PeerState::Connecting => self.writable = true,
             PeerState::Open | PeerState::Over => {}
         }
@@ -178,7 +178,7 @@ impl Peer {
     fn push(&mut self, bytes: &[u8], now: u64, failure: &mut Option<io::Error>) -> Handed
         ensures { TakesAtMost bytes.now result }
     {
-        match self.standing {
+        match self.state {
             PeerState::Connecting => {
                 self.wants_room = true;
                 Handed::Full

@@ -162,11 +162,6 @@ impl<'a> Machine<'a> {
         Err(refusal)
     }
 
-    /// Returns the port of the server of pages.
-    pub fn page_port(&self) -> Option<u16> {
-        self.sources.server.port()
-    }
-
     fn add_input(&mut self, end: &InEnd) -> io::Result<()> {
         let Ok(place) = u32::try_from(self.sources.inputs.len()) else {
             return Err(io::Error::from(ErrorKind::InvalidInput));
@@ -233,11 +228,11 @@ impl<'a> Machine<'a> {
 
     /// Checks for signals, if a check is due. Returns whether it finds, for the first time, that one asks the
     /// program to stop.
-    fn finds_stop(&mut self, passed: u64) -> bool {
-        if self.is_stopping || passed < self.next_signal_check {
+    fn finds_stop(&mut self, uptime: u64) -> bool {
+        if self.is_stopping || uptime < self.next_signal_check {
             return false;
         }
-        self.next_signal_check = passed.saturating_add(SIGNAL_CHECK_INTERVAL);
+        self.next_signal_check = uptime.saturating_add(SIGNAL_CHECK_INTERVAL);
         self.is_stopping = asked_to_stop(&self.rt);
         self.is_stopping
     }
@@ -245,11 +240,11 @@ impl<'a> Machine<'a> {
     /// Holds back all inputs while the disk fails, and tries once a second to fill the reserve.
     pub fn hold_back(&mut self, shared: &Shared) -> Result<(), Memory> {
         if shared.disk_failed.get() {
-            let passed = self.clock.passed(&self.rt);
+            let uptime = self.clock.uptime(&self.rt);
             if !self.sources.is_holding() {
-                self.next_probe = passed.saturating_add(PROBE_INTERVAL);
-            } else if self.next_probe <= passed {
-                self.next_probe = passed.saturating_add(PROBE_INTERVAL);
+                self.next_probe = uptime.saturating_add(PROBE_INTERVAL);
+            } else if self.next_probe <= uptime {
+                self.next_probe = uptime.saturating_add(PROBE_INTERVAL);
                 shared.probe();
             }
         }
@@ -302,10 +297,10 @@ impl<'a> Machine<'a> {
                 return Ok(Happening::Failed);
             };
             self.sources.set_now(now)?;
-            let passed = self.clock.passed(&self.rt);
-            self.sources.set_passed(passed)?;
+            let uptime = self.clock.uptime(&self.rt);
+            self.sources.set_uptime(uptime)?;
             if self.is_tick_due(now, until) {
-                if self.finds_stop(passed) {
+                if self.finds_stop(uptime) {
                     let said = "a signal asks for the end";
                     self.journal
                         .write(Level::Info, About::Engine, Topic::Signal, &said);
@@ -325,7 +320,7 @@ impl<'a> Machine<'a> {
             self.turns = 0;
             let next = self.tick_at(until).min(self.sources.retry_at());
             let most = next.saturating_sub(now);
-            let walk = self.sources.scan_at().saturating_sub(passed);
+            let walk = self.sources.scan_at().saturating_sub(uptime);
             if !self.ask(most.min(walk))? {
                 return Ok(Happening::Failed);
             }
@@ -338,9 +333,9 @@ impl<'a> Machine<'a> {
         let both = Interest::READABLE | Interest::WRITABLE;
         let token = Source::Link(link).token();
         self.poll.registry().register(&mut stream, token, both)?;
-        let passed = self.clock.passed(&self.rt);
-        self.sources.note_dial(passed);
-        Ok(Link::Connected(Peer::new(self.rt.alloc(), output, stream, passed)))
+        let uptime = self.clock.uptime(&self.rt);
+        self.sources.note_dial(uptime);
+        Ok(Link::Connected(Peer::new(self.rt.alloc(), output, stream, uptime)))
     }
 
     /// Dials a peer, at its next address if the last one was never reached.
@@ -350,7 +345,7 @@ impl<'a> Machine<'a> {
         addresses: &[SocketAddr],
         link: LinkId,
     ) -> io::Result<Link> {
-        let turn = self.sources.unanswered(output);
+        let turn = self.sources.failed_dials(output);
         let place = turn.checked_rem(addresses.len() as u64).unwrap_or(0);
         let Some(address) = addresses.get(place as usize) else {
             return Err(io::Error::from(ErrorKind::AddrNotAvailable));
@@ -358,7 +353,7 @@ impl<'a> Machine<'a> {
         match self.connect(output, *address, link) {
             Ok(link) => Ok(link),
             Err(error) => {
-                self.sources.note_unanswered(output).map_err(memory_error)?;
+                self.sources.note_failed_dial(output).map_err(memory_error)?;
                 Err(error)
             }
         }
@@ -400,11 +395,11 @@ impl<'a> Machine<'a> {
     pub fn push(&mut self, link: LinkId, bytes: &[u8]) -> Handed
         ensures { TakesAtMost bytes.now result }
     {
-        let passed = self.clock.passed(&self.rt);
+        let uptime = self.clock.uptime(&self.rt);
         match self.sources.links.get_mut(&link.0) {
             Some(link) => {
                 let mut failure = None;
-                let handed = link.push(&self.rt, bytes, passed, &mut failure);
+                let handed = link.push(&self.rt, bytes, uptime, &mut failure);
                 if let Some(error) = failure {
                     note_failure(self.journal, link.output(), &error);
                 }

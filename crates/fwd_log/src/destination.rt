@@ -1,6 +1,5 @@
 //! Where the lines of a log go.
 
-use fwd_base::Bytes;
 use std::fs::{File, OpenOptions};
 use std::io::{self, ErrorKind, Write};
 
@@ -10,8 +9,6 @@ pub enum Destination {
     Stderr,
     /// A file, at its end.
     File(File),
-    /// Memory, for tests.
-    Kept(Bytes),
 }
 
 impl Destination {
@@ -20,10 +17,6 @@ impl Destination {
         match self {
             Destination::Stderr => rt.stderr().write_all(line),
             Destination::File(file) => file.write_all(line),
-            Destination::Kept(text) => match text.extend_from_slice(line) {
-                Ok(()) => Ok(()),
-                Err(_) => Err(io::Error::from(ErrorKind::OutOfMemory)),
-            },
         }
     }
 }

@@ -46,12 +46,13 @@ fn without_memory(_: Memory) -> io::Error {
 }
 
 impl Journal {
-    fn to(rt: HostRuntime, level: Option<Level>, destination: Destination) -> Journal {
+    /// Returns a journal that writes lines of this level to standard error; none if it is off.
+    pub fn new(rt: HostRuntime, level: Option<Level>) -> Journal {
         let alloc = rt.alloc();
         Journal {
             rt,
             level: Cell::new(level),
-            destination: RefCell::new(destination),
+            destination: RefCell::new(Destination::Stderr),
             names: RefCell::new(Names::new(alloc)),
             series: RefCell::new(AllSeries::new(alloc)),
             reasons: RefCell::new(HashMap::new(alloc)),
@@ -59,28 +60,6 @@ impl Journal {
             asked: Cell::new(false),
             pages: RefCell::new(None),
             server: RefCell::new(None),
-        }
-    }
-
-    /// Returns a journal that writes lines of this level to standard error; none if it is off.
-    pub fn new(rt: HostRuntime, level: Option<Level>) -> Journal {
-        Journal::to(rt, level, Destination::Stderr)
-    }
-
-    /// Returns a journal that keeps its lines in memory, for tests.
-    pub fn kept(rt: HostRuntime, level: Option<Level>) -> Journal {
-        Journal::to(rt, level, Destination::Kept(Bytes::new(rt.alloc())))
-    }
-
-    /// Returns a copy of the lines that are kept in memory.
-    pub fn lines(&self) -> Result<Bytes, Memory> {
-        let alloc = self.rt.alloc();
-        match self.destination.try_borrow() {
-            Ok(destination) => match &*destination {
-                Destination::Kept(text) => text.try_clone(alloc),
-                Destination::Stderr | Destination::File(_) => Ok(Bytes::new(alloc)),
-            },
-            Err(_) => Ok(Bytes::new(alloc)),
         }
     }
 
@@ -195,9 +174,9 @@ impl Journal {
     fn limited(&self, source: Source, topic: Topic) -> Option<u64> {
         match self.series.try_borrow_mut() {
             Ok(mut series) => {
-                let (told, limiter) = limit(series.limiter_of(source, topic), self.passed());
+                let (passed_over, limiter) = limit(series.limiter_of(source, topic), self.passed());
                 let _ = series.keep(source, topic, limiter);
-                told
+                passed_over
             }
             Err(_) => None,
         }

@@ -321,11 +321,11 @@ fn time_first(live: &mut LiveLoop<'_>, rt: HostRuntime) -> Result<bool, Fail> {
 }
 
 fn joins_late(live: &mut LiveLoop<'_>, rt: HostRuntime, number: u64) -> Result<bool, Fail> {
-    let mut call_log = clock(live, rt.alloc())?;
+    let mut last = clock(live, rt.alloc())?;
     for _ in 0..10u32 {
         spend(&rt, 2)?;
-        match live.wait(rt.alloc(), call_log.saturating_add(1), 0)? {
-            Happening::Tick { now } => call_log = now,
+        match live.wait(rt.alloc(), last.saturating_add(1), 0)? {
+            Happening::Tick { now } => last = now,
             happening => return Ok(happening == joined(number)),
         }
     }

@@ -2,7 +2,7 @@
 
 ghost use Rattle.std.specs.Prelude.{◌≤◌, IfOk, length};
 
-use crate::identity::{Changed, Identity, identity_of};
+use crate::identity::{ChangeTime, Identity, identity_of};
 use crate::reading::{read_part, read_to};
 use fwd_base::Bytes;
 use std::alloc::Global;
@@ -11,8 +11,8 @@ use std::io;
 use std::os::unix::fs::MetadataExt;
 use std::time::{Duration, Instant};
 
-/// How many bytes before the offset that was reached tell a file that was truncated and has grown past it
-/// from one that grew.
+/// So many bytes before the offset that was reached show whether a file that is longer now only grew, or was
+/// truncated before it grew.
 const KNOWN: usize = 64;
 
 /// Where the next read may begin.
@@ -20,7 +20,7 @@ const KNOWN: usize = 64;
 pub enum Progress {
     /// Nothing was read: anywhere.
     Unread,
-    /// At the beginning: until that was read, the length is told as 0.
+    /// At the beginning: until that was read, the length is given as 0.
     Restarted,
     /// At the offset that was reached.
     Reading,
@@ -40,9 +40,9 @@ enum LastLine {
 /// What a query of a file's length finds.
 #[derive(Clone, Copy, Debug, PartialEq, Eq)]
 pub enum Finding {
-    /// More is there to be read: the length that is told.
+    /// More is there to be read: the length that is given.
     Length(u64),
-    /// The file was read to its end: the length that is told, and whether the file has a name.
+    /// The file was read to its end: the length that is given, and whether the file has a name.
     End(u64, bool),
     /// The file was truncated since the last read.
     Truncated,
@@ -53,13 +53,13 @@ pub enum Finding {
 /// An open file, with what was read of it. Its stream has the file's bytes, and a line feed after a last line
 /// that was left unfinished.
 #[derive(Drop)]
-pub struct Standing {
+pub struct StreamFile {
     file: File,
     identity: Identity,
-    changed: Changed,
+    change_time: ChangeTime,
     progress: Progress,
     /// The offset in the file up to which it was read.
-    reached: u64,
+    offset: u64,
     /// How many line feeds the stream has that the file hasn't.
     added: u64,
     last_line: LastLine,
@@ -71,17 +71,17 @@ pub struct Standing {
     before: Vec<u8>,
 }
 
-impl Standing {
+impl StreamFile {
     /// Opens the file that has a path now.
-    pub fn open(rt: &HostRuntime, path: &str, progress: Progress) -> io::Result<Standing> {
+    pub fn open(rt: &HostRuntime, path: &str, progress: Progress) -> io::Result<StreamFile> {
         let file = fs::open(rt, path)?;
         let about = file.metadata()?;
-        Ok(Standing {
+        Ok(StreamFile {
             file,
             identity: identity_of(&about),
-            changed: Changed::of(&about),
+            change_time: ChangeTime::of(&about),
             progress,
-            reached: 0,
+            offset: 0,
             added: 0,
             last_line: LastLine::Ended,
             is_copy: false,
@@ -95,13 +95,13 @@ impl Standing {
     }
 
     /// Returns when the file was last changed, as of the last query of its length.
-    pub fn changed(&self) -> Changed {
-        self.changed
+    pub fn change_time(&self) -> ChangeTime {
+        self.change_time
     }
 
     /// Returns the offset up to which the file was read.
-    pub fn reached(&self) -> u64 {
-        self.reached
+    pub fn offset(&self) -> u64 {
+        self.offset
     }
 
     /// Returns whether the file is left as soon as another one has its path.
@@ -111,13 +111,13 @@ impl Standing {
 
     /// Returns whether a read at this position of the stream follows the last one.
     pub fn is_expected(&self, at: u64) -> bool {
-        self.progress == Progress::Unread || at == self.reached.saturating_add(self.added)
+        self.progress == Progress::Unread || at == self.offset.saturating_add(self.added)
     }
 
     /// Begins anew, at the beginning of the file.
     pub fn restart(&mut self) {
         self.progress = Progress::Restarted;
-        self.reached = 0;
+        self.offset = 0;
         self.added = 0;
         self.last_line = LastLine::Ended;
         self.before.clear();
@@ -135,13 +135,13 @@ impl Standing {
         let mut again = [0u8; KNOWN];
         let count = self.before.len().min(KNOWN);
         let part = &mut again[..count];
-        let read = read_to(file, part, self.reached.saturating_sub(count as u64))?;
+        let read = read_to(file, part, self.offset.saturating_sub(count as u64))?;
         Ok(read == count && *part == *self.before.as_slice())
     }
 
     /// Returns whether the file, which has this length now, was truncated since the last read.
     fn is_truncated(&self, length: u64) -> io::Result<bool> {
-        Ok(length < self.reached || (self.reached < length && !self.is_known_in(&self.file)?))
+        Ok(length < self.offset || (self.offset < length && !self.is_known_in(&self.file)?))
     }
 
     /// Asks for the length of the file.
@@ -157,13 +157,13 @@ impl Standing {
         if self.is_truncated(length)? {
             return Ok(Finding::Truncated);
         }
-        self.changed = Changed::of(&about);
-        let told = length.saturating_add(self.added);
-        if self.reached < length {
+        self.change_time = ChangeTime::of(&about);
+        let stream_length = length.saturating_add(self.added);
+        if self.offset < length {
             self.nameless_since = None;
-            return Ok(Finding::Length(told));
+            return Ok(Finding::Length(stream_length));
         }
-        Ok(Finding::End(told, about.nlink() != 0))
+        Ok(Finding::End(stream_length, about.nlink() != 0))
     }
 
     /// Returns whether the file has had no name for this long. Notes the time at the first call.
@@ -194,7 +194,7 @@ impl Standing {
         let count = at.min(KNOWN as u64);
         let known = read_part(&self.file, alloc, at - count, count)?;
         self.before = known.into_vec();
-        self.reached = at;
+        self.offset = at;
         Ok(())
     }
 
@@ -206,7 +206,7 @@ impl Standing {
         known.extend_from_slice(&self.before[skipped..])?;
         known.extend_from_slice(&bytes[bytes.len().saturating_sub(KNOWN)..])?;
         self.before = known;
-        self.reached = at.saturating_add(bytes.len() as u64);
+        self.offset = at.saturating_add(bytes.len() as u64);
         self.last_line = match bytes.last() {
             Some(b'\n') => LastLine::Ended,
             Some(_) => LastLine::Open,
