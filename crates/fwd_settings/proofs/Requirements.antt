@@ -1,5 +1,5 @@
 -- The settings of sections meet what the engine requires.
-use Rattle.std.proofs.Common.{◌≡◌, ◌⊎◌, inl, inr, ℕ, ◌+◌, ◌≤◌, ◌<◌, Bool, true, false, not, ◌&&◌, ◌||◌, nat_le, nat_lt, if◌then◌else◌, List, [], ◌∷◌, ◌++◌, length, Option, Some, None, Ok, Err, IsSome, IsTrue, unwrap_or, option_map, refl, sym, ap, subst, arith, length-append, append_assoc, codes, decimal}
+use Rattle.std.proofs.Common.{◌≡◌, ◌∙◌, ◌⊎◌, inl, inr, ℕ, ◌+◌, ◌≤◌, ◌<◌, Bool, true, false, not, ◌&&◌, ◌||◌, nat_le, nat_lt, if◌then◌else◌, List, [], ◌∷◌, ◌++◌, length, Option, Some, None, Ok, Err, IsSome, IsTrue, unwrap_or, option_map, refl, sym, ap, subst, arith, length-append, append_assoc, codes, decimal}
 use Rattle.std.specs.List.{AllByRecursion, list_all, list_any}
 use Rattle.std.specs.Str.{bytes_eq, IsAscii}
 use Rattle.std.specs.Prelude.{All, AllPairs, ◌≢◌, count_by, ◌^◌}
@@ -78,11 +78,11 @@ bytes_ne one other isnt same = let is = (bytes_eq-Decides one other).1 same in a
 
 no_id : (id : List ℕ) (xs : List OutputSet) → list_any (has_id id) xs ≡ false → All (λ (one : OutputSet). one.id ≢ id) xs
 no_id id [] none = All-nil (λ (one : OutputSet). one.id ≢ id)
-no_id id (x ∷ xs) none = by (bytes_eq x.id id) refl none
+no_id id (x ∷ xs) none = by (bytes_eq x.id id) refl none (no_id id xs)
   where
-    by : (b : Bool) → bytes_eq x.id id ≡ b → (b || list_any (has_id id) xs) ≡ false → All (λ (one : OutputSet). one.id ≢ id) (x ∷ xs)
-    by true is none = absurd (cc none)
-    by false is none = All-cons (λ (one : OutputSet). one.id ≢ id) x xs (bytes_ne x.id id is) (no_id id xs none)
+    by : (b : Bool) → bytes_eq x.id id ≡ b → (b || list_any (has_id id) xs) ≡ false → (list_any (has_id id) xs ≡ false → All (λ (one : OutputSet). one.id ≢ id) xs) → All (λ (one : OutputSet). one.id ≢ id) (x ∷ xs)
+    by true is none rest = absurd (cc none)
+    by false is none rest = All-cons (λ (one : OutputSet). one.id ≢ id) x xs (bytes_ne x.id id is) (rest none)
 
 inputs_more : (before xs : List InputSet) (x : InputSet) → AreInputsNamed before xs → x.name ≡ input_name (before ++ xs) (input_plugin x.kind) → AreInputsNamed before (xs ++ x ∷ [])
 inputs_more before [] x all is = (subst (λ (l : List InputSet). x.name ≡ input_name l (input_plugin x.kind)) (nil before) is, tt)

@@ -227,7 +227,7 @@ both_so true false t a_so b_so passes = absurd (cc b_so)
 both_so false b t a_so b_so passes = absurd (cc a_so)
 
 module _ (by_name : Key) (test : Kind → Bool) (p : Target) (all : list_all (row_passes p by_name test) table ≡ true) where
-  by_row : (k : Key) (how : Kind) (name : List ℕ) (o : Option Row) → row_of p name ≡ o → option_map (λ (row : Row). (row.1, row.2)) o ≡ Some (k, how) → bytes_eq (name_of by_name) (name_of k) ≡ true → test how ≡ true
+  by_row : (k : Key) (how : Kind) (name : List ℕ) (o : Option Row) → row_of p name ≡ o → option_map {U = Key × Kind} (λ (row : Row). (row.1, row.2)) o ≡ Some (k, how) → bytes_eq (name_of by_name) (name_of k) ≡ true → test how ≡ true
   by_row k how name None found is same = absurd (cc is)
   by_row k how name (Some row) found is same =
       let parts : (row.1, row.2) ≡ (k, how) = pair_is is in
