@@ -230,7 +230,7 @@ module _ (by_name : Key) (test : Kind → Bool) (p : Target) (all : list_all (ro
   by_row : (k : Key) (how : Kind) (name : List ℕ) (o : Option Row) → row_of p name ≡ o → option_map {U = Key × Kind} (λ (row : Row). (row.1, row.2)) o ≡ Some (k, how) → bytes_eq (name_of by_name) (name_of k) ≡ true → test how ≡ true
   by_row k how name None found is same = absurd (cc is)
   by_row k how name (Some row) found is same =
-      let parts : (row.1, row.2) ≡ (k, how) = pair_is is in
+      let parts : ◌≡◌ {A = Key × Kind} (row.1, row.2) (k, how) = pair_is is in
       let passes : row_passes p by_name test row ≡ true = found_passes (row_passes p by_name test) (is_row_of p name) table row all found in
       let covered : covers row.0 p ≡ true = first_so (covers row.0 p) (is_key_named name row.1) (found_is (is_row_of p name) table row found) in
       let named : bytes_eq (name_of by_name) (name_of row.1) ≡ true =
@@ -238,7 +238,7 @@ module _ (by_name : Key) (test : Kind → Bool) (p : Target) (all : list_all (ro
       subst (λ (h : Kind). test h ≡ true) (ap (λ (q : Key × Kind). q.1) parts)
       (both_so (covers row.0 p) (bytes_eq (name_of by_name) (name_of row.1)) (test row.2) covered named passes)
     where
-      pair_is : ◌≡◌ {A = Option (Key × Kind)} (Some (row.1, row.2)) (Some (k, how)) → (row.1, row.2) ≡ (k, how)
+      pair_is : ◌≡◌ {A = Option (Key × Kind)} (Some (row.1, row.2)) (Some (k, how)) → ◌≡◌ {A = Key × Kind} (row.1, row.2) (k, how)
       pair_is e = cc
 
   pub kind_passes : (k : Key) (how : Kind) (name : List ℕ) → key_of p name ≡ Some (k, how) → bytes_eq (name_of by_name) (name_of k) ≡ true → test how ≡ true
