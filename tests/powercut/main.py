@@ -194,7 +194,7 @@ def looked_at(room, life, before, chance, threads, options):
         lost += len(missing)
         if missing:
             print(f"run {life}, moment {loss.moment}: of {len(loss.owed())} messages {len(missing)} are lost, as {min(missing)}", flush=True)
-    syncs = sum(call[0] == "sync" for call in calls)
+    syncs = sum(call[0] in ("sync", "datasync") for call in calls)
     most = max(len(loss.owed()) for loss in losses)
     print(f"run {life}: {len(losses)} moments in {len(calls)} calls, of which {syncs} are syncs; up to {most} messages were pending, and {lost} lost", flush=True)
     return chance.choice(losses[len(losses) // 2 :]), lost

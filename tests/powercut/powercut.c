@@ -115,6 +115,14 @@ int fsync(int fd) {
   return outcome;
 }
 
+int fdatasync(int fd) {
+  NEXT(fdatasync);
+  char path[PATH_MAX];
+  int outcome = next(fd);
+  if (outcome == 0 && is_open_below(fd, path)) told("datasync", path, "");
+  return outcome;
+}
+
 int rename(const char *from, const char *to) {
   NEXT(rename);
   char first[PATH_MAX], second[PATH_MAX];

@@ -80,7 +80,8 @@ class Disk:
             self.now[path].change(0, None)
         elif call == "write" and path in self.now:
             self.now[path].change(second, data)
-        elif call == "sync":
+        elif call == "sync" or call == "datasync" and isinstance(self.now.get(path), File):
+            # The bytes of a file and its length are there after an fdatasync too, the names in a folder needn't be.
             self.sync(path)
 
     def note(self, path, *change):

@@ -1,4 +1,4 @@
-//! Files in folders: atomic create, write, fsync, remove, read and list.
+//! Files in folders: atomic create, write, sync, remove, read and list.
 
 ghost use Rattle.std.specs.Prelude.{◌≤◌, All, IfOk, IfSome, length};
 ghost use Rattle.fwd_outside.specs.Disk.{IsFileName, IsListing};
@@ -6,23 +6,24 @@ ghost use Rattle.fwd_outside.specs.Disk.{IsFileName, IsListing};
 use crate::answer::answer_of;
 use crate::disk_log::{tell, told};
 use crate::file_name::{TEMPORARY, complete_name, listing};
+use crate::open_files::OpenFiles;
 use crate::storage_root::{Access, FILE_MODE, FOLDER_MODE, is_full, own_folder};
 use fwd_live_files::{LAST_OFFSET, read_to};
-use fwd_live_poll::{Shared, memory_error, text};
+use fwd_live_poll::{Shared, memory_error, most_files, text};
 use fwd_outside::{Bytes, Memory, Names};
 use std::alloc::Global;
 use std::fs::{self, DirBuilder, DirEntry, File, OpenOptions};
 use std::io::{self, ErrorKind, Write};
 use std::os::unix::fs::{DirBuilderExt, FileExt, OpenOptionsExt};
 
-/// A file that is open for writing.
-#[derive(Drop)]
-struct OpenFile {
-    name: Bytes,
-    file: File,
-}
+/// How many files are kept open at most. With the folders they are fewer than the descriptors that the loop
+/// reserves.
+const MOST_FILES: usize = 32;
 
-/// Files by their paths. The last one written stays open.
+/// How many folders are kept open at most.
+const MOST_FOLDERS: usize = 8;
+
+/// Files by their paths. Those that were written or read last stay open, and so do their folders.
 #[derive(Drop)]
 pub struct Folders<'a> {
     rt: HostRuntime,
@@ -30,10 +31,13 @@ pub struct Folders<'a> {
     access: Access,
     /// Whether the storage folder is locked. The first listing of a run is that of its storage folder.
     is_locked: bool,
-    written: Option<OpenFile>,
+    /// Files that are open for reading and writing.
+    files: OpenFiles,
+    /// Folders that are open, to be fsynced.
+    folders: OpenFiles,
     /// Folders that were fsynced, so that a crash can't remove them.
     synced_folders: Vec<Bytes>,
-    /// Files whose fsync has failed. The system may have dropped the data that it couldn't write, so a
+    /// Files whose sync has failed. The system may have dropped the data that it couldn't write, so a
     /// later fsync may succeed without it.
     unsynced: Vec<Bytes>,
 }
@@ -101,7 +105,8 @@ fn ensure_folder(rt: &HostRuntime, folder: &str) -> io::Result<()> {
 
 fn write_new(rt: &HostRuntime, part: &str, bytes: &[u8]) -> io::Result<File> {
     let mut how = OpenOptions::new();
-    how.write(true).create(true).truncate(true).mode(FILE_MODE);
+    how.read(true).write(true).create(true).truncate(true);
+    how.mode(FILE_MODE);
     let mut file = how.open(rt, part)?;
     file.write_all(bytes)?;
     file.sync_all()?;
@@ -109,18 +114,23 @@ fn write_new(rt: &HostRuntime, part: &str, bytes: &[u8]) -> io::Result<File> {
 }
 
 /// Writes a file under a temporary name, fsyncs it and renames it.
-fn place_file(rt: &HostRuntime, path: &str, part: &str, bytes: &[u8]) -> io::Result<File> {
+fn rename_new(rt: &HostRuntime, path: &str, part: &str, bytes: &[u8]) -> io::Result<File> {
     let file = write_new(rt, part, bytes)?;
     fs::rename(rt, part, path)?;
-    sync_folder(rt, folder_of(path))?;
     Ok(file)
 }
 
-/// Creates a file. If that fails, removes the temporary file.
-fn place_or_clean_up(rt: &HostRuntime, name: &[u8], part: &[u8], bytes: &[u8]) -> io::Result<File> {
+/// Creates a file, which a crash may remove until its folder is fsynced. If that fails, removes the temporary
+/// file.
+fn create_or_clean_up(
+    rt: &HostRuntime,
+    name: &[u8],
+    part: &[u8],
+    bytes: &[u8],
+) -> io::Result<File> {
     let path = text(name)?;
     let part = text(part)?;
-    match place_file(rt, path, part, bytes) {
+    match rename_new(rt, path, part, bytes) {
         Ok(file) => Ok(file),
         Err(error) => {
             let _ = fs::remove_file(rt, part);
@@ -129,9 +139,9 @@ fn place_or_clean_up(rt: &HostRuntime, name: &[u8], part: &[u8], bytes: &[u8]) -
     }
 }
 
-fn open_to_write(rt: &HostRuntime, name: &[u8]) -> io::Result<File> {
+fn open_file(rt: &HostRuntime, name: &[u8]) -> io::Result<File> {
     let mut how = OpenOptions::new();
-    how.write(true);
+    how.read(true).write(true);
     how.open(rt, text(name)?)
 }
 
@@ -142,23 +152,16 @@ fn write_to(file: &File, at: u64, bytes: &[u8]) -> io::Result<()> {
     file.write_all_at(bytes, at)
 }
 
-fn remove_file(rt: &HostRuntime, name: &[u8]) -> io::Result<()> {
-    let path = text(name)?;
-    fs::remove_file(rt, path)?;
-    sync_folder(rt, folder_of(path))
-}
-
-fn read_file(rt: &HostRuntime, alloc: Global, name: &[u8], at: u64, len: u64) -> io::Result<Bytes>
+fn read_from(file: &File, alloc: Global, at: u64, len: u64) -> io::Result<Bytes>
     ensures { IfOk result (λ bytes. length bytes ≤ len) }
 {
     if at > LAST_OFFSET {
         return Err(io::Error::from(ErrorKind::InvalidInput));
     }
-    let file = fs::open(rt, text(name)?)?;
     let there = file.metadata()?.len().saturating_sub(at);
     let mut part = Vec::new(alloc);
     part.resize(len.min(there) as usize, 0)?;
-    let count = read_to(&file, &mut part, at)?;
+    let count = read_to(file, &mut part, at)?;
     part.truncate(count);
     Ok(Bytes::from_vec(part))
 }
@@ -192,15 +195,23 @@ fn names_in(rt: &HostRuntime, alloc: Global, folder: &[u8]) -> io::Result<Vec<By
     Ok(names)
 }
 
+/// Returns how many files, or folders, are kept open at most: one in 32 of the descriptors that the process may
+/// have.
+fn most_open(rt: &HostRuntime) -> usize {
+    most_files(rt) / 8
+}
+
 impl<'a> Folders<'a> {
     pub fn new(rt: HostRuntime, shared: &'a Shared, access: Access) -> Self {
         let alloc = rt.alloc();
+        let most = most_open(&rt);
         Folders {
             rt,
             shared,
             access,
             is_locked: false,
-            written: None,
+            files: OpenFiles::new(alloc, most.min(MOST_FILES)),
+            folders: OpenFiles::new(alloc, most.min(MOST_FOLDERS)),
             synced_folders: Vec::new(alloc),
             unsynced: Vec::new(alloc),
         }
@@ -219,14 +230,37 @@ impl<'a> Folders<'a> {
         Ok(())
     }
 
+    /// Fsyncs a folder, so that a crash keeps its names as they are now. The folder stays open. An fdatasync
+    /// isn't enough: names needn't change the length of the folder.
+    fn sync_names(&mut self, folder: &str) -> io::Result<()> {
+        if let Some(open) = self.folders.get(folder.as_bytes()) {
+            return open.sync_all();
+        }
+        let open = fs::open(&self.rt, folder)?;
+        open.sync_all()?;
+        if let Ok(name) = Bytes::from_slice(self.rt.alloc(), folder.as_bytes()) {
+            let _ = self.folders.keep(name, open);
+        }
+        Ok(())
+    }
+
+    /// Creates a file in a folder that exists, and fsyncs the folder.
+    fn place_file(&mut self, name: &[u8], part: &[u8], bytes: &[u8]) -> io::Result<File> {
+        let file = create_or_clean_up(&self.rt, name, part, bytes)?;
+        self.sync_names(folder_of(text(name)?))?;
+        Ok(file)
+    }
+
     /// Creates a file in its folder. If the folder was removed since, it is created again.
     fn place_in_folder(&mut self, name: &[u8], part: &[u8], bytes: &[u8]) -> io::Result<File> {
         self.ensure_parent(name)?;
-        match place_or_clean_up(&self.rt, name, part, bytes) {
+        match self.place_file(name, part, bytes) {
             Err(error) if error.kind() == ErrorKind::NotFound => {
                 self.synced_folders.clear();
+                self.folders.clear();
+                self.files.clear();
                 self.ensure_parent(name)?;
-                place_or_clean_up(&self.rt, name, part, bytes)
+                self.place_file(name, part, bytes)
             }
             outcome => outcome,
         }
@@ -247,9 +281,12 @@ impl<'a> Folders<'a> {
         let mut part = Bytes::from_slice(self.rt.alloc(), name)?;
         part.extend_from_slice(TEMPORARY.as_bytes())?;
         let name = Bytes::from_slice(self.rt.alloc(), name)?;
+        // What is open under this name won't be the file of the name any more.
+        self.files.close(name.as_slice());
         match self.place_with_reserve(name.as_slice(), part.as_slice(), bytes) {
             Ok(file) => {
-                self.written = Some(OpenFile { name, file });
+                // If there is no memory to keep it open, the next call on it opens it.
+                let _ = self.files.keep(name, file);
                 Ok(Some(()))
             }
             Err(error) => {
@@ -264,25 +301,23 @@ impl<'a> Folders<'a> {
         }
     }
 
-    fn is_open(&self, name: &[u8]) -> bool {
-        match &self.written {
-            Some(written) => written.name.as_slice() == name,
-            None => false,
+    /// Opens a file for reading and writing, unless it is open. It stays open.
+    fn ensure_open(&mut self, name: &[u8]) -> Result<io::Result<()>, Memory> {
+        if self.files.contains(name) {
+            return Ok(Ok(()));
+        }
+        let kept = Bytes::from_slice(self.rt.alloc(), name)?;
+        match open_file(&self.rt, name) {
+            Ok(file) => Ok(Ok(self.files.keep(kept, file)?)),
+            Err(error) => Ok(Err(error)),
         }
     }
 
-    /// Opens a file, which stays open. Returns `None` if it can't be opened.
+    /// Returns a file to write to. `None` if it can't be opened.
     fn open(&mut self, name: &[u8]) -> Result<Option<&File>, Memory> {
-        if !self.is_open(name) {
-            let kept = Bytes::from_slice(self.rt.alloc(), name)?;
-            let opened = open_to_write(&self.rt, name);
-            self.written = match told(&self.shared.journal, "opened", name, opened) {
-                Some(file) => Some(OpenFile { name: kept, file }),
-                None => None,
-            };
-        }
-        match &self.written {
-            Some(written) => Ok(Some(&written.file)),
+        let opened = self.ensure_open(name)?;
+        match told(&self.shared.journal, "opened", name, opened) {
+            Some(()) => Ok(self.files.get(name)),
             None => Ok(None),
         }
     }
@@ -301,41 +336,53 @@ impl<'a> Folders<'a> {
         Ok(told(&shared.journal, "written", name, written))
     }
 
-    /// Fsyncs a file. Returns `None` if the system refuses, now or at an earlier fsync of this file.
+    /// Syncs the bytes of a file and its length by fdatasync. The rest isn't needed to read them, and the file's
+    /// name was synced when it was placed or listed. Returns `None` if the system refuses, now or at an earlier
+    /// sync of this file.
     pub fn sync(&mut self, name: &[u8]) -> Result<Option<()>, Memory> {
         if has_name(&self.unsynced, name) {
             return Ok(None);
         }
+        let shared = self.shared;
         let kept = Bytes::from_slice(self.rt.alloc(), name)?;
-        if self.open(name)?.is_none() {
+        self.unsynced.reserve(1)?;
+        let Some(file) = self.open(name)? else {
             return Ok(None);
-        }
-        self.unsynced.push(kept)?;
-        let answer = match &self.written {
-            Some(written) => {
-                let synced = written.file.sync_all();
-                told(&self.shared.journal, "synced", name, synced)
-            }
-            None => None,
         };
-        if answer.is_some() {
-            let _ = self.unsynced.pop();
+        let answer = told(&shared.journal, "synced", name, file.sync_data());
+        if answer.is_none() {
+            self.unsynced.push(kept)?;
         }
         Ok(answer)
     }
 
+    fn remove_file(&mut self, name: &[u8]) -> io::Result<()> {
+        let path = text(name)?;
+        fs::remove_file(&self.rt, path)?;
+        self.sync_names(folder_of(path))
+    }
+
     /// Removes a file. Returns `None` if the system refuses.
     pub fn remove(&mut self, name: &[u8]) -> Option<()> {
-        if self.is_open(name) {
-            self.written = None;
-        }
-        let removed = remove_file(&self.rt, name);
+        self.files.close(name);
+        let removed = self.remove_file(name);
         told(&self.shared.journal, "removed", name, removed)
     }
 
-    /// Reads from an offset on. Returns `None` if the system refuses.
+    /// Reads a file from an offset on, by a handle of its own if it isn't open.
+    fn read_file(&mut self, alloc: Global, name: &[u8], at: u64, len: u64) -> io::Result<Bytes>
+        ensures { IfOk result (λ bytes. length bytes ≤ len) }
+    {
+        match self.files.get(name) {
+            Some(file) => read_from(file, alloc, at, len),
+            None => read_from(&fs::open(&self.rt, text(name)?)?, alloc, at, len),
+        }
+    }
+
+    /// Reads from an offset on. The file stays open if it may be written too. Returns `None` if the system
+    /// refuses.
     pub fn read(
-        &self,
+        &mut self,
         alloc: Global,
         name: &[u8],
         at: u64,
@@ -343,7 +390,8 @@ impl<'a> Folders<'a> {
     ) -> Result<Option<Bytes>, Memory>
         ensures { IfOk result (λ answer. IfSome answer (λ bytes. length bytes ≤ len)) }
     {
-        let outcome = read_file(&self.rt, alloc, name, at, len);
+        let _ = self.ensure_open(name)?;
+        let outcome = self.read_file(alloc, name, at, len);
         tell(&self.shared.journal, "read", name, &outcome);
         answer_of(outcome)
     }
@@ -360,6 +408,18 @@ impl<'a> Folders<'a> {
         Ok(())
     }
 
+    /// Lists the names of the complete files in a folder. A run that owns the storage folder fsyncs the folder
+    /// then, so that a crash keeps these files: a run that was killed may have left them without that.
+    fn list_folder(&mut self, alloc: Global, folder: &[u8]) -> io::Result<Vec<Bytes>>
+        ensures { IfOk result (λ names. All IsFileName names.items) }
+    {
+        let names = names_in(&self.rt, alloc, folder)?;
+        if self.access == Access::Owner && !names.is_empty() {
+            self.sync_names(text(folder)?)?;
+        }
+        Ok(names)
+    }
+
     /// Lists the names of the complete files in a folder. Returns `None` if the system refuses, or another run
     /// has the storage folder.
     pub fn list(&mut self, alloc: Global, folder: &[u8]) -> Result<Option<Names>, Memory>
@@ -370,7 +430,7 @@ impl<'a> Folders<'a> {
         if answer_of(owned)?.is_none() {
             return Ok(None);
         }
-        let outcome = names_in(&self.rt, alloc, folder);
+        let outcome = self.list_folder(alloc, folder);
         tell(&self.shared.journal, "listed", folder, &outcome);
         match answer_of(outcome)? {
             Some(names) => Ok(Some(listing(names)?)),

@@ -16,6 +16,7 @@ mod folder_files;
 mod folders;
 mod live_loop;
 mod loop_calls;
+mod open_files;
 mod sink_calls;
 mod std_sink;
 mod storage_root;
