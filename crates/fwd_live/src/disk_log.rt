@@ -1,7 +1,7 @@
 //! What the log says of failed calls on files.
 
 use fwd_log::{Journal, Level, Source, Topic};
-use std::io;
+use std::io::{self, ErrorKind};
 
 /// Writes a line on a call that failed.
 fn write_failure(journal: &Journal, what: &str, name: &[u8], error: &io::Error) {
@@ -11,6 +11,17 @@ fn write_failure(journal: &Journal, what: &str, name: &[u8], error: &io::Error) 
     if let Ok(name) = String::from_utf8_lossy(journal.alloc(), name) {
         let text = format_args!("{name} can't be {what}: {error}");
         journal.write(Level::Error, Source::Storage, Topic::File, &text);
+    }
+}
+
+/// Writes a line if the storage folder can't be locked.
+pub fn tell_unlocked(journal: &Journal, folder: &[u8], outcome: &io::Result<()>) {
+    match outcome {
+        Ok(()) => {}
+        Err(error) if error.kind() == ErrorKind::WouldBlock => {
+            write_failure(journal, "locked, as another run has it", folder, error);
+        }
+        Err(error) => write_failure(journal, "locked", folder, error),
     }
 }
 

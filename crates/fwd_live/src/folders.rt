@@ -4,7 +4,7 @@ ghost use Rattle.std.specs.Prelude.{◌≤◌, All, IfOk, IfSome, length};
 ghost use Rattle.fwd_outside.specs.Disk.{IsFileName, IsListing};
 
 use crate::answer::answer_of;
-use crate::disk_log::{tell, told};
+use crate::disk_log::{tell, tell_unlocked, told};
 use crate::file_name::{TEMPORARY, complete_name, listing};
 use crate::open_files::OpenFiles;
 use crate::storage_root::{Access, FILE_MODE, FOLDER_MODE, is_full, own_folder};
@@ -426,7 +426,7 @@ impl<'a> Folders<'a> {
         ensures { IfOk result (λ answer. IfSome answer IsListing) }
     {
         let owned = self.lock(folder);
-        tell(&self.shared.journal, "locked", folder, &owned);
+        tell_unlocked(&self.shared.journal, folder, &owned);
         if answer_of(owned)?.is_none() {
             return Ok(None);
         }
