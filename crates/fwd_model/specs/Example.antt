@@ -74,6 +74,7 @@ settings = record {
   outputs =
       record {
         name = codes "stdout.0";
+        id = codes "stdout.0";
         glob = codes "*";
         kind = output_kind.Stdout JsonLines;
         retries = Times 1;
@@ -81,6 +82,7 @@ settings = record {
       }
       ∷ record {
         name = codes "forward.0";
+        id = codes "forward.0";
         glob = codes "t";
         kind = output_kind.Forward localhost 24225 true false;
         retries = Times 2;
