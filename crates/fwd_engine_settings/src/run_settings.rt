@@ -28,7 +28,7 @@ pub struct RunSettings {
 }
 
 impl Model for RunSettings {
-    ghost use Rattle.std.specs.Prelude.{◌≡◌, ◌×◌, map};
+    ghost use Rattle.std.specs.Prelude.{◌≡◌, map};
     ghost use Rattle.fwd_settings.specs.declared.settings_types.InputSet.{InputSet};
     ghost use Rattle.fwd_settings.specs.Requirements.{MeetsRequirements};
     ghost use Rattle.fwd_settings.specs.declared.settings_types.AllSettings.{AllSettings};

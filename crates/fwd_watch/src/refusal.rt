@@ -34,14 +34,15 @@ fn section_at<'a>(sections: &'a [Section], place: &Place) -> Option<&'a Section>
     None
 }
 
-/// Returns the value of the first entry with a key.
+/// Returns the value of the last entry with a key.
 fn value_of<'a>(section: &'a Section, key: &[u8]) -> Option<&'a [u8]> {
+    let mut value = None;
     for entry in section.entries.as_slice() {
         if same_name(entry.key.as_slice(), key) {
-            return Some(entry.value.as_slice());
+            value = Some(entry.value.as_slice());
         }
     }
-    None
+    value
 }
 
 fn target_of(section: &Section) -> Option<Target> {

@@ -316,14 +316,12 @@ impl<'j> Watcher<'j> {
         }
         if 0 < chunks {
             let text = format_args!(
-                "Grace is over, and {chunks} chunks in memory with {bytes} bytes are dropped"
+                "ends: {chunks} chunks in memory with {bytes} bytes are dropped"
             );
             self.tell(Level::Warn, Source::Engine, Topic::GivenUp, &text);
         }
         if 0 < files {
-            let text = format_args!(
-                "Grace is over, and {files} chunks in files are left to the next run"
-            );
+            let text = format_args!("ends: {files} chunks in files are left to the next run");
             self.tell(Level::Warn, Source::Engine, Topic::Retry, &text);
         }
         if chunks == 0 && files == 0 {
