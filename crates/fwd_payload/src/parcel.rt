@@ -114,7 +114,7 @@ fn message(
     Ok(Some(parcel))
 }
 
-/// Returns an HTTP request with this body and the reader of its reply.
+/// Returns the HTTP request for the events that a content encodes, and the reader of its reply.
 fn request(
     alloc: Global,
     host: &[u8],
@@ -122,22 +122,28 @@ fn request(
     uri: &[u8],
     form: Form,
     options: &HttpOptions,
-    body: &[u8],
-) -> Result<Parcel, Memory>
-    ensures { IfOk result (λ parcel. SendsAndJudges (request_to options.now (http_request host.now port uri.now form options.now.fields body.now)) parcel.payload parcel.reader) }
+    tag: &[u8],
+    content: &mut Content,
+    is_shared: bool,
+) -> Result<Option<Parcel>, Memory>
+    ensures request { MadeOf content.old (λ events parcel. SendsAndJudges (request_to options.now (http_request host.now port uri.now form options.now.fields (payload_of form tag.now events))) parcel.payload parcel.reader) result }
+    ensures same { content.new ≡ content.old }
 {
-    Ok(Parcel {
-        payload: request_of(
-            alloc,
-            host,
-            port,
-            uri,
-            form,
-            options.fields.as_slice(),
-            body,
-        )?,
-        reader: Reader::Http(HttpReader::new(alloc, options.retried.as_slice())?),
-    })
+    match content.text(alloc, form, tag, is_shared)? {
+        Some(body) => Ok(Some(Parcel {
+            payload: request_of(
+                alloc,
+                host,
+                port,
+                uri,
+                form,
+                options.fields.as_slice(),
+                body.as_slice(),
+            )?,
+            reader: Reader::Http(HttpReader::new(alloc, options.retried.as_slice())?),
+        })),
+        None => Ok(None),
+    }
 }
 
 /// Returns the payload for an output of this kind, and the reader of its reply.
@@ -177,21 +183,17 @@ fn pack(
             uri,
             form,
             options,
-        } => {
-            let Some(body) = content.text(alloc, *form, tag, is_shared)? else {
-                return Ok(None);
-            };
-            let parcel = request(
-                alloc,
-                host.as_slice(),
-                *port,
-                uri.as_slice(),
-                *form,
-                options,
-                body.as_slice(),
-            )?;
-            Ok(Some(parcel))
-        }
+        } => request(
+            alloc,
+            host.as_slice(),
+            *port,
+            uri.as_slice(),
+            *form,
+            options,
+            tag,
+            content,
+            is_shared,
+        ),
     }
 }
 
