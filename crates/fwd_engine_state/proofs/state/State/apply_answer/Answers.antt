@@ -26,11 +26,11 @@ returns-clause-notes c again word s h before is =
     let rows = c.answer-again.ensures.rows ∙ (λ i. rows_answered (found i) (chunk_id r.chunk) (output_id r.output) (due_after (before.time i) w) (before.rows i)) in
     let tally = rw found at c.add_answer.ensures s h r word refl before.tally in
     elim (cases_Bool again) [
-      | inl yes ↦
-          let retry = again_is_retry a c.args.limit _ (is.2 ∙ yes) in
-          let moved = rows_retries s r word w h (is.3 yes) in
+      | inl so ↦
+          let retry = again_is_retry a c.args.limit _ (is.2 ∙ so) in
+          let moved = rows_retries s r word w h (is.3 so) in
           record {
-            rows = rw (yes, retry) ((rw yes at rows) ∙ moved);
+            rows = rw (so, retry) ((rw so at rows) ∙ moved);
             top = λ m first rise. subst (λ (k : ℕ). k < m) (sym c.answer-again.ensures.top) (before.top m first rise);
             flights = λ link. carried_ended s r (outcome_after a again word) h link _ (answer_ends a again word link) (before.flights link);
             time = before.time;
@@ -40,12 +40,12 @@ returns-clause-notes c again word s h before is =
             tally = tally;
             numbers = before.numbers;
             fresh = fresh_routed s r (outcome_after a again word) h is.0.1 before.fresh;
-            open_owed = λ k still. rw (yes, retry) (ap (has_row (chunk_id k)) (sym moved) ∙ has_on_chunk (chunk_id k) (chunk_id r.chunk) (retried_to (output_id r.output) (due_after (clock h) w)) (λ row. refl) (rows_of s h) ∙ before.open_owed k still);
+            open_owed = λ k still. rw (so, retry) (ap (has_row (chunk_id k)) (sym moved) ∙ has_on_chunk (chunk_id k) (chunk_id r.chunk) (retried_to (output_id r.output) (due_after (clock h) w)) (λ row. refl) (rows_of s h) ∙ before.open_owed k still);
           }
-      | inr no ↦
-          let ends : resolves (outcome_after a again word) ≡ true = rw no (answer_resolves a word) in
+      | inr isnt ↦
+          let ends : resolves (outcome_after a again word) ≡ true = rw isnt (answer_resolves a word) in
           record {
-            rows = (rw no at rows) ∙ rows_ended s r (outcome_after a again word) h ends;
+            rows = (rw isnt at rows) ∙ rows_ended s r (outcome_after a again word) h ends;
             top = λ m first rise. subst (λ (k : ℕ). k < m) (sym c.answer-again.ensures.top) (before.top m first rise);
             flights = λ link. carried_ended s r (outcome_after a again word) h link _ (answer_ends a again word link) (before.flights link);
             time = before.time;
