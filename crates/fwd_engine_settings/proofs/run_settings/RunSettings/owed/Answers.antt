@@ -15,7 +15,7 @@ loop-i-preserved c =
     let tag = c.args.tag.now in
     let i = c.loop-i.i in
     let less : i < length outputs = omega (arith, c.loop-i-test.true) in
-    let within : i < 64 = omega (arith, less, c.self.invariant.few_outputs, ap length c.as_slice-output-items.ensures) in
+    let within : i < 64 = omega (arith, less, c.self.invariant.0.few_outputs, ap length c.as_slice-output-items.ensures) in
     elim c.if-glob_matches.branch [
       | then-glob_matches w ↦ rw w.mask-is (mask_yes i outputs tag c.loop-i.mask c.output-item.result within less c.output-item.is (sym c.glob_matches.ensures ∙ w.if-glob_matches.true) c.loop-i.invariant)
       | else-glob_matches w ↦ rw w.mask-is (mask_no i outputs tag c.loop-i.mask c.output-item.result less c.output-item.is (sym c.glob_matches.ensures ∙ w.if-glob_matches.false) c.loop-i.invariant)
@@ -26,6 +26,6 @@ returns c =
     let outputs = c.as_slice-output-items.result.now in
     let tag = c.args.tag.now in
     let all : length outputs ≤ c.loop-i.i = omega (arith, c.loop-i-test.false) in
-    let within : c.loop-i.i ≤ 64 = omega (arith, c.self.invariant.few_outputs, ap length c.as_slice-output-items.ensures) in
+    let within : c.loop-i.i ≤ 64 = omega (arith, c.self.invariant.0.few_outputs, ap length c.as_slice-output-items.ensures) in
     let whole : routes_to c.loop-i.mask ≡ routes_for outputs tag = mask_all c.loop-i.i outputs tag c.loop-i.mask within all c.loop-i.invariant in
     record { routes = whole ∙ ap (λ (l : List OutputSet). routes_for l tag) (c.as_slice-output-items.ensures ∙ ap (λ (s : AllSettings). s.outputs) c.self.view_is) }
