@@ -72,17 +72,12 @@ returns-in-Err-NoNumber-clause-acts g c others h shows =
     let is = c.in-Err-NoNumber.field-0-is in
     let none : has_no_number c.args.parts.now.store b.input b.tag ≡ true = (c.accept.ensures.no_number.0 (refused_so c.accept.result c.in-Err-NoNumber.field-0 refusal.NoNumber c.in-Err-NoNumber.is is)).1 in
     let same = rw is at c.in-Err-NoNumber.ensures.err in
-    let state = c.count_refused.ensures.batch b NoNumber refl s h None (c.in_ok-place.ensures.keeps s h None shows.state) in
-    let shown = represents_by_state s c.args.parts.now (record { state = c.count_refused.new.self; input_streams = c.args.parts.now.input_streams; followed_files = c.args.parts.now.followed_files; store = c.accept.new.self }) h None None None (Refused b NoNumber) refl refl same.1 refl refl refl refl state shows in
+    let state = c.count_refused-in-Err-NoNumber.ensures.batch b NoNumber refl s h None (c.in_ok-place.ensures.keeps s h None shows.state) in
+    let shown = represents_by_state s c.args.parts.now (record { state = c.count_refused-in-Err-NoNumber.new.self; input_streams = c.args.parts.now.input_streams; followed_files = c.args.parts.now.followed_files; store = c.accept.new.self }) h None None None (Refused b NoNumber) refl refl same.1 refl refl refl refl state shows in
     rw (none_left s h b c.args.parts.now.store shows.store none)
     (completes_after (RepresentsBatch s _ false) _ (refuses b NoNumber h) (refuses b NoNumber h) (no_disk_call others _ _ (refuses b NoNumber h) same.0)
     (completes_note_then (RepresentsBatch s _ false) _ _ (Refused b NoNumber) h ends_refused
     (completes_idle (RepresentsBatch s _ false) _ (record { history = Refused b NoNumber ∷ h; taken = false }) (refl, shown))))
-
-pub returns-in-Err-BatchTooLarge-clause-acts : goal.returns-in-Err-BatchTooLarge-clause-acts
-returns-in-Err-BatchTooLarge-clause-acts g c others h shows =
-    let long : largest_batch < length c.args.bytes.now = c.accept.ensures.too_large.0 (refused_so c.accept.result c.in-Err-BatchTooLarge.field-0 refusal.BatchTooLarge c.in-Err-BatchTooLarge.is c.in-Err-BatchTooLarge.field-0-is) in
-    absurd (omega (arith, long, c.requires.spelled.short))
 
 pub returns-clause-acts : goal.returns-clause-acts
 returns-clause-acts g c others h shows =
