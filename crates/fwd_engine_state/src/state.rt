@@ -213,6 +213,7 @@ impl State {
     pub fn count_damaged(&mut self)
         ensures keeps { StateUnchanged self.old self.new }
         ensures damaged { self.new.damaged ≡ saturating_plus self.old.damaged 1 }
+        ensures grows { self.old.damaged ≤ self.new.damaged }
     {
         self.damaged = self.damaged.saturating_add(1);
     }

@@ -1,4 +1,4 @@
-use Rattle.std.proofs.Common.{◌∷◌, inl, inr, Some, None, refl}
+use Rattle.std.proofs.Common.{false, ◌∷◌, inl, inr, Some, None, refl}
 use Rattle.fwd_model.specs.Fact.{OnRoute, Delivered, Failed}
 use Rattle.fwd_model.specs.ResolveActions.{marks_or_removes}
 use Rattle.fwd_model.proofs.Refinement.{refines_note_then}
