@@ -4,6 +4,7 @@ ghost use Rattle.fwd_live_poll.specs.Handed.{TakesAtMost};
 
 use crate::conn::write_some;
 use crate::patience::Patience;
+use fwd_log::Journal;
 use fwd_outside::{Bytes, OutputId};
 use mio::net::TcpStream;
 use std::alloc::Global;
@@ -154,20 +155,19 @@ impl Peer {
         }
     }
 
-    /// Keeps the beginning of an HTTP reply whose status isn't one of success. Returns what is kept of it so far, if
-    /// these bytes added to it.
-    pub fn keep_refusal(&mut self, bytes: &[u8]) -> Option<&[u8]> {
+    /// Keeps the beginning of an HTTP reply whose status isn't one of success, as the reason why a delivery of
+    /// the output failed.
+    pub fn note_refusal(&mut self, journal: &Journal, bytes: &[u8]) {
         let is_first = self.bytes_received == bytes.len() as u64;
         if !(is_first && is_refusal(bytes)) && self.refusal.is_empty() {
-            return None;
+            return;
         }
         let room = MOST_KEPT
             .saturating_sub(self.refusal.len())
             .min(bytes.len());
-        if room == 0 || self.refusal.extend_from_slice(&bytes[..room]).is_err() {
-            return None;
+        if room != 0 && self.refusal.extend_from_slice(&bytes[..room]).is_ok() {
+            journal.note_reason(self.output, self.refusal.as_slice());
         }
-        Some(self.refusal.as_slice())
     }
 
     /// Returns whether the peer refused in a reply.

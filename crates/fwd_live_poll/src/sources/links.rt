@@ -142,11 +142,8 @@ impl<'a> Sources<'a> {
         let mut stream = &peer.stream;
         match read_from(alloc, &mut stream, &mut self.part) {
             Ok(bytes) => {
-                let output = peer.output;
                 let fits = peer.note_received(bytes.len(), self.uptime);
-                if let Some(refusal) = peer.keep_refusal(bytes.as_slice()) {
-                    self.journal.note_reason(output, refusal);
-                }
+                peer.note_refusal(self.journal, bytes.as_slice());
                 if !fits {
                     self.fail_link(link, &"the peer sent too much before it took its payload");
                     return Ok(Some(Happening::Broken { link }));
