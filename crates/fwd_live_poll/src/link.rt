@@ -4,6 +4,7 @@ ghost use Rattle.fwd_live_poll.specs.Handed.{TakesAtMost};
 
 use crate::conn::write_some;
 use crate::patience::Patience;
+use crate::piece::{Unread, read_from};
 use fwd_log::Journal;
 use fwd_outside::{Bytes, OutputId};
 use mio::net::TcpStream;
@@ -138,11 +139,18 @@ impl Peer {
         !mem::replace(&mut self.queued, true)
     }
 
-    /// Counts bytes that came back. Returns false if they are too many, which happens only while the link
-    /// waits for room.
-    pub fn note_received(&mut self, count: usize, now: u64) -> bool {
+    /// Reads once what came back.
+    pub fn read(&self, alloc: Global, part: &mut [u8]) -> Result<Bytes, Unread> {
+        let mut stream = &self.stream;
+        read_from(alloc, &mut stream, part)
+    }
+
+    /// Counts bytes that came back, and notes why they refuse, if they do. Returns false if they are too many,
+    /// which happens only while the link waits for room.
+    pub fn note_received(&mut self, journal: &Journal, bytes: &[u8], now: u64) -> bool {
         self.since = now;
-        self.bytes_received = self.bytes_received.saturating_add(count as u64);
+        self.bytes_received = self.bytes_received.saturating_add(bytes.len() as u64);
+        self.note_refusal(journal, bytes);
         !self.wants_room || self.bytes_received <= MOST_RECEIVED
     }
 
@@ -157,7 +165,7 @@ impl Peer {
 
     /// Keeps the beginning of an HTTP reply whose status isn't one of success, as the reason why a delivery of
     /// the output failed.
-    pub fn note_refusal(&mut self, journal: &Journal, bytes: &[u8]) {
+    fn note_refusal(&mut self, journal: &Journal, bytes: &[u8]) {
         let is_first = self.bytes_received == bytes.len() as u64;
         if !(is_first && is_refusal(bytes)) && self.refusal.is_empty() {
             return;

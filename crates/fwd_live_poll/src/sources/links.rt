@@ -4,7 +4,7 @@ ghost use Rattle.std.specs.Prelude.{◌≡◌, ℕ, true, IfOk, IfSome};
 ghost use Rattle.fwd_outside.specs.Loop.{MayOccur};
 
 use crate::link::{Link, PeerState};
-use crate::piece::{Unread, error_of, read_from};
+use crate::piece::{Unread, error_of};
 use crate::source::Source;
 use crate::sources::Sources;
 use fwd_log::{Level, Source as About, Topic};
@@ -139,12 +139,9 @@ impl<'a> Sources<'a> {
         if !peer.readable {
             return self.unread_link(link, Unread::Nothing);
         }
-        let mut stream = &peer.stream;
-        match read_from(alloc, &mut stream, &mut self.part) {
+        match peer.read(alloc, &mut self.part) {
             Ok(bytes) => {
-                let fits = peer.note_received(bytes.len(), self.uptime);
-                peer.note_refusal(self.journal, bytes.as_slice());
-                if !fits {
+                if !peer.note_received(self.journal, bytes.as_slice(), self.uptime) {
                     self.fail_link(link, &"the peer sent too much before it took its payload");
                     return Ok(Some(Happening::Broken { link }));
                 }
