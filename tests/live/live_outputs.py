@@ -58,7 +58,8 @@ def one_program_hands_to_another(room):
             holds(sender.stop() == 0, "the sender ends well")
             holds(receiver.stop() == 0, "the receiver ends well")
             numbers = [int(re.fullmatch(rb'\{"date":[0-9.]+,"n":([0-9]+)\}', line)[1]) for line in receiver.lines("out")]
-    holds(numbers == list(range(LINES)), "lines are lost or changed places")
+    # Chunks that are retried may be delivered in another order.
+    holds(sorted(numbers) == list(range(LINES)), "lines are lost or come twice")
     report = sender.stdout().decode()
     holds(re.search(r"output forward\.0: ok [1-9][0-9]* retry [1-9][0-9]* error 0 spent 0 lost 0 taken [0-9]+\n", report), f"the report is another: {report}")
     holds(report.endswith("owed 0\n"), f"something is owed: {report}")
