@@ -92,6 +92,7 @@ def by_hand(room, program, writer, how):
     """Rotates three times as logrotate does, and tells the writer late."""
     for turn in range(3):
         time.sleep(1.3)
+        until(lambda: os.path.exists(program.path("app.log")), "the writer has a file")
         if how == "copied and truncated":
             shutil.copyfile(program.path("app.log"), program.path(f"app.log.{turn + 1}"))
             os.truncate(program.path("app.log"), 0)

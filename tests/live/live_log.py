@@ -1,6 +1,7 @@
 """Live runs and their log, their pages, and their refusals."""
 import http.server
 import json
+import os
 import re
 import shutil
 import signal
@@ -317,4 +318,89 @@ def hostile_askers(room):
     collector.close()
 
 
-CASES = (logged, quiet, given_up, refused, unread_values, log_file_that_cannot_be_opened, asked, hostile_askers)
+# After how many seconds an asker is closed, and within how many a line comes.
+ASKERS_PATIENCE, LINES_PATIENCE = 10, 2
+
+
+def trickle(link, ends, stood):
+    """Sends a head without an end, a byte a second, and keeps for how long the connection stood."""
+    begun = time.monotonic()
+    try:
+        while not ends.is_set():
+            link.sendall(b"G")
+            link.settimeout(1)
+            try:
+                if not link.recv(1):
+                    break
+            except TimeoutError:
+                pass
+    except OSError:
+        pass
+    stood.append(time.monotonic() - begun)
+
+
+def silent_peers(port, count):
+    """Connections that say nothing."""
+    links = [socket.socket() for _ in range(count)]
+    for link in links:
+        link.setblocking(False)
+        link.connect_ex((HOST, port))
+    return links
+
+
+def stands(link):
+    try:
+        return bool(link.getpeername())
+    except OSError:
+        return False
+
+
+def slowest_line(program, port, collector, seconds):
+    """Sends one line after the other, each when the last one has come. Returns how many came, and how long the slowest took."""
+    count, slowest, ends = 0, 0, time.monotonic() + seconds
+    with program.connect(port) as link:
+        while time.monotonic() < ends:
+            before, begun = collector.taken(), time.monotonic()
+            link.sendall(b'{"count":%d}\n' % count)
+            until(lambda: collector.taken() > before, "a line comes while askers hang", 10)
+            count, slowest = count + 1, max(slowest, time.monotonic() - begun)
+    return count, slowest
+
+
+def slow_askers_are_closed(room):
+    """Eight askers with a byte a second and a thousand that say nothing don't hold up lines. Each is closed after its time,
+    and then pages are answered."""
+    port, pages, collector = free_port(), free_port(), Collector(free_port())
+    collector.open()
+    with Program(room, "slow_askers", configuration(port, collector.port, with_pages(pages)), blocks=BLOCKED) as program:
+        program.connect(port).close()
+        ends, stood, many = threading.Event(), [], []
+        slow = [socket.create_connection((HOST, pages), timeout=5) for _ in range(8)]
+        threads = [threading.Thread(target=trickle, args=(link, ends, stood), daemon=True) for link in slow]
+        for thread in threads:
+            thread.start()
+        try:
+            many = silent_peers(pages, 1_000)
+            until(lambda: sum(map(stands, many)) == len(many), "a thousand askers are connected", 10)
+            count, slowest = slowest_line(program, port, collector, ASKERS_PATIENCE + 2)
+            open_files = len(os.listdir(f"/proc/{program.process.pid}/fd"))
+        finally:
+            ends.set()
+            for link in many:
+                link.close()
+        for thread in threads:
+            thread.join(5)
+        holds(len(stood) == 8 and all(ASKERS_PATIENCE - 1 < seconds < ASKERS_PATIENCE + 2 for seconds in stood), f"askers were closed after {stood}")
+        holds(count > ASKERS_PATIENCE and slowest < LINES_PATIENCE, f"{count} lines came, the slowest after {slowest:.2f} s")
+        holds(open_files < 40, f"the program has {open_files} files open")
+        begun = time.monotonic()
+        holds("uptime_sec" in page(pages, "/api/v1/uptime")[1] and time.monotonic() - begun < 5, f"a page came after {time.monotonic() - begun:.1f} s")
+        for link in slow:
+            link.close()
+        program.process.send_signal(signal.SIGTERM)
+        status = program.end()
+        holds(status == 0, f"status {status}: {program.stderr()!r}")
+    collector.close()
+
+
+CASES = (logged, quiet, given_up, refused, unread_values, log_file_that_cannot_be_opened, asked, hostile_askers, slow_askers_are_closed)
