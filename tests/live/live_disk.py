@@ -47,6 +47,7 @@ def a_folder_has_one_run(room):
             send_message(link, 1)
             with Program(room, "second", stored(free_port(), collector, first.path("chunks"))) as second:
                 ends_with_disk_fault(second)
+                holds(b"as another run has it" in second.stderr(), f"the log doesn't say why: {second.stderr()!r}")
             send_message(link, 2)
         killed(first)
         other = free_port()

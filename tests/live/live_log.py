@@ -139,6 +139,9 @@ REFUSALS = [
     ("[INPUT]\n    Name syslog\n", 2, "UnknownPlugin", "Name syslog: one of tail, tcp, forward, stdin"),
     ("[INPUTS]\n    Name tcp\n", 1, "UnknownSection", "INPUTS: one of SERVICE, INPUT"),
     ("[INPUT]\n    Name tail\n", 1, "Missing", "tail has no Path"),
+    ("[OUTPUT]\n    Name http\n    Retry_Status 404 9xx\n", 3, "BadChoice", "Retry_Status 404 9xx: statuses"),
+    ("[OUTPUT]\n    Name http\n    Header X-Team\n", 3, "BadChoice", "Header X-Team: a name and a value"),
+    ("[OUTPUT]\n    Name stdout\n    storage.id a b\n", 3, "BadChoice", "storage.id a b: a name without blanks"),
     ("[INPUT]\n    Name\n", 2, "NoValue", "a value is missing"),
 ]
 
