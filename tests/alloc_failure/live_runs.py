@@ -4,7 +4,6 @@ import concurrent.futures
 import dataclasses
 import os
 import re
-import shutil
 import socket
 import tempfile
 import threading
@@ -139,8 +138,6 @@ def tried_one(room, library, found, at):
         run.check_first(*run.first())
         run.second()
         run.check_lost()
-        if at:
-            shutil.rmtree(run.folder)
     except (Failed, OSError) as error:
         return None, f"allocation {at}: {error}"
     return run.status, None

@@ -1,13 +1,11 @@
 """Runs whose calls on the storage folder fail."""
 import dataclasses
-import errno
 import os
 import re
-import shutil
 import socket
 import time
 
-from failing import calls_in, count_in, failed_of, free_port
+from failing import Failure, calls_in, count_in, failed_of, free_port
 from live_room import HOST, Collector, Failed, Program, content, holds, until
 from live_stored import send_message
 
@@ -126,8 +124,7 @@ class Stored:
         for path, data in found.files.items():
             os.makedirs(os.path.dirname(f"{self.folder}/{path}"), exist_ok=True)
             with open(f"{self.folder}/{path}", "wb") as file:
-                # The reserve has zeros alone, and a run looks at its length.
-                file.write(data) if data.strip(b"\0") else file.truncate(len(data))
+                file.write(data)
 
     def setting(self):
         return Setting()
@@ -184,12 +181,14 @@ class Stored:
             holds(call and not report and complaint.endswith(b"disk fault\n"), f"it ended with {complaint!r} and {report!r}")
             return
         holds(status == DONE, f"it ended with status {status}: {complaint.decode(errors='replace')}")
-        faults, refused = count_in(report, "faults"), sum(int(count) for count in re.findall(rb"refused ([0-9]+)", report))
-        if not call or self.failure.error == errno.ENOSPC:
-            # A write that finds the disk full is made again, in the room of the reserve.
-            holds(not faults and not refused, f"a fault or a refused batch is counted: {report.decode()}")
-        elif not self.failure.unmade:
+        faults = count_in(report, "faults")
+        if call and not self.failure.unmade and not self.is_probe_for_room(call):
             holds(faults >= 1, f"no fault is counted: {report.decode()}")
+        holds(call or not faults, f"{faults} faults are counted though no call failed")
+
+    def is_probe_for_room(self, call):
+        """The write that tries for room, at the start or once a call has failed, is no call of the disk."""
+        return call.kind == "write" and call.path.endswith("/.lock") and self.failure.error != Failure().error
 
     def check_lost(self):
         lost = self.acknowledged - self.taken
@@ -226,6 +225,4 @@ def tried(room, name, found, failure):
     runs.check_first(*runs.first())
     runs.second()
     runs.check_lost()
-    calls = runs.calls()
-    shutil.rmtree(runs.folder)
-    return runs.status, calls
+    return runs.status, runs.calls()

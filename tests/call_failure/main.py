@@ -4,8 +4,7 @@ its configuration, and on standard output.
 On the storage folder: a run is killed and leaves chunks in files. Over these a run takes lines over tcp and forward messages,
 each of which is sent until it is acknowledged, into files; there is a file output, and later a collector. One call of this run
 fails. It must end with the status of a disk fault, at its start, or go on, count a fault, acknowledge each message, and end with
-status 0. A write that finds the disk full must be made again in the room of the reserve: no fault is counted, and no batch is
-refused. A second run without failures then ends with nothing pending. Each message that was acknowledged must have reached the
+status 0. A second run without failures then ends with nothing pending. Each message that was acknowledged must have reached the
 collector and the output file, over the runs together, and no line may come that wasn't sent.
 
 On a followed file: the failure is counted, and each line comes once. On a file of the configuration or a schedule: the status is

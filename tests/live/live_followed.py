@@ -135,7 +135,7 @@ def rotated_files(room):
         is_once_in_order(numbers, how)
         if how != "copied and truncated":
             holds(stands == set(range(4_000)), f"{how}: the writer lost lines")
-        holds(set(numbers) == stands, f"{how}: {len(stands - set(numbers))} lines of {len(stands)} are missing, as {sorted(stands - set(numbers))[:5]}")
+        holds(stands <= set(numbers), f"{how}: {len(stands - set(numbers))} lines of {len(stands)} are missing, as {sorted(stands - set(numbers))[:5]}")
 
 
 LOGROTATE = """{log} {{
@@ -172,7 +172,7 @@ def rotated_by_logrotate(room):
         is_once_in_order(numbers, how)
         if how != "copytruncate":
             holds(stands == set(range(4_000)), f"{how}: the writer lost lines")
-        holds(set(numbers) == stands, f"{how}: {len(stands - set(numbers))} lines of {len(stands)} are missing, as {sorted(stands - set(numbers))[:5]}")
+        holds(stands <= set(numbers), f"{how}: {len(stands - set(numbers))} lines of {len(stands)} are missing, as {sorted(stands - set(numbers))[:5]}")
 
 
 IN_FILES = """    storage.path store
@@ -292,7 +292,7 @@ def a_large_file_beside_peers(room):
         status = program.stop()
         collector.close()
         holds(status == 0, f"status {status}: {program.stderr().decode(errors='replace')}")
-        numbers = [line[39:47] for line in content(out).split(b"\n")[:-1]]
+        numbers = [line.partition(b'"log":"')[2][:8] for line in content(out).split(b"\n")[:-1]]
         holds(numbers == [b"%08d" % number for number in range(LARGE)], f"{len(numbers)} lines of the file came, of {LARGE}, or in another order")
         os.remove(out)
     os.remove(os.path.join(folder, "large.log"))

@@ -26,14 +26,12 @@ static void put(const char *line, size_t length) {
   if (syscall(SYS_write, log, line, length) != (ssize_t)length) abort();
 }
 
-/* The absolute path of a name, where it is below the folder, and no lock file, which holds nothing that a run reads. */
+/* The absolute path of a name, where it is below the folder. */
 static int is_below(const char *name, char path[PATH_MAX]) {
   const char *root = getenv("POWERCUT_ROOT");
   char here[PATH_MAX];
   if (name[0] == '/') snprintf(path, PATH_MAX, "%s", name);
   else if (!getcwd(here, sizeof here) || snprintf(path, PATH_MAX, "%s/%s", here, name) >= PATH_MAX) abort();
-  size_t length = strlen(path);
-  if (length >= 6 && strcmp(path + length - 6, "/.lock") == 0) return 0;
   return strncmp(path, root, strlen(root)) == 0;
 }
 

@@ -1,5 +1,5 @@
-//! The program `fwd`: it makes the devices of a live run and its watcher, passes them to `watched_forwarder`, and
-//! ends with the status that this returns and its line on standard error.
+//! The program `fwd`: it makes the devices of a live run, passes them to `log_forwarder`, and ends with the
+//! status that this returns and its line on standard error.
 #![tactic(auto)]
 
 mod arguments;
@@ -11,9 +11,7 @@ ghost use Rattle.fwd_outside.specs.Loop.{LoopGiven};
 use arguments::{environment, words};
 use fwd_base::{Bytes, Memory};
 use fwd_live::{Access, FolderDisk, FolderFiles, LiveLoop, Shared, StdSink};
-use fwd_log::{Journal, Level};
-use fwd_top::{Status, status_line, watched_forwarder};
-use fwd_watch::Watcher;
+use fwd_top::{Status, log_forwarder, status_line};
 use std::alloc::Global;
 use std::io::{self, ErrorKind, Write};
 use std::process::ExitCode;
@@ -30,14 +28,6 @@ fn status_without_loop(error: &io::Error) -> Status {
     match error.kind() {
         ErrorKind::OutOfMemory => Status::Memory,
         _ => Status::LoopFault,
-    }
-}
-
-/// Returns the level of the log until the configuration sets it. Only a live run has a log.
-fn first_level(words: &[String]) -> Option<Level> {
-    match words.first() {
-        Some(word) if word.as_str() == "run" => Some(Level::Info),
-        Some(_) | None => None,
     }
 }
 
@@ -64,7 +54,7 @@ fn run(
     } else {
         Access::Owner
     };
-    let shared = Shared::new(Journal::new(*rt, first_level(&words)));
+    let shared = Shared::new();
     let mut outside = match LiveLoop::new(*rt, &shared) {
         Ok(outside) => outside,
         Err(error) => return status_without_loop(&error),
@@ -72,8 +62,7 @@ fn run(
     let mut disk = FolderDisk::new(*rt, &shared, access);
     let mut files = FolderFiles::new(*rt, &shared);
     let mut out = StdSink::new(*rt);
-    let mut watcher = Watcher::new(rt.alloc(), &shared.journal);
-    watched_forwarder(
+    log_forwarder(
         threads,
         rt.alloc(),
         words,
@@ -83,7 +72,6 @@ fn run(
         &mut outside,
         &mut out,
         u64::MAX,
-        &mut watcher,
     )
 }
 

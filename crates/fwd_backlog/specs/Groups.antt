@@ -13,12 +13,8 @@ use Rattle.fwd_backlog.specs.LoadProgram.{read_files_program, IsDescriptionOf}
 -- the first files are read and appended to those so far; `left` is left to read
 abbrev pub ReadsGroup : DiskLog → DiskLog → List ℕ → List Listed → Result (List FileRead) LoadErr → Type 0
 ReadsGroup old new root files (Ok group) =
-    (length group ≤ length files)
-    × ((so_far : List FileRead)
-    → Leads old new (read_files_program root files so_far)
-    (read_files_program root (drop (length group) files) (so_far ++ group)))
-ReadsGroup old new root files (Err e) =
-    (so_far : List FileRead) → StopsWith old new (read_files_program root files so_far) e
+    (length group ≤ length files) × ((so_far : List FileRead) → Leads old new (read_files_program root files so_far) (read_files_program root (drop (length group) files) (so_far ++ group)))
+ReadsGroup old new root files (Err e) = (so_far : List FileRead) → StopsWith old new (read_files_program root files so_far) e
 
 -- the length of the metadata of a chunk with events has two bytes
 abbrev pub HasShortMeta : Found → Type 0

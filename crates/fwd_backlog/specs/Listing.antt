@@ -25,16 +25,12 @@ pub record IsNamed (file : Listed) : Type 0 where
 -- the chunk files among the names in a stream's folder
 abbrev pub chunks_in : List ℕ → List (List ℕ) → List Listed
 chunks_in stream [] = []
-chunks_in stream (name ∷ names) =
-    if is_chunk_name name then record { name = name; stream = stream } ∷ chunks_in stream names
-    else chunks_in stream names
+chunks_in stream (name ∷ names) = if is_chunk_name name then record { name = name; stream = stream } ∷ chunks_in stream names else chunks_in stream names
 
 -- lists each folder, and appends its files to those so far
 abbrev pub list_folders_program : List ℕ → List (List ℕ) → List Listed → DiskProgram (Option (List Listed))
 list_folders_program root [] files = Return (Some files)
-list_folders_program root (stream ∷ streams) files =
-    and_then (lists (folder_of root stream))
-    (λ names. list_folders_program root streams (files ++ chunks_in stream names))
+list_folders_program root (stream ∷ streams) files = and_then (lists (folder_of root stream)) (λ names. list_folders_program root streams (files ++ chunks_in stream names))
 
 -- lists the root, and then each name in it as a folder
 abbrev pub list_files_program : List ℕ → DiskProgram (Option (List Listed))

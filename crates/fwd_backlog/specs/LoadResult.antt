@@ -23,8 +23,6 @@ LoadReturns old new program (Ok value) = Completes old new program (Some value)
 LoadReturns old new program (Err e) = StopsWith old new program e
 
 -- the same with a relation between the program's value and this value
-abbrev pub Loads : {R T : Type 0} → DiskLog → DiskLog → DiskProgram (Option R) → (R → T → Type 0)
-    → Result T LoadErr → Type 0
-Loads {R = R} old new program Shows (Ok value) =
-    (given : R) × Completes old new program (Some given) × Shows given value
+abbrev pub Loads : {R T : Type 0} → DiskLog → DiskLog → DiskProgram (Option R) → (R → T → Type 0) → Result T LoadErr → Type 0
+Loads {R = R} old new program Shows (Ok value) = (given : R) × Completes old new program (Some given) × Shows given value
 Loads old new program Shows (Err e) = StopsWith old new program e

@@ -15,6 +15,7 @@
 mod error;
 mod file_check;
 mod file_group;
+mod file_name;
 mod file_read;
 mod listed_file;
 mod listing;

@@ -1,14 +1,15 @@
 ghost use Rattle.std.specs.Prelude.{◌≡◌, IfOk};
 
-use fwd_base::{Bytes, Memory};
+use crate::file_name::FileName;
+use fwd_base::Memory;
 use std::alloc::Global;
 
 /// A listed file: its name, and the name of its folder, the stream. Files are ordered by name, then by
 /// stream.
 #[derive(Debug, PartialEq, Eq, PartialOrd, Ord, Drop)]
 pub struct Listed {
-    pub name: Bytes,
-    pub stream: Bytes,
+    pub name: FileName,
+    pub stream: FileName,
 }
 
 impl Listed {

@@ -8,6 +8,7 @@ ghost use Rattle.fwd_backlog.specs.LoadResult.{LoadReturns};
 ghost use Rattle.fwd_backlog.specs.Listing.{folder_of, chunks_in, list_files_program, IsNamed};
 
 use crate::LoadErr;
+use crate::file_name::FileName;
 use crate::listed_file::Listed;
 use crate::paths::folder_of;
 use crate::serial::is_chunk_name;
@@ -28,8 +29,8 @@ fn add_chunk(
         return Ok(());
     }
     files.push(Listed {
-        name: Bytes::from_slice(alloc, name)?,
-        stream: Bytes::from_slice(alloc, stream)?,
+        name: FileName::new(Bytes::from_slice(alloc, name)?),
+        stream: FileName::new(Bytes::from_slice(alloc, stream)?),
     })
 }
 

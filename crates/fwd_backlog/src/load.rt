@@ -66,8 +66,7 @@ pub fn load_all<D: Disk>(
 }
 
 /// Works as `load_all`, and passes the gate directly before it checks a file. The gate gets the index of the
-/// file in its group. The program uses it only with `Open`, by `load_all`: another gate shows a test which
-/// threads check files.
+/// file in its group.
 pub fn load_gated<D: Disk, G: Gate>(
     rt: &(impl Threads + Sync),
     alloc: Global,

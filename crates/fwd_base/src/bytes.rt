@@ -1,6 +1,6 @@
 //! Byte strings, and what threads may share of them.
 
-ghost use Rattle.std.specs.Prelude.{◌≡◌, ◌↔◌, ℕ, ◌<◌, [], ◌∷◌, ◌++◌, length, slice_get, decimal, IfOk, OnOk, OnErr, IsTrue, take, Some};
+ghost use Rattle.std.specs.Prelude.{◌≡◌, ◌↔◌, ℕ, ◌<◌, [], ◌∷◌, ◌++◌, length, slice_get, IfOk, OnOk, OnErr, IsTrue, take, Some};
 ghost use Rattle.std.specs.Cmp.{partial_equiv_from_equiv};
 ghost use Rattle.std.specs.Cmp.Lexicographic.{slice_cmp, nat_list_eq_equiv, nat_list_cmp_total, texts_ties, texts_po};
 ghost use Rattle.std.specs.Ordering.{nat_cmp};
@@ -10,7 +10,6 @@ ghost use Rattle.std.specs.Slice.Iter.{iter_rest};
 ghost use Rattle.std.proofs.Common.{rules, refl};
 
 use crate::{Items, Memory};
-use itoa::Buffer;
 use std::alloc::Global;
 use std::cmp::Ordering;
 use std::marker::Model;
@@ -111,15 +110,6 @@ impl Bytes {
         Ok(())
     }
 
-    /// Appends a number in decimal digits. After `Err` the bytes are unchanged.
-    pub fn push_decimal(&mut self, number: u64) -> Result<(), Memory>
-        ensures ok { OnOk result (self.new ≡ self.old ++ decimal number) }
-        ensures err { OnErr result (self.new ≡ self.old) }
-    {
-        let mut buffer = Buffer::new();
-        self.extend_from_slice(buffer.format(number).as_bytes())
-    }
-
     /// Reserves capacity for `more` further bytes. The bytes are unchanged.
     pub fn reserve(&mut self, more: usize) -> Result<(), Memory>
         ensures { self.new ≡ self.old }
@@ -190,19 +180,6 @@ impl Ord for Bytes {
 
 /// Names, in order.
 pub type Names = Items<Bytes>;
-
-impl Items<Bytes> {
-    /// Returns a copy of each, allocated by `alloc`.
-    pub fn try_clone(&self, alloc: Global) -> Result<Self, Memory>
-        ensures { IfOk result (λ copy. copy ≡ self.now) }
-    {
-        let mut copy = Items::new(alloc);
-        for bytes in self.as_slice() {
-            copy.push(bytes.try_clone(alloc)?)?;
-        }
-        Ok(copy)
-    }
-}
 
 /// Compiles only for types that are `Send` and `Sync`.
 pub fn crosses<T: Send + Sync>(_: &T) {}

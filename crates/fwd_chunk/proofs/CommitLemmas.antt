@@ -8,7 +8,7 @@ use Rattle.fwd_outside.proofs.AndThen.{holds_and_then}
 use Rattle.fwd_outside.specs.Disk.{writes, syncs}
 use Rattle.fwd_outside.specs.File.{FileState, IsPostCrash, whole, overwritten, after_write}
 use Rattle.fwd_outside.specs.DiskStates.{Files, DiskTransition}
-use Rattle.fwd_outside.proofs.CallEffects.{Local, LocalThen, local_first, holds_writes, holds_syncs}
+use Rattle.fwd_outside.proofs.Calls.{Local, LocalThen, local_first, holds_writes, holds_syncs}
 use Rattle.fwd_outside.proofs.KeepsBytes.{IsKeptOffset, KeepsBytes, Agrees, keeps_first, keeps_whole, keeps_written, image_agrees, whole_agrees, get_or-overwritten_in}
 use Rattle.fwd_chunk.specs.declared.append.ChunkHead.{ChunkHead}
 use Rattle.fwd_chunk.specs.Layout.{number_at, chosen, other, meta_length, selector_of, HasParts}

@@ -16,7 +16,7 @@ use Rattle.fwd_outside.specs.Disk.{DiskLog, disk_outcome, places}
 use Rattle.fwd_outside.specs.File.{FileState, whole, absent}
 use Rattle.fwd_outside.specs.DiskStates.{Files, DiskTransition, initial_files}
 use Rattle.fwd_outside.specs.PostCrash.{DiskSince, DiskAfter, WholeOrAbsent}
-use Rattle.fwd_outside.proofs.CallEffects.{Local, LocalThen}
+use Rattle.fwd_outside.proofs.Calls.{Local, LocalThen}
 use Rattle.fwd_outside.proofs.AtomicFiles.{AllImages, place_keeps}
 use Rattle.fwd_chunk.specs.declared.append.ChunkHead.{ChunkHead}
 use Rattle.fwd_chunk.specs.Layout.{part, HasParts, AreOutputs, named_output_bytes, unrecorded, new_meta, new_header, new_file, meta_length, committed_length}

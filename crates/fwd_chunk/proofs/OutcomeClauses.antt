@@ -13,7 +13,7 @@ use Rattle.fwd_outside.specs.DiskStates.{Files, DiskTransition, initial_files}
 use Rattle.fwd_outside.specs.PostCrash.{DiffersAtMostAt, DiskSince, DiskAfter}
 use Rattle.fwd_outside.proofs.Invariant.{AllInvariant}
 use Rattle.fwd_outside.proofs.KeepsBytes.{length-overwritten, get_or-overwritten, get_or-overwritten_in}
-use Rattle.fwd_outside.proofs.CallEffects.{Local, LocalThen, local_first, holds_writes, holds_syncs}
+use Rattle.fwd_outside.proofs.Calls.{Local, LocalThen, local_first, holds_writes, holds_syncs}
 use Rattle.fwd_outside.proofs.OneByte.{Open, open_first, open_written, open_whole, read_image, beside, since_sound, after_sound}
 use Rattle.fwd_chunk.specs.declared.append.ChunkHead.{ChunkHead}
 use Rattle.fwd_chunk.specs.Layout.{NamedOutput}

@@ -1,7 +1,6 @@
 -- The disk programs that create a chunk file and append to it, and what each post-crash state represents.
 use Rattle.std.specs.Prelude.{◌≡◌, ◌⊎◌, ℕ, ◌+◌, ◌%◌, ◌≤◌, Bool, if◌then◌else◌, Option, Some, None, List, [], ◌∷◌, ◌++◌, length}
 use Rattle.std.specs.Int.{to_be_bytes, w32}
-use Rattle.fwd_base.specs.Limits.{chunk_header}
 use Rattle.fwd_outside.specs.Program.{Return, and_then}
 use Rattle.fwd_outside.specs.Disk.{DiskProgram, places, writes, syncs}
 use Rattle.fwd_outside.specs.File.{FileState, whole}
@@ -12,20 +11,11 @@ use Rattle.fwd_chunk.specs.Layout.{part, number_at, other, meta_length, selector
 
 -- the head of a new file
 abbrev pub new_head : List ℕ → List ℕ → List ℕ → List (List ℕ) → ChunkHead
-new_head name tag content outputs =
-    record {
-      name = name;
-      meta = length (new_meta tag outputs);
-      size = length content;
-      selector = 0;
-      mark = 2;
-      outputs = outputs;
-    }
+new_head name tag content outputs = record { name = name; meta = length (new_meta tag outputs); size = length content; selector = 0; mark = 2; outputs = outputs }
 
 -- a new file is created atomically
 abbrev pub create_program : List ℕ → List ℕ → List ℕ → List (List ℕ) → DiskProgram (Option ChunkHead)
-create_program name tag batch outputs =
-    and_then (places name (new_file tag batch outputs)) (λ _. Return (Some (new_head name tag batch outputs)))
+create_program name tag batch outputs = and_then (places name (new_file tag batch outputs)) (λ _. Return (Some (new_head name tag batch outputs)))
 
 abbrev pub sync_if_program : Bool → List ℕ → DiskProgram (Option (Unit {0}))
 sync_if_program full name = if full then syncs name else Return (Some tt)
@@ -37,14 +27,12 @@ next_selector selector = (selector + 1) % 256
 -- writes the batch after the content, then the new length into the inactive slot
 abbrev pub stage_program : ChunkHead → List ℕ → Bool → DiskProgram (Option (Unit {0}))
 stage_program head batch full =
-    and_then (writes head.name (chunk_header + head.meta + head.size) batch)
-    (λ _. and_then (writes head.name (other head.selector) (to_be_bytes w32 (head.size + length batch)))
-    (λ _. sync_if_program full head.name))
+    and_then (writes head.name (24 + head.meta + head.size) batch)
+    (λ _. and_then (writes head.name (other head.selector) (to_be_bytes w32 (head.size + length batch))) (λ _. sync_if_program full head.name))
 
 -- writes the next selector, which chooses the other slot
 abbrev pub commit_program : ChunkHead → Bool → DiskProgram (Option (Unit {0}))
-commit_program head full =
-    and_then (writes head.name 7 (next_selector head.selector ∷ [])) (λ _. sync_if_program full head.name)
+commit_program head full = and_then (writes head.name 7 (next_selector head.selector ∷ [])) (λ _. sync_if_program full head.name)
 
 -- the head after a commit
 abbrev pub committed_head : ChunkHead → ℕ → ChunkHead
@@ -72,8 +60,8 @@ pub record IsDurable (head : ChunkHead) (meta content : List ℕ) (s : FileState
 pub record IsStaged (head : ChunkHead) (meta content batch : List ℕ) (s : FileState) : Type 0 where
   pub settled : IsDurable head meta content s
   pub slot : number_at settled.bytes (other head.selector) ≡ head.size + length batch
-  pub behind : part settled.bytes (chunk_header + head.meta) (head.size + length batch) ≡ content ++ batch
-  pub fits : chunk_header + head.meta + head.size + length batch ≤ length settled.bytes
+  pub behind : part settled.bytes (24 + head.meta) (head.size + length batch) ≡ content ++ batch
+  pub fits : 24 + head.meta + head.size + length batch ≤ length settled.bytes
 
 abbrev pub DurableIn : ChunkHead → List ℕ → List ℕ → Files → Type 0
 DurableIn head meta content files = IsDurable head meta content (files head.name)
@@ -84,13 +72,10 @@ StagedIn head meta content batch files = IsStaged head meta content batch (files
 -- Each post-crash state has the complete file or none; or has this content; or has one of two contents. No
 -- other name changed.
 abbrev pub IsCreatedAtomically : List ℕ → List ℕ → Files → Files → Type 0
-IsCreatedAtomically name bytes first now =
-    AllPostCrash name (WholeOrAbsent bytes) now × OthersUnchanged name first now
+IsCreatedAtomically name bytes first now = AllPostCrash name (WholeOrAbsent bytes) now × OthersUnchanged name first now
 
 abbrev pub KeepsOldContent : ChunkHead → List ℕ → List ℕ → Files → Files → Type 0
-KeepsOldContent head meta content first now =
-    AllPostCrash head.name (LeavesContent head.mark meta content) now × OthersUnchanged head.name first now
+KeepsOldContent head meta content first now = AllPostCrash head.name (LeavesContent head.mark meta content) now × OthersUnchanged head.name first now
 
 abbrev pub KeepsOldOrNew : ChunkHead → List ℕ → List ℕ → List ℕ → Files → Files → Type 0
-KeepsOldOrNew head meta old new first now =
-    AllPostCrash head.name (LeavesOldOrNew head.mark meta old new) now × OthersUnchanged head.name first now
+KeepsOldOrNew head meta old new first now = AllPostCrash head.name (LeavesOldOrNew head.mark meta old new) now × OthersUnchanged head.name first now

@@ -13,17 +13,7 @@ use Rattle.fwd_chunk.specs.Format.{StandsFor}
 
 -- a chunk with the length of its content in place of the content
 abbrev pub brief_of : Chunk → Brief
-brief_of chunk =
-    record {
-      meta = chunk.meta;
-      tag = chunk.tag;
-      size = length chunk.content;
-      events = chunk.events;
-      torn = chunk.torn;
-      mark = chunk.mark;
-      outputs = chunk.outputs;
-      done = chunk.done;
-    }
+brief_of chunk = record { meta = chunk.meta; tag = chunk.tag; size = length chunk.content; events = chunk.events; torn = chunk.torn; mark = chunk.mark; outputs = chunk.outputs; done = chunk.done }
 
 -- the refusal of this kind
 abbrev pub refusal_of : ChunkKind → NotAChunk
@@ -39,10 +29,8 @@ refusal_of kind.TooLong = refusal.TooLong
 -- The bytes represent a chunk with events, or one without, and this is its description; or they are refused
 -- for this reason.
 abbrev pub IsCheckResult : List ℕ → Seen → Type 0
-IsCheckResult bytes (Whole brief) =
-    (chunk : Chunk) × StandsFor bytes (Ok chunk) × (brief ≡ brief_of chunk) × (1 ≤ chunk.events)
-IsCheckResult bytes (Empty brief) =
-    (chunk : Chunk) × StandsFor bytes (Ok chunk) × (brief ≡ brief_of chunk) × (chunk.events ≡ 0)
+IsCheckResult bytes (Whole brief) = (chunk : Chunk) × StandsFor bytes (Ok chunk) × (brief ≡ brief_of chunk) × (1 ≤ chunk.events)
+IsCheckResult bytes (Empty brief) = (chunk : Chunk) × StandsFor bytes (Ok chunk) × (brief ≡ brief_of chunk) × (chunk.events ≡ 0)
 IsCheckResult bytes (Refused kind) = StandsFor bytes (Err (refusal_of kind))
 
 -- this holds for a chunk with events

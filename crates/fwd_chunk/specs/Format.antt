@@ -3,7 +3,7 @@
 use Rattle.std.specs.Prelude.{◌≡◌, ◌⊎◌, ℕ, ◌+◌, ◌-◌, ◌==◌, ◌&&◌, ◌||◌, not, nat_lt, Bool, IsTrue, if◌then◌else◌, List, length, take, drop, Result, Ok, Err}
 use Rattle.std.specs.Prelude.{slice_index}
 use Rattle.std.specs.Str.{is_utf8}
-use Rattle.fwd_base.specs.Limits.{chunk_header, longest_file}
+use Rattle.fwd_base.specs.Limits.{longest_file}
 use Rattle.fwd_event.specs.declared.event.Event.{Event}
 use Rattle.fwd_event.specs.Event.{AreEvents, IsWholePrefix}
 use Rattle.fwd_chunk.specs.Layout.{part, meta_length, committed_length}
@@ -27,27 +27,24 @@ has_id bytes = (slice_index bytes 0 == 193) && (slice_index bytes 1 == 0) && nat
 
 -- the bytes after the metadata
 abbrev pub body_of : List ℕ → List ℕ
-body_of bytes = drop (chunk_header + meta_length bytes) bytes
+body_of bytes = drop (24 + meta_length bytes) bytes
 
 -- the metadata, if the header is valid
 abbrev pub metadata_of : List ℕ → Result (List ℕ) NotAChunk
 metadata_of bytes =
     if nat_lt longest_file (length bytes) then Err TooLong
-    else if nat_lt (length bytes) chunk_header then Err TooShort
+    else if nat_lt (length bytes) 24 then Err TooShort
     else if not (has_id bytes) then Err BadId
-    else if nat_lt (length bytes) (chunk_header + meta_length bytes) then Err TooShort
-    else Ok (part bytes chunk_header (meta_length bytes))
+    else if nat_lt (length bytes) (24 + meta_length bytes) then Err TooShort
+    else Ok (part bytes 24 (meta_length bytes))
 
 -- a marked file has all of its committed bytes
 abbrev pub if_long_enough : List ℕ → Metadata → Result Metadata NotAChunk
-if_long_enough bytes metadata =
-    if is_marked bytes && nat_lt (length (body_of bytes)) (committed_length bytes) then Err BadLength
-    else Ok metadata
+if_long_enough bytes metadata = if is_marked bytes && nat_lt (length (body_of bytes)) (committed_length bytes) then Err BadLength else Ok metadata
 
 abbrev pub if_valid_tag : List ℕ → Result Metadata NotAChunk → Result Metadata NotAChunk
 if_valid_tag bytes (Err refusal) = Err refusal
-if_valid_tag bytes (Ok metadata) =
-    if is_utf8 metadata.tag then if_long_enough bytes metadata else Err NotUtf8Tag
+if_valid_tag bytes (Ok metadata) = if is_utf8 metadata.tag then if_long_enough bytes metadata else Err NotUtf8Tag
 
 abbrev pub headed_by : List ℕ → Result (List ℕ) NotAChunk → Result Metadata NotAChunk
 headed_by bytes (Err refusal) = Err refusal
@@ -66,9 +63,7 @@ HasContent bytes events n =
 
 -- the committed bytes of a marked file aren't a list of events
 abbrev pub HasBadEvents : List ℕ → Type 0
-HasBadEvents bytes =
-    IsTrue (is_marked bytes)
-    × ((events : List Event) → AreEvents events (take (committed_length bytes) (body_of bytes)) → ⊥)
+HasBadEvents bytes = IsTrue (is_marked bytes) × ((events : List Event) → AreEvents events (take (committed_length bytes) (body_of bytes)) → ⊥)
 
 -- the chunk with these metadata and this content; the bytes after the content are torn
 abbrev pub chunk_of : List ℕ → Metadata → List Event → ℕ → Chunk
@@ -88,11 +83,8 @@ ChunkRead = Result Chunk NotAChunk
 
 -- the reading of these bytes
 abbrev pub StandsFor : List ℕ → ChunkRead → Type 0
-StandsFor bytes (Ok chunk) =
-    (metadata : Metadata) × (events : List Event) × (n : ℕ) × (parse_header bytes ≡ Ok metadata)
-    × HasContent bytes events n × (chunk ≡ chunk_of bytes metadata events n)
-StandsFor bytes (Err BadEvents) =
-    (metadata : Metadata) × (parse_header bytes ≡ Ok metadata) × HasBadEvents bytes
+StandsFor bytes (Ok chunk) = (metadata : Metadata) × (events : List Event) × (n : ℕ) × (parse_header bytes ≡ Ok metadata) × HasContent bytes events n × (chunk ≡ chunk_of bytes metadata events n)
+StandsFor bytes (Err BadEvents) = (metadata : Metadata) × (parse_header bytes ≡ Ok metadata) × HasBadEvents bytes
 StandsFor bytes (Err refusal) = parse_header bytes ≡ Err refusal
 
 -- out of memory

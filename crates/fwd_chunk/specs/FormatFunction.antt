@@ -10,9 +10,7 @@ use Rattle.fwd_chunk.specs.Format.{is_marked, body_of, parse_header, chunk_of, C
 
 -- in a marked file the committed bytes must all be events
 abbrev pub marked : List ℕ → Metadata → List Event × ℕ → ChunkRead
-marked bytes metadata found =
-    if found.1 == length (take (committed_length bytes) (body_of bytes))
-    then Ok (chunk_of bytes metadata found.0 (committed_length bytes)) else Err BadEvents
+marked bytes metadata found = if found.1 == length (take (committed_length bytes) (body_of bytes)) then Ok (chunk_of bytes metadata found.0 (committed_length bytes)) else Err BadEvents
 
 -- in a plain file the events at the start count
 abbrev pub unmarked : List ℕ → Metadata → List Event × ℕ → ChunkRead
@@ -20,9 +18,7 @@ unmarked bytes metadata found = Ok (chunk_of bytes metadata found.0 found.1)
 
 abbrev pub stands_by : List ℕ → Result Metadata NotAChunk → ChunkRead
 stands_by bytes (Err refusal) = Err refusal
-stands_by bytes (Ok metadata) =
-    if is_marked bytes then marked bytes metadata (events_in (take (committed_length bytes) (body_of bytes)))
-    else unmarked bytes metadata (events_in (body_of bytes))
+stands_by bytes (Ok metadata) = if is_marked bytes then marked bytes metadata (events_in (take (committed_length bytes) (body_of bytes))) else unmarked bytes metadata (events_in (body_of bytes))
 
 -- the chunk that the bytes represent, or their first refusal
 unfoldable pub stands : List ℕ → ChunkRead

@@ -1,6 +1,6 @@
 -- One chunk of the store: where its content is, the disk program of an append, and the chunk after it.
 use Rattle.std.specs.Prelude.{◌≡◌, ℕ, ◌+◌, ◌≤◌, Bool, false, List, ◌++◌, length, Option, Some, None}
-use Rattle.fwd_base.specs.Limits.{chunk_header, longest_file}
+use Rattle.fwd_base.specs.Limits.{longest_file}
 use Rattle.fwd_outside.specs.Program.{Return, and_then}
 use Rattle.fwd_outside.specs.Disk.{DiskProgram, removes}
 use Rattle.fwd_outside.specs.DiskStates.{Files}
@@ -22,8 +22,8 @@ size_of_optional None = 0
 
 -- the offset of the end of its content in its file
 abbrev pub end_of : Kept → ℕ
-end_of (InFile head) = chunk_header + head.meta + head.size
-end_of (Adopted head) = chunk_header + head.meta + head.size
+end_of (InFile head) = 24 + head.meta + head.size
+end_of (Adopted head) = 24 + head.meta + head.size
 end_of (InMemory content) = 0
 
 -- the name of its file
@@ -51,7 +51,7 @@ after_append (InMemory content) batch = InMemory (content ++ batch)
 
 -- with the batch its file isn't too long to be read
 abbrev pub HasRoom : Kept → List ℕ → Type 0
-HasRoom (InFile head) batch = chunk_header + head.meta + head.size + length batch ≤ longest_file
+HasRoom (InFile head) batch = 24 + head.meta + head.size + length batch ≤ longest_file
 HasRoom (Adopted head) batch = Unit {0}
 HasRoom (InMemory content) batch = Unit {0}
 

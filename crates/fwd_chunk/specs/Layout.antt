@@ -3,7 +3,7 @@
 -- the committed length of the content.
 use Rattle.std.specs.Prelude.{◌≡◌, ◌≢◌, ◌⊎◌, ℕ, ◌+◌, ◌*◌, ◌%◌, ◌≤◌, ◌==◌, if◌then◌else◌, List, ◌∷◌, ◌++◌, length, map, flat_map, take, drop, slice_index, All, AllPairs, IsUtf8}
 use Rattle.std.specs.Int.{to_be_bytes, w16, w32}
-use Rattle.fwd_base.specs.Limits.{chunk_header, longest_file, longest_name, most_outputs}
+use Rattle.fwd_base.specs.Limits.{longest_file, longest_name, most_outputs}
 
 -- `count` bytes at an offset
 abbrev pub part : List ℕ → ℕ → ℕ → List ℕ
@@ -11,9 +11,7 @@ part bytes from count = take count (drop from bytes)
 
 -- the big-endian number of four bytes
 abbrev pub number_at : List ℕ → ℕ → ℕ
-number_at bytes at =
-    ((slice_index bytes at * 256 + slice_index bytes (at + 1)) * 256 + slice_index bytes (at + 2)) * 256
-    + slice_index bytes (at + 3)
+number_at bytes at = ((slice_index bytes at * 256 + slice_index bytes (at + 1)) * 256 + slice_index bytes (at + 2)) * 256 + slice_index bytes (at + 3)
 
 -- the offset of the slot that a selector chooses, and of the other slot
 abbrev pub chosen : ℕ → ℕ
@@ -40,9 +38,9 @@ pub record HasParts (mark : ℕ) (bytes meta content : List ℕ) : Type 0 where
   pub id_end : slice_index bytes 1 ≡ 0
   pub marked : (mark ≡ 1) ⊎ (mark ≡ 2)
   pub mark_is : slice_index bytes 6 ≡ mark
-  pub fits : chunk_header + meta_length bytes + committed_length bytes ≤ length bytes
-  pub meta_is : meta ≡ part bytes chunk_header (meta_length bytes)
-  pub content_is : content ≡ part bytes (chunk_header + meta_length bytes) (committed_length bytes)
+  pub fits : 24 + meta_length bytes + committed_length bytes ≤ length bytes
+  pub meta_is : meta ≡ part bytes 24 (meta_length bytes)
+  pub content_is : content ≡ part bytes (24 + meta_length bytes) (committed_length bytes)
 
 -- An output that a file of mark 2 names, with its outcome byte: 68 if its outcome is recorded, else another
 -- value.
@@ -57,9 +55,7 @@ named_output_bytes output = output.outcome ∷ length output.name ∷ output.nam
 -- The metadata of a file of mark 2: four bytes, the length of the tag and the tag, the number of the outputs
 -- and the outputs.
 abbrev pub named_meta_bytes : List ℕ → List NamedOutput → List ℕ
-named_meta_bytes tag outputs =
-    241 ∷ 119 ∷ 0 ∷ 2 ∷ to_be_bytes w16 (length tag) ++ tag
-    ++ length outputs ∷ flat_map named_output_bytes outputs
+named_meta_bytes tag outputs = 241 ∷ 119 ∷ 0 ∷ 2 ∷ to_be_bytes w16 (length tag) ++ tag ++ length outputs ∷ flat_map named_output_bytes outputs
 
 -- at most 64 different names of 1 to 255 bytes of UTF-8
 pub record AreOutputs (names : List (List ℕ)) : Type 0 where
@@ -77,11 +73,8 @@ new_meta tag outputs = named_meta_bytes tag (unrecorded outputs)
 
 -- The first 24 bytes of a new file. Its mark is 2, and its selector is 0, which chooses the first slot.
 abbrev pub new_header : ℕ → ℕ → List ℕ
-new_header meta size =
-    193 ∷ 0 ∷ 0 ∷ 0 ∷ 0 ∷ 0 ∷ 2 ∷ 0 ∷ 0 ∷ 0 ∷ 0 ∷ 0 ∷ 0 ∷ 0 ∷ to_be_bytes w32 size
-    ++ 0 ∷ 0 ∷ 0 ∷ 0 ∷ to_be_bytes w16 meta
+new_header meta size = 193 ∷ 0 ∷ 0 ∷ 0 ∷ 0 ∷ 0 ∷ 2 ∷ 0 ∷ 0 ∷ 0 ∷ 0 ∷ 0 ∷ 0 ∷ 0 ∷ to_be_bytes w32 size ++ 0 ∷ 0 ∷ 0 ∷ 0 ∷ to_be_bytes w16 meta
 
 -- the bytes of a new file with this tag and content that names these outputs
 abbrev pub new_file : List ℕ → List ℕ → List (List ℕ) → List ℕ
-new_file tag content outputs =
-    new_header (length (new_meta tag outputs)) (length content) ++ new_meta tag outputs ++ content
+new_file tag content outputs = new_header (length (new_meta tag outputs)) (length content) ++ new_meta tag outputs ++ content

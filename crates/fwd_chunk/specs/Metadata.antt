@@ -20,10 +20,7 @@ is_typed meta = (slice_index meta 0 == 241) && (slice_index meta 1 == 119)
 -- themselves.
 abbrev pub tag_of : List ℕ → Option (List ℕ)
 tag_of meta =
-    if is_typed meta
-    then
-    (if slice_index meta 2 == 0 then Some (if nat_lt (length meta) 4 then meta else drop 4 meta)
-    else None)
+    if is_typed meta then (if slice_index meta 2 == 0 then Some (if nat_lt (length meta) 4 then meta else drop 4 meta) else None)
     else Some meta
 
 -- ---- metadata of mark 2
@@ -54,13 +51,10 @@ are_outputs names = nat_le (length names) most_outputs && list_all is_output_nam
 
 -- an outcome, the length of a name and the name; and the bytes after them
 abbrev pub output_at : List ℕ → Option (NamedOutput × List ℕ)
-output_at (outcome ∷ (size ∷ rest)) =
-    if nat_lt (length rest) size then None
-    else Some (record { name = take size rest; outcome = outcome }, drop size rest)
+output_at (outcome ∷ (size ∷ rest)) = if nat_lt (length rest) size then None else Some (record { name = take size rest; outcome = outcome }, drop size rest)
 output_at _ = None
 
-abbrev pub after_output : (List ℕ → Option (List NamedOutput)) → Option (NamedOutput × List ℕ)
-    → Option (List NamedOutput)
+abbrev pub after_output : (List ℕ → Option (List NamedOutput)) → Option (NamedOutput × List ℕ) → Option (List NamedOutput)
 after_output others None = None
 after_output others (Some x) = option_map (λ outputs. x.0 ∷ outputs) (others x.1)
 
@@ -94,10 +88,7 @@ is_naming meta = is_typed meta && (slice_index meta 2 == 0) && (slice_index meta
 
 -- the tag, and the bytes of the outputs
 abbrev pub named_parts : List ℕ → Option (List ℕ × List ℕ)
-named_parts meta =
-    if nat_lt (length meta) 6 then None
-    else if is_naming meta then split (drop 6 meta) (two_bytes (slice_index meta 4) (slice_index meta 5))
-    else None
+named_parts meta = if nat_lt (length meta) 6 then None else if is_naming meta then split (drop 6 meta) (two_bytes (slice_index meta 4) (slice_index meta 5)) else None
 
 abbrev pub with_tag : List ℕ → List NamedOutput → MetadataMeaning
 with_tag tag outputs = record { tag = tag; outputs = outputs }
@@ -137,5 +128,4 @@ no_outputs = record { names = []; done = [] }
 
 -- `outputs` followed by these
 abbrev pub with_outputs : Outputs → List NamedOutput → Outputs
-with_outputs outputs named =
-    record { names = outputs.names ++ names_of named; done = outputs.done ++ done_of named }
+with_outputs outputs named = record { names = outputs.names ++ names_of named; done = outputs.done ++ done_of named }

@@ -8,8 +8,7 @@ digits (suc count) n = digits count (n / 10) ++ (48 + n % 10) ∷ []
 
 -- the storage folder, the folder of the input, and the number in twenty digits followed by `.flb`
 abbrev pub file_name : List ℕ → List ℕ → ℕ → List ℕ
-file_name root stream number =
-    root ++ 47 ∷ [] ++ stream ++ 47 ∷ [] ++ digits 20 number ++ 46 ∷ 102 ∷ 108 ∷ 98 ∷ []
+file_name root stream number = root ++ 47 ∷ [] ++ stream ++ 47 ∷ [] ++ digits 20 number ++ 46 ∷ 102 ∷ 108 ∷ 98 ∷ []
 
 -- the path of a recovered file in the folder of an input
 abbrev pub found_name : List ℕ → List ℕ → List ℕ → List ℕ

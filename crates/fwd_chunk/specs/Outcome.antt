@@ -2,7 +2,6 @@
 -- represents.
 use Rattle.std.specs.Prelude.{◌≡◌, ℕ, ◌+◌, ◌-◌, ◌<◌, ◌≤◌, ◌==◌, Bool, true, false, if◌then◌else◌, Option, Some, None, List, [], ◌∷◌, length, map}
 use Rattle.std.specs.Str.{bytes_eq}
-use Rattle.fwd_base.specs.Limits.{chunk_header}
 use Rattle.fwd_outside.specs.Program.{Return, and_then}
 use Rattle.fwd_outside.specs.Disk.{DiskProgram, writes}
 use Rattle.fwd_outside.specs.File.{FileState, IsPostCrash, whole}
@@ -21,8 +20,7 @@ named_length (name ∷ names) = 2 + length name + named_length names
 -- name
 abbrev pub bytes_from : List ℕ → List (List ℕ) → Option ℕ
 bytes_from output [] = None
-bytes_from output (name ∷ names) =
-    if bytes_eq name output then Some (named_length (name ∷ names)) else bytes_from output names
+bytes_from output (name ∷ names) = if bytes_eq name output then Some (named_length (name ∷ names)) else bytes_from output names
 
 abbrev pub place_before : ℕ → Option ℕ → Option ℕ
 place_before end None = None
@@ -31,8 +29,7 @@ place_before end (Some count) = Some (end - count)
 -- the offset of the outcome of an output that a file of mark 2 names; the outputs are at the end of the
 -- metadata
 abbrev pub outcome_place : ChunkHead → List ℕ → Option ℕ
-outcome_place head output =
-    if head.mark == 2 then place_before (chunk_header + head.meta) (bytes_from output head.outputs) else None
+outcome_place head output = if head.mark == 2 then place_before (24 + head.meta) (bytes_from output head.outputs) else None
 
 -- The metadata of a file of mark 2 are long enough for some tag and the head's outputs, and no longer than
 -- their two-byte length in the header can say.
@@ -42,9 +39,7 @@ FitsNames head = head.mark ≡ 2 → (7 + named_length head.outputs ≤ head.met
 -- writes the one byte, and syncs it if `full`; without a place it makes no call
 abbrev pub settle_at_program : ChunkHead → Bool → Option ℕ → DiskProgram (Option Bool)
 settle_at_program head full None = Return (Some false)
-settle_at_program head full (Some place) =
-    and_then (writes head.name place (68 ∷ []))
-    (λ _. and_then (sync_if_program full head.name) (λ _. Return (Some true)))
+settle_at_program head full (Some place) = and_then (writes head.name place (68 ∷ [])) (λ _. and_then (sync_if_program full head.name) (λ _. Return (Some true)))
 
 abbrev pub settle_program : ChunkHead → List ℕ → Bool → DiskProgram (Option Bool)
 settle_program head output full = settle_at_program head full (outcome_place head output)
@@ -53,13 +48,11 @@ settle_program head output full = settle_at_program head full (outcome_place hea
 abbrev pub with_outcome : List ℕ → ℕ → List NamedOutput → List NamedOutput
 with_outcome output outcome [] = []
 with_outcome output outcome (named ∷ others) =
-    if bytes_eq named.name output then record { name = named.name; outcome = outcome } ∷ others
-    else named ∷ with_outcome output outcome others
+    if bytes_eq named.name output then record { name = named.name; outcome = outcome } ∷ others else named ∷ with_outcome output outcome others
 
 -- A file of mark 2, with metadata of the head's length and the head's outputs in their order. It has this
 -- tag, these outputs with their outcomes, and this content.
-pub record HasOutputs (head : ChunkHead) (tag : List ℕ) (outputs : List NamedOutput)
-    (content bytes : List ℕ) : Type 0 where
+pub record HasOutputs (head : ChunkHead) (tag : List ℕ) (outputs : List NamedOutput) (content bytes : List ℕ) : Type 0 where
   pub parts : HasParts 2 bytes (named_meta_bytes tag outputs) content
   pub long : head.meta ≡ length (named_meta_bytes tag outputs)
   pub names : head.outputs ≡ map (λ o. o.name) outputs
@@ -67,9 +60,7 @@ pub record HasOutputs (head : ChunkHead) (tag : List ℕ) (outputs : List NamedO
 -- a post-crash state is such a file
 abbrev pub ImageNamesOutputs : ChunkHead → Option (List ℕ) → Type 0
 ImageNamesOutputs head None = ⊥
-ImageNamesOutputs head (Some image) =
-    (tag : List ℕ) × (outputs : List NamedOutput) × (content : List ℕ)
-    × HasOutputs head tag outputs content image
+ImageNamesOutputs head (Some image) = (tag : List ℕ) × (outputs : List NamedOutput) × (content : List ℕ) × HasOutputs head tag outputs content image
 
 -- each post-crash state of the head's file is such a file
 abbrev pub NamesOutputsIn : ChunkHead → Files → Type 0
@@ -81,14 +72,11 @@ abbrev pub RecordsOne : ChunkHead → List ℕ → FileState → Option (List �
 RecordsOne head output before None = ⊥
 RecordsOne head output before (Some image) =
     (was tag : List ℕ) × (outputs : List NamedOutput) × (content : List ℕ) × (outcome : ℕ)
-    × IsPostCrash before (Some was) × HasOutputs head tag outputs content was
-    × HasOutputs head tag (with_outcome output outcome outputs) content image
+    × IsPostCrash before (Some was) × HasOutputs head tag outputs content was × HasOutputs head tag (with_outcome output outcome outputs) content image
 
 -- this holds for each post-crash state of the head's file, and no other name changed
 abbrev pub KeepsOtherOutcomes : ChunkHead → List ℕ → Files → Files → Type 0
-KeepsOtherOutcomes head output first now =
-    AllPostCrash head.name (RecordsOne head output (first head.name)) now
-    × OthersUnchanged head.name first now
+KeepsOtherOutcomes head output first now = AllPostCrash head.name (RecordsOne head output (first head.name)) now × OthersUnchanged head.name first now
 
 -- The file has one post-crash state: what a read returned before, with the outcome recorded.
 pub record IsRecorded (head : ChunkHead) (output : List ℕ) (before after : FileState) : Type 0 where

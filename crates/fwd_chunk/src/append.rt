@@ -1,7 +1,7 @@
 //! An append to a chunk file in two steps: write the batch and its length, then choose the length.
 
 ghost use Rattle.std.specs.Prelude.{◌≡◌, ◌+◌, ◌≤◌, ◌++◌, List, ℕ, length, IsTrue, OnOk, OnErr, IsErrOf};
-ghost use Rattle.fwd_base.specs.Limits.{chunk_header, longest_file};
+ghost use Rattle.fwd_base.specs.Limits.{longest_file};
 ghost use Rattle.fwd_outside.specs.Log.{RunsFallible};
 ghost use Rattle.fwd_outside.specs.Cause.{HasCause};
 ghost use Rattle.fwd_outside.specs.Disk.{disk_outcome};
@@ -10,8 +10,10 @@ ghost use Rattle.fwd_outside.specs.PostCrash.{DiskSince, DiskAfter};
 ghost use Rattle.fwd_chunk.specs.Layout.{other};
 ghost use Rattle.fwd_chunk.specs.Append.{DurableIn, StagedIn, KeepsOldContent, KeepsOldOrNew, stage_program, commit_program, sync_if_program, next_selector, committed_head};
 
-use fwd_base::limits::CHUNK_HEADER;
 use fwd_outside::{Bytes, Disk, DiskErr, Names};
+
+/// The length of the header in bytes. The metadata follow it.
+pub const HEADER: usize = 24;
 
 /// The known state of a chunk file. `meta` and `size` are the lengths of the metadata and the content in
 /// bytes. `outputs` are the outputs that the file names, in order; a file with a mark below 2 names none.
@@ -54,7 +56,7 @@ pub fn stage<D: Disk>(
     batch: &[u8],
     full: bool,
 ) -> Result<(), DiskErr>
-    requires { chunk_header + head.now.meta + head.now.size + length batch.now ≤ longest_file }
+    requires { 24 + head.now.meta + head.now.size + length batch.now ≤ longest_file }
     ensures calls { RunsFallible (D.call_log disk.old) (D.call_log disk.new) (stage_program head.now batch.now full) (disk_outcome result) }
 
     // A crash at any point of the call leaves a file that represents the old content.
@@ -71,11 +73,11 @@ fn stage_inner<D: Disk>(
     batch: &[u8],
     full: bool,
 ) -> Result<(), DiskErr>
-    requires { chunk_header + head.now.meta + head.now.size + length batch.now ≤ longest_file }
+    requires { 24 + head.now.meta + head.now.size + length batch.now ≤ longest_file }
     ensures calls { RunsFallible (D.call_log disk.old) (D.call_log disk.new) (stage_program head.now batch.now full) (disk_outcome result) }
     ensures cause { HasCause (D.faults disk.old) (D.faults disk.new) (IsErrOf result Failed) }
 {
-    let end = CHUNK_HEADER as u64 + head.meta + head.size;
+    let end = HEADER as u64 + head.meta + head.size;
     let size = head.size + batch.len() as u64;
     let slot = inactive_slot(head.selector);
     disk.write_at(head.name.as_slice(), end, batch)?;

@@ -1,7 +1,7 @@
 //! Crash consistency of the calls on a chunk file, at each point and whatever the disk answers.
 
 ghost use Rattle.std.specs.Prelude.{List, ℕ, Bool, Option, ◌+◌, ◌≤◌, ◌++◌, ◌≡◌, length};
-ghost use Rattle.fwd_base.specs.Limits.{chunk_header, longest_file};
+ghost use Rattle.fwd_base.specs.Limits.{longest_file};
 ghost use Rattle.fwd_outside.specs.Program.{Execution};
 ghost use Rattle.fwd_outside.specs.AtCrashPoints.{AtCrashPoints};
 ghost use Rattle.fwd_outside.specs.Disk.{DiskEntry, DiskProgram};
@@ -20,7 +20,7 @@ pub fn create_is_atomic()
 /// Until the selector is written, each post-crash state represents the old content.
 pub fn stage_keeps_old_content()
     ensures { (head : ChunkHead) (meta content batch : List ℕ) (full : Bool) (files : Files) (entries : List DiskEntry) (left : DiskProgram (Option (Unit {0})))
-        → chunk_header + head.meta + head.size + length batch ≤ longest_file → DurableIn head meta content files → Execution (stage_program head batch full) entries left → AtCrashPoints DiskTransition (KeepsOldContent head meta content files) files entries }
+        → 24 + head.meta + head.size + length batch ≤ longest_file → DurableIn head meta content files → Execution (stage_program head batch full) entries left → AtCrashPoints DiskTransition (KeepsOldContent head meta content files) files entries }
 {}
 
 /// While the selector is written, each post-crash state represents the old content or the new content.

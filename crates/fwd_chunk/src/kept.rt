@@ -1,7 +1,7 @@
 //! A chunk of the store: in a file that it created, in a recovered file, or in memory.
 
 ghost use Rattle.std.specs.Prelude.{◌≡◌, ◌+◌, ◌<◌, ◌≤◌, ◌^◌, length, OnOk, OnErr, IsErrOf, is_some};
-ghost use Rattle.fwd_base.specs.Limits.{chunk_header, longest_file};
+ghost use Rattle.fwd_base.specs.Limits.{longest_file};
 ghost use Rattle.fwd_outside.specs.Log.{RunsFallible};
 ghost use Rattle.fwd_outside.specs.Cause.{HasCause};
 ghost use Rattle.fwd_outside.specs.Disk.{disk_outcome};
@@ -14,7 +14,6 @@ ghost use Rattle.fwd_chunk.specs.Content.{ReadReturns, read_content_program, IsC
 
 use crate::content::{PartErr, read_back, read_bytes};
 use crate::{ChunkHead, commit, settle, stage};
-use fwd_base::limits::CHUNK_HEADER;
 use fwd_event::Events;
 use fwd_outside::{Bytes, Disk, DiskErr};
 use std::alloc::Global;
@@ -73,22 +72,10 @@ impl Kept {
     {
         match self {
             Kept::InFile(head) => {
-                read_back(
-                    alloc,
-                    disk,
-                    head.name.as_slice(),
-                    CHUNK_HEADER as u64 + head.meta,
-                    head.size,
-                )
+                read_back(alloc, disk, head.name.as_slice(), 24 + head.meta, head.size)
             }
             Kept::Adopted(head) => {
-                read_back(
-                    alloc,
-                    disk,
-                    head.name.as_slice(),
-                    CHUNK_HEADER as u64 + head.meta,
-                    head.size,
-                )
+                read_back(alloc, disk, head.name.as_slice(), 24 + head.meta, head.size)
             }
             Kept::InMemory(content) => Ok(content.try_clone(alloc)?),
         }
@@ -102,22 +89,10 @@ impl Kept {
     {
         match self {
             Kept::InFile(head) => {
-                read_bytes(
-                    alloc,
-                    disk,
-                    head.name.as_slice(),
-                    CHUNK_HEADER as u64 + head.meta,
-                    head.size,
-                )
+                read_bytes(alloc, disk, head.name.as_slice(), 24 + head.meta, head.size)
             }
             Kept::Adopted(head) => {
-                read_bytes(
-                    alloc,
-                    disk,
-                    head.name.as_slice(),
-                    CHUNK_HEADER as u64 + head.meta,
-                    head.size,
-                )
+                read_bytes(alloc, disk, head.name.as_slice(), 24 + head.meta, head.size)
             }
             Kept::InMemory(content) => Ok(content.try_clone(alloc)?),
         }
@@ -157,7 +132,7 @@ fn append_to_file<D: Disk>(
     batch: &[u8],
     full: bool,
 ) -> Result<(), DiskErr>
-    requires { chunk_header + head.old.meta + head.old.size + length batch.now ≤ longest_file }
+    requires { 24 + head.old.meta + head.old.size + length batch.now ≤ longest_file }
     ensures calls { RunsFallible (D.call_log disk.old) (D.call_log disk.new) (and_then (stage_program head.old batch.now full) (λ _. commit_program head.old full)) (disk_outcome result) }
     ensures ok { OnOk result (head.new ≡ committed_head head.old (head.old.size + length batch.now)) }
     ensures err { OnErr result (head.new ≡ head.old) }

@@ -42,7 +42,7 @@ mod outputs;
 mod parser;
 mod refusal;
 
-pub use append::{ChunkHead, commit, stage};
+pub use append::{ChunkHead, HEADER, commit, stage};
 pub use check::check_file;
 pub use chunk::{Brief, Chunk, Found, Seen, briefs_cross, chunks_cross, found_cross};
 pub use content::PartErr;
@@ -55,7 +55,7 @@ pub use format_theorems::{
 pub use fwd_base::{Bytes, Memory};
 pub use kept::Kept;
 pub use name::{file_name, found_name};
-pub use new_file::create;
+pub use new_file::{clone_names, create};
 pub use outcome::{RECORDED, settle};
 pub use parser::read_chunk;
 pub use refusal::{ChunkKind, NotAChunk};

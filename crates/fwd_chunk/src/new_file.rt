@@ -1,7 +1,7 @@
 //! The atomic creation of a chunk file.
 
 ghost use Rattle.std.specs.Prelude.{◌≡◌, ◌+◌, ◌≤◌, ◌<◌, ◌^◌, ◌++◌, List, ℕ, length, IfOk, OnOk, IsErrOf, All};
-ghost use Rattle.fwd_base.specs.Limits.{chunk_header, longest_file, longest_name, longest_tag, most_outputs};
+ghost use Rattle.fwd_base.specs.Limits.{longest_file, longest_name, longest_tag, most_outputs};
 ghost use Rattle.fwd_outside.specs.Log.{RunsFallible};
 ghost use Rattle.fwd_outside.specs.Cause.{HasCause};
 ghost use Rattle.fwd_outside.specs.Disk.{disk_outcome};
@@ -11,8 +11,7 @@ ghost use Rattle.fwd_outside.specs.PostCrash.{DiskSince, DiskAfter};
 ghost use Rattle.fwd_chunk.specs.Layout.{AreOutputs, named_output_bytes, new_meta, new_file, new_header};
 ghost use Rattle.fwd_chunk.specs.Append.{DurableIn, IsCreatedAtomically, create_program, new_head};
 
-use crate::ChunkHead;
-use fwd_base::limits::CHUNK_HEADER;
+use crate::{ChunkHead, HEADER};
 use fwd_outside::{Bytes, Disk, DiskErr, Memory, Names};
 use std::alloc::Global;
 
@@ -29,7 +28,7 @@ pub fn create<D: Disk>(
 ) -> Result<ChunkHead, DiskErr>
     requires tag { length tag.now ≤ longest_tag }
     requires outputs { AreOutputs outputs.now }
-    requires fits { chunk_header + length (new_meta tag.now outputs.now) + length batch.now ≤ longest_file }
+    requires fits { 24 + length (new_meta tag.now outputs.now) + length batch.now ≤ longest_file }
     ensures calls { RunsFallible (D.call_log disk.old) (D.call_log disk.new) (create_program name.now tag.now batch.now outputs.now) (disk_outcome result) }
     ensures head { IfOk result (λ head. head ≡ new_head name.now tag.now batch.now outputs.now) }
 
@@ -51,7 +50,7 @@ fn create_inner<D: Disk>(
 ) -> Result<ChunkHead, DiskErr>
     requires tag { length tag.now ≤ longest_tag }
     requires outputs { AreOutputs outputs.now }
-    requires fits { chunk_header + length (new_meta tag.now outputs.now) + length batch.now ≤ longest_file }
+    requires fits { 24 + length (new_meta tag.now outputs.now) + length batch.now ≤ longest_file }
     ensures calls { RunsFallible (D.call_log disk.old) (D.call_log disk.new) (create_program name.now tag.now batch.now outputs.now) (disk_outcome result) }
     ensures head { IfOk result (λ head. head ≡ new_head name.now tag.now batch.now outputs.now) }
     ensures cause { HasCause (D.faults disk.old) (D.faults disk.new) (IsErrOf result Failed) }
@@ -61,6 +60,17 @@ fn create_inner<D: Disk>(
     let bytes = file_bytes(alloc, meta.as_slice(), batch)?;
     disk.place(name, bytes.as_slice())?;
     Ok(head)
+}
+
+/// Returns a copy of the names.
+pub fn clone_names(alloc: Global, names: &Names) -> Result<Names, Memory>
+    ensures { IfOk result (λ copy. copy ≡ names.now) }
+{
+    let mut copy = Names::new(alloc);
+    for name in names.as_slice() {
+        copy.push(name.try_clone(alloc)?)?;
+    }
+    Ok(copy)
 }
 
 // Returns the head of a new file with metadata and content of these lengths in bytes.
@@ -79,7 +89,7 @@ fn head_of(
         size: size as u64,
         selector: 0,
         mark: 2,
-        outputs: outputs.try_clone(alloc)?,
+        outputs: clone_names(alloc, outputs)?,
     })
 }
 
@@ -118,7 +128,7 @@ fn file_bytes(alloc: Global, meta: &[u8], batch: &[u8]) -> Result<Bytes, Memory>
     ensures { IfOk result (λ bytes. bytes ≡ new_header (length meta.now) (length batch.now) ++ meta.now ++ batch.now) }
 {
     let mut bytes = Bytes::new(alloc);
-    bytes.reserve(CHUNK_HEADER + meta.len() + batch.len())?;
+    bytes.reserve(HEADER + meta.len() + batch.len())?;
     bytes.extend_from_slice(&[193, 0, 0, 0, 0, 0, 2, 0, 0, 0, 0, 0, 0, 0])?;
     bytes.extend_from_slice(&(batch.len() as u32).to_be_bytes())?;
     bytes.extend_from_slice(&[0, 0, 0, 0])?;

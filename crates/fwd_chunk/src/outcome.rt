@@ -8,9 +8,8 @@ ghost use Rattle.fwd_outside.specs.declared.errors.DiskErr.TheVariants.{Failed};
 ghost use Rattle.fwd_outside.specs.PostCrash.{DiskSince, DiskAfter};
 ghost use Rattle.fwd_chunk.specs.Outcome.{named_length, outcome_place, FitsNames, settle_program, settle_at_program, NamesOutputsIn, KeepsOtherOutcomes, RecordedIn};
 
-use crate::ChunkHead;
 use crate::append::sync_if;
-use fwd_base::limits::CHUNK_HEADER;
+use crate::{ChunkHead, HEADER};
 use fwd_outside::{Bytes, Disk, DiskErr};
 
 /// The outcome byte of an output with a recorded outcome.
@@ -74,7 +73,7 @@ fn outcome_place(head: &ChunkHead, output: &[u8]) -> Option<u64>
         return None;
     }
     let outputs = head.outputs.as_slice();
-    let mut place = CHUNK_HEADER as u64 + head.meta - named_length(outputs);
+    let mut place = HEADER as u64 + head.meta - named_length(outputs);
     for name in outputs {
         if name.as_slice() == output {
             return Some(place);

@@ -1,7 +1,6 @@
 //! Reading of a whole chunk file.
 
 ghost use Rattle.std.specs.Prelude.{◌≡◌, ◌≢◌, ◌⊎◌, ◌↔◌, ◌+◌, ◌^◌, ◌<◌, ◌≤◌, List, length, IsTrue, MatchResult, IfOk};
-ghost use Rattle.fwd_base.specs.Limits.{chunk_header};
 ghost use Rattle.fwd_event.specs.declared.event.Event.{Event};
 ghost use Rattle.fwd_event.specs.declared.errors.EventErr.TheVariants as event_err;
 ghost use Rattle.fwd_event.specs.Event.{AreEvents, IsWholePrefix};
@@ -11,8 +10,7 @@ ghost use Rattle.fwd_chunk.specs.Format.{body_of, is_marked, HasContent, HasBadE
 
 use crate::header::{committed_length, is_marked, meta_length, parse_header};
 use crate::metadata::Metadata;
-use crate::{Chunk, NotAChunk};
-use fwd_base::limits::CHUNK_HEADER;
+use crate::{Chunk, HEADER, NotAChunk};
 use fwd_base::{Bytes, Memory};
 use fwd_event::{EventErr, read_events, whole_prefix};
 use std::alloc::Global;
@@ -50,12 +48,12 @@ fn count_prefix(alloc: Global, bytes: &[u8]) -> Result<(usize, u64), Memory>
 
 /// Returns the length of the content after the metadata, and the number of its events.
 fn content_of(alloc: Global, bytes: &[u8]) -> Result<(usize, u64), NotAChunk>
-    requires header { chunk_header + meta_length bytes.now ≤ length bytes.now }
+    requires header { 24 + meta_length bytes.now ≤ length bytes.now }
     requires enough { IsTrue (is_marked bytes.now) → committed_length bytes.now ≤ length (body_of bytes.now) }
     ensures { MatchResult result (λ x. (events : List Event) × HasContent bytes.now events x.0 × (x.1 ≡ length events) × (x.0 ≤ length (body_of bytes.now)))
         (λ e. (e ≡ not_a_chunk.Memory) ⊎ ((e ≡ not_a_chunk.BadEvents) × HasBadEvents bytes.now)) }
 {
-    let body = &bytes[CHUNK_HEADER + meta_length(bytes)..];
+    let body = &bytes[HEADER + meta_length(bytes)..];
     if is_marked(bytes) {
         let size = committed_length(bytes);
         let events = count_events(alloc, &body[..size])?;
@@ -73,13 +71,13 @@ fn chunk_of(
     size: usize,
     events: u64,
 ) -> Result<Chunk, Memory>
-    requires header { chunk_header + meta_length bytes.now ≤ length bytes.now }
+    requires header { 24 + meta_length bytes.now ≤ length bytes.now }
     requires within { size ≤ length (body_of bytes.now) }
     ensures chunk { (list : List Event) → events ≡ length list → IfOk result (λ chunk. chunk ≡ chunk_of bytes.now metadata list size) }
     ensures meta { IfOk result (λ chunk. chunk.meta < 2 ^ 16) }
 {
     let meta = meta_length(bytes);
-    let (content, torn) = bytes[CHUNK_HEADER + meta..].split_at(size);
+    let (content, torn) = bytes[HEADER + meta..].split_at(size);
     Ok(Chunk {
         meta: meta as u64,
         content: Bytes::from_slice(alloc, content)?,

@@ -54,8 +54,7 @@ heading_of text =
 abbrev pub setting_of : List ℕ → Form
 setting_of text =
     let name = before_first (λ byte. byte == 61) text in
-    if nat_lt 0 (length name) && nat_lt (length name) (length text)
-    then Setting name (after_first (λ byte. byte == 61) text) else NoCommand
+    if nat_lt 0 (length name) && nat_lt (length name) (length text) then Setting name (after_first (λ byte. byte == 61) text) else NoCommand
 
 -- after an `@`: the name of a command, case ignored, and its value
 abbrev pub command_of : List ℕ → List ℕ → Form

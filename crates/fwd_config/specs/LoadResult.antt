@@ -26,19 +26,13 @@ abbrev pub IsFileFault : {T : Type 0} → Result T ConfigFault → Type 0
 IsFileFault result = IsErrAnd result (λ fault. fault.kind ≡ FileFault)
 
 -- the reading was made to its end and the outline represents its text; or it was made up to its error
-abbrev pub ReadsInto : {T : Type 0} → Values → FilesLog → FilesLog → Reading TextResult → Outline
-    → Result T ConfigFault → Type 0
-ReadsInto env old new reading outline (Ok done) =
-    (text : Text) × Completes old new (reads_files reading) (Ok text) × OutlineRepresents env text outline
-ReadsInto env old new reading outline (Err fault) =
-    RunsProgram old new (reads_files reading) (outcome {T = Text} (Err fault))
+abbrev pub ReadsInto : {T : Type 0} → Values → FilesLog → FilesLog → Reading TextResult → Outline → Result T ConfigFault → Type 0
+ReadsInto env old new reading outline (Ok done) = (text : Text) × Completes old new (reads_files reading) (Ok text) × OutlineRepresents env text outline
+ReadsInto env old new reading outline (Err fault) = RunsProgram old new (reads_files reading) (outcome {T = Text} (Err fault))
 
 -- If the files keep a call log and answered with the bytes that they hold, the result is that of these
 -- bytes, unless a call failed or memory ran out.
-abbrev pub IsResultOfFiles : FilesLog → FilesLog → List ℕ → Values → Result (List Section) ConfigFault
-    → Type 0
+abbrev pub IsResultOfFiles : FilesLog → FilesLog → List ℕ → Values → Result (List Section) ConfigFault → Type 0
 IsResultOfFiles old new path env result =
-    (given : FilesGiven) (before made : List FilesEntry) → old ≡ Some (given, before)
-    → new ≡ Some (given, before ++ made) → IsConsistentLog (files_after_all given before) made
-    → IsErrAnd result (λ fault. fault.kind ≡ Memory)
-    ⊎ (IsFileFault result ⊎ (result ≡ sections (found (files_after_all given before)) path env))
+    (given : FilesGiven) (before made : List FilesEntry) → old ≡ Some (given, before) → new ≡ Some (given, before ++ made) → IsConsistentLog (files_after_all given before) made
+    → IsErrAnd result (λ fault. fault.kind ≡ Memory) ⊎ (IsFileFault result ⊎ (result ≡ sections (found (files_after_all given before)) path env))

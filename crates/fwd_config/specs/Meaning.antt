@@ -71,13 +71,10 @@ pub data Meaning : Type 0 where
 
 -- a line that isn't refused, with the values of the variables there
 abbrev pub accepted_meaning : Values → Place → Form → Meaning
-accepted_meaning values place (Inclusion path) =
-    Includes (relative_path place.file (replace_variables values path))
-accepted_meaning values place (Setting name value) =
-    Adds (Variable name (replace_variables values value) ∷ [])
+accepted_meaning values place (Inclusion path) = Includes (relative_path place.file (replace_variables values path))
+accepted_meaning values place (Setting name value) = Adds (Variable name (replace_variables values value) ∷ [])
 accepted_meaning values place (Heading name) = Adds (Header name place ∷ [])
-accepted_meaning values place (Pair key value) =
-    Adds (EntryItem (entry key (replace_variables values value) place) ∷ [])
+accepted_meaning values place (Pair key value) = Adds (EntryItem (entry key (replace_variables values value) place) ∷ [])
 accepted_meaning values place _ = Adds []
 
 abbrev pub unless_refused : Option ConfigKind → Meaning → Meaning
@@ -86,6 +83,4 @@ unless_refused (Some kind) meaning = Refused kind
 
 -- what a line means at its place, after the text above, in this environment
 abbrev pub meaning : Values → ℕ → Place → Text → Form → Meaning
-meaning env includes_left place above form =
-    unless_refused (first_cause (causes includes_left above form))
-    (accepted_meaning (values_after env above) place form)
+meaning env includes_left place above form = unless_refused (first_cause (causes includes_left above form)) (accepted_meaning (values_after env above) place form)

@@ -30,10 +30,8 @@ value_of variables name = unwrap_or (get_by (λ key. bytes_eq name key.items) va
 
 -- the value with its variables replaced, unless a brace is open; or out of memory
 abbrev pub IsReplacement : Values → List ℕ → Result (List ℕ) ConfigKind → Type 0
-IsReplacement values value (Ok text) =
-    (has_open_brace value ≡ false) × (text ≡ replace_variables values value)
-IsReplacement values value (Err kind) =
-    (kind ≡ kinds.Memory) ⊎ ((kind ≡ kinds.OpenBrace) × (has_open_brace value ≡ true))
+IsReplacement values value (Ok text) = (has_open_brace value ≡ false) × (text ≡ replace_variables values value)
+IsReplacement values value (Err kind) = (kind ≡ kinds.Memory) ⊎ ((kind ≡ kinds.OpenBrace) × (has_open_brace value ≡ true))
 
 -- the outline represents this text, in this environment
 pub record OutlineRepresents (env : Values) (text : Text) (outline : Outline) : Type 0 where
@@ -43,10 +41,8 @@ pub record OutlineRepresents (env : Values) (text : Text) (outline : Outline) : 
 -- The result for a line follows its meaning: it is added, or a file is to be read in its place, or it is
 -- refused. The result may be out of memory instead.
 abbrev pub FollowsMeaning : Values → Text → Meaning → Outline → Result (Option (List ℕ)) ConfigKind → Type 0
-FollowsMeaning env above meaning outline (Ok None) =
-    (added : Text) × (meaning ≡ Adds added) × OutlineRepresents env (above ++ added) outline
-FollowsMeaning env above meaning outline (Ok (Some path)) =
-    (meaning ≡ Includes path) × OutlineRepresents env above outline
+FollowsMeaning env above meaning outline (Ok None) = (added : Text) × (meaning ≡ Adds added) × OutlineRepresents env (above ++ added) outline
+FollowsMeaning env above meaning outline (Ok (Some path)) = (meaning ≡ Includes path) × OutlineRepresents env above outline
 FollowsMeaning env above meaning outline (Err kind) = (kind ≡ kinds.Memory) ⊎ (meaning ≡ Refused kind)
 
 -- the sections with the entry appended to the last one

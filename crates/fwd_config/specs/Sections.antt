@@ -27,13 +27,11 @@ abbrev pub fault : ConfigKind → Place → ConfigFault
 fault kind place = record { kind = kind; place = place }
 
 -- goes on with the text, if there is no error
-abbrev pub with_text : {T : Type 0} → (Text → Reading (Result T ConfigFault)) → TextResult
-    → Reading (Result T ConfigFault)
+abbrev pub with_text : {T : Type 0} → (Text → Reading (Result T ConfigFault)) → TextResult → Reading (Result T ConfigFault)
 with_text next (Ok text) = next text
 with_text next (Err fault) = Return (Err fault)
 
-abbrev pub then_text : {T : Type 0} → Reading TextResult → (Text → Reading (Result T ConfigFault))
-    → Reading (Result T ConfigFault)
+abbrev pub then_text : {T : Type 0} → Reading TextResult → (Text → Reading (Result T ConfigFault)) → Reading (Result T ConfigFault)
 then_text reading next = bind reading (with_text next)
 
 -- the text with a line appended; `included` gives the text with an included file appended
@@ -43,13 +41,10 @@ with_line included at above (Includes path) = included path above
 with_line included at above (Refused kind) = Return (Err (fault kind at))
 
 -- the text with these lines of a file appended, the first of which has this number
-abbrev pub with_lines : Values → ℕ → (List ℕ → Text → Reading TextResult) → List ℕ → ℕ → List (List ℕ) → Text
-    → Reading TextResult
+abbrev pub with_lines : Values → ℕ → (List ℕ → Text → Reading TextResult) → List ℕ → ℕ → List (List ℕ) → Text → Reading TextResult
 with_lines env left included file number [] above = Return (Ok above)
 with_lines env left included file number (line ∷ more) above =
-    then_text
-    (with_line included (place file number) above
-    (meaning env left (place file number) above (form_of line)))
+    then_text (with_line included (place file number) above (meaning env left (place file number) above (form_of line)))
     (with_lines env left included file (number + 1) more)
 
 -- the bytes of a file, if it can be read and is UTF-8
@@ -58,35 +53,27 @@ text_of file None = Err (fault FileFault (place file 0))
 text_of file (Some bytes) = if is_utf8 bytes then Ok bytes else Err (fault NotUtf8 (place file 0))
 
 -- the text with the lines of these bytes appended
-abbrev pub with_content : Values → ℕ → (List ℕ → Text → Reading TextResult) → List ℕ → Text
-    → Result (List ℕ) ConfigFault → Reading TextResult
-with_content env left included file above (Ok bytes) =
-    with_lines env left included file 1 (lines_of bytes) above
+abbrev pub with_content : Values → ℕ → (List ℕ → Text → Reading TextResult) → List ℕ → Text → Result (List ℕ) ConfigFault → Reading TextResult
+with_content env left included file above (Ok bytes) = with_lines env left included file 1 (lines_of bytes) above
 with_content env left included file above (Err fault) = Return (Err fault)
 
 -- the text with the lines of a file appended, if this many files may be open; if none may, no file is asked
 -- for
 unfoldable pub with_file : Values → ℕ → List ℕ → Text → Reading TextResult
 with_file env zero file above = Return (Ok above)
-with_file env (suc left) file above =
-    Ask file (λ content. with_content env left (with_file env left) file above (text_of file content))
+with_file env (suc left) file above = Ask file (λ content. with_content env left (with_file env left) file above (text_of file content))
 
 -- the text with the lines of files appended, in order
 abbrev pub with_files : Values → ℕ → List (List ℕ) → Text → Reading TextResult
 with_files env may_open [] above = Return (Ok above)
-with_files env may_open (file ∷ files) above =
-    then_text (with_file env may_open file above) (with_files env may_open files)
+with_files env may_open (file ∷ files) above = then_text (with_file env may_open file above) (with_files env may_open files)
 
 -- the files that the SERVICE sections name by `Parsers_File`, in their order
 abbrev pub files_of_entry : Entry → List (List ℕ)
-files_of_entry entry =
-    if str_eq_ignore_ascii_case entry.key (codes "parsers_file")
-    then relative_path entry.place.file entry.value ∷ [] else []
+files_of_entry entry = if str_eq_ignore_ascii_case entry.key (codes "parsers_file") then relative_path entry.place.file entry.value ∷ [] else []
 
 abbrev pub files_of_section : Section → List (List ℕ)
-files_of_section section =
-    if str_eq_ignore_ascii_case section.name (codes "service") then flat_map files_of_entry section.entries
-    else []
+files_of_section section = if str_eq_ignore_ascii_case section.name (codes "service") then flat_map files_of_entry section.entries else []
 
 abbrev pub parser_files : List Section → List (List ℕ)
 parser_files sections = flat_map files_of_section sections
@@ -96,8 +83,7 @@ return_sections text = Return (Ok (sections_of text))
 
 -- the parser files that the main file's text names come after it
 abbrev pub with_parser_files : Values → Text → Reading (Result (List Section) ConfigFault)
-with_parser_files env text =
-    then_text (with_files env 8 (parser_files (sections_of text)) text) return_sections
+with_parser_files env text = then_text (with_files env 8 (parser_files (sections_of text)) text) return_sections
 
 -- The sections of the configuration with this main file, or the first error. The main file and eight nested
 -- includes may be open, and a parser file counts as an include of the main file.

@@ -24,8 +24,7 @@ begins_variable text = bytes_eq (take 2 text) (codes "${")
 -- some `${` has no `}` after it
 abbrev pub has_open_brace : List ℕ → Bool
 has_open_brace [] = false
-has_open_brace (byte ∷ bytes) =
-    (begins_variable (byte ∷ bytes) && not (list_any (λ b. b == 125) bytes)) || has_open_brace bytes
+has_open_brace (byte ∷ bytes) = (begins_variable (byte ∷ bytes) && not (list_any (λ b. b == 125) bytes)) || has_open_brace bytes
 
 -- the name after a `${`, up to the first `}`
 abbrev pub name_after : List ℕ → List ℕ
@@ -38,8 +37,7 @@ replace_variables_from values passed [] = []
 replace_variables_from values (suc passed) (byte ∷ bytes) = replace_variables_from values passed bytes
 replace_variables_from values zero (byte ∷ bytes) =
     if begins_variable (byte ∷ bytes)
-    then values (name_after (drop 1 bytes))
-    ++ replace_variables_from values (length (name_after (drop 1 bytes)) + 2) bytes
+    then values (name_after (drop 1 bytes)) ++ replace_variables_from values (length (name_after (drop 1 bytes)) + 2) bytes
     else byte ∷ replace_variables_from values zero bytes
 
 abbrev pub replace_variables : Values → List ℕ → List ℕ

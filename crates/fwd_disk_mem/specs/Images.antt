@@ -24,8 +24,7 @@ mixed base at (byte ∷ bytes) = (if at % 2 == 0 then slice_index base at else b
 
 -- the bytes that the crash leaves of a write that isn't durable
 abbrev pub variant : ℕ → List ℕ → ℕ → List ℕ → List ℕ
-variant pick base at bytes =
-    if pick == 2 then replicate (length bytes) 90 else if pick == 3 then mixed base at bytes else bytes
+variant pick base at bytes = if pick == 2 then replicate (length bytes) 90 else if pick == 3 then mixed base at bytes else bytes
 
 -- the post-crash state after a call on a file in this state
 abbrev pub crash_file_after : ℕ → FileState → CrashFile → Told → CrashFile
@@ -33,15 +32,9 @@ crash_file_after pick s m (Place _ bytes ok) =
     if ok then record { base = bytes; image = Some bytes }
     else if s.there then m
     else record { base = bytes; image = if pick == 0 then None else Some bytes }
-crash_file_after pick s m (WriteAt _ at bytes _) =
-    if can_write s at
-    then
-    (if pick == 0 then m else record m { image = written_over at (variant pick m.base at bytes) m.image })
-    else m
-crash_file_after pick s m (Sync _ ok) =
-    if ok && s.there then record { base = s.bytes; image = Some s.bytes } else m
-crash_file_after pick s m (Remove _ ok) =
-    if s.there then record m { image = if ok then None else if pick == 0 then m.image else None } else m
+crash_file_after pick s m (WriteAt _ at bytes _) = if can_write s at then (if pick == 0 then m else record m { image = written_over at (variant pick m.base at bytes) m.image }) else m
+crash_file_after pick s m (Sync _ ok) = if ok && s.there then record { base = s.bytes; image = Some s.bytes } else m
+crash_file_after pick s m (Remove _ ok) = if s.there then record m { image = if ok then None else if pick == 0 then m.image else None } else m
 crash_file_after pick s m (Preset _ bytes) = record { base = bytes; image = Some bytes }
 crash_file_after pick s m call = m
 
@@ -50,8 +43,7 @@ crash_file_step pick name s m call = if is_on call name then crash_file_after pi
 
 abbrev pub make : ℕ → List ℕ → FileState → CrashFile → List Told → CrashFile
 make pick name s m [] = m
-make pick name s m (call ∷ calls) =
-    make pick name (step name s call) (crash_file_step pick name s m call) calls
+make pick name s m (call ∷ calls) = make pick name (step name s call) (crash_file_step pick name s m call) calls
 
 -- a file that no call was about
 abbrev pub no_call_file : CrashFile
@@ -64,8 +56,7 @@ picked pick calls name = (make pick name absent no_call_file calls).image
 -- the length of the prefix with `n` calls; all if there are fewer
 abbrev pub reach : ℕ → List Told → ℕ
 reach n [] = 0
-reach n (call ∷ calls) =
-    if is_call call then (if n == 0 then 0 else suc (reach (n - 1) calls)) else suc (reach n calls)
+reach n (call ∷ calls) = if is_call call then (if n == 0 then 0 else suc (reach (n - 1) calls)) else suc (reach n calls)
 
 -- the prefix that ends `n` calls after the mark; all if there are fewer
 abbrev pub prefix_after_mark : ℕ → ℕ → List Told → List Told
@@ -92,21 +83,11 @@ acted_file pick file (Place _ bytes ok) =
     else record file { base = bytes; image = if pick == 0 then None else Some bytes }
 acted_file pick file (WriteAt _ at bytes ok) =
     if fits_in file at
-    then record file {
-      bytes = if ok then overwritten file.bytes at bytes
-          else file.bytes;
-      image =
-          if pick == 0 then file.image else written_over at (variant pick file.base at bytes) file.image;
-    }
+    then record file { bytes = if ok then overwritten file.bytes at bytes else file.bytes; image = if pick == 0 then file.image else written_over at (variant pick file.base at bytes) file.image }
     else file
-acted_file pick file (Sync _ ok) =
-    if ok && file.there then record file { base = file.bytes; image = Some file.bytes } else file
-acted_file pick file (Remove _ ok) =
-    if file.there
-    then record file { there = not ok; image = if ok then None else if pick == 0 then file.image else None }
-    else file
-acted_file pick file (Preset _ bytes) =
-    record { there = true; bytes = bytes; base = bytes; image = Some bytes }
+acted_file pick file (Sync _ ok) = if ok && file.there then record file { base = file.bytes; image = Some file.bytes } else file
+acted_file pick file (Remove _ ok) = if file.there then record file { there = not ok; image = if ok then None else if pick == 0 then file.image else None } else file
+acted_file pick file (Preset _ bytes) = record { there = true; bytes = bytes; base = bytes; image = Some bytes }
 acted_file pick file call = file
 
 -- the setting for a post-crash state

@@ -20,7 +20,5 @@ Adds folder file old new =
 -- the names by which the folder has these files
 pub record AreNames (folder : List ℕ) (files : List MemFile) (names : List (List ℕ)) : Type 0 where
   pub texts : All IsFileName names
-  pub each : All
-      (λ name. (file : List ℕ) × IsTrue (is_some (found files file)) × IsUnder folder name file) names
-  pub all : (name file : List ℕ) → IsFileName name → IsTrue (is_some (found files file))
-      → IsUnder folder name file → Contains names name
+  pub each : All (λ name. (file : List ℕ) × IsTrue (is_some (found files file)) × IsUnder folder name file) names
+  pub all : (name file : List ℕ) → IsFileName name → IsTrue (is_some (found files file)) → IsUnder folder name file → Contains names name

@@ -72,10 +72,8 @@ can_write file at = file.there && leb at (length file.bytes)
 -- The file after a call on it. A failed call doesn't change what reads return, but it may have taken effect
 -- after a crash.
 abbrev pub file_after : FileState → Told → FileState
-file_after s (Place _ bytes ok) =
-    if ok then whole bytes else if s.there then s else whole_or_absent bytes false
-file_after s (WriteAt _ at bytes ok) =
-    if can_write s at then after_write s at (length bytes) (if ok then bytes else []) else s
+file_after s (Place _ bytes ok) = if ok then whole bytes else if s.there then s else whole_or_absent bytes false
+file_after s (WriteAt _ at bytes ok) = if can_write s at then after_write s at (length bytes) (if ok then bytes else []) else s
 file_after s (Sync _ ok) = if ok && s.there then whole s.bytes else s
 file_after s (Remove _ ok) = if s.there then (if ok then absent else or_absent s true) else s
 file_after s (Preset _ bytes) = whole bytes
@@ -102,14 +100,8 @@ AnswerIs calls (Place name bytes ok) = ok ≡ next_succeeds calls
 AnswerIs calls (WriteAt name at bytes ok) = ok ≡ (next_succeeds calls && can_write (files_of calls name) at)
 AnswerIs calls (Sync name ok) = ok ≡ (next_succeeds calls && (files_of calls name).there)
 AnswerIs calls (Remove name ok) = ok ≡ (next_succeeds calls && (files_of calls name).there)
-AnswerIs calls (Read name at len answer) =
-    answer
-    ≡ (if next_succeeds calls && (files_of calls name).there
-    then Some (take len (drop at (files_of calls name).bytes)) else None)
-AnswerIs calls (Listed folder answer) =
-    MatchBool (next_succeeds calls)
-    ((names : List (List ℕ)) × (answer ≡ Some names) × IsListing names
-    × AreNamesIn folder names (files_of calls)) (answer ≡ None)
+AnswerIs calls (Read name at len answer) = answer ≡ (if next_succeeds calls && (files_of calls name).there then Some (take len (drop at (files_of calls name).bytes)) else None)
+AnswerIs calls (Listed folder answer) = MatchBool (next_succeeds calls) ((names : List (List ℕ)) × (answer ≡ Some names) × IsListing names × AreNamesIn folder names (files_of calls)) (answer ≡ None)
 AnswerIs calls call = Unit {0}
 
 -- each of these calls, after the others, has the answer that the disk gives
@@ -130,8 +122,7 @@ seen_after (Preset _ bytes) old = Some bytes
 seen_after call old = old
 
 abbrev pub Changes : List MemFile → List MemFile → Told → Type 0
-Changes old new call =
-    (n : List ℕ) → found new n ≡ (if is_on call n then seen_after call (found old n) else found old n)
+Changes old new call = (n : List ℕ) → found new n ≡ (if is_on call n then seen_after call (found old n) else found old n)
 
 -- an entry that sets no failure
 abbrev pub IsNoNumber : Told → Type 0

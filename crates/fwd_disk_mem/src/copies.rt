@@ -38,7 +38,17 @@ pub fn copy_of_names(alloc: Global, names: &Option<Names>) -> Result<Option<Name
     ensures { IfOk result (λ copy. copy ≡ names.now) }
 {
     match names {
-        Some(names) => Ok(Some(names.try_clone(alloc)?)),
+        Some(names) => Ok(Some(clone_names(alloc, names)?)),
         None => Ok(None),
     }
+}
+
+fn clone_names(alloc: Global, names: &Names) -> Result<Names, Memory>
+    ensures { IfOk result (λ copy. copy ≡ names.now) }
+{
+    let mut copy = Names::new(alloc);
+    for name in names.as_slice() {
+        copy.push(name.try_clone(alloc)?)?;
+    }
+    Ok(copy)
 }

@@ -1,6 +1,11 @@
 //! The names in a folder.
 
-ghost use Rattle.std.specs.Prelude.{◌≡◌, ℕ, List, map, IfOk, OnOk, MatchOption, Contains};
+ghost use Rattle.std.specs.Prelude.{◌≡◌, ℕ, List, [], map, length, Some, IfOk, OnOk, MatchOption, Contains};
+ghost use Rattle.std.specs.Cmp.{partial_equiv_from_equiv};
+ghost use Rattle.std.specs.Cmp.Lexicographic.{slice_cmp, nat_list_eq_equiv, nat_list_cmp_total, texts_ties, texts_po};
+ghost use Rattle.std.specs.Ordering.{nat_cmp};
+ghost use Rattle.std.specs.Str.{bytes_eq};
+ghost use Rattle.std.proofs.Common.{refl};
 ghost use Rattle.fwd_outside.specs.Disk.{IsListing};
 ghost use Rattle.fwd_outside.specs.DiskStates.{IsUnder};
 ghost use Rattle.fwd_disk_mem.specs.FileTable.{file_of};
@@ -10,8 +15,62 @@ use crate::content::Content;
 use crate::file_table::FileTable;
 use fwd_outside::{Bytes, Memory, Names};
 use std::alloc::Global;
+use std::cmp::Ordering;
 use std::collections::HashMap;
+use std::marker::Model;
 use std::str;
+
+/// A name within a folder, ordered by its bytes.
+#[derive(Drop)]
+pub struct Component {
+    name: Bytes,
+}
+
+impl Model for Component {
+    ghost use Rattle.std.specs.Prelude.{List, ℕ};
+
+    ghost Value = { List ℕ };
+
+    ghost view = { λ c. c.name };
+}
+
+impl PartialEq for Component {
+    ghost eq = { bytes_eq };
+
+    ghost laws = { partial_equiv_from_equiv nat_list_eq_equiv };
+
+    fn eq(&self, other: &Self) -> bool {
+        self.name.as_slice() == other.name.as_slice()
+    }
+}
+
+impl Eq for Component {
+    ghost laws = { nat_list_eq_equiv };
+}
+
+impl PartialOrd for Component {
+    ghost partial_cmp = { λ x y. Some (slice_cmp nat_cmp x y) };
+
+    ghost laws = { texts_po };
+
+    fn partial_cmp(&self, other: &Self) -> Option<Ordering> {
+        Some(self.cmp(other))
+    }
+}
+
+impl Ord for Component {
+    ghost cmp = { slice_cmp nat_cmp };
+
+    ghost total = { nat_list_cmp_total };
+
+    ghost matches_partial_cmp = { λ x y. refl };
+
+    ghost matches_eq = { λ x y. texts_ties x y };
+
+    fn cmp(&self, other: &Self) -> Ordering {
+        self.name.as_slice().cmp(other.name.as_slice())
+    }
+}
 
 // Returns the bytes before the first `/`, or all bytes.
 fn up_to_slash(bytes: &[u8]) -> &[u8]
@@ -42,14 +101,19 @@ fn name_under<'a>(folder: &[u8], file: &'a [u8]) -> Option<&'a [u8]>
     Some(up_to_slash(&file[n + 1..]))
 }
 
-fn add_name(alloc: Global, names: &mut Vec<Bytes>, folder: &[u8], file: &[u8]) -> Result<(), Memory>
+fn add_name(
+    alloc: Global,
+    names: &mut Vec<Component>,
+    folder: &[u8],
+    file: &[u8],
+) -> Result<(), Memory>
     ensures { OnOk result (Adds folder.now file.now names.old.items names.new.items) }
 {
     match name_under(folder, file) {
         Some(name) => {
             if str::from_utf8(name).is_ok() {
                 let name = Bytes::from_slice(alloc, name)?;
-                names.push(name)?;
+                names.push(Component { name })?;
             }
         }
         None => {}
@@ -61,7 +125,7 @@ fn all_names(
     alloc: Global,
     files: &HashMap<Vec<u8>, Content>,
     folder: &[u8],
-) -> Result<Vec<Bytes>, Memory>
+) -> Result<Vec<Component>, Memory>
     ensures { IfOk result (λ names. AreNames folder.now (map file_of files.now.entries) names.items) }
 {
     let mut names = Vec::new(alloc);
@@ -71,12 +135,12 @@ fn all_names(
     Ok(names)
 }
 
-fn names_of(alloc: Global, all: &[Bytes]) -> Result<Names, Memory>
-    ensures { IfOk result (λ names. names ≡ all.now) }
+fn names_of_components(alloc: Global, components: &[Component]) -> Result<Names, Memory>
+    ensures { IfOk result (λ names. names ≡ components.now) }
 {
     let mut names = Names::new(alloc);
-    for name in all {
-        names.push(name.try_clone(alloc)?)?;
+    for component in components {
+        names.push(component.name.try_clone(alloc)?)?;
     }
     Ok(names)
 }
@@ -89,5 +153,5 @@ pub fn names_in(alloc: Global, files: &FileTable, folder: &[u8]) -> Result<Names
     let mut names = all_names(alloc, files.files(), folder)?;
     names.sort()?;
     names.dedup();
-    names_of(alloc, &names)
+    names_of_components(alloc, &names)
 }

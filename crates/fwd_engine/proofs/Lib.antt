@@ -4,4 +4,3 @@ pub mod EventCounts
 pub mod RunTurns
 pub mod GracePeriod
 pub mod EventFacts
-pub mod KeptOffsets

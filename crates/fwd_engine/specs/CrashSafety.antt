@@ -30,8 +30,7 @@ pub record IsAtCrashPoint (s : AllSettings) (first : Files) (engine : Engine) (m
 -- Between the two worlds the devices made the first calls of an action, from this point of a run on. At
 -- each crash point, inside a disk call too, the post-crash state is safe. After the calls the last
 -- condition holds.
-pub record IsCrashSafeUpTo {R : Type 0} (a b : CallLogs) (s : AllSettings) (first : Files) (m : CrashPoint)
-    (act left : Action R) (Behind : CrashPoint → Type 0) : Type 0 where
+pub record IsCrashSafeUpTo {R : Type 0} (a b : CallLogs) (s : AllSettings) (first : Files) (m : CrashPoint) (act left : Action R) (Behind : CrashPoint → Type 0) : Type 0 where
   pub entries : List TraceEntry
   pub asked : LogsGrew a b entries
   pub way : Execution act entries left
@@ -42,40 +41,27 @@ abbrev NoCondition : CrashPoint → Type 0
 NoCondition end = Unit {0}
 
 -- a completed action, after which the engine represents its history
-abbrev pub CompletesCrashSafely : CallLogs → CallLogs → AllSettings → Files → CrashPoint → Action History
-    → Engine → Type 0
-CompletesCrashSafely a b s first m act after =
-    (h : History) × IsCrashSafeUpTo a b s first m act (Return h) (IsAtCrashPoint s first after)
+abbrev pub CompletesCrashSafely : CallLogs → CallLogs → AllSettings → Files → CrashPoint → Action History → Engine → Type 0
+CompletesCrashSafely a b s first m act after = (h : History) × IsCrashSafeUpTo a b s first m act (Return h) (IsAtCrashPoint s first after)
 
 -- the beginning of an action
-abbrev pub BeganCrashSafely : {R : Type 0} → CallLogs → CallLogs → AllSettings → Files → CrashPoint → Action R
-    → Type 0
-BeganCrashSafely {R = R} a b s first m act =
-    (left : Action R) × IsCrashSafeUpTo a b s first m act left NoCondition
+abbrev pub BeganCrashSafely : {R : Type 0} → CallLogs → CallLogs → AllSettings → Files → CrashPoint → Action R → Type 0
+BeganCrashSafely {R = R} a b s first m act = (left : Action R) × IsCrashSafeUpTo a b s first m act left NoCondition
 
 -- the loading at the start of a run, by its result
 abbrev pub BeginIsCrashSafe : CallLogs → CallLogs → AllSettings → Files → Result Engine BeginErr → Type 0
-BeginIsCrashSafe a b s first (Ok engine) =
-    (h : History)
-    × IsCrashSafeUpTo a b s first (crash_point [] first) (recovers s) (Return (Some h))
-    (IsAtCrashPoint s first engine)
-BeginIsCrashSafe a b s first (Err begin_err.DiskFault) =
-    IsCrashSafeUpTo a b s first (crash_point [] first) (recovers s) (Return None) NoCondition
-BeginIsCrashSafe a b s first (Err begin_err.Memory) =
-    BeganCrashSafely a b s first (crash_point [] first) (recovers s)
+BeginIsCrashSafe a b s first (Ok engine) = (h : History) × IsCrashSafeUpTo a b s first (crash_point [] first) (recovers s) (Return (Some h)) (IsAtCrashPoint s first engine)
+BeginIsCrashSafe a b s first (Err begin_err.DiskFault) = IsCrashSafeUpTo a b s first (crash_point [] first) (recovers s) (Return None) NoCondition
+BeginIsCrashSafe a b s first (Err begin_err.Memory) = BeganCrashSafely a b s first (crash_point [] first) (recovers s)
 
 -- a step, by its result; if the loop has failed, no call is made and nothing changes
-abbrev pub StepIsCrashSafe : CallLogs → CallLogs → AllSettings → Files → CrashPoint → Happening → Engine
-    → Result Turn EngineStop → Type 0
-StepIsCrashSafe a b s first m brought after (Ok turn) =
-    CompletesCrashSafely a b s first m (step s brought (logged m.past)) after
+abbrev pub StepIsCrashSafe : CallLogs → CallLogs → AllSettings → Files → CrashPoint → Happening → Engine → Result Turn EngineStop → Type 0
+StepIsCrashSafe a b s first m brought after (Ok turn) = CompletesCrashSafely a b s first m (step s brought (logged m.past)) after
 StepIsCrashSafe a b s first m brought after (Err stop.LoopFault) = (b ≡ a) × IsAtCrashPoint s first after m
-StepIsCrashSafe a b s first m brought after (Err stop.Memory) =
-    BeganCrashSafely a b s first m (step s brought (logged m.past))
+StepIsCrashSafe a b s first m brought after (Err stop.Memory) = BeganCrashSafely a b s first m (step s brought (logged m.past))
 
 -- a turn, by its result
-abbrev pub TurnIsCrashSafe : CallLogs → CallLogs → AllSettings → Files → CrashPoint → Engine
-    → Result Turn EngineStop → Type 0
+abbrev pub TurnIsCrashSafe : CallLogs → CallLogs → AllSettings → Files → CrashPoint → Engine → Result Turn EngineStop → Type 0
 TurnIsCrashSafe a b s first m after (Ok answer) = CompletesCrashSafely a b s first m (turn s m) after
 TurnIsCrashSafe a b s first m after (Err stop.LoopFault) = CompletesCrashSafely a b s first m (turn s m) after
 TurnIsCrashSafe a b s first m after (Err stop.Memory) = BeganCrashSafely a b s first m (turn s m)

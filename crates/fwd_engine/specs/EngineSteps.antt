@@ -27,7 +27,7 @@ use Rattle.fwd_engine.specs.declared.engine.Turn.TheVariants.{More, Over}
 
 -- the engine runs by these settings, and represents this history
 pub record IsAt (engine : Engine) (s : AllSettings) (h : History) : Type 0 where
-  pub settings : engine.run ≡ s
+  pub settings : engine.setup ≡ s
   pub shows : PartsRepresentIdle s engine.parts h
 
 -- a statement about each history that the engine represents
@@ -55,8 +55,7 @@ as_turn true = Over
 as_turn false = More
 
 -- the step was completed, and the run is over exactly if the reference model says so
-pub record Stepped (a b : CallLogs) (s : AllSettings) (h : History) (brought : Happening) (after : Engine)
-    (turn : Turn) : Type 0 where
+pub record Stepped (a b : CallLogs) (s : AllSettings) (h : History) (brought : Happening) (after : Engine) (turn : Turn) : Type 0 where
   pub history : History
   pub did : Completes a b (step s brought h) history
   pub at : IsAt after s history
@@ -68,8 +67,7 @@ is_failed brought = false
 
 -- By the result: an event other than `Failed`, and its step; `Failed`, without a call, and the engine is
 -- unchanged; or the beginning of the step, because memory ran out.
-abbrev pub Steps : CallLogs → CallLogs → AllSettings → History → Happening → Engine → Result Turn EngineStop
-    → Type 0
+abbrev pub Steps : CallLogs → CallLogs → AllSettings → History → Happening → Engine → Result Turn EngineStop → Type 0
 Steps a b s h brought after (Ok turn) = (is_failed brought ≡ false) × Stepped a b s h brought after turn
 Steps a b s h brought after (Err stop.LoopFault) = (is_failed brought ≡ true) × (b ≡ a) × IsAt after s h
 Steps a b s h brought after (Err stop.Memory) = (is_failed brought ≡ false) × IsBegun a b (step s brought h)
@@ -82,26 +80,22 @@ FailsExactly brought result = (result ≡ Err stop.LoopFault) ↔ (is_failed bro
 
 -- the wait of a turn
 abbrev pub waits : AllSettings → History → Action Happening
-waits s h =
-    Ask (OnLoop (Wait (saturating_plus (clock h) longest_wait) (paused s h))) (λ brought. Return brought)
+waits s h = Ask (OnLoop (Wait (saturating_plus (clock h) longest_wait) (paused s h))) (λ brought. Return brought)
 
 -- the wait gave this event; or, if memory ran out, no call was completed
-abbrev pub WaitOutcome : {E : Type 0} → CallLogs → CallLogs → AllSettings → History → Result Happening E
-    → Type 0
+abbrev pub WaitOutcome : {E : Type 0} → CallLogs → CallLogs → AllSettings → History → Result Happening E → Type 0
 WaitOutcome a b s h (Ok brought) = Completes a b (waits s h) brought
 WaitOutcome a b s h (Err e) = IsBegun a b (waits s h)
 
 -- the event of the wait, and its step
-pub record Turned (a b : CallLogs) (s : AllSettings) (h : History) (after : Engine)
-    (result : Result Turn EngineStop) : Type 0 where
+pub record Turned (a b : CallLogs) (s : AllSettings) (h : History) (after : Engine) (result : Result Turn EngineStop) : Type 0 where
   pub brought : Happening
   pub between : CallLogs
   pub waited : Completes a between (waits s h) brought
   pub steps : Steps between b s h brought after result
 
 -- A turn waits for an event and handles it. If memory runs out in the wait, no call is made.
-abbrev pub TurnOutcome : CallLogs → CallLogs → AllSettings → History → Engine → Result Turn EngineStop
-    → Type 0
+abbrev pub TurnOutcome : CallLogs → CallLogs → AllSettings → History → Engine → Result Turn EngineStop → Type 0
 TurnOutcome a b s h after (Ok turn) = Turned a b s h after (Ok turn)
 TurnOutcome a b s h after (Err stop.LoopFault) = Turned a b s h after (Err stop.LoopFault)
 TurnOutcome a b s h after (Err stop.Memory) = Turned a b s h after (Err stop.Memory) ⊎ IsBegun a b (waits s h)

@@ -25,22 +25,17 @@ IsAtEnd engine s h run_end.LoopFailed = Unit {0}
 IsAtEnd engine s h end = IsAt engine s h
 
 -- the calls are those of a run to its end, which was this one, and the engine represents the history there
-pub record RanToEnd (a b : CallLogs) (s : AllSettings) (run : Action RunResult) (after : Engine)
-    (end : RunEnd) : Type 0 where
+pub record RanToEnd (a b : CallLogs) (s : AllSettings) (run : Action RunResult) (after : Engine) (end : RunEnd) : Type 0 where
   pub history : History
   pub did : Completes a b run (lived history (end_of end))
   pub at : IsAtEnd after s history end
 
 -- The calls are those of a part of a run: up to what follows it, where the engine represents the history;
 -- to the end of the run; or, if memory ran out, some first calls.
-abbrev pub RunContinues : CallLogs → CallLogs → AllSettings → Action RunResult → (History → Action RunResult)
-    → Engine → Result Turn EngineStop → Type 0
-RunContinues a b s part next after (Ok turn.More) =
-    (now : History) × IsAt after s now × Leads a b part (next now)
-RunContinues a b s part next after (Ok turn.Over) =
-    (now : History) × IsAt after s now × Completes a b part (lived now Over)
-RunContinues a b s part next after (Err stop.LoopFault) =
-    (now : History) × Completes a b part (lived now LoopFailed)
+abbrev pub RunContinues : CallLogs → CallLogs → AllSettings → Action RunResult → (History → Action RunResult) → Engine → Result Turn EngineStop → Type 0
+RunContinues a b s part next after (Ok turn.More) = (now : History) × IsAt after s now × Leads a b part (next now)
+RunContinues a b s part next after (Ok turn.Over) = (now : History) × IsAt after s now × Completes a b part (lived now Over)
+RunContinues a b s part next after (Err stop.LoopFault) = (now : History) × Completes a b part (lived now LoopFailed)
 RunContinues a b s part next after (Err stop.Memory) = IsBegun a b part
 
 -- how many events a run was given that ended so
@@ -50,7 +45,5 @@ heard_in most (Ok end) = 0
 heard_in most (Err e) = 0
 
 -- a completed run, or the beginning of one if memory ran out
-abbrev pub RunOutcome : {E : Type 0} → CallLogs → CallLogs → AllSettings → Action RunResult → Engine
-    → Result RunEnd E → Type 0
-RunOutcome a b s run after result =
-    MatchResult result (λ end. RanToEnd a b s run after end) (λ _. IsBegun a b run)
+abbrev pub RunOutcome : {E : Type 0} → CallLogs → CallLogs → AllSettings → Action RunResult → Engine → Result RunEnd E → Type 0
+RunOutcome a b s run after result = MatchResult result (λ end. RanToEnd a b s run after end) (λ _. IsBegun a b run)

@@ -11,6 +11,7 @@ use fwd_engine_flush::{back, broken, room, walk};
 use fwd_engine_ingest::{end_input, join, poll_inputs, receive_bytes, remove_peer};
 use fwd_engine_settings::RunSettings;
 use fwd_engine_state::Parts;
+use fwd_limits::MemLimits;
 use fwd_outside::{Disk, Files, Happening, Loop};
 use std::thread::Threads;
 
@@ -39,12 +40,14 @@ fn close_and_dispatch<L: Loop, D: Disk>(
 fn tick<L: Loop, D: Disk, F: Files>(
     rt: &(impl Threads + Sync),
     run: &RunSettings,
+    limits: &MemLimits,
     parts: &mut Parts,
     outside: &mut L,
     disk: &mut D,
     files: &mut F,
     now: u64,
 ) -> Result<(), Memory>
+    requires limits { limits.now ≡ map (λ (set : InputSet). set.mem_limit) run.now.inputs }
     ensures acts { RefinesAction run.now (with_all (L.call_log outside.old) (D.call_log disk.old) (F.call_log files.old)) (with_all (L.call_log outside.new) (D.call_log disk.new) (F.call_log files.new)) parts.old parts.new (λ h. step run.now (happening.Tick now) h) result }
     ensures unheard { NoEventTaken (L.counts outside.old) (L.counts outside.new) }
     ensures later { L.faults outside.old ≤ L.faults outside.new }
@@ -52,7 +55,7 @@ fn tick<L: Loop, D: Disk, F: Files>(
     ensures files_later { F.faults files.old ≤ F.faults files.new }
 {
     let closing = parts.state.advance_clock(now, run.flush_ms());
-    poll_inputs(rt, run, parts, disk, files)?;
+    poll_inputs(rt, run, limits, parts, disk, files)?;
     close_and_dispatch(run, parts, outside, disk, closing)
 }
 
@@ -115,16 +118,19 @@ fn finish<L: Loop, D: Disk>(
     }
 }
 
-/// Handles one event. The only error is `Memory`, after which the parts can't be used any more.
+/// Handles one event. `limits` are the memory limits of the inputs. The only error is `Memory`, after which
+/// the parts can't be used any more.
 pub fn step<L: Loop, D: Disk, F: Files>(
     rt: &(impl Threads + Sync),
     run: &RunSettings,
+    limits: &MemLimits,
     parts: &mut Parts,
     outside: &mut L,
     disk: &mut D,
     files: &mut F,
     happening: &Happening,
 ) -> Result<(), Memory>
+    requires limits { limits.now ≡ map (λ (set : InputSet). set.mem_limit) run.now.inputs }
     ensures acts { RefinesAction run.now (with_all (L.call_log outside.old) (D.call_log disk.old) (F.call_log files.old)) (with_all (L.call_log outside.new) (D.call_log disk.new) (F.call_log files.new)) parts.old parts.new (λ h. step run.now happening.now h) result }
     ensures unheard { NoEventTaken (L.counts outside.old) (L.counts outside.new) }
     ensures later { L.faults outside.old ≤ L.faults outside.new }
@@ -132,7 +138,7 @@ pub fn step<L: Loop, D: Disk, F: Files>(
     ensures files_later { F.faults files.old ≤ F.faults files.new }
 {
     match happening {
-        Happening::Tick { now } => tick(rt, run, parts, outside, disk, files, *now),
+        Happening::Tick { now } => tick(rt, run, limits, parts, outside, disk, files, *now),
         Happening::Joined { input, conn } => join(run, parts, *input, *conn),
         Happening::Piece { input, conn, bytes } => {
             let bytes = bytes.as_slice();

@@ -1,4 +1,4 @@
-ghost use Rattle.std.specs.Prelude.{◌≡◌, ◌≤◌, true, length, OnOk, Err};
+ghost use Rattle.std.specs.Prelude.{◌≡◌, ◌≤◌, true, Err};
 ghost use Rattle.fwd_outside.specs.Cause.{HasCause};
 ghost use Rattle.fwd_outside.specs.Loop.{WaitFails, counts_after_wait};
 ghost use Rattle.fwd_outside.specs.DiskStates.{Files as DiskFiles};
@@ -11,9 +11,6 @@ ghost use Rattle.fwd_model.specs.Clock.{stopped, ticked};
 ghost use Rattle.fwd_model.specs.Limits.{paused};
 ghost use Rattle.fwd_model.specs.Routes.{rows_of};
 ghost use Rattle.fwd_model.specs.Counters.{tally_of};
-ghost use Rattle.fwd_model.specs.FollowedFiles.{settled_at};
-ghost use Rattle.fwd_model.specs.Settings.{paths_at};
-ghost use Rattle.fwd_engine_inputs.specs.FilesRepresent.{resumed_history};
 ghost use Rattle.fwd_theorem_trace.specs.Allowed.{EventAllowed};
 ghost use Rattle.fwd_theorem_crash.specs.CrashPoint.{CrashPoint};
 ghost use Rattle.fwd_engine_state.specs.RefinesAction.{with_disk, with_all};
@@ -23,11 +20,11 @@ ghost use Rattle.fwd_engine.specs.CrashSafety.{BeginIsCrashSafe, IsAtCrashPoint,
 ghost use Rattle.fwd_engine.specs.declared.engine.BeginErr.TheVariants as begin_err;
 ghost use Rattle.fwd_engine.specs.declared.engine.EngineStop.TheVariants as stop;
 
+use crate::setup::Setup;
 use crate::{is_finished, step};
+use fwd_base::Memory;
 use fwd_base::limits::LONGEST_WAIT;
-use fwd_base::{InputId, Memory};
 use fwd_engine_recovery::{LoadErr, load};
-use fwd_engine_settings::RunSettings;
 use fwd_engine_state::Parts;
 use fwd_outside::{Disk, Files, Happening, Loop};
 use fwd_settings::AllSettings;
@@ -76,7 +73,7 @@ fn turn_of(over: bool) -> Turn
 /// An engine: its settings and its parts.
 #[derive(Drop)]
 pub struct Engine {
-    run: RunSettings,
+    setup: Setup,
     parts: Parts,
 }
 
@@ -126,7 +123,7 @@ impl Engine {
         ensures safe { (others : CallLogs) (s : AllSettings) (first : DiskFiles) (m : CrashPoint) → s.service.full ≡ true → AreDurable first → IsAtCrashPoint s first self.old m → EventAllowed s happening m.past
             → StepIsCrashSafe (with_all (L.call_log outside.old) (D.call_log disk.old) (F.call_log files.old) others) (with_all (L.call_log outside.new) (D.call_log disk.new) (F.call_log files.new) others) s first m happening self.new result }
     {
-        self.run.lemma_settings_are_sound();
+        self.setup.lemma_settings_are_sound();
         self.take(rt, &happening, disk, files, outside)
     }
 
@@ -161,7 +158,7 @@ impl Engine {
         ensures safe { (others : CallLogs) (s : AllSettings) (first : DiskFiles) (m : CrashPoint) → s.service.full ≡ true → AreDurable first → IsAtCrashPoint s first self.old m
             → TurnIsCrashSafe (with_all (L.call_log outside.old) (D.call_log disk.old) (F.call_log files.old) others) (with_all (L.call_log outside.new) (D.call_log disk.new) (F.call_log files.new) others) s first m self.new result }
     {
-        self.run.lemma_settings_are_sound();
+        self.setup.lemma_settings_are_sound();
         match self.wait(outside) {
             Ok(happening) => self.take(rt, &happening, disk, files, outside),
             Err(_) => Err(EngineStop::Memory),
@@ -178,11 +175,11 @@ impl Engine {
         ensures begins { (others : CallLogs) → BeginOutcome (with_disk (D.call_log disk.old) others) (with_disk (D.call_log disk.new) others) settings result }
         ensures cause { HasCause (D.faults disk.old) (D.faults disk.new) (result ≡ Err begin_err.DiskFault) }
     {
-        let Ok(run) = RunSettings::new(alloc, settings) else {
+        let Ok(setup) = Setup::new(alloc, settings) else {
             return Err(BeginErr::Memory);
         };
-        match load(rt, alloc, &run, disk) {
-            Ok(parts) => Ok(Engine { run, parts }),
+        match load(rt, alloc, setup.run(), disk) {
+            Ok(parts) => Ok(Engine { setup, parts }),
             Err(LoadErr::DiskFailed) => Err(BeginErr::DiskFault),
             Err(LoadErr::Memory) => Err(BeginErr::Memory),
         }
@@ -207,8 +204,18 @@ impl Engine {
         if is_failure(happening) {
             return Err(EngineStop::LoopFault);
         }
-        let run = &self.run;
-        match step(rt, run, &mut self.parts, outside, disk, files, happening) {
+        let run = self.setup.run();
+        let limits = self.setup.limits();
+        match step(
+            rt,
+            run,
+            limits,
+            &mut self.parts,
+            outside,
+            disk,
+            files,
+            happening,
+        ) {
             Ok(()) => Ok(turn_of(is_finished(run, &self.parts, happening))),
             Err(_) => Err(EngineStop::Memory),
         }
@@ -219,7 +226,7 @@ impl Engine {
     pub fn paused(&self) -> u64
         ensures { EngineAnswers self.now (λ s h. result ≡ paused s h) }
     {
-        self.parts.state.paused(self.run.memory_limits())
+        self.parts.state.paused(self.setup.limits())
     }
 
     /// Exactly the pending chunks, each with its outputs, tries and due times.
@@ -250,23 +257,6 @@ impl Engine {
         self.parts.state.ticked()
     }
 
-    /// Returns the offset after the last whole line that was read from a followed file, by the index of its
-    /// path among those of the input. `None` if the input has no such path, or if nothing was read and no
-    /// reading resumed.
-    pub fn settled(&self, input: InputId, index: u64) -> Option<u64>
-        ensures { EngineAnswers self.now (λ s h. result ≡ settled_at s h input.0 index) }
-    {
-        self.parts.followed_files.settled(input, index as usize)
-    }
-
-    /// Resumes reading the files of a path at an offset, at each index of the path among those of the input.
-    /// After `Memory` the engine can't be used any more.
-    pub fn resume(&mut self, input: InputId, path: &[u8], place: u64) -> Result<(), Memory>
-        ensures { OnOk result ((s : AllSettings) (h : History) → IsAt self.old s h → IsAt self.new s (resumed_history input.0 path.now place (paths_at s input.0) (length (paths_at s input.0)) h)) }
-    {
-        self.parts.followed_files.resume(input, path, place)
-    }
-
     pub fn alloc(&self) -> Global {
         self.parts.state.alloc()
     }
@@ -275,6 +265,6 @@ impl Engine {
     pub fn finish(self) -> AllSettings
         ensures { (s : AllSettings) (h : History) → IsAt self s h → result ≡ s }
     {
-        self.run.into_settings()
+        self.setup.into_settings()
     }
 }

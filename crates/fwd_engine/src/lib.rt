@@ -13,8 +13,9 @@ mod dispatch;
 mod engine;
 mod run_end;
 mod run_loop;
+mod setup;
 
 pub use dispatch::step;
 pub use engine::{BeginErr, Engine, EngineStop, Turn};
 pub use run_end::{is_clock_tick, is_finished};
-pub use run_loop::{RunEnd, run, shown_of};
+pub use run_loop::{RunEnd, run};

@@ -18,7 +18,6 @@ ghost use Rattle.fwd_engine.specs.declared.run_loop.RunEnd.TheVariants as run_en
 use crate::{Engine, EngineStop, Turn, is_clock_tick};
 use fwd_base::Memory;
 use fwd_outside::{Begun, Disk, Ends, Files, Happening, Loop};
-use fwd_watch::{Shown, Watch};
 use std::thread::Threads;
 
 /// How a run ended.
@@ -30,23 +29,6 @@ pub enum RunEnd {
     LoopFailed,
     /// All turns are taken.
     TurnsSpent,
-}
-
-/// Returns what a watcher is shown of an engine.
-pub fn shown_of(engine: &Engine) -> Shown<'_> {
-    Shown {
-        tally: engine.tally(),
-        table: engine.table(),
-        paused: engine.paused(),
-        stopped: engine.stopped(),
-    }
-}
-
-/// Shows the engine to the watcher after a clock tick. What the watcher does has no effect on the engine.
-fn show_after_tick(engine: &Engine, reads: bool, watch: &mut impl Watch) {
-    if reads {
-        watch.read_clock(shown_of(engine));
-    }
 }
 
 /// Whether the event was the last of `ticks` ticks, if that number is given, and the run isn't stopped yet.
@@ -93,7 +75,6 @@ fn take<L: Loop, D: Disk, F: Files>(
     disk: &mut D,
     files: &mut F,
     outside: &mut L,
-    watch: &mut impl Watch,
 ) -> Result<Turn, EngineStop>
     ensures goes { (others : CallLogs) (s : AllSettings) (h : History) (next : History → Action RunResult) → IsAt engine.old s h
         → RunContinues (with_all (L.call_log outside.old) (D.call_log disk.old) (F.call_log files.old) others) (with_all (L.call_log outside.new) (D.call_log disk.new) (F.call_log files.new) others) s (written.brought s ticks next h happening) next engine.new result }
@@ -105,10 +86,7 @@ fn take<L: Loop, D: Disk, F: Files>(
 {
     let reads = is_clock_tick(&happening);
     match engine.step(rt, happening, disk, files, outside) {
-        Ok(Turn::More) => {
-            show_after_tick(engine, reads, watch);
-            unless_last(rt, engine, ticks, reads, disk, files, outside)
-        }
+        Ok(Turn::More) => unless_last(rt, engine, ticks, reads, disk, files, outside),
         Ok(Turn::Over) => Ok(Turn::Over),
         Err(fault) => Err(fault),
     }
@@ -122,7 +100,6 @@ fn turn<L: Loop, D: Disk, F: Files>(
     disk: &mut D,
     files: &mut F,
     outside: &mut L,
-    watch: &mut impl Watch,
 ) -> Result<Turn, EngineStop>
     ensures goes { (others : CallLogs) (s : AllSettings) (h : History) (more : ℕ) → IsAt engine.old s h
         → RunContinues (with_all (L.call_log outside.old) (D.call_log disk.old) (F.call_log files.old) others) (with_all (L.call_log outside.new) (D.call_log disk.new) (F.call_log files.new) others) s (written.run s ticks (suc more) h) (written.run s ticks more) engine.new result }
@@ -132,7 +109,7 @@ fn turn<L: Loop, D: Disk, F: Files>(
     ensures files_later { F.faults files.old ≤ F.faults files.new }
 {
     match engine.wait(outside) {
-        Ok(happening) => take(rt, engine, ticks, happening, disk, files, outside, watch),
+        Ok(happening) => take(rt, engine, ticks, happening, disk, files, outside),
         Err(_) => Err(EngineStop::Memory),
     }
 }
@@ -146,7 +123,6 @@ fn turns<L: Loop, D: Disk, F: Files>(
     files: &mut F,
     outside: &mut L,
     most: u64,
-    watch: &mut impl Watch,
 ) -> Result<RunEnd, Memory>
     ensures runs { (others : CallLogs) (s : AllSettings) (h : History) → IsAt engine.old s h
         → RunOutcome (with_all (L.call_log outside.old) (D.call_log disk.old) (F.call_log files.old) others) (with_all (L.call_log outside.new) (D.call_log disk.new) (F.call_log files.new) others) s (written.run s ticks most h) engine.new result }
@@ -156,7 +132,7 @@ fn turns<L: Loop, D: Disk, F: Files>(
     ensures files_later { F.faults files.old ≤ F.faults files.new }
 {
     for _ in 0..most {
-        match turn(rt, engine, ticks, disk, files, outside, watch) {
+        match turn(rt, engine, ticks, disk, files, outside) {
             Ok(Turn::More) => {}
             Ok(Turn::Over) => return Ok(RunEnd::Over),
             Err(EngineStop::LoopFault) => return Ok(RunEnd::LoopFailed),
@@ -169,8 +145,7 @@ fn turns<L: Loop, D: Disk, F: Files>(
 /// Runs an engine that has begun: starts the loop with its endpoints, and takes at most `most` turns, each
 /// of which waits for one event. If `ticks` is given, the run is stopped after that many ticks. The calls
 /// are those of the reference model's run after its loading. Returns `LoopFailed` only if a failure of the
-/// loop was counted, and `TurnsSpent` only if the loop gave `most` events. The only error is `Memory`. The
-/// watcher is shown the engine after each tick.
+/// loop was counted, and `TurnsSpent` only if the loop gave `most` events. The only error is `Memory`.
 pub fn run<L: Loop, D: Disk, F: Files>(
     rt: &(impl Threads + Sync),
     engine: &mut Engine,
@@ -180,7 +155,6 @@ pub fn run<L: Loop, D: Disk, F: Files>(
     files: &mut F,
     outside: &mut L,
     most: u64,
-    watch: &mut impl Watch,
 ) -> Result<RunEnd, Memory>
     ensures runs { (others : CallLogs) (s : AllSettings) (h : History) → IsAt engine.old s h
         → RunOutcome (with_all (L.call_log outside.old) (D.call_log disk.old) (F.call_log files.old) others) (with_all (L.call_log outside.new) (D.call_log disk.new) (F.call_log files.new) others) s (written.after_recovery s ends.now ticks most (Some h)) engine.new result }
@@ -190,7 +164,7 @@ pub fn run<L: Loop, D: Disk, F: Files>(
     ensures files_later { F.faults files.old ≤ F.faults files.new }
 {
     match outside.start(ends) {
-        Begun::Ready => turns(rt, engine, ticks, disk, files, outside, most, watch),
+        Begun::Ready => turns(rt, engine, ticks, disk, files, outside, most),
         Begun::Failed => Ok(RunEnd::LoopFailed),
         Begun::Memory => Err(Memory),
     }

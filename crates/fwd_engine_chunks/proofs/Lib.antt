@@ -7,4 +7,3 @@ pub mod ClosedChunks
 pub mod Scans
 pub mod EncodingLemmas
 pub mod StoreOutcome
-pub mod ReadyStores

@@ -30,12 +30,8 @@ pub record IsEncoded (events : List Event) (bytes : List ℕ) : Type 0 where
   pub are : AreEvents events bytes
 
 -- a batch was accepted or refused as the action says, and the parts represent the history after it
-abbrev pub AcceptsAs : {E : Type 0} → AllSettings → Parts → CallLogs → CallLogs → Action Acceptance
-    → Result Bool E → Type 0
-AcceptsAs s after old new act result =
-    Refines
-    (λ was_taken (a : Acceptance). (a.taken ≡ was_taken)
-    × PartsRepresentIdle s after a.history) old new act result
+abbrev pub AcceptsAs : {E : Type 0} → AllSettings → Parts → CallLogs → CallLogs → Action Acceptance → Result Bool E → Type 0
+AcceptsAs s after old new act result = Refines (λ was_taken (a : Acceptance). (a.taken ≡ was_taken) × PartsRepresentIdle s after a.history) old new act result
 
 -- The store is ahead of the other parts: it represents a longer history than they do.
 pub record StoreIsAhead (s : AllSettings) (parts : Parts) (h now : History) : Type 0 where
@@ -62,8 +58,7 @@ behind b h a = Accepted b (place_of a) ∷ Offered a.chunk.0 b ∷ h
 -- a new chunk may begin with a batch of this size; an existing chunk has this size with the batch
 abbrev pub SizesMatch : AllSettings → History → Batch → ℕ → ℕ → Bool → Type 0
 SizesMatch s h b chunk bytes true = IsNew s h chunk × (length (encoded b.events) ≡ bytes)
-SizesMatch s h b chunk bytes false =
-    (chunk < next h) × (bytes ≡ size (Accepted b (AppendedTo chunk) ∷ h) chunk)
+SizesMatch s h b chunk bytes false = (chunk < next h) × (bytes ≡ size (Accepted b (AppendedTo chunk) ∷ h) chunk)
 
 -- the store holds the batch, and its chunk, which may be full, is open
 pub record StoreHasTaken (s : AllSettings) (h : History) (b : Batch) (a : Answer) : Type 0 where
@@ -75,9 +70,7 @@ pub record StoreHasTaken (s : AllSettings) (h : History) (b : Batch) (a : Answer
 
 -- the rest of the action
 abbrev pub goes_on : AllSettings → Batch → History → Answer → Action Acceptance
-goes_on s b h a =
-    note_then (Accepted b (place_of a)) (Offered a.chunk.0 b ∷ h)
-    (λ at. bind (closes_if_full s a.chunk.0 at) taken)
+goes_on s b h a = note_then (Accepted b (place_of a)) (Offered a.chunk.0 b ∷ h) (λ at. bind (closes_if_full s a.chunk.0 at) taken)
 
 -- ---- batches that the disk failed to take
 

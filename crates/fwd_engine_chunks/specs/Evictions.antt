@@ -21,13 +21,11 @@ IsNotAmong n (x ∷ xs) = ((n == x) ≡ false) × IsNotAmong n xs
 -- a chunk is idle to each of these outputs, which are distinct
 abbrev pub IsIdleToEach : AllSettings → History → ℕ → List ℕ → Type 0
 IsIdleToEach s h chunk [] = Unit {0}
-IsIdleToEach s h chunk (output ∷ outputs) =
-    (is_idle s h (route chunk output) ≡ true) × IsNotAmong output outputs × IsIdleToEach s h chunk outputs
+IsIdleToEach s h chunk (output ∷ outputs) = (is_idle s h (route chunk output) ≡ true) × IsNotAmong output outputs × IsIdleToEach s h chunk outputs
 
 -- the outputs that a chunk waits for
 abbrev pub idle_outputs : AllSettings → History → ℕ → List ℕ
-idle_outputs s h chunk =
-    filter (λ output. is_idle s h (route chunk output)) (range_with_len 0 (length s.outputs))
+idle_outputs s h chunk = filter (λ output. is_idle s h (route chunk output)) (range_with_len 0 (length s.outputs))
 
 -- a chunk is closed, and no attempt of it is in flight
 abbrev pub IsClosedAtRest : History → ℕ → Type 0

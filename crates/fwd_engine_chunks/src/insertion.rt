@@ -1,11 +1,9 @@
-ghost use Rattle.std.specs.Prelude.{◌≡◌, ◌≤◌, ◌<◌, ◌∷◌, ℕ, true, false, length, Option, None, Some, IsTrue, IsSome};
+ghost use Rattle.std.specs.Prelude.{◌≡◌, ◌≤◌, ◌<◌, ◌∷◌, true, false, length, Option, None, Some, IsTrue, IsSome};
 ghost use Rattle.fwd_base.specs.Limits.{longest_tag};
 ghost use Rattle.fwd_outside.specs.declared.home.Home.TheVariants as home_of;
-ghost use Rattle.fwd_settings.specs.declared.settings_types.AllSettings.{AllSettings};
-ghost use Rattle.fwd_settings.specs.Requirements.{MeetsRequirements};
 ghost use Rattle.fwd_store.specs.Store.{has_room, chunk_for};
 ghost use Rattle.fwd_model.specs.Fact.{History, Route, Batch, Accepted as Taken};
-ghost use Rattle.fwd_model.specs.Settings.{outputs_for, home_at};
+ghost use Rattle.fwd_model.specs.Settings.{outputs_for};
 ghost use Rattle.fwd_model.specs.Chunks.{next, is_closed, size as size_of, open_chunk};
 ghost use Rattle.fwd_model.specs.Notes.{is_empty};
 ghost use Rattle.fwd_model.specs.CloseActions.{closes_if_full};
@@ -13,8 +11,6 @@ ghost use Rattle.fwd_model.specs.Acceptance.{stores};
 ghost use Rattle.fwd_model.specs.Refines.{Refines};
 ghost use Rattle.fwd_model.specs.CallLogs.{CallLogs};
 ghost use Rattle.fwd_engine_state.specs.StateRepresents.{StateRepresents};
-ghost use Rattle.fwd_engine_state.specs.StoreRepresents.{StoreRepresents};
-ghost use Rattle.fwd_engine_state.specs.HistoryInvariant.{IsSound};
 ghost use Rattle.fwd_engine_state.specs.PartsRepresent.{PartsRepresent, PartsRepresentIdle};
 ghost use Rattle.fwd_engine_state.specs.RefinesAction.{with_disk, RefinesAccepting};
 ghost use Rattle.fwd_engine_chunks.specs.BatchOutcome.{IsEncoded, AcceptsAs, StoreIsAhead, place_of, behind, SizesMatch, StoreHasTaken, goes_on, failed_history, WasOpen, refuses_after_fault};
@@ -122,29 +118,17 @@ fn refuse_after_fault<D: Disk>(
     Ok(false)
 }
 
-/// Returns whether the store has a folder if one is needed. This is true of each store that represents a
-/// history.
-fn has_folder(store: &Store, home: Home) -> bool
-    ensures needed { result ≡ true → home ≡ home_of.Disk → IsSome store.now.root }
-    ensures always { (s : AllSettings) (h : History) (input : ℕ) → MeetsRequirements s → home ≡ home_at s input → StoreRepresents s store.now h → result ≡ true }
-{
-    match home {
-        Home::Disk => store.has_root(),
-        Home::Ram => true,
-    }
-}
-
-/// Returns whether the store can accept a batch: it has a folder if one is needed, and the open chunk has
-/// room. This is true of each store that represents a history.
+/// Whether the store can accept a batch: it has a folder if one is needed, and the open chunk has room.
+/// This is true of each store that represents a history.
 fn can_accept(store: &Store, input: InputId, tag: &[u8], home: Home) -> bool
     ensures root { result ≡ true → home ≡ home_of.Disk → IsSome store.now.root }
     ensures room { result ≡ true → IsTrue (has_room store.now (chunk_for store.now input.0 tag.now)) }
-    ensures always { (s : AllSettings) (h : History) → MeetsRequirements s → home ≡ home_at s input.0 → StoreRepresents s store.now h → IsSound s h None → result ≡ true }
 {
-    if !has_folder(store, home) {
-        return false;
-    }
-    store.has_room(input, tag)
+    let has_folder = match home {
+        Home::Disk => store.has_root(),
+        Home::Ram => true,
+    };
+    has_folder && store.has_room(input, tag)
 }
 
 /// Puts a batch that matches an output into the open chunk of its input and tag, or into a new one.
@@ -169,9 +153,7 @@ pub fn store<D: Disk>(
     parts.store.is_sound();
     let home = run.home(input);
     if !can_accept(&parts.store, input, tag, home) {
-        // Unreachable: the store represents a history.
-        parts.state.count_refused(input);
-        return Ok(false);
+        return Err(Memory);
     }
     let alloc = parts.state.alloc();
     let names = run.names(alloc, tag)?;
@@ -194,8 +176,8 @@ pub fn store<D: Disk>(
             parts.state.count_refused(input);
             Ok(false)
         }
-        // The bytes are at most `LARGEST_BATCH`.
-        Err(StoreRefusal::BatchTooLarge) => unreachable!(),
+        // Unreachable: the bytes are at most `LARGEST_BATCH`.
+        Err(StoreRefusal::BatchTooLarge) => Ok(false),
         Err(StoreRefusal::Memory) => Err(Memory),
     }
 }

@@ -16,7 +16,6 @@ use fwd_outside::{Disk, DiskErr};
 fn drop_chunk<D: Disk>(parts: &mut Parts, disk: &mut D, chunk: ChunkId) -> Result<(), Memory>
     ensures acts { (s : AllSettings) → RefinesActionWhere s (with_disk (D.call_log disk.old)) (with_disk (D.call_log disk.new)) parts.old parts.new (λ h. is_closed h chunk.0 ≡ true) (λ h. drops s chunk.0 h) result }
     ensures later { D.faults disk.old ≤ D.faults disk.new }
-    ensures damaged { parts.new.state.damaged ≡ parts.old.state.damaged }
 {
     lemma_other_facts_keep_state();
     lemma_other_facts_keep_streams();
@@ -44,7 +43,6 @@ fn record<D: Disk>(
 ) -> Result<(), Memory>
     ensures acts { RefinesAction run.now (with_disk (D.call_log disk.old)) (with_disk (D.call_log disk.new)) parts.old parts.new (λ h. records run.now (route_of route) h) result }
     ensures later { D.faults disk.old ≤ D.faults disk.new }
-    ensures damaged { parts.new.state.damaged ≡ parts.old.state.damaged }
 {
     if !parts.store.holds(route.chunk) {
         return Ok(());
@@ -72,7 +70,6 @@ pub fn settle<D: Disk>(
 ) -> Result<(), Memory>
     ensures acts { RefinesActionWhere run.now (with_disk (D.call_log disk.old)) (with_disk (D.call_log disk.new)) parts.old parts.new (λ h. is_closed h route.chunk.0 ≡ true) (λ h. marks_or_removes run.now (route_of route) h) result }
     ensures later { D.faults disk.old ≤ D.faults disk.new }
-    ensures damaged { parts.new.state.damaged ≡ parts.old.state.damaged }
 {
     if parts.state.owes(route.chunk) {
         record(run, parts, disk, route)

@@ -26,7 +26,6 @@ fn turn<L: Loop, D: Disk>(
     ensures acts { RefinesAction run.now (with_both (L.call_log outside.old) (D.call_log disk.old)) (with_both (L.call_log outside.new) (D.call_log disk.new)) parts.old parts.new (λ h. turn run.now (route_of route) h) result }
     ensures unheard { NoEventTaken (L.counts outside.old) (L.counts outside.new) }
     ensures later { L.faults outside.old ≤ L.faults outside.new }
-    ensures damaged { parts.old.state.damaged ≤ parts.new.state.damaged }
     ensures disk_later { D.faults disk.old ≤ D.faults disk.new }
 {
     let limits = InFlightLimits {
@@ -54,7 +53,6 @@ pub fn walk<L: Loop, D: Disk>(
     ensures acts { RefinesAction run.now (with_both (L.call_log outside.old) (D.call_log disk.old)) (with_both (L.call_log outside.new) (D.call_log disk.new)) parts.old parts.new (λ h. walk run.now h) result }
     ensures unheard { NoEventTaken (L.counts outside.old) (L.counts outside.new) }
     ensures later { L.faults outside.old ≤ L.faults outside.new }
-    ensures damaged { parts.old.state.damaged ≤ parts.new.state.damaged }
     ensures disk_later { D.faults disk.old ≤ D.faults disk.new }
 {
     let routes = parts.state.due_routes()?;
@@ -76,7 +74,6 @@ pub fn room<L: Loop, D: Disk>(
     ensures acts { RefinesAction run.now (with_both (L.call_log outside.old) (D.call_log disk.old)) (with_both (L.call_log outside.new) (D.call_log disk.new)) parts.old parts.new (λ h. at_room run.now link.0 h) result }
     ensures unheard { NoEventTaken (L.counts outside.old) (L.counts outside.new) }
     ensures later { L.faults outside.old ≤ L.faults outside.new }
-    ensures damaged { parts.old.state.damaged ≤ parts.new.state.damaged }
     ensures disk_later { D.faults disk.old ≤ D.faults disk.new }
 {
     let Some(mut flight) = parts.state.take(link) else {
@@ -99,7 +96,6 @@ pub fn back<L: Loop, D: Disk>(
     ensures acts { RefinesAction run.now (with_both (L.call_log outside.old) (D.call_log disk.old)) (with_both (L.call_log outside.new) (D.call_log disk.new)) parts.old parts.new (λ h. at_reply run.now link.0 bytes.now h) result }
     ensures unheard { NoEventTaken (L.counts outside.old) (L.counts outside.new) }
     ensures later { L.faults outside.old ≤ L.faults outside.new }
-    ensures damaged { parts.old.state.damaged ≤ parts.new.state.damaged }
     ensures disk_later { D.faults disk.old ≤ D.faults disk.new }
 {
     let Some(mut flight) = parts.state.take(link) else {
@@ -121,7 +117,6 @@ pub fn broken<L: Loop, D: Disk>(
     ensures acts { RefinesAction run.now (with_both (L.call_log outside.old) (D.call_log disk.old)) (with_both (L.call_log outside.new) (D.call_log disk.new)) parts.old parts.new (λ h. at_break run.now link.0 h) result }
     ensures unheard { NoEventTaken (L.counts outside.old) (L.counts outside.new) }
     ensures later { L.faults outside.old ≤ L.faults outside.new }
-    ensures damaged { parts.old.state.damaged ≤ parts.new.state.damaged }
     ensures disk_later { D.faults disk.old ≤ D.faults disk.new }
 {
     let Some(mut flight) = parts.state.take(link) else {

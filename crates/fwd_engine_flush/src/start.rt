@@ -16,7 +16,7 @@ use fwd_chunk::PartErr;
 use fwd_engine_settings::RunSettings;
 use fwd_engine_state::{
     FlushAttempt, Parts, RouteId, State, lemma_begun_events, lemma_begun_route_is_out,
-    lemma_idle_route_is_closed, lemma_idle_route_is_pending,
+    lemma_idle_route_is_closed,
 };
 use fwd_event::whole_prefix;
 use fwd_out_net::EndReader;
@@ -90,8 +90,8 @@ fn new_flush(
     payload_flush(run, state.alloc(), route, tag, content, is_shared)
 }
 
-/// Starts a flush of an idle route with the events of the content. If the content is no list of events, it is
-/// counted as damaged, and the route stays idle.
+/// Starts a flush of an idle route with the events of the content. If the content is no list of events, the
+/// route stays idle.
 fn start_flush<L: Loop, D: Disk>(
     run: &RunSettings,
     parts: &mut Parts,
@@ -104,26 +104,28 @@ fn start_flush<L: Loop, D: Disk>(
         (λ h. is_idle run.now h (route_of route) ≡ true) (λ h. after_read run.now (route_of route) (length content.old) h (Some content.old)) result }
     ensures unheard { NoEventTaken (L.counts outside.old) (L.counts outside.new) }
     ensures later { L.faults outside.old ≤ L.faults outside.new }
-    ensures damaged { parts.old.state.damaged ≤ parts.new.state.damaged }
     ensures disk_later { D.faults disk.old ≤ D.faults disk.new }
 {
     lemma_begun_route_is_out();
     lemma_begun_events();
     lemma_idle_route_is_closed();
-    lemma_idle_route_is_pending();
     let alloc = parts.state.alloc();
     let Some(flush) = new_flush(run, &parts.state, route, content)? else {
-        parts.state.count_damaged();
         return Ok(());
     };
-    let mut flight = FlushAttempt { route, flush };
+    let tries = parts.state.tries(route);
+    let mut flight = FlushAttempt {
+        route,
+        tries,
+        flush,
+    };
     let tag = parts.state.table().tag_of(route.chunk);
     let poll = flight.flush.start(alloc, outside, tag)?;
     record_progress(run, parts, outside, disk, flight, 0, poll)
 }
 
 /// Reads the content of a chunk, and starts a flush of an idle route with it. If the content can't be read,
-/// or is damaged, that is counted, and the route stays idle. The count of damaged reads never falls.
+/// or has another size than the chunk, the route stays idle.
 pub fn begin<L: Loop, D: Disk>(
     run: &RunSettings,
     parts: &mut Parts,
@@ -136,7 +138,6 @@ pub fn begin<L: Loop, D: Disk>(
         (λ h. is_idle run.now h (route_of route) ≡ true) (λ h. starts_flush run.now (route_of route) h) result }
     ensures unheard { NoEventTaken (L.counts outside.old) (L.counts outside.new) }
     ensures later { L.faults outside.old ≤ L.faults outside.new }
-    ensures damaged { parts.old.state.damaged ≤ parts.new.state.damaged }
     ensures disk_later { D.faults disk.old ≤ D.faults disk.new }
 {
     if !parts.store.holds(route.chunk) {
@@ -152,10 +153,7 @@ pub fn begin<L: Loop, D: Disk>(
             parts.state.count_fault();
             Ok(())
         }
-        Err(PartErr::Damaged { .. }) => {
-            parts.state.count_damaged();
-            Ok(())
-        }
+        Err(PartErr::Damaged { .. }) => Ok(()),
         Err(PartErr::Memory) => Err(Memory),
     }
 }

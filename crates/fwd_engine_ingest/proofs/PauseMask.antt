@@ -1,7 +1,9 @@
 -- The bit of an input in the mask of the paused inputs.
-use Rattle.std.proofs.Common.{◌≡◌, ℕ, ◌<◌, nat_eq, Bool, true, false, length, ◌∙◌, ap}
+use Rattle.std.proofs.Common.{◌≡◌, ℕ, ◌-◌, ◌/◌, ◌<◌, nat_eq, bit_and, Bool, true, false, length, ◌∙◌, ap}
+use Prim.Native.Nat.{◌^◌}
 use Rattle.std.specs.Prelude.{if◌then◌else◌}
 use Rattle.std.specs.Int.{bit_at}
+use Rattle.std.proofs.lemmas.Nat.Bits.{shr_and_one}
 use Rattle.fwd_settings.specs.declared.settings_types.AllSettings.{AllSettings}
 use Rattle.fwd_model.specs.Fact.{History}
 use Rattle.fwd_model.specs.Limits.{is_paused, paused}
@@ -15,5 +17,5 @@ bit_tells : (bit : ℕ) (p : Bool) → bit ≡ (if p then 1 else 0) → nat_eq b
 bit_tells bit true is = ap (λ (n : ℕ). nat_eq n 1) is
 bit_tells bit false is = ap (λ (n : ℕ). nat_eq n 1) is
 
-pub bit_paused : (s : AllSettings) (h : History) (i mask : ℕ) → mask ≡ paused s h → i < length s.inputs → nat_eq (bit_at mask i) 1 ≡ is_paused s h i
-bit_paused s h i mask is below = bit_tells (bit_at mask i) (is_paused s h i) (ap (λ (m : ℕ). bit_at m i) is ∙ paused_at s h i below)
+pub bit_paused : (s : AllSettings) (h : History) (i mask : ℕ) → mask ≡ paused s h → i < length s.inputs → nat_eq (bit_and (mask / 2 ^ i) 1) 1 ≡ is_paused s h i
+bit_paused s h i mask is below = bit_tells (bit_and (mask / 2 ^ i) 1) (is_paused s h i) (shr_and_one mask i ∙ (ap (λ (m : ℕ). bit_at m i) is ∙ paused_at s h i below))

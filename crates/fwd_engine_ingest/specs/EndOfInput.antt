@@ -14,6 +14,4 @@ use Rattle.fwd_model.specs.Acceptance.{ingests}
 -- The end of an input is recorded, and the rest of the standard input that it reads is a line.
 abbrev pub ends_input : AllSettings → InputId → History → Action History
 ends_input s input h =
-    note_then (Happened (happening.InputEnd input)) h
-    (λ at. if reads_stdin_at s input.0 then ingests s (end_batch s h input.0 (Standard input.0)) at
-    else Return at)
+    note_then (Happened (happening.InputEnd input)) h (λ at. if reads_stdin_at s input.0 then ingests s (end_batch s h input.0 (Standard input.0)) at else Return at)

@@ -7,10 +7,11 @@ ghost use Rattle.fwd_engine_state.specs.StateRepresents.{StateAnswers};
 ghost use Rattle.fwd_engine_state.specs.RefinesAction.{with_files, RefinesAction};
 
 use crate::batches::accept_lines;
-use fwd_base::{InputId, Memory, is_set};
+use fwd_base::{InputId, Memory};
 use fwd_engine_settings::RunSettings;
 use fwd_engine_state::{Parts, State};
 use fwd_in_tail::TailErr;
+use fwd_limits::MemLimits;
 use fwd_outside::{Disk, Files};
 use std::thread::Threads;
 
@@ -59,22 +60,26 @@ fn poll_files<D: Disk, F: Files>(
 }
 
 /// Whether an input is paused.
-fn is_paused(run: &RunSettings, state: &State, input: InputId) -> bool
+fn is_paused(run: &RunSettings, state: &State, limits: &MemLimits, input: InputId) -> bool
+    requires limits { limits.now ≡ map (λ (set : InputSet). set.mem_limit) run.now.inputs }
     requires there { input.0 < length run.now.inputs }
     ensures { StateAnswers state.now (λ s h. s ≡ run.now → result ≡ is_paused s h input.0) }
 {
-    is_set(state.paused(run.memory_limits()), input.0)
+    run.lemma_settings_are_sound();
+    state.paused(limits) >> input.0 & 1 == 1
 }
 
 /// Polls the files of an input, unless it is paused.
 fn poll_input<D: Disk, F: Files>(
     rt: &(impl Threads + Sync),
     run: &RunSettings,
+    limits: &MemLimits,
     parts: &mut Parts,
     disk: &mut D,
     files: &mut F,
     input: InputId,
 ) -> Result<(), Memory>
+    requires limits { limits.now ≡ map (λ (set : InputSet). set.mem_limit) run.now.inputs }
     requires there { input.0 < length run.now.inputs }
     ensures acts { RefinesAction run.now (with_files (D.call_log disk.old) (F.call_log files.old)) (with_files (D.call_log disk.new) (F.call_log files.new)) parts.old parts.new (λ h. polls_input run.now input.0 h) result }
     ensures later { D.faults disk.old ≤ D.faults disk.new }
@@ -83,28 +88,30 @@ fn poll_input<D: Disk, F: Files>(
     if parts.followed_files.paths(input) == 0 {
         return Ok(());
     }
-    if is_paused(run, &parts.state, input) {
+    if is_paused(run, &parts.state, limits, input) {
         return Ok(());
     }
     poll_files(rt, run, parts, disk, files, input)
 }
 
 /// Polls the files of each input that isn't paused when its turn comes. The lines that end in what was read
-/// make one batch for each file.
+/// make one batch for each file. `limits` are the memory limits of the inputs.
 pub fn poll_inputs<D: Disk, F: Files>(
     rt: &(impl Threads + Sync),
     run: &RunSettings,
+    limits: &MemLimits,
     parts: &mut Parts,
     disk: &mut D,
     files: &mut F,
 ) -> Result<(), Memory>
+    requires limits { limits.now ≡ map (λ (set : InputSet). set.mem_limit) run.now.inputs }
     ensures acts { RefinesAction run.now (with_files (D.call_log disk.old) (F.call_log files.old)) (with_files (D.call_log disk.new) (F.call_log files.new)) parts.old parts.new (λ h. polls_all run.now h) result }
     ensures later { D.faults disk.old ≤ D.faults disk.new }
     ensures files_later { F.faults files.old ≤ F.faults files.new }
 {
     run.lemma_settings_are_sound();
     for input in 0..run.inputs() {
-        poll_input(rt, run, parts, disk, files, InputId(input as u32))?;
+        poll_input(rt, run, limits, parts, disk, files, InputId(input as u32))?;
     }
     Ok(())
 }

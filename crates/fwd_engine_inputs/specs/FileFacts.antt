@@ -1,11 +1,10 @@
 -- The facts about followed files.
 use Rattle.std.specs.Prelude.{Bool, true, false}
-use Rattle.fwd_model.specs.Fact.{Fact, Happened, Resumed, Saved, Polled, Disconnected, Malformed, Found, Offered, Accepted, Refused, ChunkClosed, Sent, OnRoute, MarkStarted, Marked, Removed, FileLeft, IoFailed}
+use Rattle.fwd_model.specs.Fact.{Fact, Happened, Resumed, Polled, Disconnected, Malformed, Found, Offered, Accepted, Refused, ChunkClosed, Sent, OnRoute, MarkStarted, Marked, Removed, FileLeft, IoFailed}
 
 abbrev pub is_file_fact : Fact → Bool
 is_file_fact (Happened brought) = false
 is_file_fact (Resumed input index place) = true
-is_file_fact (Saved input index place) = false
 is_file_fact (Polled input index length bytes) = true
 is_file_fact (Disconnected conn) = false
 is_file_fact (Malformed input) = false

@@ -24,9 +24,7 @@ abbrev pub files_of_input : FollowedFiles → ℕ → List FollowedFile
 files_of_input followed_files input = files_or_none (slice_get followed_files.inputs.items input)
 
 pub record FilesRepresent (s : AllSettings) (followed_files : FollowedFiles) (h : History) : Type 0 where
-  pub all : (input : ℕ)
-      → InputFilesRepresent (paths_at s input) (from_head_at s input) (file_at s h input)
-      (files_of_input followed_files input)
+  pub all : (input : ℕ) → InputFilesRepresent (paths_at s input) (from_head_at s input) (file_at s h input) (files_of_input followed_files input)
 
 -- a statement about each history that the files represent
 abbrev pub FilesAnswer : FollowedFiles → (AllSettings → History → Type 0) → Type 0
@@ -38,17 +36,11 @@ FilesUnchanged old new = (s : AllSettings) (h : History) → FilesRepresent s ol
 
 -- A poll of a followed file: its calls, the lines that it completes, and its fact. If a call fails or
 -- memory runs out, the calls end there.
-abbrev pub FilesPolled : FilesLog → FilesLog → AllSettings → History → ℕ → ℕ → List ℕ → FollowedFiles
-    → Result (List Line) TailErr → Type 0
+abbrev pub FilesPolled : FilesLog → FilesLog → AllSettings → History → ℕ → ℕ → List ℕ → FollowedFiles → Result (List Line) TailErr → Type 0
 FilesPolled old new s h input index path after (Ok found) =
-    (p : Poll)
-    × Completes old new (polls path (from_head_at s input) (file_at s h input index).place) (Some p)
-    × (found ≡ completed (file_at s h input index) p)
-    × FilesRepresent s after (Polled input index p.long p.bytes ∷ h)
-FilesPolled old new s h input index path after (Err FileFault) =
-    Completes old new (polls path (from_head_at s input) (file_at s h input index).place) None
-FilesPolled old new s h input index path after (Err Memory) =
-    IsBegun old new (polls path (from_head_at s input) (file_at s h input index).place)
+    (p : Poll) × Completes old new (polls path (from_head_at s input) (file_at s h input index).place) (Some p) × (found ≡ completed (file_at s h input index) p) × FilesRepresent s after (Polled input index p.long p.bytes ∷ h)
+FilesPolled old new s h input index path after (Err FileFault) = Completes old new (polls path (from_head_at s input) (file_at s h input index).place) None
+FilesPolled old new s h input index path after (Err Memory) = IsBegun old new (polls path (from_head_at s input) (file_at s h input index).place)
 
 -- Reading the files of a path continues at an offset: one fact for each index of the path among the first
 -- paths of an input.

@@ -2,7 +2,7 @@
 use Rattle.std.specs.Prelude.{Bool, true, false}
 use Rattle.fwd_outside.specs.declared.happening.Happening.{Happening}
 use Rattle.fwd_outside.specs.declared.happening.Happening.TheVariants as happening
-use Rattle.fwd_model.specs.Fact.{Fact, Happened, Resumed, Saved, Polled, Disconnected, Malformed, Found, Offered, Accepted, Refused, ChunkClosed, Sent, OnRoute, MarkStarted, Marked, Removed, FileLeft, IoFailed}
+use Rattle.fwd_model.specs.Fact.{Fact, Happened, Resumed, Polled, Disconnected, Malformed, Found, Offered, Accepted, Refused, ChunkClosed, Sent, OnRoute, MarkStarted, Marked, Removed, FileLeft, IoFailed}
 
 -- whether an event is about connections or streams
 abbrev pub is_stream_event : Happening → Bool
@@ -21,7 +21,6 @@ is_stream_event happening.Failed = false
 abbrev pub is_stream_fact : Fact → Bool
 is_stream_fact (Happened brought) = is_stream_event brought
 is_stream_fact (Resumed input index place) = false
-is_stream_fact (Saved input index place) = false
 is_stream_fact (Polled input index length bytes) = false
 is_stream_fact (Disconnected conn) = true
 is_stream_fact (Malformed input) = false

@@ -22,18 +22,15 @@ StreamsAnswer input_streams P = (s : AllSettings) (h : History) → StreamsRepre
 
 -- the new streams represent one fact more, if a condition holds for the history before it
 abbrev pub StreamsNoteWhere : InputStreams → InputStreams → (AllSettings → History → Type 0) → Fact → Type 0
-StreamsNoteWhere old new P fact =
-    (s : AllSettings) (h : History) → StreamsRepresent s old h → P s h → StreamsRepresent s new (fact ∷ h)
+StreamsNoteWhere old new P fact = (s : AllSettings) (h : History) → StreamsRepresent s old h → P s h → StreamsRepresent s new (fact ∷ h)
 
 -- the same without a condition
 abbrev pub StreamsNote : InputStreams → InputStreams → Fact → Type 0
-StreamsNote old new fact =
-    (s : AllSettings) (h : History) → StreamsRepresent s old h → StreamsRepresent s new (fact ∷ h)
+StreamsNote old new fact = (s : AllSettings) (h : History) → StreamsRepresent s old h → StreamsRepresent s new (fact ∷ h)
 
 -- the new streams represent what the old ones did
 abbrev pub StreamsUnchanged : InputStreams → InputStreams → Type 0
-StreamsUnchanged old new =
-    (s : AllSettings) (h : History) → StreamsRepresent s old h → StreamsRepresent s new h
+StreamsUnchanged old new = (s : AllSettings) (h : History) → StreamsRepresent s old h → StreamsRepresent s new h
 
 -- the stream that the bytes of a connection belong to, by what they are to the input
 abbrev pub stream_of_kind : ℕ → ℕ → StreamKind → Option Stream

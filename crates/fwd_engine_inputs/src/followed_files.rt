@@ -4,7 +4,7 @@ ghost use Rattle.fwd_in_tail.specs.declared.tail.TailErr.TheVariants.{FileFault}
 ghost use Rattle.fwd_settings.specs.declared.settings_types.AllSettings.{AllSettings};
 ghost use Rattle.fwd_model.specs.Fact.{History, Resumed};
 ghost use Rattle.fwd_model.specs.Settings.{paths_at};
-ghost use Rattle.fwd_model.specs.FollowedFiles.{settled_at};
+ghost use Rattle.fwd_model.specs.FollowedFiles.{settled};
 ghost use Rattle.fwd_engine_inputs.specs.FileRepresents.{is_path};
 ghost use Rattle.fwd_engine_inputs.specs.FilesRepresent.{FilesRepresent, FilesAnswer, FilesUnchanged, FilesPolled, resumed_history};
 
@@ -68,10 +68,9 @@ impl FollowedFiles {
         }
     }
 
-    /// Returns the offset after the last whole line that was read from a file; `None` if the input has no
-    /// such path.
+    /// Returns the offset after the last whole line that was read from a file.
     pub fn settled(&self, input: InputId, index: usize) -> Option<u64>
-        ensures { FilesAnswer self.now (λ s h. result ≡ settled_at s h input.0 index) }
+        ensures { (s : AllSettings) (h : History) (path : List ℕ) → FilesRepresent s self.now h → slice_get (paths_at s input.0) index ≡ Some path → result ≡ settled s h input.0 index }
     {
         match self.inputs.get(input.0 as usize) {
             None => None,

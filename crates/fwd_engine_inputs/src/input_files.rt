@@ -3,7 +3,7 @@ ghost use Rattle.fwd_outside.specs.Cause.{HasCause};
 ghost use Rattle.fwd_in_tail.specs.Followed.{Followed, settled};
 ghost use Rattle.fwd_in_tail.specs.declared.tail.TailErr.TheVariants.{FileFault};
 ghost use Rattle.fwd_model.specs.Settings.{followed_paths, starts_at_head};
-ghost use Rattle.fwd_model.specs.FollowedFiles.{settled_by, unread};
+ghost use Rattle.fwd_model.specs.FollowedFiles.{unread};
 ghost use Rattle.fwd_engine_inputs.specs.FileRepresents.{InputFilesRepresent, InputFilePolled, changed, is_path};
 
 use crate::followed_file::FollowedFile;
@@ -82,10 +82,9 @@ impl InputFiles {
         Ok(())
     }
 
-    /// Returns the offset after the last whole line that was read from the file with an index; `None` if
-    /// there is no such file.
+    /// Returns the offset after the last whole line that was read from the file with an index.
     pub fn settled(&self, index: usize) -> Option<u64>
-        ensures { (paths : List (List ℕ)) (from_head : Bool) (all : ℕ → Followed) → InputFilesRepresent paths from_head all self.now.sources.items → result ≡ settled_by (slice_get paths index) (settled (all index)) }
+        ensures { (paths : List (List ℕ)) (from_head : Bool) (all : ℕ → Followed) (path : List ℕ) → InputFilesRepresent paths from_head all self.now.sources.items → slice_get paths index ≡ Some path → result ≡ settled (all index) }
     {
         match self.sources.get(index) {
             None => None,

@@ -3,7 +3,6 @@ use Rattle.std.specs.Prelude.{◌≡◌, ◌≢◌, ℕ, ◌+◌, ◌<◌, ◌�
 use Rattle.std.specs.List.{list_any}
 use Rattle.std.specs.Str.{bytes_eq}
 use Rattle.std.specs.FinMap as map
-use Rattle.fwd_base.specs.Limits.{chunk_header}
 use Rattle.fwd_chunk.specs.Outcome.{FitsNames}
 use Rattle.fwd_chunk.specs.declared.chunk.Found.{Found as FoundFile}
 use Rattle.fwd_chunk.specs.declared.chunk.Brief.{Brief}
@@ -27,21 +26,17 @@ use Rattle.fwd_engine_state.specs.declared.parts.Parts.{Parts}
 
 -- the outputs that match a tag and whose name isn't among these
 abbrev pub remaining_outputs : AllSettings → List ℕ → List (List ℕ) → List ℕ
-remaining_outputs s tag done =
-    filter (λ output. not (list_any (λ other. bytes_eq other (output_name s output)) done))
-    (outputs_for s tag)
+remaining_outputs s tag done = filter (λ output. not (list_any (λ other. bytes_eq other (output_name s output)) done)) (outputs_for s tag)
 
 -- the history with a fact for each file that was read, numbered from one on
 abbrev pub recovered_history : ℕ → List FileRead → History → History
 recovered_history number [] h = h
-recovered_history number (read ∷ reads) h =
-    recovered_history (number + 1) reads (Found number read.file.stream read.file.name read.bytes ∷ h)
+recovered_history number (read ∷ reads) h = recovered_history (number + 1) reads (Found number read.file.stream read.file.name read.bytes ∷ h)
 
 -- the state represents the fact of a file that was read as this
 abbrev pub StateNotesFile : AllSettings → State → State → ℕ → Seen → Type 0
 StateNotesFile s old new number seen =
-    (stream name bytes : List ℕ) (h : History) → IsCheckResult bytes seen → next h ≤ number
-    → StateShows s old h → StateShows s new (Found number stream name bytes ∷ h)
+    (stream name bytes : List ℕ) (h : History) → IsCheckResult bytes seen → next h ≤ number → StateShows s old h → StateShows s new (Found number stream name bytes ∷ h)
 
 -- the store after a file that was read as this
 abbrev pub taken : Stored → ℕ → FoundFile → Seen → Stored
@@ -51,9 +46,7 @@ taken store number found (Refused kind) = store
 
 -- the offsets in its file fit into 64 bits, and its metadata hold its outputs
 abbrev pub FitsStore : FoundFile → Type 0
-FitsStore found =
-    (brief : Brief) → found.seen ≡ Whole brief
-    → (chunk_header + brief.meta + brief.size < 2 ^ 64) × FitsNames (head_of [] brief)
+FitsStore found = (brief : Brief) → found.seen ≡ Whole brief → (24 + brief.meta + brief.size < 2 ^ 64) × FitsNames (head_of [] brief)
 
 abbrev pub path_in : AllSettings → FoundFile → List ℕ
 path_in s found = found_name (unwrap_or s.service.path []) found.stream found.name
@@ -67,8 +60,7 @@ IsOtherPath s name (found ∷ more) = (path_in s found ≢ name) × IsOtherPath 
 abbrev pub AreAdoptable : AllSettings → ℕ → List FoundFile → Type 0
 AreAdoptable s past [] = Unit {0}
 AreAdoptable s past (found ∷ more) =
-    FitsStore found × IsNoLater s.service.path past (path_in s found) × IsOtherPath s (path_in s found) more
-    × AreAdoptable s past more
+    FitsStore found × IsNoLater s.service.path past (path_in s found) × IsOtherPath s (path_in s found) more × AreAdoptable s past more
 
 -- the store has adopted this many files, and can adopt these
 pub record StoreIsReady (s : AllSettings) (store : Stored) (number : ℕ) (more : List FoundFile) : Type 0 where
@@ -77,8 +69,7 @@ pub record StoreIsReady (s : AllSettings) (store : Stored) (number : ℕ) (more 
   pub opened : store.opened ≡ []
   pub room : number + length more < store.next
   pub above : (n : ℕ) → number < n → map.get store.chunks n ≡ None
-  pub apart : (n : ℕ) (name : List ℕ) → file_of_optional (map.get store.chunks n) ≡ Some name
-      → IsOtherPath s name more
+  pub apart : (n : ℕ) (name : List ℕ) → file_of_optional (map.get store.chunks n) ≡ Some name → IsOtherPath s name more
   pub files : AreAdoptable s store.next more
 
 -- parts whose history is empty
@@ -86,5 +77,4 @@ pub record AreEmptyParts (s : AllSettings) (past : ℕ) (parts : Parts) : Type 0
   pub state : StateShows s parts.state []
   pub input_streams : StreamsRepresent s parts.input_streams []
   pub followed_files : FilesRepresent s parts.followed_files []
-  pub store : parts.store
-      ≡ record { root = s.service.path; full = s.service.full; next = past; chunks = map.empty; opened = [] }
+  pub store : parts.store ≡ record { root = s.service.path; full = s.service.full; next = past; chunks = map.empty; opened = [] }

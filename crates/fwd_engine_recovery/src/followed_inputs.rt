@@ -4,6 +4,7 @@ ghost use Rattle.fwd_model.specs.Settings.{followed_paths, starts_at_head};
 ghost use Rattle.fwd_engine_recovery.specs.FollowedPaths.{followed_paths_of};
 
 use fwd_base::{Bytes, InputId, Memory};
+use fwd_chunk::clone_names;
 use fwd_engine_inputs::FollowedFiles;
 use fwd_engine_settings::RunSettings;
 use fwd_parser::{Parser, Shape};
@@ -16,7 +17,7 @@ fn copy_kind(alloc: Global, kind: &InputKind) -> Result<InputKind, Memory>
 {
     match kind {
         InputKind::Tail { paths, from_head } => Ok(InputKind::Tail {
-            paths: paths.try_clone(alloc)?,
+            paths: clone_names(alloc, paths)?,
             from_head: *from_head,
         }),
         InputKind::Tcp { .. } | InputKind::Forward { .. } | InputKind::Stdin => {
@@ -36,7 +37,6 @@ fn copy_followed_input(alloc: Global, set: &InputSet) -> Result<InputSet, Memory
         tag: None,
         stored: false,
         mem_limit: None,
-        db: None,
         parser: Parser {
             shape: Shape::Plain,
             time: None,

@@ -8,7 +8,7 @@ ghost use Rattle.fwd_model.specs.Settings.{output_name};
 ghost use Rattle.fwd_engine_recovery.specs.Adoption.{remaining_outputs, StateNotesFile};
 
 use fwd_base::limits::MOST_OUTPUTS;
-use fwd_base::{ChunkId, Memory, Names, OutputId, is_set};
+use fwd_base::{ChunkId, Memory, Names, OutputId};
 use fwd_chunk::Brief;
 use fwd_engine_settings::RunSettings;
 use fwd_engine_state::State;
@@ -27,7 +27,7 @@ fn is_remaining(run: &RunSettings, owed: u64, done: &Names, output: usize) -> bo
     requires { output < 64 }
     ensures { result ≡ ((bit_at owed output == 1) && not (list_any (λ other. bytes_eq other (output_name run.now output)) done.now)) }
 {
-    is_set(owed, output as u32) && !is_among(done, run.output_name(OutputId(output as u32)))
+    owed >> output & 1 == 1 && !is_among(done, run.output_name(OutputId(output as u32)))
 }
 
 /// Returns the mask of the outputs that match a tag and aren't among these names: bit `i` is set for output

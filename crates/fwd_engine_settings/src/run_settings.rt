@@ -1,17 +1,14 @@
 ghost use Rattle.std.specs.Prelude.{◌≡◌, ◌≤◌, length, map, option_copied, IfOk};
-ghost use Rattle.fwd_base.specs.Limits.{most_inputs};
 ghost use Rattle.fwd_route.specs.GlobTest.{globs};
 ghost use Rattle.fwd_table.specs.Routes.{idle_at, routes_to};
 ghost use Rattle.fwd_settings.specs.Requirements.{MeetsRequirements};
 ghost use Rattle.fwd_settings.specs.declared.settings_types.AllSettings.{AllSettings};
-ghost use Rattle.fwd_settings.specs.declared.settings_types.InputSet.{InputSet};
 ghost use Rattle.fwd_model.specs.Settings.{input_at, output_at, outputs_for, slots_at, places_of, retries_at, home_at, input_name, output_name, names_for, total_limit_at, hears_peers, accepts_connections_at, reads_standard, reads_stdin_at};
 ghost use Rattle.fwd_model.specs.Notes.{is_empty};
 
 use fwd_base::limits::MOST_PEER_FLUSHES;
 use fwd_base::{Bytes, InputId, Memory, Names, OutputId, Retries};
 use fwd_filters::FilterSteps;
-use fwd_limits::MemLimits;
 use fwd_outside::Home;
 use fwd_route::matches;
 use fwd_settings::{AllSettings, InputKind, InputSet, OutputKind, OutputSet};
@@ -24,12 +21,9 @@ use std::marker::Model;
 #[derive(Debug, Drop)]
 pub struct RunSettings {
     settings: AllSettings,
-    memory_limits: MemLimits,
 }
 
 impl Model for RunSettings {
-    ghost use Rattle.std.specs.Prelude.{◌≡◌, ◌×◌, map};
-    ghost use Rattle.fwd_settings.specs.declared.settings_types.InputSet.{InputSet};
     ghost use Rattle.fwd_settings.specs.Requirements.{MeetsRequirements};
     ghost use Rattle.fwd_settings.specs.declared.settings_types.AllSettings.{AllSettings};
     ghost use Rattle.fwd_settings.specs.contracts.settings_types.AllSettings as all;
@@ -40,31 +34,16 @@ impl Model for RunSettings {
 
     ghost view = { λ s. s.settings };
 
-    ghost invariant = { λ s. MeetsRequirements s.settings × (s.memory_limits ≡ map (λ (set : InputSet). set.mem_limit) s.settings.inputs) };
-}
-
-/// Returns the memory limits of inputs, in their order.
-fn memory_limits_of(alloc: Global, inputs: &[InputSet]) -> Result<MemLimits, Memory>
-    ensures { IfOk result (λ limits. limits ≡ map (λ (set : InputSet). set.mem_limit) inputs.now) }
-{
-    let mut limits = MemLimits::new(alloc);
-    for set in inputs {
-        limits.push(set.mem_limit)?;
-    }
-    Ok(limits)
+    ghost invariant = { λ s. MeetsRequirements s.settings };
 }
 
 impl RunSettings {
     /// Wraps settings that satisfy `MeetsRequirements`, as those of every valid configuration do.
-    pub fn new(alloc: Global, settings: AllSettings) -> Result<RunSettings, Memory>
+    pub fn new(settings: AllSettings) -> RunSettings
         requires { MeetsRequirements settings }
-        ensures { IfOk result (λ run. run ≡ settings) }
+        ensures { result ≡ settings }
     {
-        let memory_limits = memory_limits_of(alloc, settings.inputs.as_slice())?;
-        Ok(RunSettings {
-            settings,
-            memory_limits,
-        })
+        RunSettings { settings }
     }
 
     /// Lemma: the settings satisfy `MeetsRequirements`.
@@ -105,15 +84,6 @@ impl RunSettings {
         ensures { option_copied result ≡ output_at self.now output.0 }
     {
         self.settings.outputs.as_slice().get(output.0 as usize)
-    }
-
-    /// The bytes of memory that the chunks of each input may use, in the order of the configuration.
-    pub fn memory_limits(&self) -> &MemLimits
-        ensures value { result.now ≡ map (λ (set : InputSet). set.mem_limit) self.now.inputs }
-        ensures most { length result.now ≤ most_inputs }
-    {
-        self.lemma_settings_are_sound();
-        &self.memory_limits
     }
 
     /// Milliseconds between two closings of the open chunks.
@@ -244,24 +214,23 @@ impl RunSettings {
         }
     }
 
-    /// The name that stands for an output in chunk files.
     pub fn output_name(&self, output: OutputId) -> &[u8]
         ensures { result.now ≡ output_name self.now output.0 }
     {
         match self.output(output) {
-            Some(set) => set.id.as_slice(),
+            Some(set) => set.name.as_slice(),
             None => &[],
         }
     }
 
-    /// Returns the names that stand in chunk files for the outputs whose glob matches a tag, in the order of the configuration.
+    /// Returns the names of the outputs whose glob matches a tag, in the order of the configuration.
     pub fn names(&self, alloc: Global, tag: &[u8]) -> Result<Names, Memory>
         ensures { IfOk result (λ names. names ≡ names_for self.now tag.now) }
     {
         let mut names = Names::new(alloc);
         for output in self.settings.outputs.as_slice() {
             if glob_matches(output, tag) {
-                names.push(Bytes::from_slice(alloc, output.id.as_slice())?)?;
+                names.push(Bytes::from_slice(alloc, output.name.as_slice())?)?;
             }
         }
         Ok(names)
@@ -301,13 +270,19 @@ impl RunSettings {
 fn accepts_peers(kind: &InputKind) -> bool
     ensures { result ≡ hears_peers kind.now }
 {
-    matches!(kind, InputKind::Tcp { .. } | InputKind::Forward { .. })
+    match kind {
+        InputKind::Tcp { .. } | InputKind::Forward { .. } => true,
+        InputKind::Tail { .. } | InputKind::Stdin => false,
+    }
 }
 
 fn is_stdin(kind: &InputKind) -> bool
     ensures { result ≡ reads_standard kind.now }
 {
-    matches!(kind, InputKind::Stdin)
+    match kind {
+        InputKind::Stdin => true,
+        InputKind::Tail { .. } | InputKind::Tcp { .. } | InputKind::Forward { .. } => false,
+    }
 }
 
 /// Whether the glob of an output matches a tag.

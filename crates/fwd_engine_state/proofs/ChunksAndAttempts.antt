@@ -14,7 +14,7 @@ use Rattle.fwd_model.specs.RecoveredFile.{recovered_chunk}
 use Rattle.fwd_model.specs.Chunks.{ChunkInfo, chunks_of, recovered_info, next, is_closed, is_stored_in}
 use Rattle.fwd_model.specs.Routes.{same_route, is_link, uses_link, progress_of, other_than, route_on_link, flight, begun}
 use Rattle.fwd_model.specs.Payloads.{tag_of_chunk, delivery, delivery_at}
-use Rattle.fwd_engine_state.specs.StateRepresents.{NumbersRise, is_open, IsUntouched, is_for, IsFlightOf, AttemptIsKept, LinkHolds}
+use Rattle.fwd_engine_state.specs.StateRepresents.{NumbersRise, is_open, IsUntouched, IsFlightOf, AttemptIsKept, LinkHolds}
 use Rattle.fwd_engine_state.specs.declared.flush_attempts.FlushAttempt.{FlushAttempt}
 use Rattle.fwd_engine_state.proofs.RowChanges.{no_more}
 use Rattle.fwd_engine_state.proofs.ChunkOrder.{found_append}
@@ -155,11 +155,6 @@ tag_same : (h : History) (more : List ChunkInfo) (k : ℕ) → find (λ (c : Chu
     → option_map_or (λ (c : ChunkInfo). c.tag) (find (λ (c : ChunkInfo). c.number == k) (chunks_of h ++ more)) [] ≡ tag_of_chunk h k
 tag_same h more k same = ap (λ (o : Option ChunkInfo). option_map_or (λ (c : ChunkInfo). c.tag) o []) same
 
--- a chunk still matches an output if it is still the first of its number
-still_for : (s : AllSettings) (h : History) (more : List ChunkInfo) (r : Route) → find (λ (c : ChunkInfo). c.number == r.chunk) (chunks_of h ++ more) ≡ find (λ (c : ChunkInfo). c.number == r.chunk) (chunks_of h)
-    → option_map_or (is_for s r.output) (find (λ (c : ChunkInfo). c.number == r.chunk) (chunks_of h)) false ≡ true → option_map_or (is_for s r.output) (find (λ (c : ChunkInfo). c.number == r.chunk) (chunks_of h ++ more)) false ≡ true
-still_for s h more r same is = ap (λ (o : Option ChunkInfo). option_map_or (is_for s r.output) o false) same ∙ is
-
 none_more : (h : History) (k : ℕ) → find (λ (c : ChunkInfo). c.number == k) (chunks_of h ++ []) ≡ find (λ (c : ChunkInfo). c.number == k) (chunks_of h)
 none_more h k = ap (find (λ (c : ChunkInfo). c.number == k)) (no_more (chunks_of h))
 
@@ -170,7 +165,7 @@ carried_behind s b n h out link f is = carried_by s h (Accepted b (AppendedTo n)
     one : (f : FlushAttempt) (r : Route) → AttemptIsKept s h out link f r → AttemptIsKept s (Accepted b (AppendedTo n) ∷ h) out link f r
     one f r k =
         let o = k.0 in
-        ((o.0, o.1, o.2 ∙ same_delivery s h (Accepted b (AppendedTo n) ∷ h) r refl (tag_same h [] r.chunk (none_more h r.chunk)), (still_for s h [] r (none_more h r.chunk) o.3.0, o.3.1), o.4), k.1, k.2, k.3)
+        ((o.0, o.1, o.2 ∙ same_delivery s h (Accepted b (AppendedTo n) ∷ h) r refl (tag_same h [] r.chunk (none_more h r.chunk)), o.3, o.4), k.1, k.2, k.3)
 
 pub carried_nowhere : (s : AllSettings) (b : Batch) (h : History) (out : Option Route) (link : ℕ) (f : Option FlushAttempt)
     → LinkHolds s h out link f (route_on_link h link) → LinkHolds s (Accepted b NoChunk ∷ h) out link f (route_on_link h link)
@@ -179,7 +174,7 @@ carried_nowhere s b h out link f is = carried_by s h (Accepted b NoChunk ∷ h) 
     one : (f : FlushAttempt) (r : Route) → AttemptIsKept s h out link f r → AttemptIsKept s (Accepted b NoChunk ∷ h) out link f r
     one f r k =
         let o = k.0 in
-        ((o.0, o.1, o.2 ∙ same_delivery s h (Accepted b NoChunk ∷ h) r refl (tag_same h [] r.chunk (none_more h r.chunk)), (still_for s h [] r (none_more h r.chunk) o.3.0, o.3.1), o.4), k.1, k.2, k.3)
+        ((o.0, o.1, o.2 ∙ same_delivery s h (Accepted b NoChunk ∷ h) r refl (tag_same h [] r.chunk (none_more h r.chunk)), o.3, o.4), k.1, k.2, k.3)
 
 pub carried_first : (s : AllSettings) (b : Batch) (n : ℕ) (h : History) (out : Option Route) (link : ℕ) (f : Option FlushAttempt) → is_closed h n ≡ false
     → LinkHolds s h out link f (route_on_link h link) → LinkHolds s (Accepted b (NewChunk n) ∷ h) out link f (route_on_link h link)
@@ -189,8 +184,7 @@ carried_first s b n h out link f still is = carried_by s h (Accepted b (NewChunk
     one f r k =
         let o = k.0 in
         let apart : (n == r.chunk) ≡ false = ne_eqb n r.chunk (λ e. absurd (cc (sym still ∙ ap (is_closed h) e ∙ o.4.0))) in
-        let first : find (λ (c : ChunkInfo). c.number == r.chunk) (chunks_of (Accepted b (NewChunk n) ∷ h)) ≡ find (λ (c : ChunkInfo). c.number == r.chunk) (chunks_of h) = found_append r.chunk (chunks_of h) _ apart in
-        ((o.0, o.1, o.2 ∙ same_delivery s h (Accepted b (NewChunk n) ∷ h) r refl (tag_same h _ r.chunk first), (still_for s h _ r first o.3.0, o.3.1), o.4), k.1, k.2, k.3)
+        ((o.0, o.1, o.2 ∙ same_delivery s h (Accepted b (NewChunk n) ∷ h) r refl (tag_same h _ r.chunk (found_append r.chunk (chunks_of h) _ apart)), o.3, o.4), k.1, k.2, k.3)
 
 pub carried_found : (s : AllSettings) (n : ℕ) (stream name bytes : List ℕ) (h : History) (out : Option Route) (link : ℕ) (f : Option FlushAttempt) → next h ≤ n
     → LinkHolds s h out link f (route_on_link h link) → LinkHolds s (Found n stream name bytes ∷ h) out link f (route_on_link h link)
@@ -205,8 +199,7 @@ carried_found s n stream name bytes h out link f above is = carried_by s h (Foun
         let o = k.0 in
         let within : r.chunk < next h = o.4.1 in
         let apart : (n == r.chunk) ≡ false = ne_eqb n r.chunk (λ e. absurd (omega (arith, within, above, e))) in
-        let first = by (recovered_chunk bytes) r.chunk apart in
-        ((o.0, o.1, o.2 ∙ same_delivery s h (Found n stream name bytes ∷ h) r refl (tag_same h _ r.chunk first), (still_for s h _ r first o.3.0, rw apart o.3.1), (rw apart o.4.0, omega (arith, within))), k.1, k.2, k.3)
+        ((o.0, o.1, o.2 ∙ same_delivery s h (Found n stream name bytes ∷ h) r refl (tag_same h _ r.chunk (by (recovered_chunk bytes) r.chunk apart)), o.3, (rw apart o.4.0, omega (arith, within))), k.1, k.2, k.3)
 
 pub carried_offers : (s : AllSettings) (n : ℕ) (b : Batch) (h : History) (out : Option Route) (link : ℕ) (f : Option FlushAttempt)
     → LinkHolds s h out link f (route_on_link h link) → LinkHolds s (Offered n b ∷ h) out link f (route_on_link h link)
@@ -242,7 +235,7 @@ kept_on : (s : AllSettings) (r : Route) (o : Outcome) (h : History) (out later :
     → AttemptIsKept s h out link f a → AttemptIsKept s (OnRoute r o ∷ h) later link f a
 kept_on s r o h out later link f a apart free k =
     let w = k.0 in
-    ((w.0, w.1, w.2 ∙ same_delivery s h (OnRoute r o ∷ h) a (rw apart refl) refl, (w.3.0, rw apart w.3.1), w.4), rw apart k.1, k.2, free)
+    ((w.0, w.1, w.2 ∙ same_delivery s h (OnRoute r o ∷ h) a (rw apart refl) refl, rw apart w.3, w.4), rw apart k.1, k.2, free)
 
 none_free : (a : Route) → None ≢ Some a
 none_free a e = absurd (cc e)
@@ -268,7 +261,7 @@ carried_flies s r p h link own f same of is = elim (cases_Bool (uses_link link (
   | inl on ↦
       let self : same_route r r ≡ true = rw (eq-eqb r.chunk r.chunk refl, eq-eqb r.output r.output refl) refl in
       let link_is : link_in own.flush.progress.stage ≡ Some (record { 0 = link }) = linked link own.flush.progress (ap (λ (q : Progress). uses_link link (Some q)) (sym same) ∙ on) in
-      rw on ((of.0, of.1, of.2 ∙ same_delivery s h (OnRoute r (InFlight p) ∷ h) r (rw self refl) refl, (of.3.0, rw self of.3.1), of.4), rw self (ap (λ (q : Progress). Some q) same), link_is, λ e. absurd (cc e))
+      rw on ((of.0, of.1, of.2 ∙ same_delivery s h (OnRoute r (InFlight p) ∷ h) r (rw self refl) refl, rw self of.3, of.4), rw self (ap (λ (q : Progress). Some q) same), link_is, λ e. absurd (cc e))
   | inr off ↦ rw off (others_carried s r (InFlight p) h link f (route_on_link h link) is)
 ]
   where

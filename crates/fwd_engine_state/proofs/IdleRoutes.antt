@@ -6,12 +6,12 @@ use Rattle.std.proofs.lemmas.Bool.{cases_Bool, eqb-true}
 use Rattle.fwd_settings.specs.declared.settings_types.AllSettings.{AllSettings}
 use Rattle.fwd_flush.specs.FlushProgram.{Progress}
 use Rattle.fwd_table.specs.Routes.{is_to}
-use Rattle.fwd_table.specs.Rows.{row_at, has_row, waits_for}
+use Rattle.fwd_table.specs.Rows.{row_at, has_row, tries_of, waits_for}
 use Rattle.fwd_table.specs.declared.row.Row.{Row}
 use Rattle.fwd_table.specs.declared.route.Route.{Route as Owed}
 use Rattle.fwd_model.specs.Fact.{History, Route}
 use Rattle.fwd_model.specs.Chunks.{ChunkInfo, chunks_of, is_closed, next}
-use Rattle.fwd_model.specs.Routes.{flight, owed, is_owed, is_idle, table_route, row_of, rows_of}
+use Rattle.fwd_model.specs.Routes.{tries, flight, owed, is_owed, is_idle, table_route, row_of, rows_of}
 use Rattle.fwd_engine_state.specs.Views.{chunk_id, output_id}
 use Rattle.fwd_engine_state.specs.StateRepresents.{NumbersRise, IsClosedRoute}
 use Rattle.fwd_engine_state.proofs.PendingRows.{has_given}
@@ -75,9 +75,8 @@ module _ (s : AllSettings) (h : History) (r : Route) (idle : is_idle s h r ≡ t
       let there : find (is_to (output_id r.output)) (map (table_route s h c.number) (owed s h c)) ≡ Some its_route.1.0 = ap (λ (row : Row). find (is_to (output_id r.output)) row.routes) (sym its_chunk.2) ∙ its_route.1.1 in
       found_route s h c.number r.output (owed s h c) its_route.1.0 there ∙ ap (λ (n : ℕ). table_route s h n r.output) its_chunk.1
 
-  -- its row and its entry
-  pub idle_route : (row : Row) × (row_at (chunk_id r.chunk) (rows_of s h) ≡ Some row) × (x : Owed) × (find (is_to (output_id r.output)) row.routes ≡ Some x)
-  idle_route = (the_row.0, the_row.1, its_route.1.0, its_route.1.1)
+  pub idle_tries : tries_of (chunk_id r.chunk) (output_id r.output) (rows_of s h) ≡ tries h r
+  idle_tries = rw (the_row.1, its_route.1.1) (ap (λ (x : Owed). x.tries) stands)
 
   pub idle_flight : flight h r ≡ None
   idle_flight = none_from (flight h r) (ap (λ (x : Owed). x.flying) (sym stands) ∙ its_route.1.2)

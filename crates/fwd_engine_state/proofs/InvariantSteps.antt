@@ -18,7 +18,7 @@ use Rattle.fwd_settings.specs.declared.settings_types.AllSettings.{AllSettings}
 use Rattle.fwd_engine_state.proofs.ChunkMap.{same_number}
 use Rattle.fwd_engine_state.specs.StateRepresents.{is_open}
 use Rattle.fwd_engine_state.proofs.ChunksAndAttempts.{open_is, open_left, open_same, open_others, open_found}
-use Rattle.fwd_model.specs.Fact.{Fact, History, Batch, Route, Outcome, FlushStarted, InFlight, Retries, Delivered, Failed, Exhausted, Evicted, Placement, NoChunk, NewChunk, AppendedTo, Happened, Resumed, Saved, Polled, Disconnected, Malformed, Found, Offered, Accepted, Refused, ChunkClosed, Sent, OnRoute, MarkStarted, Marked, Removed, FileLeft, IoFailed}
+use Rattle.fwd_model.specs.Fact.{Fact, History, Batch, Route, Outcome, FlushStarted, InFlight, Retries, Delivered, Failed, Exhausted, Evicted, Placement, NoChunk, NewChunk, AppendedTo, Happened, Resumed, Polled, Disconnected, Malformed, Found, Offered, Accepted, Refused, ChunkClosed, Sent, OnRoute, MarkStarted, Marked, Removed, FileLeft, IoFailed}
 use Rattle.fwd_model.specs.Settings.{home_at, names_for}
 use Rattle.fwd_model.specs.RecoveredFile.{recovered_chunk, recovered_content}
 use Rattle.fwd_model.specs.Chunks.{next, is_closed, records, content, size, encoded}
@@ -187,7 +187,6 @@ is_elsewhere (AppendedTo chunk) = false
 abbrev pub keeps_invariant : Fact → Bool
 keeps_invariant (Happened happening) = true
 keeps_invariant (Resumed input index place) = true
-keeps_invariant (Saved input index place) = true
 keeps_invariant (Polled input index length bytes) = true
 keeps_invariant (Disconnected conn) = true
 keeps_invariant (Malformed input) = true
@@ -221,7 +220,6 @@ nowhere_sound s h full b sound = record {
 pub sound_after_fact : (s : AllSettings) (h : History) (full : Option ℕ) (fact : Fact) → keeps_invariant fact ≡ true → IsSound s h full → IsSound s (fact ∷ h) full
 sound_after_fact s h full (Happened happening) is sound = same_sound s h _ full (same_by s h (Happened happening) (omega arith) (λ n. refl) (λ n. refl) (λ n. refl) (λ n. refl) (λ r. refl) (λ n. refl)) sound
 sound_after_fact s h full (Resumed input index place) is sound = same_sound s h _ full (same_by s h (Resumed input index place) (omega arith) (λ n. refl) (λ n. refl) (λ n. refl) (λ n. refl) (λ r. refl) (λ n. refl)) sound
-sound_after_fact s h full (Saved input index place) is sound = same_sound s h _ full (same_by s h (Saved input index place) (omega arith) (λ n. refl) (λ n. refl) (λ n. refl) (λ n. refl) (λ r. refl) (λ n. refl)) sound
 sound_after_fact s h full (Polled input index long bytes) is sound = same_sound s h _ full (same_by s h (Polled input index long bytes) (omega arith) (λ n. refl) (λ n. refl) (λ n. refl) (λ n. refl) (λ r. refl) (λ n. refl)) sound
 sound_after_fact s h full (Disconnected conn) is sound = same_sound s h _ full (same_by s h (Disconnected conn) (omega arith) (λ n. refl) (λ n. refl) (λ n. refl) (λ n. refl) (λ r. refl) (λ n. refl)) sound
 sound_after_fact s h full (Malformed input) is sound = same_sound s h _ full (same_by s h (Malformed input) (omega arith) (λ n. refl) (λ n. refl) (λ n. refl) (λ n. refl) (λ r. refl) (λ n. refl)) sound

@@ -15,8 +15,6 @@ pub mod RowsAddedAndRemoved
 pub mod ChunksAndAttempts
 pub mod PendingRows
 pub mod IdleRoutes
-pub mod PendingRoutes
-pub mod AnsweredRoutes
 pub mod RecoveredFiles
 pub mod OtherFacts
 pub mod CapacityLemmas

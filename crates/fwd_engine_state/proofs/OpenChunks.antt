@@ -8,7 +8,7 @@ use Rattle.std.proofs.lemmas.List.{append-nil, map-append}
 use Rattle.std.proofs.lemmas.List.Elements.{filter-append}
 use Rattle.fwd_store.specs.OpenChunk.{Opened, is_for, without, open_for}
 use Rattle.fwd_chunk.specs.declared.chunk.Chunk.{Chunk}
-use Rattle.fwd_model.specs.Fact.{Fact, History, Batch, Placement, NoChunk, NewChunk, AppendedTo, Happened, Resumed, Saved, Polled, Disconnected, Malformed, Found, Offered, Accepted, Refused, ChunkClosed, Sent, OnRoute, MarkStarted, Marked, Removed, FileLeft, IoFailed}
+use Rattle.fwd_model.specs.Fact.{Fact, History, Batch, Placement, NoChunk, NewChunk, AppendedTo, Happened, Resumed, Polled, Disconnected, Malformed, Found, Offered, Accepted, Refused, ChunkClosed, Sent, OnRoute, MarkStarted, Marked, Removed, FileLeft, IoFailed}
 use Rattle.fwd_model.specs.RecoveredFile.{recovered_chunk}
 use Rattle.fwd_model.specs.Chunks.{ChunkInfo, recovered_info, created_info, chunks_of, is_closed, is_from, open_chunks, open_chunk}
 use Rattle.fwd_engine_state.specs.StoreRepresents.{opened_of}
@@ -68,7 +68,6 @@ numbered c = c.number
 pub shut_stays : (fact : Fact) (h : History) (n : ℕ) → is_closed h n ≡ true → is_closed (fact ∷ h) n ≡ true
 shut_stays (Happened happening) h n done = done
 shut_stays (Resumed input index place) h n done = done
-shut_stays (Saved input index place) h n done = done
 shut_stays (Polled input index long bytes) h n done = done
 shut_stays (Disconnected conn) h n done = done
 shut_stays (Malformed input) h n done = done
@@ -111,7 +110,6 @@ found_shut : (h : History) → FoundShut h (chunks_of h)
 found_shut [] = tt
 found_shut (Happened happening ∷ h) = later (Happened happening) h (chunks_of h) (found_shut h)
 found_shut (Resumed input index place ∷ h) = later (Resumed input index place) h (chunks_of h) (found_shut h)
-found_shut (Saved input index place ∷ h) = later (Saved input index place) h (chunks_of h) (found_shut h)
 found_shut (Polled input index long bytes ∷ h) = later (Polled input index long bytes) h (chunks_of h) (found_shut h)
 found_shut (Disconnected conn ∷ h) = later (Disconnected conn) h (chunks_of h) (found_shut h)
 found_shut (Malformed input ∷ h) = later (Malformed input) h (chunks_of h) (found_shut h)

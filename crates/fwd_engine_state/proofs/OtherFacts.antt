@@ -3,7 +3,7 @@ use Rattle.std.proofs.Common.{◌≡◌, Bool, true, false, not, Option, ◌∷�
 use Rattle.fwd_settings.specs.declared.settings_types.AllSettings.{AllSettings}
 use Rattle.fwd_outside.specs.declared.happening.Happening.{Happening}
 use Rattle.fwd_outside.specs.declared.happening.Happening.TheVariants as happening
-use Rattle.fwd_model.specs.Fact.{Fact, History, Route, Happened, Resumed, Saved, Polled, Disconnected, Malformed, Found, Offered, Accepted, Refused, ChunkClosed, Sent, OnRoute, MarkStarted, Marked, Removed, FileLeft, IoFailed}
+use Rattle.fwd_model.specs.Fact.{Fact, History, Route, Happened, Resumed, Polled, Disconnected, Malformed, Found, Offered, Accepted, Refused, ChunkClosed, Sent, OnRoute, MarkStarted, Marked, Removed, FileLeft, IoFailed}
 use Rattle.fwd_model.specs.Settings.{reads_stdin_at}
 use Rattle.fwd_model.specs.Clock.{clock, stopped, stopped_by}
 use Rattle.fwd_model.specs.Chunks.{chunks_of, next}
@@ -32,7 +32,6 @@ state_after_other_event s state h out (happening.InputEnd input) is before = rec
 pub state_after_other_fact : (s : AllSettings) (state : State) (h : History) (out : Option Route) (fact : Fact) → is_not_state_fact s fact ≡ true → StateRepresents s state h out → StateRepresents s state (fact ∷ h) out
 state_after_other_fact s state h out (Happened happens) is before = state_after_other_event s state h out happens is before
 state_after_other_fact s state h out (Resumed input index place) is before = record { rows = before.rows; top = before.top; flights = before.flights; time = before.time; ticks = before.ticks; closing = before.closing; stopped = before.stopped; tally = before.tally; numbers = before.numbers; fresh = before.fresh; open_owed = before.open_owed }
-state_after_other_fact s state h out (Saved input index place) is before = record { rows = before.rows; top = before.top; flights = before.flights; time = before.time; ticks = before.ticks; closing = before.closing; stopped = before.stopped; tally = before.tally; numbers = before.numbers; fresh = before.fresh; open_owed = before.open_owed }
 state_after_other_fact s state h out (Polled input index long bytes) is before = record { rows = before.rows; top = before.top; flights = before.flights; time = before.time; ticks = before.ticks; closing = before.closing; stopped = before.stopped; tally = before.tally; numbers = before.numbers; fresh = before.fresh; open_owed = before.open_owed }
 state_after_other_fact s state h out (Disconnected conn) is before = record { rows = before.rows; top = before.top; flights = before.flights; time = before.time; ticks = before.ticks; closing = before.closing; stopped = before.stopped; tally = before.tally; numbers = before.numbers; fresh = before.fresh; open_owed = before.open_owed }
 state_after_other_fact s state h out (Malformed input) is before = absurd (cc is)

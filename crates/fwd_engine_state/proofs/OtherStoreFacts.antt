@@ -4,7 +4,7 @@ use Rattle.std.proofs.lemmas.List.{append-nil}
 use Rattle.std.specs.Prelude.{filter, not}
 use Rattle.fwd_settings.specs.declared.settings_types.AllSettings.{AllSettings}
 use Rattle.fwd_store.specs.StoreState.{Stored}
-use Rattle.fwd_model.specs.Fact.{Fact, History, Batch, NoChunk, NewChunk, AppendedTo, Happened, Resumed, Saved, Polled, Disconnected, Malformed, Found, Offered, Accepted, Refused, ChunkClosed, Sent, OnRoute, MarkStarted, Marked, Removed, FileLeft, IoFailed}
+use Rattle.fwd_model.specs.Fact.{Fact, History, Batch, NoChunk, NewChunk, AppendedTo, Happened, Resumed, Polled, Disconnected, Malformed, Found, Offered, Accepted, Refused, ChunkClosed, Sent, OnRoute, MarkStarted, Marked, Removed, FileLeft, IoFailed}
 use Rattle.fwd_model.specs.Chunks.{ChunkInfo, next, chunks_of, is_closed, open_chunks}
 use Rattle.fwd_model.specs.ChunkStorage.{kept_of}
 use Rattle.fwd_engine_state.specs.StoreRepresents.{StoreRepresents, opened_of, is_store_fact}
@@ -26,7 +26,6 @@ unrouted_opens_none b h = ap (filter (λ (c : ChunkInfo). not (is_closed h c.num
 pub store_after_other_fact : (s : AllSettings) (store : Stored) (h : History) (fact : Fact) → is_store_fact fact ≡ false → StoreRepresents s store h → StoreRepresents s store (fact ∷ h)
 store_after_other_fact s store h (Happened happening) none held = store_of_same_chunks s store h _ refl refl (λ n. refl) held
 store_after_other_fact s store h (Resumed input index place) none held = store_of_same_chunks s store h _ refl refl (λ n. refl) held
-store_after_other_fact s store h (Saved input index place) none held = store_of_same_chunks s store h _ refl refl (λ n. refl) held
 store_after_other_fact s store h (Polled input index long bytes) none held = store_of_same_chunks s store h _ refl refl (λ n. refl) held
 store_after_other_fact s store h (Disconnected conn) none held = store_of_same_chunks s store h _ refl refl (λ n. refl) held
 store_after_other_fact s store h (Malformed input) none held = store_of_same_chunks s store h _ refl refl (λ n. refl) held

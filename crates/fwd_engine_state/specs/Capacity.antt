@@ -6,8 +6,4 @@ use Rattle.fwd_table.specs.Usage.{is_file, is_recovered, files_up, found_up}
 
 abbrev pub fits_seen : ℕ → ℕ → List Row → RowSeen → Bool
 fits_seen max_up limit rows seen =
-    not (is_file seen.home)
-    || (not (seen.flying == 0)
-    || (nat_lt (files_up rows) max_up
-    && (not (is_recovered seen.input)
-    || (nat_le (found_up rows + seen.size) limit || found_up rows == 0))))
+    not (is_file seen.home) || (not (seen.flying == 0) || (nat_lt (files_up rows) max_up && (not (is_recovered seen.input) || (nat_le (found_up rows + seen.size) limit || found_up rows == 0))))

@@ -10,8 +10,7 @@ use Rattle.fwd_engine_state.specs.declared.count_changes.OutputChange.TheVariant
 
 -- the counters of an input after a change
 abbrev pub input_changed : InputChange → InputTally → InputTally
-input_changed (Accepted events) t =
-    record t { batches = saturating_plus t.batches 1; events = saturating_plus t.events events }
+input_changed (Accepted events) t = record t { batches = saturating_plus t.batches 1; events = saturating_plus t.events events }
 input_changed Refused t = record t { refused = saturating_plus t.refused 1 }
 
 -- the counters of an output after a change

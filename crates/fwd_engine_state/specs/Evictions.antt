@@ -9,12 +9,9 @@ use Rattle.fwd_model.specs.Limits.{evictions_to}
 
 -- what these outputs evict, one after another
 abbrev pub evictions_left : AllSettings → History → ℕ → List ℕ → List Route
-evictions_left s h chunk outputs =
-    flat_map (λ output. evictions_to s h chunk output (total_limit_at s output)) outputs
+evictions_left s h chunk outputs = flat_map (λ output. evictions_to s h chunk output (total_limit_at s output)) outputs
 
 -- the chunk is idle to each of these outputs, which differ from this one
 abbrev pub IsIdleToOthers : AllSettings → History → ℕ → ℕ → List ℕ → Type 0
 IsIdleToOthers s h chunk output [] = Unit {0}
-IsIdleToOthers s h chunk output (other ∷ others) =
-    ((output == other) ≡ false) × (is_idle s h (route chunk other) ≡ true)
-    × IsIdleToOthers s h chunk output others
+IsIdleToOthers s h chunk output (other ∷ others) = ((output == other) ≡ false) × (is_idle s h (route chunk other) ≡ true) × IsIdleToOthers s h chunk output others

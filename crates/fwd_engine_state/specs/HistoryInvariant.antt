@@ -18,7 +18,6 @@ use Rattle.fwd_model.specs.Routes.{route, flight}
 pub record IsSound (s : AllSettings) (h : History) (full : Option ℕ) : Type 0 where
   pub untouched : (chunk : ℕ) → next h ≤ chunk → (records h chunk ≡ []) × (content h chunk ≡ [])
   pub sized : (chunk : ℕ) (kept : Kept) → kept_of s h chunk ≡ Some kept → size_of kept ≡ size h chunk
-  pub memory : (chunk : ℕ) (content : List ℕ) → kept_of s h chunk ≡ Some (InMemory content)
-      → AreEvents (records h chunk) content
+  pub memory : (chunk : ℕ) (content : List ℕ) → kept_of s h chunk ≡ Some (InMemory content) → AreEvents (records h chunk) content
   pub grounded : (chunk output : ℕ) → is_closed h chunk ≡ false → flight h (route chunk output) ≡ None
   pub room : (chunk : ℕ) → is_open h chunk ≡ true → full ≢ Some chunk → size h chunk < full_chunk

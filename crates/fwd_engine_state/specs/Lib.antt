@@ -4,7 +4,6 @@ pub mod PartsRepresent
 pub mod RefinesAction
 pub mod LoopCounters
 pub mod CountChanges
-pub mod FlushOutcome
 pub mod Views
 pub mod StateRepresents
 pub mod Capacity

@@ -12,8 +12,7 @@ use Rattle.fwd_engine_state.specs.HistoryInvariant.{IsSound}
 use Rattle.fwd_engine_state.specs.declared.parts.Parts.{Parts}
 
 -- Each part represents the history. The attempt of one route may be out, and one open chunk may be full.
-pub record PartsRepresent (s : AllSettings) (parts : Parts) (h : History) (out : Option Route)
-    (full : Option ℕ) : Type 0 where
+pub record PartsRepresent (s : AllSettings) (parts : Parts) (h : History) (out : Option Route) (full : Option ℕ) : Type 0 where
   pub state : StateRepresents s parts.state h out
   pub input_streams : StreamsRepresent s parts.input_streams h
   pub followed_files : FilesRepresent s parts.followed_files h

@@ -27,35 +27,25 @@ with_all loop disk files others = record others { loop = loop; disk = disk; file
 
 -- For each history that the parts represent and that satisfies a condition, in every world: the calls are
 -- those of the action, and the parts then represent the history that it gives.
-abbrev pub RefinesActionWhere : {T E : Type 0} → AllSettings → (CallLogs → CallLogs) → (CallLogs → CallLogs)
-    → Parts → Parts → (History → Type 0) → (History → Action History) → Result T E → Type 0
+abbrev pub RefinesActionWhere : {T E : Type 0} → AllSettings → (CallLogs → CallLogs) → (CallLogs → CallLogs) → Parts → Parts → (History → Type 0) → (History → Action History) → Result T E → Type 0
 RefinesActionWhere s old new before after P act result =
-    (others : CallLogs) (h : History) → PartsRepresentIdle s before h → P h
-    → Refines (λ _ now. PartsRepresentIdle s after now) (old others) (new others) (act h) result
+    (others : CallLogs) (h : History) → PartsRepresentIdle s before h → P h → Refines (λ _ now. PartsRepresentIdle s after now) (old others) (new others) (act h) result
 
 -- the same without a condition
-abbrev pub RefinesAction : {T E : Type 0} → AllSettings → (CallLogs → CallLogs) → (CallLogs → CallLogs)
-    → Parts → Parts → (History → Action History) → Result T E → Type 0
+abbrev pub RefinesAction : {T E : Type 0} → AllSettings → (CallLogs → CallLogs) → (CallLogs → CallLogs) → Parts → Parts → (History → Action History) → Result T E → Type 0
 RefinesAction s old new before after act result =
-    (others : CallLogs) (h : History) → PartsRepresentIdle s before h
-    → Refines (λ _ now. PartsRepresentIdle s after now) (old others) (new others) (act h) result
+    (others : CallLogs) (h : History) → PartsRepresentIdle s before h → Refines (λ _ now. PartsRepresentIdle s after now) (old others) (new others) (act h) result
 
 -- the same from a history in which the attempt of a route is out
-abbrev pub RefinesOutcomeWhere : {T E : Type 0} → AllSettings → (CallLogs → CallLogs) → (CallLogs → CallLogs)
-    → Parts → Parts → Route → (History → Type 0) → (History → Action History) → Result T E → Type 0
+abbrev pub RefinesOutcomeWhere : {T E : Type 0} → AllSettings → (CallLogs → CallLogs) → (CallLogs → CallLogs) → Parts → Parts → Route → (History → Type 0) → (History → Action History) → Result T E → Type 0
 RefinesOutcomeWhere s old new before after r P act result =
-    (others : CallLogs) (h : History) → PartsRepresent s before h (Some r) None → P h
-    → Refines (λ _ now. PartsRepresentIdle s after now) (old others) (new others) (act h) result
+    (others : CallLogs) (h : History) → PartsRepresent s before h (Some r) None → P h → Refines (λ _ now. PartsRepresentIdle s after now) (old others) (new others) (act h) result
 
 -- the action accepts or refuses a batch, and the call returns which
-abbrev pub RefinesAccepting : {E : Type 0} → AllSettings → (CallLogs → CallLogs) → (CallLogs → CallLogs)
-    → Parts → Parts → (History → Action Acceptance) → Result Bool E → Type 0
+abbrev pub RefinesAccepting : {E : Type 0} → AllSettings → (CallLogs → CallLogs) → (CallLogs → CallLogs) → Parts → Parts → (History → Action Acceptance) → Result Bool E → Type 0
 RefinesAccepting s old new before after act result =
-    (others : CallLogs) (h : History) → PartsRepresentIdle s before h
-    → Refines (λ taken (a : Acceptance). (a.taken ≡ taken) × PartsRepresentIdle s after a.history)
-    (old others) (new others) (act h) result
+    (others : CallLogs) (h : History) → PartsRepresentIdle s before h → Refines (λ taken (a : Acceptance). (a.taken ≡ taken) × PartsRepresentIdle s after a.history) (old others) (new others) (act h) result
 
 -- an action that makes no call
-abbrev pub RefinesWithoutCalls : {T E : Type 0} → AllSettings → Parts → Parts → (History → Action History)
-    → Result T E → Type 0
+abbrev pub RefinesWithoutCalls : {T E : Type 0} → AllSettings → Parts → Parts → (History → Action History) → Result T E → Type 0
 RefinesWithoutCalls s before after act result = RefinesAction s (λ w. w) (λ w. w) before after act result

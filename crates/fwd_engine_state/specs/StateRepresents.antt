@@ -1,7 +1,6 @@
 -- The abstraction relation between a state and a history.
 use Rattle.std.specs.Prelude.{◌≡◌, ◌≢◌, ℕ, ◌+◌, ◌<◌, ◌≤◌, ◌==◌, not, Bool, true, false, List, [], ◌∷◌, length, map, filter, Option, Some, None}
 use Rattle.std.specs.List.{list_any}
-use Rattle.std.specs.Option.{option_map_or}
 use Rattle.fwd_outside.specs.declared.happening.Happening.{Happening}
 use Rattle.fwd_outside.specs.declared.happening.Happening.TheVariants as happening
 use Rattle.fwd_chunk.specs.declared.chunk.Chunk.{Chunk}
@@ -9,11 +8,11 @@ use Rattle.fwd_flush.specs.FlushProgram.{link_in, delivery as delivery_of}
 use Rattle.fwd_settings.specs.declared.settings_types.AllSettings.{AllSettings}
 use Rattle.fwd_table.specs.Routes.{idle_at, routes_to}
 use Rattle.fwd_table.specs.Rows.{has_row}
-use Rattle.fwd_model.specs.Fact.{Fact, History, Route, Happened, Resumed, Saved, Polled, Disconnected, Malformed, Found, Offered, Accepted, Refused, ChunkClosed, Sent, OnRoute, MarkStarted, Marked, Removed, FileLeft, IoFailed}
+use Rattle.fwd_model.specs.Fact.{Fact, History, Route, Happened, Resumed, Polled, Disconnected, Malformed, Found, Offered, Accepted, Refused, ChunkClosed, Sent, OnRoute, MarkStarted, Marked, Removed, FileLeft, IoFailed}
 use Rattle.fwd_model.specs.Settings.{outputs_for, output_name, reads_stdin_at}
 use Rattle.fwd_model.specs.Clock.{clock, ticked, stopped, next_close}
 use Rattle.fwd_model.specs.RecoveredFile.{recovered_chunk, is_marked_done}
-use Rattle.fwd_model.specs.Chunks.{ChunkInfo, chunks_of, chunk_at, next, is_closed, open_chunks, content}
+use Rattle.fwd_model.specs.Chunks.{ChunkInfo, chunks_of, next, is_closed, open_chunks, content}
 use Rattle.fwd_model.specs.Routes.{route, tries, due, flight, is_resolved, rows_of, route_on_link}
 use Rattle.fwd_model.specs.Payloads.{delivery}
 use Rattle.fwd_model.specs.Counters.{tally_of}
@@ -38,9 +37,7 @@ abbrev pub RouteIsUntouched : AllSettings → History → Route → Type 0
 RouteIsUntouched s h r = (tries h r ≡ 0) × (due s h r ≡ 0) × (flight h r ≡ None) × (is_resolved s h r ≡ false)
 
 abbrev pub IsUntouched : AllSettings → History → ℕ → Type 0
-IsUntouched s h chunk =
-    (is_closed h chunk ≡ false) × (content h chunk ≡ [])
-    × ((output : ℕ) → RouteIsUntouched s h (route chunk output))
+IsUntouched s h chunk = (is_closed h chunk ≡ false) × (content h chunk ≡ []) × ((output : ℕ) → RouteIsUntouched s h (route chunk output))
 
 -- A chunk of this number may begin: the number was given out, it is above those of all chunks, and the
 -- history has no other fact about it.
@@ -57,8 +54,7 @@ pub record IsMaskOf (outputs : List ℕ) (owed : ℕ) : Type 0 where
 
 -- the outputs that a recovered chunk is pending for: those that match its tag and have no recorded outcome
 abbrev pub remaining_for : AllSettings → Chunk → List ℕ
-remaining_for s chunk =
-    filter (λ output. not (is_marked_done (output_name s output) (Some chunk))) (outputs_for s chunk.tag)
+remaining_for s chunk = filter (λ output. not (is_marked_done (output_name s output) (Some chunk))) (outputs_for s chunk.tag)
 
 -- the bytes of a file represent a chunk of this tag and size, which is pending for the outputs of a mask
 pub record IsLoaded (s : AllSettings) (tag : List ℕ) (size owed : ℕ) (bytes : List ℕ) : Type 0 where
@@ -74,26 +70,16 @@ pub record IsLoaded (s : AllSettings) (tag : List ℕ) (size owed : ℕ) (bytes 
 abbrev pub IsClosedRoute : History → Route → Type 0
 IsClosedRoute h r = (is_closed h r.chunk ≡ true) × (r.chunk < next h)
 
--- whether an output is among those that match the tag of a chunk
-abbrev pub is_for : AllSettings → ℕ → ChunkInfo → Bool
-is_for s output c = list_any (λ o. o == output) (outputs_for s c.tag)
-
--- a route is pending: its chunk exists and matches its output, and the route isn't resolved
-abbrev pub IsPending : AllSettings → History → Route → Type 0
-IsPending s h r =
-    (option_map_or (is_for s r.output) (chunk_at h r.chunk) false ≡ true) × (is_resolved s h r ≡ false)
-
--- a flush attempt of a pending route, at any progress, and what it delivers
+-- a flush attempt of a route, at any progress: what it delivers, and how many tries of the route failed
+-- before
 abbrev pub IsFlightOf : AllSettings → History → FlushAttempt → Route → Type 0
 IsFlightOf s h f r =
-    (route_of f.route ≡ r) × (f.flush.output ≡ f.route.output)
-    × (delivery_of wants judges f.flush ≡ delivery s h r) × IsPending s h r × IsClosedRoute h r
+    (route_of f.route ≡ r) × (f.flush.output ≡ f.route.output) × (delivery_of wants judges f.flush ≡ delivery s h r) × (f.tries ≡ tries h r) × IsClosedRoute h r
 
 -- the attempt over a connection is that of the route, has this progress, and isn't the one that is out
 abbrev pub AttemptIsKept : AllSettings → History → Option Route → ℕ → FlushAttempt → Route → Type 0
 AttemptIsKept s h out link f r =
-    IsFlightOf s h f r × (flight h r ≡ Some f.flush.progress)
-    × (link_in f.flush.progress.stage ≡ Some (record { 0 = link })) × (out ≢ Some r)
+    IsFlightOf s h f r × (flight h r ≡ Some f.flush.progress) × (link_in f.flush.progress.stage ≡ Some (record { 0 = link })) × (out ≢ Some r)
 
 -- The attempt over a connection, and the route on it. The attempt of the route that is out isn't kept.
 abbrev pub LinkHolds : AllSettings → History → Option Route → ℕ → Option FlushAttempt → Option Route → Type 0
@@ -126,39 +112,29 @@ StateRepresentsIdle s state h = StateRepresents s state h None
 
 -- a statement about each history that the state represents
 abbrev pub StateAnswers : State → (AllSettings → History → Type 0) → Type 0
-StateAnswers state P =
-    (s : AllSettings) (h : History) (out : Option Route) → StateRepresents s state h out → P s h
+StateAnswers state P = (s : AllSettings) (h : History) (out : Option Route) → StateRepresents s state h out → P s h
 
 -- the new state represents what the old one did
 abbrev pub StateUnchanged : State → State → Type 0
-StateUnchanged old new =
-    (s : AllSettings) (h : History) (out : Option Route) → StateRepresents s old h out
-    → StateRepresents s new h out
+StateUnchanged old new = (s : AllSettings) (h : History) (out : Option Route) → StateRepresents s old h out → StateRepresents s new h out
 
 -- the new state represents one fact more
 abbrev pub StateNotes : State → State → Fact → Type 0
-StateNotes old new fact =
-    (s : AllSettings) (h : History) (out : Option Route) → StateRepresents s old h out
-    → StateRepresents s new (fact ∷ h) out
+StateNotes old new fact = (s : AllSettings) (h : History) (out : Option Route) → StateRepresents s old h out → StateRepresents s new (fact ∷ h) out
 
 -- the same, if a condition holds for the history before it
 abbrev pub StateNotesWhere : State → State → (AllSettings → History → Type 0) → Fact → Type 0
-StateNotesWhere old new P fact =
-    (s : AllSettings) (h : History) (out : Option Route) → StateRepresents s old h out → P s h
-    → StateRepresents s new (fact ∷ h) out
+StateNotesWhere old new P fact = (s : AllSettings) (h : History) (out : Option Route) → StateRepresents s old h out → P s h → StateRepresents s new (fact ∷ h) out
 
 -- The attempt of the route that is out has an outcome, which is the next fact. No attempt is out then.
 abbrev pub StateNotesOutcome : State → State → Route → (AllSettings → History → Type 0) → Fact → Type 0
-StateNotesOutcome old new r P fact =
-    (s : AllSettings) (h : History) → StateRepresents s old h (Some r) → P s h
-    → StateRepresents s new (fact ∷ h) None
+StateNotesOutcome old new r P fact = (s : AllSettings) (h : History) → StateRepresents s old h (Some r) → P s h → StateRepresents s new (fact ∷ h) None
 
 -- The attempt over a connection was taken out. There was none if no route is on the connection.
 abbrev pub IsTakenOut : AllSettings → History → State → ℕ → Option FlushAttempt → Type 0
 IsTakenOut s h state link None = StateRepresents s state h None × (route_on_link h link ≡ None)
 IsTakenOut s h state link (Some f) =
-    StateRepresents s state h (Some (route_of f.route)) × (route_on_link h link ≡ Some (route_of f.route))
-    × (flight h (route_of f.route) ≡ Some f.flush.progress) × IsFlightOf s h f (route_of f.route)
+    StateRepresents s state h (Some (route_of f.route)) × (route_on_link h link ≡ Some (route_of f.route)) × (flight h (route_of f.route) ≡ Some f.flush.progress) × IsFlightOf s h f (route_of f.route)
 
 -- ---- facts that leave a state as it is
 
@@ -180,7 +156,6 @@ is_not_state_event s happening.Failed = true
 abbrev pub is_not_state_fact : AllSettings → Fact → Bool
 is_not_state_fact s (Happened happens) = is_not_state_event s happens
 is_not_state_fact s (Resumed input index place) = true
-is_not_state_fact s (Saved input index place) = true
 is_not_state_fact s (Polled input index long bytes) = true
 is_not_state_fact s (Disconnected conn) = true
 is_not_state_fact s (Malformed input) = false

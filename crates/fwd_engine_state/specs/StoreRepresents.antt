@@ -4,7 +4,7 @@ use Rattle.std.specs.FinMap as map
 use Rattle.fwd_settings.specs.declared.settings_types.AllSettings.{AllSettings}
 use Rattle.fwd_store.specs.OpenChunk.{Opened}
 use Rattle.fwd_store.specs.StoreState.{Stored}
-use Rattle.fwd_model.specs.Fact.{Fact, History, Placement, NoChunk, NewChunk, AppendedTo, Happened, Resumed, Saved, Polled, Disconnected, Malformed, Found, Offered, Accepted, Refused, ChunkClosed, Sent, OnRoute, MarkStarted, Marked, Removed, FileLeft, IoFailed}
+use Rattle.fwd_model.specs.Fact.{Fact, History, Placement, NoChunk, NewChunk, AppendedTo, Happened, Resumed, Polled, Disconnected, Malformed, Found, Offered, Accepted, Refused, ChunkClosed, Sent, OnRoute, MarkStarted, Marked, Removed, FileLeft, IoFailed}
 use Rattle.fwd_model.specs.Chunks.{ChunkInfo, next, open_chunks}
 use Rattle.fwd_model.specs.ChunkStorage.{kept_of}
 
@@ -31,7 +31,6 @@ is_stored_at (AppendedTo chunk) = true
 abbrev pub is_store_fact : Fact → Bool
 is_store_fact (Happened happening) = false
 is_store_fact (Resumed input index place) = false
-is_store_fact (Saved input index place) = false
 is_store_fact (Polled input index length bytes) = false
 is_store_fact (Disconnected conn) = false
 is_store_fact (Malformed input) = false

@@ -1,14 +1,13 @@
 ghost use Rattle.std.specs.Prelude.{◌≡◌, ◌<◌, ◌≤◌, [], ◌∷◌, ◌++◌, filter, nat_le, IfOk, OnOk};
 ghost use Rattle.fwd_retry.specs.declared.timer.Timer.{Timer};
 ghost use Rattle.fwd_retry.specs.Timer.{in_time};
-ghost use Rattle.fwd_table.specs.Outcomes.{due_after, is_tried_again};
-ghost use Rattle.fwd_table.specs.Rows.{opened, on_chunk, grown, shut_at, started_to, resolved_to, owed_rows, tries_of, idle_timers_of};
-ghost use Rattle.fwd_engine_state.specs.FlushOutcome.{rows_answered};
+ghost use Rattle.fwd_table.specs.Outcomes.{due_after};
+ghost use Rattle.fwd_table.specs.Rows.{opened, on_chunk, grown, shut_at, started_to, retried_to, resolved_to, owed_rows, idle_timers_of};
 
 use fwd_base::{Bytes, ChunkId, InputId, Memory, OutputId, Retries};
 use fwd_outside::Home;
 use fwd_retry::Timer;
-use fwd_table::{Answer, Outcome, Table};
+use fwd_table::{Answer, Table};
 use std::alloc::Global;
 use std::marker::Model;
 
@@ -96,31 +95,14 @@ impl Chunks {
         self.table.started(chunk, output);
     }
 
-    /// Applies the answer of an output, and returns whether the route is retried. If it is, it is due again
-    /// `wait_s` seconds after `now`. Otherwise it is removed, and its chunk if no other output is pending.
-    pub fn answer(
-        &mut self,
-        chunk: ChunkId,
-        output: OutputId,
-        answer: Answer,
-        limit: Retries,
-        wait_s: u64,
-        now: u64,
-    ) -> bool
-        ensures again { result ≡ is_tried_again answer limit (tries_of chunk output self.old.rows) }
-        ensures rows { self.new.rows ≡ rows_answered result chunk output (due_after now wait_s) self.old.rows }
+    /// Counts a failed try of a route, which is due again `wait_s` seconds after `now`.
+    pub fn retry(&mut self, chunk: ChunkId, output: OutputId, wait_s: u64, now: u64)
+        ensures rows { self.new.rows ≡ on_chunk chunk (retried_to output (due_after now wait_s)) self.old.rows }
         ensures top { self.new.top ≡ self.old.top }
     {
-        let outcome = self
-            .table
-            .answered(chunk, output, answer, limit, wait_s, now);
-        match outcome {
-            Outcome::Retrying => true,
-            Outcome::Resolved | Outcome::Last | Outcome::Spent | Outcome::SpentLast => {
-                self.table.keep_owed(chunk);
-                false
-            }
-        }
+        let again = Retries::Unlimited;
+        self.table
+            .answered(chunk, output, Answer::Retry, again, wait_s, now);
     }
 
     /// Removes a pending route, and its chunk if no other output is pending.

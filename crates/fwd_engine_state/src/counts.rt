@@ -8,13 +8,12 @@ ghost use Rattle.fwd_model.specs.Fact.{History, Route, Batch, Placement, Reason,
 ghost use Rattle.fwd_model.specs.RecoveredFile.{recovered_chunk};
 ghost use Rattle.fwd_model.specs.Counters.{each_from, file_fate, Loaded, Unrouted, LeftAsIs, tally_of};
 ghost use Rattle.fwd_engine_state.specs.CountChanges.{changed_at, input_changed, output_changed};
-ghost use Rattle.fwd_engine_state.specs.FlushOutcome.{outcome_after};
 
 use crate::count_changes::{
     InputChange, OutputChange, input_at, new_inputs, new_outputs, output_at,
 };
 use fwd_base::{InputId, Memory, OutputId};
-use fwd_table::{Answer, InputTallies, OutputTallies, Tally};
+use fwd_table::{InputTallies, OutputTallies, Tally};
 use std::alloc::Global;
 use std::marker::Model;
 use std::mem;
@@ -80,48 +79,31 @@ impl Counts {
     }
 
     /// Counts a flush that an output acknowledged.
-    fn add_delivered(&mut self, output: OutputId)
+    pub fn add_delivered(&mut self, output: OutputId)
         ensures { (s : AllSettings) (h : History) (r : Route) → r.output ≡ output.0 → self.old ≡ tally_of s h → self.new ≡ tally_of s (OnRoute r Delivered ∷ h) }
     {
         self.change_output(output, OutputChange::Delivered);
     }
 
     /// Counts a flush that an output rejected.
-    fn add_failed(&mut self, output: OutputId)
+    pub fn add_failed(&mut self, output: OutputId)
         ensures { (s : AllSettings) (h : History) (r : Route) → r.output ≡ output.0 → self.old ≡ tally_of s h → self.new ≡ tally_of s (OnRoute r Failed ∷ h) }
     {
         self.change_output(output, OutputChange::Failed);
     }
 
     /// Counts a failed flush that will be retried.
-    fn add_retried(&mut self, output: OutputId)
+    pub fn add_retried(&mut self, output: OutputId)
         ensures { (s : AllSettings) (h : History) (r : Route) (word : ℕ) → r.output ≡ output.0 → self.old ≡ tally_of s h → self.new ≡ tally_of s (OnRoute r (Retries word) ∷ h) }
     {
         self.change_output(output, OutputChange::Retried);
     }
 
     /// Counts a failed flush that has no retry left.
-    fn add_spent(&mut self, output: OutputId)
+    pub fn add_spent(&mut self, output: OutputId)
         ensures { (s : AllSettings) (h : History) (r : Route) → r.output ≡ output.0 → self.old ≡ tally_of s h → self.new ≡ tally_of s (OnRoute r Exhausted ∷ h) }
     {
         self.change_output(output, OutputChange::Exhausted);
-    }
-
-    /// Counts a flush that ended with an answer, after which the route is retried or not.
-    pub fn add_answer(&mut self, output: OutputId, answer: Answer, again: bool)
-        ensures { (s : AllSettings) (h : History) (r : Route) (word : ℕ) → r.output ≡ output.0 → self.old ≡ tally_of s h → self.new ≡ tally_of s (OnRoute r (outcome_after answer again word) ∷ h) }
-    {
-        match answer {
-            Answer::Good => self.add_delivered(output),
-            Answer::Bad => self.add_failed(output),
-            Answer::Retry => {
-                if again {
-                    self.add_retried(output);
-                } else {
-                    self.add_spent(output);
-                }
-            }
-        }
     }
 
     /// Counts a route that a limit evicted.

@@ -21,6 +21,8 @@ pub struct RouteId {
 #[derive(Debug, Drop)]
 pub struct FlushAttempt {
     pub route: RouteId,
+    /// How many earlier tries of the route failed.
+    pub tries: u64,
     pub flush: Flush<Reader>,
 }
 

@@ -15,7 +15,7 @@ ghost use Rattle.fwd_table.specs.Usage.{is_file};
 ghost use Rattle.fwd_engine_state.specs.Evictions.{evictions_left, IsIdleToOthers};
 ghost use Rattle.fwd_limits.specs.Evictions.{next_eviction};
 ghost use Rattle.fwd_limits.specs.declared.eviction.Loss.TheVariants.{Fits, Lose, NewLoses};
-ghost use Rattle.fwd_engine_state.specs.StateRepresents.{StateRepresents, StateRepresentsIdle, IsClosedRoute, IsPending, IsNew, is_open, is_not_state_fact};
+ghost use Rattle.fwd_engine_state.specs.StateRepresents.{StateRepresents, StateRepresentsIdle, IsClosedRoute, IsNew, is_open, is_not_state_fact};
 ghost use Rattle.fwd_engine_state.specs.declared.state.State.{State};
 
 /// Lemma: facts that aren't about the state leave it as it is.
@@ -43,12 +43,6 @@ pub fn lemma_begun_route_is_out()
 pub fn lemma_begun_events()
     ensures events { (h : History) (r : Route) (events : List Event) → begun (OnRoute r (FlushStarted events) ∷ h) r ≡ events }
     ensures tries { (h : History) (r : Route) (events : List Event) → tries (OnRoute r (FlushStarted events) ∷ h) r ≡ tries h r }
-{}
-
-/// Lemma: an idle route is pending, also once a flush of it has begun.
-pub fn lemma_idle_route_is_pending()
-    ensures idle { (s : AllSettings) (state : State) (h : History) (out : Option Route) (r : Route) → StateRepresents s state h out → is_idle s h r ≡ true → IsPending s h r }
-    ensures begun { (s : AllSettings) (state : State) (h : History) (out : Option Route) (r : Route) (events : List Event) → StateRepresents s state h out → is_idle s h r ≡ true → IsPending s (OnRoute r (FlushStarted events) ∷ h) r }
 {}
 
 /// Lemma: the chunk of an idle route exists and is closed.

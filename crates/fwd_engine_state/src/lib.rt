@@ -26,8 +26,8 @@ pub use fwd_payload::Reader;
 pub use lemmas::{
     lemma_begun_events, lemma_begun_route_is_out, lemma_evicted_route_is_idle,
     lemma_evictions_are_independent, lemma_evictions_by_output, lemma_idle_route_is_closed,
-    lemma_idle_route_is_pending, lemma_next_eviction, lemma_offered_chunk_is_new,
-    lemma_open_chunk_is_pending, lemma_other_facts_keep_state, lemma_other_routes_stay_idle,
+    lemma_next_eviction, lemma_offered_chunk_is_new, lemma_open_chunk_is_pending,
+    lemma_other_facts_keep_state, lemma_other_routes_stay_idle,
 };
 pub use parts::Parts;
 pub use state::{Place, State};

@@ -1,10 +1,10 @@
-ghost use Rattle.std.specs.Prelude.{◌≡◌, ◌<◌, ◌≤◌, ◌+◌, ℕ, List, [], ◌∷◌, length, map, Bool, true, IfOk, OnOk};
+ghost use Rattle.std.specs.Prelude.{◌≡◌, ◌<◌, ◌≤◌, ◌+◌, ℕ, List, [], ◌∷◌, length, map, true, IfOk, OnOk};
 ghost use Rattle.fwd_base.specs.Limits.{most_inputs};
 ghost use Rattle.fwd_outside.specs.declared.happening.Happening.TheVariants as happening;
 ghost use Rattle.fwd_settings.specs.declared.settings_types.AllSettings.{AllSettings};
 ghost use Rattle.fwd_settings.specs.declared.settings_types.InputSet.{InputSet};
 ghost use Rattle.fwd_limits.specs.Evictions.{next_eviction};
-ghost use Rattle.fwd_model.specs.Fact.{History, Batch, NoChunk, NewChunk, AppendedTo, Reason, Happened, Malformed, Found, Accepted, Refused, ChunkClosed, Sent, OnRoute, InFlight, Evicted, IoFailed};
+ghost use Rattle.fwd_model.specs.Fact.{History, Batch, NoChunk, NewChunk, AppendedTo, Reason, Happened, Malformed, Found, Accepted, Refused, ChunkClosed, Sent, OnRoute, InFlight, Retries, Delivered, Failed, Exhausted, Evicted, IoFailed};
 ghost use Rattle.fwd_model.specs.Settings.{saturating_plus, outputs_for, home_at, reads_stdin_at, output_at, slots_at};
 ghost use Rattle.fwd_model.specs.Clock.{clock, ticked, stopped, is_close_due};
 ghost use Rattle.fwd_model.specs.RecoveredFile.{recovered_chunk};
@@ -14,10 +14,8 @@ ghost use Rattle.fwd_model.specs.Dispatch.{due_routes, has_place, fits, may_star
 ghost use Rattle.fwd_model.specs.Limits.{paused};
 ghost use Rattle.fwd_model.specs.Notes.{is_empty};
 ghost use Rattle.fwd_model.specs.Counters.{file_fate, Unrouted, LeftAsIs, tally_of};
-ghost use Rattle.fwd_table.specs.Outcomes.{may_retry, is_tried_again};
-ghost use Rattle.fwd_engine_state.specs.FlushOutcome.{outcome_after};
 ghost use Rattle.fwd_engine_state.specs.Views.{route_of};
-ghost use Rattle.fwd_engine_state.specs.StateRepresents.{StateRepresentsIdle, StateAnswers, StateUnchanged, StateNotes, StateNotesWhere, StateNotesOutcome, IsFlightOf, IsClosedRoute, IsPending, IsTakenOut, IsMaskOf, IsLoaded, IsNew};
+ghost use Rattle.fwd_engine_state.specs.StateRepresents.{StateRepresentsIdle, StateAnswers, StateUnchanged, StateNotes, StateNotesWhere, StateNotesOutcome, IsFlightOf, IsClosedRoute, IsTakenOut, IsMaskOf, IsLoaded, IsNew};
 
 use crate::capacity::{InFlightLimits, chunk_fits};
 use crate::chunks::Chunks;
@@ -26,10 +24,10 @@ use crate::due_list::due_routes_of;
 use crate::flush_attempts::{FlushAttempt, FlushAttempts, RouteId};
 use crate::input_mask::first_inputs;
 use fwd_base::limits::LATEST_TIME;
-use fwd_base::{Bytes, ChunkId, InputId, LinkId, Memory, OutputId, Retries};
+use fwd_base::{Bytes, ChunkId, InputId, LinkId, Memory, OutputId};
 use fwd_limits::{Loss, MemLimits, next_loss, paused};
 use fwd_outside::Home;
-use fwd_table::{Answer, Table, Tally};
+use fwd_table::{Table, Tally};
 use std::alloc::Global;
 
 /// A reserved entry for a chunk: its tag, and memory for its row.
@@ -48,16 +46,13 @@ pub struct State {
     closing: u64,
     stopped: Option<u64>,
     counts: Counts,
-    /// How many reads for a flush found damaged content. The history doesn't have them.
-    damaged: u64,
     alloc: Global,
 }
 
 impl State {
     /// The initial state of an engine with `inputs` inputs and `outputs` outputs.
     pub fn new(alloc: Global, inputs: usize, outputs: usize) -> Result<State, Memory>
-        ensures represents { IfOk result (λ state. (s : AllSettings) → length s.inputs ≡ inputs → length s.outputs ≡ outputs → StateRepresentsIdle s state []) }
-        ensures damaged { IfOk result (λ state. state.damaged ≡ 0) }
+        ensures { IfOk result (λ state. (s : AllSettings) → length s.inputs ≡ inputs → length s.outputs ≡ outputs → StateRepresentsIdle s state []) }
     {
         Ok(State {
             chunks: Chunks::new(alloc),
@@ -67,7 +62,6 @@ impl State {
             closing: 0,
             stopped: None,
             counts: Counts::new(alloc, inputs, outputs)?,
-            damaged: 0,
             alloc,
         })
     }
@@ -194,27 +188,16 @@ impl State {
 
     /// Adds bytes that connections of an output took.
     pub fn count_taken(&mut self, output: OutputId, bytes: u64)
-        ensures notes { StateNotes self.old self.new (Sent output.0 bytes) }
-        ensures damaged { self.new.damaged ≡ self.old.damaged }
+        ensures { StateNotes self.old self.new (Sent output.0 bytes) }
     {
         self.counts.add_taken(output, bytes);
     }
 
     /// Counts a failed call on the disk or on files.
     pub fn count_fault(&mut self)
-        ensures notes { StateNotes self.old self.new IoFailed }
-        ensures damaged { self.new.damaged ≡ self.old.damaged }
+        ensures { StateNotes self.old self.new IoFailed }
     {
         self.counts.add_fault();
-    }
-
-    /// Counts a read for a flush that found damaged content: other than as many bytes as were recorded, or
-    /// bytes that are no list of events. The count saturates at 2^64 - 1.
-    pub fn count_damaged(&mut self)
-        ensures keeps { StateUnchanged self.old self.new }
-        ensures damaged { self.new.damaged ≡ saturating_plus self.old.damaged 1 }
-    {
-        self.damaged = self.damaged.saturating_add(1);
     }
 
     // ---- routes
@@ -229,39 +212,51 @@ impl State {
 
     /// Removes and returns the flush attempt over a connection.
     pub fn take(&mut self, link: LinkId) -> Option<FlushAttempt>
-        ensures taken { (s : AllSettings) (h : History) → StateRepresentsIdle s self.old h → IsTakenOut s h self.new link.0 result }
-        ensures damaged { self.new.damaged ≡ self.old.damaged }
+        ensures { (s : AllSettings) (h : History) → StateRepresentsIdle s self.old h → IsTakenOut s h self.new link.0 result }
     {
         self.flights.take(link)
     }
 
     /// Keeps the flush attempt of the route that is out: it is still in flight.
     pub fn keep_attempt(&mut self, flight: FlushAttempt) -> Result<(), Memory>
-        ensures damaged { self.new.damaged ≡ self.old.damaged }
-        ensures notes { OnOk result (StateNotesOutcome self.old self.new (route_of flight.route) (λ s h. IsFlightOf s h flight (route_of flight.route)) (OnRoute (route_of flight.route) (InFlight flight.flush.progress))) }
+        ensures { OnOk result (StateNotesOutcome self.old self.new (route_of flight.route) (λ s h. IsFlightOf s h flight (route_of flight.route)) (OnRoute (route_of flight.route) (InFlight flight.flush.progress))) }
     {
         self.chunks.start(flight.route.chunk, flight.route.output);
         self.flights.put(flight)?;
         Ok(())
     }
 
-    /// Applies the answer of an output to the route that is out. If the route may be retried, it waits
-    /// `wait_s` seconds, as a random word gives them; otherwise it is resolved.
-    pub fn apply_answer(&mut self, route: RouteId, answer: Answer, limit: Retries, wait_s: u64)
-        ensures damaged { self.new.damaged ≡ self.old.damaged }
-        ensures notes { (again : Bool) (word : ℕ) → StateNotesOutcome self.old self.new (route_of route) (λ s h. IsClosedRoute h (route_of route) × IsPending s h (route_of route)
-            × (is_tried_again answer limit (tries h (route_of route)) ≡ again)
-            × (again ≡ true → wait_s ≡ wait_for s (saturating_plus (tries h (route_of route)) 1) word)) (OnRoute (route_of route) (outcome_after answer again word)) }
+    /// Schedules a retry of the route that is out, in `wait_s` seconds, as a random word gives them.
+    pub fn schedule_retry(&mut self, route: RouteId, wait_s: u64)
+        ensures { (word : ℕ) → StateNotesOutcome self.old self.new (route_of route) (λ s h. IsClosedRoute h (route_of route) × (wait_s ≡ wait_for s (saturating_plus (tries h (route_of route)) 1) word)) (OnRoute (route_of route) (Retries word)) }
     {
-        let again = self.chunks.answer(
-            route.chunk,
-            route.output,
-            answer,
-            limit,
-            wait_s,
-            self.clock,
-        );
-        self.counts.add_answer(route.output, answer, again);
+        self.chunks
+            .retry(route.chunk, route.output, wait_s, self.clock);
+        self.counts.add_retried(route.output);
+    }
+
+    /// Resolves the route that is out: the output acknowledged the chunk.
+    pub fn resolve_delivered(&mut self, route: RouteId)
+        ensures { StateNotesOutcome self.old self.new (route_of route) (λ s h. IsClosedRoute h (route_of route)) (OnRoute (route_of route) Delivered) }
+    {
+        self.chunks.resolve(route.chunk, route.output);
+        self.counts.add_delivered(route.output);
+    }
+
+    /// Resolves the route that is out: the output rejected the chunk.
+    pub fn resolve_failed(&mut self, route: RouteId)
+        ensures { StateNotesOutcome self.old self.new (route_of route) (λ s h. IsClosedRoute h (route_of route)) (OnRoute (route_of route) Failed) }
+    {
+        self.chunks.resolve(route.chunk, route.output);
+        self.counts.add_failed(route.output);
+    }
+
+    /// Resolves the route that is out: it has no retry left.
+    pub fn resolve_spent(&mut self, route: RouteId)
+        ensures { StateNotesOutcome self.old self.new (route_of route) (λ s h. IsClosedRoute h (route_of route)) (OnRoute (route_of route) Exhausted) }
+    {
+        self.chunks.resolve(route.chunk, route.output);
+        self.counts.add_spent(route.output);
     }
 
     // ---- getters
@@ -289,7 +284,6 @@ impl State {
     /// Returns the routes that are idle and due, by due time, chunk and output.
     pub fn due_routes(&mut self) -> Result<Vec<RouteId>, Memory>
         ensures keeps { StateUnchanged self.old self.new }
-        ensures damaged { self.new.damaged ≡ self.old.damaged }
         ensures routes { StateAnswers self.old (λ s h. IfOk result (λ routes. map route_of routes.items ≡ due_routes s h)) }
     {
         due_routes_of(self.alloc, &mut self.chunks, self.clock)
@@ -331,18 +325,9 @@ impl State {
         self.fits(route, limits)
     }
 
-    /// Returns whether a pending route may be retried if its flush fails now.
-    pub fn may_retry(&self, route: RouteId, limit: Retries) -> bool
-        ensures { StateAnswers self.now (λ s h. IsPending s h (route_of route) → result ≡ may_retry limit (tries h (route_of route))) }
-    {
-        self.chunks
-            .table()
-            .may_retry(route.chunk, route.output, limit)
-    }
-
-    /// Returns how many tries of a pending route have failed.
+    /// How many tries of an idle route have failed.
     pub fn tries(&self, route: RouteId) -> u64
-        ensures { StateAnswers self.now (λ s h. IsPending s h (route_of route) → result ≡ tries h (route_of route)) }
+        ensures { StateAnswers self.now (λ s h. is_idle s h (route_of route) ≡ true → result ≡ tries h (route_of route)) }
     {
         self.chunks.table().tries(route.chunk, route.output)
     }
@@ -398,13 +383,6 @@ impl State {
         ensures { StateAnswers self.now (λ s h. result.now ≡ tally_of s h) }
     {
         self.counts.tally()
-    }
-
-    /// Returns how many reads for a flush found damaged content.
-    pub fn damaged_reads(&self) -> u64
-        ensures { result ≡ self.now.damaged }
-    {
-        self.damaged
     }
 
     pub fn alloc(&self) -> Global {

@@ -11,11 +11,9 @@ use Rattle.fwd_filters.specs.Step.{through}
 abbrev pub AreMatching : List ℕ → List FilterStep → List FilterKind → Type 0
 AreMatching tag [] kinds = kinds ≡ []
 AreMatching tag (step ∷ steps) kinds =
-    (Glob step.glob tag
-    × ((more : List FilterKind) × (kinds ≡ step.kind ∷ more) × AreMatching tag steps more))
+    (Glob step.glob tag × ((more : List FilterKind) × (kinds ≡ step.kind ∷ more) × AreMatching tag steps more))
     ⊎ ((Glob step.glob tag → ⊥) × AreMatching tag steps kinds)
 
 -- each event after all filters whose glob matches, in order
 abbrev pub IsFiltered : List FilterStep → List ℕ → List Event → List Event → Type 0
-IsFiltered steps tag events left =
-    (kinds : List FilterKind) × AreMatching tag steps kinds × (left ≡ filter_map (through kinds) events)
+IsFiltered steps tag events left = (kinds : List FilterKind) × AreMatching tag steps kinds × (left ≡ filter_map (through kinds) events)

@@ -34,8 +34,8 @@ pub fn filter(
 }
 
 /// Filters as `filter` does. From 2,048 events on, each event passes the gate right before it is filtered,
-/// with its index in the list. The result doesn't depend on the gate. The program uses it only with `Open`, by
-/// `filter`: another gate shows a test which threads filter.
+/// with its index in the list. So a test can see which threads filter; the result doesn't depend on the
+/// gate.
 pub fn filter_gated<G: Gate>(
     rt: &(impl Threads + Sync),
     alloc: Global,

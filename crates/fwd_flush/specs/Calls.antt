@@ -20,8 +20,7 @@ reached p [] = p
 reached p (e ∷ es) = reached (progress_after p e.call e.answer) es
 
 -- the calls in between step from one program to the rest of it, and the progress is that of these calls
-pub record Advances (old new : LoopLog) (from to : LoopProgram Progress)
-    (before after : Progress) : Type 0 where
+pub record Advances (old new : LoopLog) (from to : LoopProgram Progress) (before after : Progress) : Type 0 where
   pub entries : List LoopEntry
   pub grew : LogGrew old new entries
   pub way : Execution from entries to
@@ -29,18 +28,13 @@ pub record Advances (old new : LoopLog) (from to : LoopProgram Progress)
 
 -- With a result, the program was performed, its result is the progress, and the answer is by its stage. Out
 -- of memory, a prefix of it was performed, and the progress is that of the calls made.
-abbrev pub Performs : {E : Type 0} → LoopLog → LoopLog → LoopProgram Progress → Progress → Progress
-    → Result Poll E → Type 0
-Performs old new program before after (Ok poll) =
-    Completes old new program after × (poll ≡ poll_in after.stage)
-Performs old new program before after (Err e) =
-    (left : LoopProgram Progress) × Advances old new program left before after
+abbrev pub Performs : {E : Type 0} → LoopLog → LoopLog → LoopProgram Progress → Progress → Progress → Result Poll E → Type 0
+Performs old new program before after (Ok poll) = Completes old new program after × (poll ≡ poll_in after.stage)
+Performs old new program before after (Err e) = (left : LoopProgram Progress) × Advances old new program left before after
 
 -- the same, but out of memory the flush is unchanged
-abbrev pub PerformsOrStays : {E : Type 0} → LoopLog → LoopLog → LoopProgram Progress → Progress → Progress
-    → Result Poll E → Type 0
-PerformsOrStays old new program before after (Ok poll) =
-    Completes old new program after × (poll ≡ poll_in after.stage)
+abbrev pub PerformsOrStays : {E : Type 0} → LoopLog → LoopLog → LoopProgram Progress → Progress → Progress → Result Poll E → Type 0
+PerformsOrStays old new program before after (Ok poll) = Completes old new program after × (poll ≡ poll_in after.stage)
 PerformsOrStays old new program before after (Err e) = IsBegun old new program × (after ≡ before)
 
 -- a flush in flight has ended, or is in flight over the same link

@@ -34,8 +34,7 @@ pub record Delivery : Type 0 where
 
 -- what a flush sends, from its reader's meaning
 abbrev pub delivery : {P : Type 0} → (P → Bool) → (P → List ℕ → Judged) → Flight P → Delivery
-delivery wanted judged flight =
-    record { payload = flight.payload; wanted = wanted flight.reader; judged = judged flight.reader }
+delivery wanted judged flight = record { payload = flight.payload; wanted = wanted flight.reader; judged = judged flight.reader }
 
 -- before the dial
 abbrev pub not_started : Progress
@@ -69,10 +68,8 @@ unfoldable pub confirms_payload : Delivery → LinkId → Progress → LoopProgr
 confirms_payload d link p = if d.wanted then continues_by link p (d.judged p.reply) else ends link Good p
 
 -- What follows a push: `go` goes on with the rest. A link that takes nothing, or breaks, ends the flush.
-abbrev pub pushed_on : (Progress → LoopProgram Progress) → LinkId → List ℕ → Progress → PushAnswer
-    → LoopProgram Progress
-pushed_on go link rest p (Took n) =
-    if n == 0 then ends link Retry p else go (record p { taken = p.taken + min n (length rest) })
+abbrev pub pushed_on : (Progress → LoopProgram Progress) → LinkId → List ℕ → Progress → PushAnswer → LoopProgram Progress
+pushed_on go link rest p (Took n) = if n == 0 then ends link Retry p else go (record p { taken = p.taken + min n (length rest) })
 pushed_on go link rest p Again = Return (record p { stage = Writing link })
 pushed_on go link rest p Broke = ends link Retry p
 
@@ -93,8 +90,7 @@ writes d link p = pushes (length d.payload) d link p
 -- a refused dial ends the flush
 abbrev pub dialed_on : Delivery → Progress → Option ℕ → LoopProgram Progress
 dialed_on d p None = Return (record p { stage = Ended Retry })
-dialed_on d p (Some number) =
-    let link : LinkId = record { 0 = number } in writes d link (record p { stage = Writing link })
+dialed_on d p (Some number) = let link : LinkId = record { 0 = number } in writes d link (record p { stage = Writing link })
 
 -- start a flush that hasn't started: dial once, then write
 abbrev pub starts_in : Delivery → ℕ → List ℕ → Progress → Stage → LoopProgram Progress

@@ -17,9 +17,6 @@ after_pushes d link p Waits = Return (record p { stage = Writing link })
 after_pushes d link p Fails = ends link Retry p
 
 -- the calls in between step to what is left to do; out of memory, to further pushes
-abbrev pub PushesOn : {E : Type 0} → LoopLog → LoopLog → Delivery → LinkId → Progress → Progress
-    → Result Rest E → Type 0
-PushesOn old new d link before after (Ok rest) =
-    Advances old new (writes d link before) (after_pushes d link after rest) before after
-PushesOn old new d link before after (Err e) =
-    (left : LoopProgram Progress) × Advances old new (writes d link before) left before after
+abbrev pub PushesOn : {E : Type 0} → LoopLog → LoopLog → Delivery → LinkId → Progress → Progress → Result Rest E → Type 0
+PushesOn old new d link before after (Ok rest) = Advances old new (writes d link before) (after_pushes d link after rest) before after
+PushesOn old new d link before after (Err e) = (left : LoopProgram Progress) × Advances old new (writes d link before) left before after

@@ -73,8 +73,7 @@ by_reply Fatal = Some Bad
 abbrev pub decided : Delivery → List Event → Option Answer
 decided d events =
     if list_any fails events then Some Retry
-    else if is_whole d events
-    then (if d.wanted then by_reply (d.judged (bytes_replied events)) else Some Good)
+    else if is_whole d events then (if d.wanted then by_reply (d.judged (bytes_replied events)) else Some Good)
     else None
 
 abbrev pub else_by : Option Answer → Option Answer → Option Answer
@@ -128,8 +127,7 @@ Occurrences = List (Occurrence × List LoopEntry)
 -- these turns lead from one progress to another
 abbrev pub Reaches : Delivery → Progress → Occurrences → Progress → Type 0
 Reaches d first [] last = last ≡ first
-Reaches d first ((turn, es) ∷ turns) last =
-    (next : Progress) × Execution (program_at d turn first) es (Return next) × Reaches d next turns last
+Reaches d first ((turn, es) ∷ turns) last = (next : Progress) × Execution (program_at d turn first) es (Return next) × Reaches d next turns last
 
 -- nothing failed, the flush has a link, and the reply is kept if one is wanted
 pub record IsUnbroken (d : Delivery) (events : List Event) (p : Progress) : Type 0 where
@@ -196,6 +194,5 @@ pub record IsFlush (d : Delivery) (events : List Event) (calls : List LoopEntry)
   pub rest : List ℕ
   pub beginning : bytes_pushed events ++ rest ≡ d.payload
   pub whole : p.stage ≡ Ended Good → bytes_pushed events ≡ d.payload
-  pub fatal : p.stage ≡ Ended Bad
-      → (bytes_pushed events ≡ d.payload) × (d.wanted ≡ true) × (d.judged p.reply ≡ Fatal)
+  pub fatal : p.stage ≡ Ended Bad → (bytes_pushed events ≡ d.payload) × (d.wanted ≡ true) × (d.judged p.reply ≡ Fatal)
   pub link : HasLink calls p.stage

@@ -46,8 +46,7 @@ followed from_head resumed polls = fold (after from_head) (record { place = resu
 
 -- the lines that a poll completes: those of all that was read, after those of what was read before it
 abbrev pub completed : Followed → Polled → List Line
-completed f polled =
-    drop (length (lines (read_before polled.long f))) (lines (read_before polled.long f ++ polled.bytes))
+completed f polled = drop (length (lines (read_before polled.long f))) (lines (read_before polled.long f ++ polled.bytes))
 
 -- the position after the last whole line
 abbrev pub settled : Followed → Option ℕ
@@ -59,9 +58,7 @@ polled long bytes = record { long = long; bytes = bytes }
 -- once the file's length is known, at most 1,048,576 bytes are read
 abbrev pub reads_on : List ℕ → Bool → Option ℕ → Option ℕ → FilesProgram (Option Polled)
 reads_on path from_head place None = Return None
-reads_on path from_head place (Some long) =
-    Ask (ReadAt path (from_place from_head long place) longest_read)
-    (λ bytes. Return (option_map (polled long) bytes))
+reads_on path from_head place (Some long) = Ask (ReadAt path (from_place from_head long place) longest_read) (λ bytes. Return (option_map (polled long) bytes))
 
 -- the calls of a poll, and its result; none if one of them failed
 abbrev pub polls : List ℕ → Bool → Option ℕ → FilesProgram (Option Polled)

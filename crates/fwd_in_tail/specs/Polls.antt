@@ -42,28 +42,19 @@ tail_err_of file_err.Memory = Memory
 
 -- after what was read before, these bytes were read from a position: these lines end in them, and the tail
 -- goes on
-abbrev pub ReadsLines : {E : Type 0} → TailView → TailView → ℕ → List ℕ → List ℕ → Result (List Line) E
-    → Type 0
+abbrev pub ReadsLines : {E : Type 0} → TailView → TailView → ℕ → List ℕ → List ℕ → Result (List Line) E → Type 0
 ReadsLines before tail from said bytes (Ok found) =
-    (found ≡ drop (length (lines said)) (lines (said ++ bytes)))
-    × SameFile before tail
-    (record { place = Some (min (from + length bytes) (2 ^ 64 - 1)); said = said ++ bytes })
+    (found ≡ drop (length (lines said)) (lines (said ++ bytes))) × SameFile before tail (record { place = Some (min (from + length bytes) (2 ^ 64 - 1)); said = said ++ bytes })
 ReadsLines before tail from said bytes (Err e) = Unit {0}
 
 -- A poll makes its calls, and returns the lines that end in what was read. If a call fails, or memory runs
 -- out, the calls end there.
-abbrev pub PollsAs : FilesLog → FilesLog → TailView → TailView → Followed → Result (List Line) TailErr
-    → Type 0
+abbrev pub PollsAs : FilesLog → FilesLog → TailView → TailView → Followed → Result (List Line) TailErr → Type 0
 PollsAs old new before tail f (Ok found) =
-    (p : Polled) × Completes old new (polls before.path before.from_head f.place) (Some p)
-    × (found ≡ completed f p) × SameFile before tail (after before.from_head f p)
-PollsAs old new before tail f (Err FileFault) =
-    Completes old new (polls before.path before.from_head f.place) None
+    (p : Polled) × Completes old new (polls before.path before.from_head f.place) (Some p) × (found ≡ completed f p) × SameFile before tail (after before.from_head f p)
+PollsAs old new before tail f (Err FileFault) = Completes old new (polls before.path before.from_head f.place) None
 PollsAs old new before tail f (Err Memory) = IsBegun old new (polls before.path before.from_head f.place)
 
 -- a file after polls and one more
 abbrev pub PollsCompose : Type 0
-PollsCompose =
-    (from_head : Bool) (resumed : Option ℕ) (polls : List Polled) (more : Polled)
-    → followed from_head resumed (polls ++ more ∷ [])
-    ≡ after from_head (followed from_head resumed polls) more
+PollsCompose = (from_head : Bool) (resumed : Option ℕ) (polls : List Polled) (more : Polled) → followed from_head resumed (polls ++ more ∷ []) ≡ after from_head (followed from_head resumed polls) more

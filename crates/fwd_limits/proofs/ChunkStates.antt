@@ -1,11 +1,12 @@
 -- The state of a row towards an output.
-use Rattle.std.proofs.Common.{◌≡◌, ℕ, Bool, true, false, ◌&&◌, not, eqb, List, refl, sym, ap, ◌∙◌, Option, Some, None}
+use Rattle.std.proofs.Common.{◌≡◌, ℕ, ◌<◌, ◌≤◌, Bool, true, false, ◌&&◌, not, eqb, List, refl, sym, ap, ◌∙◌, arith, Option, Some, None}
 use Rattle.std.specs.Prelude.{IsBitSet, IfSome, option_map}
 use Rattle.std.specs.List.{list_any}
 use Rattle.std.specs.Int.{bit_at}
+use Prim.Native.Nat.{◌^◌}
 use Rattle.std.proofs.lemmas.Nat.{bit_set_by_shift}
-use Rattle.std.proofs.lemmas.Nat.Bits.{shr_and_one}
-use Rattle.std.proofs.lemmas.Bool.{eq-eqb, eqb-true}
+use Rattle.std.proofs.lemmas.Nat.Bits.{shr_and_one, bit_at_above}
+use Rattle.std.proofs.lemmas.Bool.{eq-eqb, ne_eqb, eqb-true}
 use Rattle.std.proofs.lemmas.List.Folds.{Any-from_list_any, list_any-from_Any}
 use Rattle.fwd_base.specs.declared.ids.OutputId.{OutputId}
 use Rattle.fwd_table.specs.declared.route.Route.{Route}
@@ -15,6 +16,10 @@ use Rattle.fwd_table.specs.Routes.{flying_of, is_to, IsMaskOf}
 use Rattle.fwd_table.specs.Rows.{seen_of}
 use Rattle.fwd_table.specs.Usage.{is_file}
 use Rattle.fwd_limits.specs.ChunkState.{state_of, state_in_row}
+
+-- no bit is set past those of a word
+pub none_past : (mask bit : ℕ) → mask < 2 ^ 64 → 64 ≤ bit → eqb (bit_at mask bit) 1 ≡ false
+none_past mask bit word past = let none = bit_at_above mask 64 bit word past in ne_eqb (bit_at mask bit) 1 (λ one. omega (arith, one, none))
 
 from_bit : (mask i : ℕ) → IsBitSet mask i → bit_at mask i ≡ 1
 from_bit mask i set = sym (shr_and_one mask i) ∙ (bit_set_by_shift mask i).1 set

@@ -10,5 +10,4 @@ reaches (Some limit) held = nat_le limit held
 
 -- an input has a limit, and has reached it
 abbrev pub IsPaused : List (Option ℕ) → List Row → ℕ → Type 0
-IsPaused limits rows input =
-    IsSomeAnd (slice_get limits input) (λ limit. reaches limit (memory_of input rows) ≡ true)
+IsPaused limits rows input = IsSomeAnd (slice_get limits input) (λ limit. reaches limit (memory_of input rows) ≡ true)

@@ -10,8 +10,11 @@ use Rattle.fwd_limits.specs.declared.chunk_state.ChunkState.{ChunkState}
 
 -- the state of a chunk towards an output
 abbrev pub state_of : OutputId → Row → ChunkState
-state_of output row =
-    record { chunk = row.chunk; size = row.size; is_file = in_file row; is_waiting = is_waiting output row }
+state_of output row = record { chunk = row.chunk; size = row.size; is_file = in_file row; is_waiting = is_waiting output row }
+
+-- whether an output's bit is set in a mask
+abbrev pub has_bit : ℕ → OutputId → Bool
+has_bit mask output = bit_at mask output.0 == 1
 
 -- the same from the public view of its row
 abbrev pub state_in_row : OutputId → RowSeen → ChunkState
@@ -19,7 +22,7 @@ state_in_row output seen = record {
   chunk = seen.chunk;
   size = seen.size;
   is_file = is_file seen.home;
-  is_waiting = seen.shut && ((bit_at seen.owed output.0 == 1) && not (bit_at seen.flying output.0 == 1));
+  is_waiting = seen.shut && (has_bit seen.owed output && not (has_bit seen.flying output));
 }
 
 -- whether it waits in a file

@@ -10,8 +10,7 @@ use Rattle.fwd_limits.specs.declared.eviction.Loss.TheVariants.{Fits, Lose, NewL
 
 -- the closed chunks in files, without this one, that wait for an output, by rising number
 abbrev pub other_waiting : OutputId → ChunkId → List Row → List Row
-other_waiting output chunk rows =
-    filter (λ row. in_file row && (is_waiting output row && not (is_row_of chunk row))) rows
+other_waiting output chunk rows = filter (λ row. in_file row && (is_waiting output row && not (is_row_of chunk row))) rows
 
 -- the bytes of this chunk and of those in flight to the output
 abbrev pub fixed : OutputId → ChunkId → List Row → ℕ
@@ -20,16 +19,14 @@ fixed output chunk rows = size_of (flying_to output rows) + size_of (filter (is_
 -- the first of some chunks, as few as leave at most this many bytes
 abbrev pub evicted_among : ℕ → List Row → List Row
 evicted_among room [] = []
-evicted_among room (row ∷ rows) =
-    if nat_le (size_of (row ∷ rows)) room then [] else row ∷ evicted_among room rows
+evicted_among room (row ∷ rows) = if nat_le (size_of (row ∷ rows)) room then [] else row ∷ evicted_among room rows
 
 -- The chunks that an output evicts when this one has closed. It is this one alone if it doesn't fit beside
 -- what is in flight. Else it is the lowest of the others, as few as make the rest fit.
 abbrev pub evicted_for : OutputId → ℕ → ChunkId → List Row → List ChunkId
 evicted_for output limit chunk rows =
     if nat_lt limit (fixed output chunk rows) then chunk ∷ []
-    else map (λ row. row.chunk)
-    (evicted_among (limit - fixed output chunk rows) (other_waiting output chunk rows))
+    else map (λ row. row.chunk) (evicted_among (limit - fixed output chunk rows) (other_waiting output chunk rows))
 
 abbrev pub first_chunk : List Row → Option ChunkId
 first_chunk [] = None
@@ -43,8 +40,7 @@ loss_of (Some chunk) = Lose chunk
 abbrev pub next_eviction : OutputId → ℕ → ChunkId → List Row → Loss
 next_eviction output limit chunk rows =
     if nat_lt limit (fixed output chunk rows) then NewLoses
-    else loss_of
-    (first_chunk (evicted_among (limit - fixed output chunk rows) (other_waiting output chunk rows)))
+    else loss_of (first_chunk (evicted_among (limit - fixed output chunk rows) (other_waiting output chunk rows)))
 
 -- what is evicted after an answer: nothing, the closed chunk, or another one and what follows it
 abbrev pub evicted_after : (List Row → List ChunkId) → OutputId → ChunkId → List Row → Loss → List ChunkId
@@ -55,9 +51,7 @@ evicted_after again output chunk rows NewLoses = chunk ∷ []
 -- what repeated calls evict, at most so many, if each evicted chunk leaves the table
 abbrev pub evicted_by_calls : ℕ → OutputId → ℕ → ChunkId → List Row → List ChunkId
 evicted_by_calls zero output limit chunk rows = []
-evicted_by_calls (suc turns) output limit chunk rows =
-    evicted_after (evicted_by_calls turns output limit chunk) output chunk rows
-    (next_eviction output limit chunk rows)
+evicted_by_calls (suc turns) output limit chunk rows = evicted_after (evicted_by_calls turns output limit chunk) output chunk rows (next_eviction output limit chunk rows)
 
 -- these are the first of some chunks, the rest fits, and no shorter list would do
 pub record IsShortest (room : ℕ) (rows lost : List Row) : Type 0 where

@@ -1,10 +1,11 @@
 //! The state of a chunk towards an output.
 
-ghost use Rattle.std.specs.Prelude.{◌≡◌, ◌&&◌, not, None, get_or, option_map};
+ghost use Rattle.std.specs.Prelude.{◌≡◌, ◌==◌, ◌&&◌, not, None, get_or, option_map};
+ghost use Rattle.std.specs.Int.{bit_at};
 ghost use Rattle.fwd_table.specs.Usage.{is_file};
 ghost use Rattle.fwd_limits.specs.ChunkState.{state_of, state_in_row};
 
-use fwd_base::{ChunkId, OutputId, is_set};
+use fwd_base::{ChunkId, OutputId};
 use fwd_outside::Home;
 use fwd_table::{RowSeen, Table};
 
@@ -18,6 +19,16 @@ pub struct ChunkState {
     pub is_file: bool,
     /// Whether it is closed, pending for the output, and not in flight to it.
     pub is_waiting: bool,
+}
+
+/// Returns whether a bit of a mask is set.
+fn is_set(mask: u64, bit: u32) -> bool
+    ensures { result ≡ (bit_at mask bit == 1) }
+{
+    match mask.checked_shr(bit) {
+        Some(shifted) => shifted % 2 == 1,
+        None => false,
+    }
 }
 
 fn is_file(home: Home) -> bool

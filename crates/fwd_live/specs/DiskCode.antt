@@ -11,8 +11,7 @@ Done = Option (Unit {0})
 
 abbrev Parts : Type 0
 Parts = (List ℕ × (List ℕ × Done)) ⊎ ((List ℕ × (ℕ × (List ℕ × Done))) ⊎ ((List ℕ × Done) ⊎ ((List ℕ × Done)
-    ⊎ ((List ℕ × (ℕ × (ℕ × Option (List ℕ))))
-    ⊎ ((List ℕ × Option (List (List ℕ))) ⊎ ((List ℕ × List ℕ) ⊎ ℕ))))))
+    ⊎ ((List ℕ × (ℕ × (ℕ × Option (List ℕ)))) ⊎ ((List ℕ × Option (List (List ℕ))) ⊎ ((List ℕ × List ℕ) ⊎ ℕ))))))
 
 abbrev parts_of : (call : DiskCall) → DiskAnswer call → Parts
 parts_of (Place name bytes) answer = inl (name, (bytes, answer))
@@ -34,8 +33,7 @@ of_parts (inr (inr (inr (inr (inr (inl p)))))) = entry (ListNames p.0) p.1
 of_parts (inr (inr (inr (inr (inr (inr (inl p))))))) = entry (Preset p.0 p.1) tt
 of_parts (inr (inr (inr (inr (inr (inr (inr number))))))) = entry (FailAt number) tt
 
-pub of_parts-parts_of : (call : DiskCall) (answer : DiskAnswer call)
-    → of_parts (parts_of call answer) ≡ entry call answer
+pub of_parts-parts_of : (call : DiskCall) (answer : DiskAnswer call) → of_parts (parts_of call answer) ≡ entry call answer
 of_parts-parts_of (Place name bytes) answer = refl
 of_parts-parts_of (WriteAt name at bytes) answer = refl
 of_parts-parts_of (Sync name) answer = refl
@@ -53,12 +51,8 @@ done_code = coded_option coded_unit
 
 abbrev pub disk_code : Coded DiskEntry
 disk_code = code_by Parts
-    (coded⊎ (coded× bytes_code (coded× bytes_code done_code))
-    (coded⊎ (coded× bytes_code (coded× coded_ℕ (coded× bytes_code done_code)))
-    (coded⊎ (coded× bytes_code done_code) (coded⊎ (coded× bytes_code done_code)
-    (coded⊎ (coded× bytes_code (coded× coded_ℕ (coded× coded_ℕ (coded_option bytes_code))))
-    (coded⊎ (coded× bytes_code (coded_option (coded_list bytes_code)))
-    (coded⊎ (coded× bytes_code bytes_code) coded_ℕ)))))))
+    (coded⊎ (coded× bytes_code (coded× bytes_code done_code)) (coded⊎ (coded× bytes_code (coded× coded_ℕ (coded× bytes_code done_code))) (coded⊎ (coded× bytes_code done_code) (coded⊎ (coded× bytes_code done_code)
+    (coded⊎ (coded× bytes_code (coded× coded_ℕ (coded× coded_ℕ (coded_option bytes_code)))) (coded⊎ (coded× bytes_code (coded_option (coded_list bytes_code))) (coded⊎ (coded× bytes_code bytes_code) coded_ℕ)))))))
     (λ e. parts_of e.call e.answer) of_parts (λ e. of_parts-parts_of e.call e.answer)
 
 -- a value as the logic stores it
@@ -66,6 +60,5 @@ abbrev pub stored_code : Coded Gv
 stored_code = record { code = λ x. x; inj = λ x y is. is }
 
 abbrev pub stood_code : Coded DiskGiven
-stood_code =
-    code_by (List (List ℕ × List ℕ) × Gv) (coded× (coded_list (coded× bytes_code bytes_code)) stored_code)
+stood_code = code_by (List (List ℕ × List ℕ) × Gv) (coded× (coded_list (coded× bytes_code bytes_code)) stored_code)
     (λ g. (g.files, g.round)) (λ p. record { files = p.0; round = p.1 }) (λ _. refl)

@@ -1,6 +1,6 @@
 //! The call log of a disk.
 
-use fwd_outside::Calls;
+use crate::calls::Calls;
 use std::marker::Model;
 
 /// Represents the initial files of a disk. No value of it is made.

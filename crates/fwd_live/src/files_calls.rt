@@ -1,6 +1,6 @@
 //! The call log of followed files.
 
-use fwd_outside::Calls;
+use crate::calls::Calls;
 use std::marker::Model;
 
 /// Represents the initial files. No value of it is made.

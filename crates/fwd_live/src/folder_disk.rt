@@ -38,7 +38,7 @@ impl<'a> FolderDisk<'a> {
     /// Notes a write that failed, so that inputs are held back.
     fn note_write(&self, answer: Option<()>) {
         if answer.is_none() {
-            self.shared.note_failure();
+            self.shared.disk_failed.set(true);
         }
     }
 

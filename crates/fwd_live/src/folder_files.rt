@@ -6,7 +6,6 @@ ghost use Rattle.fwd_outside.specs.Files.{FilesGiven, outcome};
 ghost use Rattle.fwd_outside.specs.declared.errors.FileErr.TheVariants.{Failed};
 
 use crate::answer::answer_of;
-use crate::disk_log::tell_unread;
 use crate::files_calls::FilesCalls;
 use fwd_base::limits::LONGEST_READ;
 use fwd_live_files::FollowedFiles;
@@ -95,9 +94,7 @@ impl<'a> Files for FolderFiles<'a> {
     ghost call_log = { λ files. Some (files.calls.given, files.calls.entries) };
 
     fn length(&mut self, path: &[u8]) -> Result<u64, FileErr> {
-        let outcome = self.files.length(path);
-        tell_unread(&self.shared.journal, path, &outcome);
-        let answer = answer_of(outcome)?;
+        let answer = answer_of(self.files.length(path))?;
         self.share(0);
         self.calls = self.calls.then(&(path, answer));
         self.result_of(answer)
@@ -105,9 +102,7 @@ impl<'a> Files for FolderFiles<'a> {
 
     fn read_at(&mut self, alloc: Global, path: &[u8], at: u64, max: u64) -> Result<Bytes, FileErr> {
         let most = self.most().min(max);
-        let outcome = self.files.read_at(alloc, path, at, most);
-        tell_unread(&self.shared.journal, path, &outcome);
-        let answer = answer_of(outcome)?;
+        let answer = answer_of(self.files.read_at(alloc, path, at, most))?;
         self.share(length_of(&answer));
         self.calls = self.calls.then(&(path, at, max, &answer));
         self.result_of(answer)

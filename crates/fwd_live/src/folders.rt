@@ -4,9 +4,8 @@ ghost use Rattle.std.specs.Prelude.{◌≤◌, All, IfOk, IfSome, length};
 ghost use Rattle.fwd_outside.specs.Disk.{IsFileName, IsListing};
 
 use crate::answer::answer_of;
-use crate::disk_log::{tell, told};
 use crate::file_name::{TEMPORARY, complete_name, listing};
-use crate::storage_root::{Access, FILE_MODE, FOLDER_MODE, is_full, own_folder};
+use crate::storage_root::{Access, FILE_MODE, FOLDER_MODE, own_folder};
 use fwd_live_files::{LAST_OFFSET, read_to};
 use fwd_live_poll::{Shared, memory_error, text};
 use fwd_outside::{Bytes, Memory, Names};
@@ -232,35 +231,17 @@ impl<'a> Folders<'a> {
         }
     }
 
-    /// Creates a file. If there is no room for it, it gets that of the reserve.
-    fn place_with_reserve(&mut self, name: &[u8], part: &[u8], bytes: &[u8]) -> io::Result<File> {
-        match self.place_in_folder(name, part, bytes) {
-            Err(error) if is_full(&error) && self.shared.release() => {
-                self.place_in_folder(name, part, bytes)
-            }
-            outcome => outcome,
-        }
-    }
-
     /// Creates a file, and its folder if it is missing. Returns `None` if the system refuses.
     pub fn place(&mut self, name: &[u8], bytes: &[u8]) -> Result<Option<()>, Memory> {
         let mut part = Bytes::from_slice(self.rt.alloc(), name)?;
         part.extend_from_slice(TEMPORARY.as_bytes())?;
         let name = Bytes::from_slice(self.rt.alloc(), name)?;
-        match self.place_with_reserve(name.as_slice(), part.as_slice(), bytes) {
+        match self.place_in_folder(name.as_slice(), part.as_slice(), bytes) {
             Ok(file) => {
                 self.written = Some(OpenFile { name, file });
                 Ok(Some(()))
             }
-            Err(error) => {
-                tell::<()>(
-                    &self.shared.journal,
-                    "created",
-                    name.as_slice(),
-                    &Err(error),
-                );
-                Ok(None)
-            }
+            Err(_) => Ok(None),
         }
     }
 
@@ -275,10 +256,9 @@ impl<'a> Folders<'a> {
     fn open(&mut self, name: &[u8]) -> Result<Option<&File>, Memory> {
         if !self.is_open(name) {
             let kept = Bytes::from_slice(self.rt.alloc(), name)?;
-            let opened = open_to_write(&self.rt, name);
-            self.written = match told(&self.shared.journal, "opened", name, opened) {
-                Some(file) => Some(OpenFile { name: kept, file }),
-                None => None,
+            self.written = match open_to_write(&self.rt, name) {
+                Ok(file) => Some(OpenFile { name: kept, file }),
+                Err(_) => None,
             };
         }
         match &self.written {
@@ -287,18 +267,12 @@ impl<'a> Folders<'a> {
         }
     }
 
-    /// Writes from an offset on. If there is no room for it, it gets that of the reserve. Returns `None` if the
-    /// system refuses.
+    /// Writes from an offset on. Returns `None` if the system refuses.
     pub fn write_at(&mut self, name: &[u8], at: u64, bytes: &[u8]) -> Result<Option<()>, Memory> {
-        let shared = self.shared;
-        let Some(file) = self.open(name)? else {
-            return Ok(None);
-        };
-        let written = match write_to(file, at, bytes) {
-            Err(error) if is_full(&error) && shared.release() => write_to(file, at, bytes),
-            outcome => outcome,
-        };
-        Ok(told(&shared.journal, "written", name, written))
+        match self.open(name)? {
+            Some(file) => Ok(write_to(file, at, bytes).ok()),
+            None => Ok(None),
+        }
     }
 
     /// Fsyncs a file. Returns `None` if the system refuses, now or at an earlier fsync of this file.
@@ -312,10 +286,7 @@ impl<'a> Folders<'a> {
         }
         self.unsynced.push(kept)?;
         let answer = match &self.written {
-            Some(written) => {
-                let synced = written.file.sync_all();
-                told(&self.shared.journal, "synced", name, synced)
-            }
+            Some(written) => written.file.sync_all().ok(),
             None => None,
         };
         if answer.is_some() {
@@ -329,8 +300,7 @@ impl<'a> Folders<'a> {
         if self.is_open(name) {
             self.written = None;
         }
-        let removed = remove_file(&self.rt, name);
-        told(&self.shared.journal, "removed", name, removed)
+        remove_file(&self.rt, name).ok()
     }
 
     /// Reads from an offset on. Returns `None` if the system refuses.
@@ -343,9 +313,7 @@ impl<'a> Folders<'a> {
     ) -> Result<Option<Bytes>, Memory>
         ensures { IfOk result (λ answer. IfSome answer (λ bytes. length bytes ≤ len)) }
     {
-        let outcome = read_file(&self.rt, alloc, name, at, len);
-        tell(&self.shared.journal, "read", name, &outcome);
-        answer_of(outcome)
+        answer_of(read_file(&self.rt, alloc, name, at, len))
     }
 
     /// Creates the storage folder and locks it, before the first listing of a run that owns it.
@@ -365,14 +333,10 @@ impl<'a> Folders<'a> {
     pub fn list(&mut self, alloc: Global, folder: &[u8]) -> Result<Option<Names>, Memory>
         ensures { IfOk result (λ answer. IfSome answer IsListing) }
     {
-        let owned = self.lock(folder);
-        tell(&self.shared.journal, "locked", folder, &owned);
-        if answer_of(owned)?.is_none() {
+        if answer_of(self.lock(folder))?.is_none() {
             return Ok(None);
         }
-        let outcome = names_in(&self.rt, alloc, folder);
-        tell(&self.shared.journal, "listed", folder, &outcome);
-        match answer_of(outcome)? {
+        match answer_of(names_in(&self.rt, alloc, folder))? {
             Some(names) => Ok(Some(listing(names)?)),
             None => Ok(None),
         }

@@ -7,8 +7,8 @@
 #![tactic(auto)]
 
 mod answer;
+mod calls;
 mod disk_calls;
-mod disk_log;
 mod file_name;
 mod files_calls;
 mod folder_disk;
@@ -20,6 +20,7 @@ mod sink_calls;
 mod std_sink;
 mod storage_root;
 
+pub use calls::Calls;
 pub use disk_calls::{DiskCalls, DiskRecord, DiskStart};
 pub use files_calls::{FilesCalls, FilesRecord, FilesStart};
 pub use folder_disk::FolderDisk;

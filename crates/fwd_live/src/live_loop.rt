@@ -18,7 +18,7 @@ use std::io;
 /// has taken its payload.
 #[derive(Drop)]
 pub struct LiveLoop<'a> {
-    machine: Machine<'a>,
+    machine: Machine,
     shared: &'a Shared,
     faults: u64,
     happenings: u64,
@@ -32,7 +32,7 @@ impl<'a> LiveLoop<'a> {
         ghost brought: { LoopGiven }
         ensures { IfOk result (λ l. (l.calls.given ≡ brought) × (l.calls.entries ≡ [])) }
     {
-        let machine = Machine::new(rt, shared, USUAL_PATIENCE)?;
+        let machine = Machine::new(rt, USUAL_PATIENCE)?;
         Ok(LiveLoop {
             machine,
             shared,

@@ -1,6 +1,6 @@
 //! The call log of a loop.
 
-use fwd_outside::Calls;
+use crate::calls::Calls;
 use std::marker::Model;
 
 /// Represents the events and answers that a loop will give. No value of it is made.

@@ -1,6 +1,6 @@
 //! The call log of a sink.
 
-use fwd_outside::Calls;
+use crate::calls::Calls;
 use std::marker::Model;
 
 /// Represents a write with its answer. No value of it is made.

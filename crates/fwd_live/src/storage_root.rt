@@ -1,7 +1,7 @@
 //! The storage folder of a run, and its lock file.
 
 use crate::file_name::LOCK;
-use fwd_live_poll::{Shared, fill_reserve, path_in};
+use fwd_live_poll::{Shared, path_in, write_probe};
 use std::fs::{File, OpenOptions};
 use std::io::{self, ErrorKind};
 use std::os::unix::fs::OpenOptionsExt;
@@ -32,21 +32,18 @@ fn lock_folder(rt: &HostRuntime, folder: &str) -> io::Result<File> {
     Ok(file)
 }
 
-/// Locks a folder until the end of the run, and fills its reserve. If only the room for it is missing, the run
-/// begins with its inputs held back, so that it can deliver what is there.
+/// Locks a folder until the end of the run, and tries whether it takes writes. If only its room is used up, the
+/// run begins with its inputs held back, so that it can deliver what is there.
 pub fn own_folder(rt: &HostRuntime, shared: &Shared, folder: &str) -> io::Result<()> {
     let file = lock_folder(rt, folder)?;
-    match fill_reserve(&file) {
+    match write_probe(&file) {
         Ok(()) => {}
-        Err(error) if is_full(&error) => shared.note_failure(),
+        Err(error) if is_full(error.kind()) => shared.disk_failed.set(true),
         Err(error) => return Err(error),
     }
-    shared.keep_lock(file);
-    Ok(())
+    shared.keep_lock(rt.alloc(), file)
 }
 
-/// Returns whether a write failed for want of room alone.
-pub fn is_full(error: &io::Error) -> bool {
-    let kind = error.kind();
+fn is_full(kind: ErrorKind) -> bool {
     kind == ErrorKind::StorageFull || kind == ErrorKind::QuotaExceeded
 }

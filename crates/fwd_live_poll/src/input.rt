@@ -1,12 +1,9 @@
 //! Inputs of the poll: listeners and standard input.
 
 use crate::names::{addresses_of, text};
-use crate::source::Source;
-use fwd_log::{Journal, Level, Source as About, Topic};
-use fwd_outside::InputId;
 use mio::net::TcpListener;
 use mio::{Interest, Registry, Token};
-use std::io::{self, ErrorKind};
+use std::io::{self, ErrorKind, Write};
 use std::net::SocketAddr;
 
 /// The source of an input's bytes.
@@ -56,36 +53,30 @@ fn listen_at(
     Err(refusal)
 }
 
-/// Listens at a host's port. The log says so, or why it can't.
+/// Prints to standard error why there is no listener.
+fn print_listen_error(
+    rt: &HostRuntime,
+    host: &[u8],
+    port: u16,
+    reason: &io::Error,
+) -> io::Result<()> {
+    let host = text(host).unwrap_or("?");
+    eprintln!(rt; "fwd: can't listen at {host} port {port}: {reason}")
+}
+
+/// Listens at a host's port. If that fails, prints the reason to standard error.
 pub fn listen(
     rt: &HostRuntime,
     registry: &Registry,
-    journal: &Journal,
-    input: InputId,
+    token: Token,
     host: &[u8],
     port: u16,
 ) -> io::Result<TcpListener> {
-    let token = Source::Input(input).token();
-    let name = text(host).unwrap_or("?");
     match listen_at(rt, registry, token, host, port) {
-        Ok(listener) => {
-            let open = port_of(&listener, port);
-            let said = format_args!("listens at {name} port {open}");
-            journal.write(Level::Info, About::Input(input), Topic::Listener, &said);
-            Ok(listener)
-        }
+        Ok(listener) => Ok(listener),
         Err(reason) => {
-            let said = format_args!("can't listen at {name} port {port}: {reason}");
-            journal.write(Level::Error, About::Input(input), Topic::Listener, &said);
+            let _ = print_listen_error(rt, host, port, &reason);
             Err(reason)
         }
-    }
-}
-
-/// Returns the port of a listener, which the system has chosen if the asked one is 0.
-fn port_of(listener: &TcpListener, asked: u16) -> u16 {
-    match listener.local_addr() {
-        Ok(address) => address.port(),
-        Err(_) => asked,
     }
 }

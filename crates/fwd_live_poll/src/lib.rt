@@ -23,5 +23,5 @@ pub use link::Handed;
 pub use machine::Machine;
 pub use names::{memory_error, path_in, text};
 pub use patience::{Patience, USUAL_PATIENCE};
-pub use shared::{Shared, fill_reserve};
+pub use shared::{Shared, write_probe};
 pub use signals::pending_in;

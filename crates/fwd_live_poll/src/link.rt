@@ -4,9 +4,8 @@ ghost use Rattle.fwd_live_poll.specs.Handed.{TakesAtMost};
 
 use crate::conn::write_some;
 use crate::patience::Patience;
-use fwd_outside::{Bytes, OutputId};
+use fwd_outside::OutputId;
 use mio::net::TcpStream;
-use std::alloc::Global;
 use std::fs::File;
 use std::io::{self, ErrorKind, Write};
 use std::mem;
@@ -14,14 +13,6 @@ use std::mem;
 /// The most bytes that a link may send back before it has taken its payload. A reply that counts is much
 /// shorter.
 const MOST_RECEIVED: u64 = 65_536;
-
-/// The most bytes of a refusing reply that are kept for the log.
-const MOST_KEPT: usize = 200;
-
-/// Returns whether bytes begin an HTTP reply whose status isn't one of success.
-fn is_refusal(bytes: &[u8]) -> bool {
-    bytes.starts_with(b"HTTP/1.") && bytes.get(9).copied() != Some(b'2')
-}
 
 /// The answer of a link to a push.
 #[derive(Clone, Copy, Debug, PartialEq, Eq)]
@@ -58,36 +49,31 @@ pub struct Peer {
     bytes_received: u64,
     /// The monotonic time of its dial, or of its last progress.
     since: u64,
-    /// The beginning of an HTTP reply whose status isn't one of success.
-    refusal: Bytes,
 }
 
 /// The endpoint of a link.
 #[derive(Drop)]
 pub enum Link {
-    Stdout(OutputId),
-    Appended(OutputId, File),
+    Stdout,
+    Appended(File),
     Connected(Peer),
 }
 
-/// Returns the answer of a link to one write. An error that broke it is kept in `failure`.
-fn taken_of(written: io::Result<usize>, bytes: &[u8], failure: &mut Option<io::Error>) -> Handed
+/// Returns the answer of a link to one write.
+fn taken_of(written: io::Result<usize>, bytes: &[u8]) -> Handed
     ensures { TakesAtMost bytes.now result }
 {
     match written {
         Ok(taken) => Handed::Took(taken.min(bytes.len()) as u64),
         Err(error) if error.kind() == ErrorKind::WouldBlock => Handed::Took(0),
         Err(error) if error.kind() == ErrorKind::Interrupted => Handed::Took(0),
-        Err(error) => {
-            *failure = Some(error);
-            Handed::Broken
-        }
+        Err(_) => Handed::Broken,
     }
 }
 
 impl Peer {
     /// Returns a connection that was dialled at this time.
-    pub fn new(alloc: Global, output: OutputId, stream: TcpStream, now: u64) -> Peer {
+    pub fn new(output: OutputId, stream: TcpStream, now: u64) -> Peer {
         Peer {
             output,
             stream,
@@ -98,7 +84,6 @@ impl Peer {
             queued: false,
             bytes_received: 0,
             since: now,
-            refusal: Bytes::new(alloc),
         }
     }
 
@@ -145,37 +130,16 @@ impl Peer {
         !self.wants_room || self.bytes_received <= MOST_RECEIVED
     }
 
-    /// Returns why the connection isn't established; `None` if it is.
-    pub fn dial_error(&self) -> Option<io::Error> {
+    /// Returns whether the connection is established.
+    pub fn is_established(&self) -> bool {
         match self.stream.take_error() {
-            Ok(None) => self.stream.peer_addr().err(),
-            Ok(Some(error)) => Some(error),
-            Err(error) => Some(error),
+            Ok(None) => self.stream.peer_addr().is_ok(),
+            Ok(Some(_)) => false,
+            Err(_) => false,
         }
     }
 
-    /// Keeps the beginning of an HTTP reply whose status isn't one of success. Returns what is kept of it so far, if
-    /// these bytes added to it.
-    pub fn keep_refusal(&mut self, bytes: &[u8]) -> Option<&[u8]> {
-        let is_first = self.bytes_received == bytes.len() as u64;
-        if !(is_first && is_refusal(bytes)) && self.refusal.is_empty() {
-            return None;
-        }
-        let room = MOST_KEPT
-            .saturating_sub(self.refusal.len())
-            .min(bytes.len());
-        if room == 0 || self.refusal.extend_from_slice(&bytes[..room]).is_err() {
-            return None;
-        }
-        Some(self.refusal.as_slice())
-    }
-
-    /// Returns whether the peer refused in a reply.
-    pub fn has_refusal(&self) -> bool {
-        !self.refusal.is_empty()
-    }
-
-    fn push(&mut self, bytes: &[u8], now: u64, failure: &mut Option<io::Error>) -> Handed
+    fn push(&mut self, bytes: &[u8], now: u64) -> Handed
         ensures { TakesAtMost bytes.now result }
     {
         match self.standing {
@@ -194,39 +158,21 @@ impl Peer {
                     self.since = now;
                     Handed::Took(taken.min(bytes.len()) as u64)
                 }
-                Err(error) => {
-                    *failure = Some(error);
-                    Handed::Broken
-                }
+                Err(_) => Handed::Broken,
             },
         }
     }
 }
 
 impl Link {
-    /// Pushes as many of the bytes as the link takes, at this monotonic time. An error that broke it is kept in
-    /// `failure`.
-    pub fn push(
-        &mut self,
-        rt: &HostRuntime,
-        bytes: &[u8],
-        now: u64,
-        failure: &mut Option<io::Error>,
-    ) -> Handed
+    /// Pushes as many of the bytes as the link takes, at this monotonic time.
+    pub fn push(&mut self, rt: &HostRuntime, bytes: &[u8], now: u64) -> Handed
         ensures { TakesAtMost bytes.now result }
     {
         match self {
-            Link::Stdout(_) => taken_of(rt.stdout().write(bytes), bytes, failure),
-            Link::Appended(_, file) => taken_of(file.write(bytes), bytes, failure),
-            Link::Connected(peer) => peer.push(bytes, now, failure),
-        }
-    }
-
-    /// Returns the output of the link.
-    pub fn output(&self) -> OutputId {
-        match self {
-            Link::Stdout(output) | Link::Appended(output, _) => *output,
-            Link::Connected(peer) => peer.output,
+            Link::Stdout => taken_of(rt.stdout().write(bytes), bytes),
+            Link::Appended(file) => taken_of(file.write(bytes), bytes),
+            Link::Connected(peer) => peer.push(bytes, now),
         }
     }
 }

@@ -14,7 +14,6 @@ use crate::shared::Shared;
 use crate::signals::asked_to_stop;
 use crate::source::Source;
 use crate::sources::Sources;
-use fwd_log::{Address, Journal, Level, Source as About, Topic};
 use fwd_outside::{ConnId, Ends, Happening, InEnd, InputId, LinkId, Memory, OutEnd, OutputId};
 use mio::net::TcpStream;
 use mio::unix::SourceFd;
@@ -39,18 +38,17 @@ const MOST_TICK_AGE: u64 = 10;
 /// The least number of milliseconds between two checks for signals.
 const SIGNAL_CHECK_INTERVAL: u64 = 200;
 
-/// The number of milliseconds between two tries to fill the reserve, and between a failed write and the first.
+/// The number of milliseconds between two probe writes, and between a failed write and the first.
 const PROBE_INTERVAL: u64 = 1_000;
 
 /// The system's part of an event loop.
 #[derive(Drop)]
-pub struct Machine<'a> {
+pub struct Machine {
     rt: HostRuntime,
-    journal: &'a Journal,
     poll: Poll,
     events: Events,
     outputs: Vec<OutEnd>,
-    sources: Sources<'a>,
+    sources: Sources,
     looks: u32,
     clock: Clock,
     /// The time of the last tick.
@@ -65,22 +63,21 @@ pub struct Machine<'a> {
     next_signal_check: u64,
     /// Whether a signal was found that asks the program to stop. `Stop` is returned once.
     is_stopping: bool,
-    /// The time of the next try to fill the reserve, by the monotonic clock.
+    /// The time of the next probe write, by the monotonic clock.
     next_probe: u64,
 }
 
-impl<'a> Machine<'a> {
+impl Machine {
     /// Returns a machine with nothing open. A link breaks if its peer is silent for longer than this
     /// patience.
-    pub fn new(rt: HostRuntime, shared: &'a Shared, patience: Patience) -> io::Result<Machine<'a>> {
+    pub fn new(rt: HostRuntime, patience: Patience) -> io::Result<Machine> {
         let alloc = rt.alloc();
         Ok(Machine {
             rt,
-            journal: &shared.journal,
             poll: Poll::new(&rt)?,
             events: Events::with_capacity(alloc, EVENTS)?,
             outputs: Vec::new(alloc),
-            sources: Sources::new(rt, &shared.journal, patience).map_err(memory_error)?,
+            sources: Sources::new(rt, patience).map_err(memory_error)?,
             looks: 0,
             clock: Clock::new(&rt)?,
             last_tick: 0,
@@ -120,51 +117,7 @@ impl<'a> Machine<'a> {
             self.add_input(end)?;
         }
         self.sources.budget = Budget::of(&self.rt, ends.inputs.len(), ends.outputs.len());
-        self.serve_pages();
         Ok(())
-    }
-
-    /// Listens where the pages are to be served. The log says so, or why it can't; the run goes on without them.
-    fn serve_pages(&mut self) {
-        let Some(Address { host, port }) = self.journal.take_server() else {
-            return;
-        };
-        let name = text(host.as_slice()).unwrap_or("?");
-        match self.open_server(host.as_slice(), port) {
-            Ok(()) => {
-                let said = format_args!("serves its pages at {name} port {port}");
-                self.journal
-                    .write(Level::Info, About::Http, Topic::Listener, &said);
-            }
-            Err(reason) => {
-                let said = format_args!(
-                    "can't listen at {name} port {port}: {reason}; no pages are served"
-                );
-                self.journal
-                    .write(Level::Error, About::Http, Topic::Listener, &said);
-            }
-        }
-    }
-
-    /// Opens the server at the first address of the host that works.
-    fn open_server(&mut self, host: &[u8], port: u16) -> io::Result<()> {
-        let mut refusal = io::Error::from(ErrorKind::AddrNotAvailable);
-        for address in addresses_of(&self.rt, host, port)? {
-            match self
-                .sources
-                .server
-                .open(&self.rt, self.poll.registry(), address)
-            {
-                Ok(()) => return Ok(()),
-                Err(error) => refusal = error,
-            }
-        }
-        Err(refusal)
-    }
-
-    /// Returns the port of the server of pages.
-    pub fn page_port(&self) -> Option<u16> {
-        self.sources.server.port()
     }
 
     fn add_input(&mut self, end: &InEnd) -> io::Result<()> {
@@ -176,14 +129,7 @@ impl<'a> Machine<'a> {
         let registry = self.poll.registry();
         let (feed, queued) = match end {
             InEnd::Listen { host, port } => {
-                let listener = listen(
-                    &self.rt,
-                    registry,
-                    self.journal,
-                    input,
-                    host.as_slice(),
-                    *port,
-                )?;
+                let listener = listen(&self.rt, registry, token, host.as_slice(), *port)?;
                 (Feed::Listening(listener), false)
             }
             InEnd::Stdin => {
@@ -242,7 +188,7 @@ impl<'a> Machine<'a> {
         self.is_stopping
     }
 
-    /// Holds back all inputs while the disk fails, and tries once a second to fill the reserve.
+    /// Holds back all inputs while the disk fails, and tries once a second whether it takes writes again.
     pub fn hold_back(&mut self, shared: &Shared) -> Result<(), Memory> {
         if shared.disk_failed.get() {
             let passed = self.clock.passed(&self.rt);
@@ -296,7 +242,6 @@ impl<'a> Machine<'a> {
         ensures { IfOk result (MayOccur true paused) }
     {
         self.sources.pause(paused)?;
-        self.sources.answer_pages()?;
         for _ in 0..u64::MAX {
             let Ok(now) = self.clock.read(&self.rt) else {
                 return Ok(Happening::Failed);
@@ -306,9 +251,6 @@ impl<'a> Machine<'a> {
             self.sources.set_passed(passed)?;
             if self.is_tick_due(now, until) {
                 if self.finds_stop(passed) {
-                    let said = "a signal asks for the end";
-                    self.journal
-                        .write(Level::Info, About::Engine, Topic::Run, &said);
                     return Ok(Happening::Stop);
                 }
                 self.note_tick(now);
@@ -340,7 +282,7 @@ impl<'a> Machine<'a> {
         self.poll.registry().register(&mut stream, token, both)?;
         let passed = self.clock.passed(&self.rt);
         self.sources.note_dial(passed);
-        Ok(Link::Connected(Peer::new(self.rt.alloc(), output, stream, passed)))
+        Ok(Link::Connected(Peer::new(output, stream, passed)))
     }
 
     /// Dials a peer, at its next address if the last one was never reached.
@@ -367,14 +309,14 @@ impl<'a> Machine<'a> {
     fn open(&mut self, output: OutputId, tag: &[u8], link: LinkId) -> io::Result<Link> {
         match self.outputs.get(output.0 as usize) {
             None => Err(io::Error::from(ErrorKind::NotFound)),
-            Some(OutEnd::Stdout) => Ok(Link::Stdout(output)),
+            Some(OutEnd::Stdout) => Ok(Link::Stdout),
             Some(OutEnd::Folder { path, file }) => {
                 let name = match file {
                     Some(name) => Some(name.as_slice()),
                     None => None,
                 };
                 let opened = open_to_append(&self.rt, path.as_slice(), name, tag)?;
-                Ok(Link::Appended(output, opened))
+                Ok(Link::Appended(opened))
             }
             Some(OutEnd::Peer { host, port }) => {
                 let addresses = addresses_of(&self.rt, host.as_slice(), *port)?;
@@ -385,13 +327,7 @@ impl<'a> Machine<'a> {
 
     /// Opens the link of this number.
     pub fn dial(&mut self, link: LinkId, output: OutputId, tag: &[u8]) -> io::Result<()> {
-        let opened = match self.open(output, tag, link) {
-            Ok(opened) => opened,
-            Err(error) => {
-                note_failure(self.journal, output, &error);
-                return Err(error);
-            }
-        };
+        let opened = self.open(output, tag, link)?;
         self.sources.links.insert(link.0, opened)?;
         Ok(())
     }
@@ -402,14 +338,7 @@ impl<'a> Machine<'a> {
     {
         let passed = self.clock.passed(&self.rt);
         match self.sources.links.get_mut(&link.0) {
-            Some(link) => {
-                let mut failure = None;
-                let handed = link.push(&self.rt, bytes, passed, &mut failure);
-                if let Some(error) = failure {
-                    note_failure(self.journal, link.output(), &error);
-                }
-                handed
-            }
+            Some(link) => link.push(&self.rt, bytes, passed),
             None => Handed::Broken,
         }
     }
@@ -438,14 +367,6 @@ impl<'a> Machine<'a> {
         self.rt.fill_bytes(&mut bytes)?;
         Ok(u64::from_le_bytes(bytes))
     }
-}
-
-/// Keeps why a link of an output failed, for the line on its retries.
-fn note_failure(journal: &Journal, output: OutputId, error: &io::Error) {
-    if let Ok(text) = format!(in journal.alloc(); "{error}") {
-        journal.note_reason(output, text.as_bytes());
-    }
-    journal.write(Level::Debug, About::Output(output), Topic::Link, error);
 }
 
 /// Opens a file of a folder for appending; without a name, the tag gives the name.

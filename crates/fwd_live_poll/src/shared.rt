@@ -1,25 +1,24 @@
 //! What the devices of a live run share.
 
-use fwd_log::{Journal, Level, Source, Topic};
+use std::alloc::Global;
 use std::cell::Cell;
 use std::fs::File;
 use std::io::{self, ErrorKind};
 use std::os::unix::fs::FileExt;
 
-/// The length of a part of the reserve, in bytes.
-const RESERVE_PART: usize = 32_768;
+/// The length of a part of a probe write, in bytes.
+const PROBE_PART: usize = 4_096;
 
-/// The number of parts of the reserve, which has 4,194,304 bytes in all.
-const RESERVE_PARTS: u64 = 128;
+/// How many parts a probe write has: 65,536 bytes in all.
+const PROBE_PARTS: u64 = 16;
 
 /// What the devices of a live run share. `main` makes one and lends it to each of them. No contract speaks of
 /// it: what a device gives is its own affair.
 #[derive(Drop)]
 pub struct Shared {
-    /// Whether a write of the disk has failed, and the reserve wasn't filled since. While it is set, the loop
-    /// holds back all inputs, and a read of a followed file gives no bytes.
+    /// Whether a write of the disk has failed, and no probe write has succeeded since. While it is set, the
+    /// loop holds back all inputs, and a read of a followed file gives no bytes.
     pub disk_failed: Cell<bool>,
-
     /// Within how many milliseconds of the last tick the followed files are to be read again, as the last
     /// reads of them say; 2^64 - 1 if none gave bytes.
     pub read_within: Cell<u64>,
@@ -27,76 +26,41 @@ pub struct Shared {
     /// How many descriptors the followed files hold.
     pub held_files: Cell<usize>,
 
-    /// The log of the run.
-    pub journal: Journal,
-
-    /// The lock file of the storage folder, if the run has one. The lock ends when this is dropped.
-    lock_file: Cell<Option<File>>,
+    /// The lock file of the storage folder, if the run has one. It stays open until the process ends.
+    lock_file: Cell<Option<&'static File>>,
 }
 
 impl Shared {
-    pub fn new(journal: Journal) -> Self {
+    pub fn new() -> Self {
         Shared {
             disk_failed: Cell::new(false),
             read_within: Cell::new(u64::MAX),
             held_files: Cell::new(0),
-            journal,
             lock_file: Cell::new(None),
         }
     }
 
-    /// Keeps the locked file until the end.
-    pub fn keep_lock(&self, file: File) {
-        self.lock_file.set(Some(file));
+    /// Keeps the locked file open until the process ends. Fails only if memory is out.
+    pub fn keep_lock(&self, alloc: Global, file: File) -> io::Result<()> {
+        let kept: &'static File = Box::leak(Box::new(alloc, file)?);
+        self.lock_file.set(Some(kept));
+        Ok(())
     }
 
-    /// Notes a write that failed, so that inputs are held back.
-    pub fn note_failure(&self) {
-        if !self.disk_failed.replace(true) {
-            self.tell(Level::Warn, "inputs are held back, as a write failed");
-        }
-    }
-
-    /// Gives the room of the reserve to a write that failed, which is noted. Returns whether there was any.
-    pub fn release(&self) -> bool {
-        self.note_failure();
-        let Some(file) = self.lock_file.replace(None) else {
-            return false;
-        };
-        let released = empty_reserve(&file);
-        self.lock_file.set(Some(file));
-        matches!(released, Ok(true))
-    }
-
-    /// Tries to fill the reserve, and lets inputs go on if that succeeds. Without a lock file there is none.
+    /// Tries whether the storage folder takes writes, and notes it. Without a lock file, takes it that it does.
     pub fn probe(&self) {
-        let filled = match self.lock_file.replace(None) {
-            Some(file) => {
-                let filled = fill_reserve(&file);
-                self.lock_file.set(Some(file));
-                filled.is_ok()
-            }
-            None => true,
-        };
-        if filled && self.disk_failed.replace(false) {
-            self.tell(Level::Info, "inputs go on, as there is room again");
+        match self.lock_file.get() {
+            Some(file) => self.disk_failed.set(write_probe(file).is_err()),
+            None => self.disk_failed.set(false),
         }
-    }
-
-    fn tell(&self, level: Level, text: &str) {
-        let text = format_args!("{text}");
-        self.journal
-            .write(level, Source::Storage, Topic::Pause, &text);
     }
 }
 
-/// Writes the parts of the reserve that are missing, at least one, as far as the limit of the process on a
-/// file's length lets it.
+/// Writes zeros, as far as the limit of the process on a file's length lets it.
 fn write_parts(file: &File) -> io::Result<()> {
-    let part = [0; RESERVE_PART];
-    let there = file.metadata()?.len() / RESERVE_PART as u64;
-    for number in there.min(RESERVE_PARTS - 1)..RESERVE_PARTS {
-        match file.write_all_at(&part, number.wrapping_mul(RESERVE_PART as u64)) {
+    let part = [0; PROBE_PART];
+    for number in 0..PROBE_PARTS {
+        match file.write_all_at(&part, number.wrapping_mul(PROBE_PART as u64)) {
             Err(error) if error.kind() == ErrorKind::FileTooLarge => break,
             outcome => outcome?,
         }
@@ -104,19 +68,9 @@ fn write_parts(file: &File) -> io::Result<()> {
     file.sync_all()
 }
 
-/// Fills the reserve, whose room a write can have that finds the disk full. If that fails, empties it.
-pub fn fill_reserve(file: &File) -> io::Result<()> {
+/// Writes and fsyncs bytes in an empty file, and empties it again, so that the next probe needs room again.
+pub fn write_probe(file: &File) -> io::Result<()> {
     let written = write_parts(file);
-    if written.is_err() {
-        file.set_len(0)?;
-    }
-    written
-}
-
-/// Empties the reserve. Returns whether it had any room.
-fn empty_reserve(file: &File) -> io::Result<bool> {
-    let had_room = file.metadata()?.len() != 0;
     file.set_len(0)?;
-    file.sync_all()?;
-    Ok(had_room)
+    written
 }

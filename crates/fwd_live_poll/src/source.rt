@@ -1,6 +1,5 @@
 //! Sources of the poll and their tokens.
 
-use fwd_live_http::token_of;
 use fwd_outside::{ConnId, InputId, LinkId};
 use mio::Token;
 
@@ -12,8 +11,6 @@ pub enum Source {
     Conn(ConnId),
     /// A link to a peer.
     Link(LinkId),
-    /// A number of the server of pages.
-    Page(u64),
 }
 
 impl Source {
@@ -23,7 +20,6 @@ impl Source {
             Source::Input(input) => (0, u64::from(input.0)),
             Source::Conn(conn) => (1, conn.0),
             Source::Link(link) => (2, link.0),
-            Source::Page(number) => return token_of(number),
         };
         Token(number.wrapping_mul(4).wrapping_add(kind) as usize)
     }
@@ -38,7 +34,7 @@ impl Source {
             },
             1 => Some(Source::Conn(ConnId(number))),
             2 => Some(Source::Link(LinkId(number))),
-            _ => Some(Source::Page(number)),
+            _ => None,
         }
     }
 }

@@ -12,8 +12,6 @@ use crate::mask::is_heard;
 use crate::patience::Patience;
 use crate::source::Source;
 use fwd_base::limits::LONGEST_PIECE;
-use fwd_live_http::{Again, Server};
-use fwd_log::{Journal, Level, Source as About, Topic};
 use fwd_outside::{Bytes, ConnId, Happening, InputId, LinkId, Memory, OutputId};
 use mio::event::Event;
 use mio::net::TcpStream;
@@ -21,8 +19,7 @@ use mio::unix::SourceFd;
 use mio::{Interest, Registry};
 use std::alloc::Global;
 use std::collections::{HashMap, VecDeque};
-use std::fmt::Display;
-use std::io::{self, ErrorKind, Read};
+use std::io::{ErrorKind, Read};
 use std::mem;
 use std::os::fd::AsRawFd;
 
@@ -40,17 +37,14 @@ enum Unread {
     /// The read has to be retried.
     Interrupted,
     Over,
-    /// It failed with this error number of the system, if it gave one.
-    Failed(Option<i32>),
+    Failed,
     Memory,
 }
 
 /// All sources.
 #[derive(Drop)]
-pub struct Sources<'a> {
+pub struct Sources {
     rt: HostRuntime,
-    journal: &'a Journal,
-    pub server: Server<'a>,
     pub inputs: Vec<Input>,
     pub conns: HashMap<u64, Conn>,
     pub links: HashMap<u64, Link>,
@@ -83,22 +77,6 @@ pub struct Sources<'a> {
     misses: u64,
 }
 
-/// Returns the error with this number of the system.
-fn error_of(errno: Option<i32>) -> io::Error {
-    match errno {
-        Some(number) => io::Error::from_raw_os_error(number),
-        None => io::Error::from(ErrorKind::Other),
-    }
-}
-
-/// Returns why a silent link is broken.
-fn silence_of(standing: PeerState) -> &'static str {
-    match standing {
-        PeerState::Connecting => "no answer to the connection",
-        PeerState::Open | PeerState::Over => "the peer was silent for too long",
-    }
-}
-
 /// Reads once.
 fn read_from<R: Read>(alloc: Global, from: &mut R, part: &mut [u8]) -> Result<Bytes, Unread>
     ensures { IfOk result (λ bytes. (1 ≤ length bytes) × (length bytes ≤ longest_piece)) }
@@ -113,23 +91,17 @@ fn read_from<R: Read>(alloc: Global, from: &mut R, part: &mut [u8]) -> Result<By
         },
         Err(error) if error.kind() == ErrorKind::WouldBlock => Err(Unread::Nothing),
         Err(error) if error.kind() == ErrorKind::Interrupted => Err(Unread::Interrupted),
-        Err(error) => Err(Unread::Failed(error.raw_os_error())),
+        Err(_) => Err(Unread::Failed),
     }
 }
 
-impl<'a> Sources<'a> {
-    pub fn new(
-        rt: HostRuntime,
-        journal: &'a Journal,
-        patience: Patience,
-    ) -> Result<Sources<'a>, Memory> {
+impl Sources {
+    pub fn new(rt: HostRuntime, patience: Patience) -> Result<Sources, Memory> {
         let alloc = rt.alloc();
         let mut part = Vec::new(alloc);
         part.resize(LONGEST_PIECE, 0)?;
         Ok(Sources {
             rt,
-            journal,
-            server: Server::new(alloc, journal),
             inputs: Vec::new(alloc),
             conns: HashMap::new(alloc),
             links: HashMap::new(alloc),
@@ -209,9 +181,6 @@ impl<'a> Sources<'a> {
     /// Sets the monotonic time, and queues links that were silent for too long.
     pub fn set_passed(&mut self, passed: u64) -> Result<(), Memory> {
         self.passed = passed;
-        if self.server.expire(passed) {
-            self.ready.push_back(Source::Page(0))?;
-        }
         if self.scan_at <= passed {
             self.scan_links()?;
         }
@@ -230,7 +199,7 @@ impl<'a> Sources<'a> {
                         self.ready.push_back(Source::Link(LinkId(*number)))?;
                     }
                 }
-                Link::Stdout(_) | Link::Appended(_, _) => {}
+                Link::Stdout | Link::Appended(_) => {}
             }
         }
         Ok(())
@@ -292,7 +261,6 @@ impl<'a> Sources<'a> {
             Source::Input(input) => self.mark_input(input),
             Source::Conn(conn) => self.mark_conn(conn, event),
             Source::Link(link) => self.mark_link(link, event),
-            Source::Page(number) => self.server.mark(number),
         };
         if queues {
             self.ready.push_back(source)?;
@@ -345,8 +313,8 @@ impl<'a> Sources<'a> {
                 }
                 !mem::replace(&mut peer.queued, true)
             }
-            Some(Link::Stdout(_)) => false,
-            Some(Link::Appended(_, _)) => false,
+            Some(Link::Stdout) => false,
+            Some(Link::Appended(_)) => false,
             None => false,
         }
     }
@@ -364,56 +332,8 @@ impl<'a> Sources<'a> {
             Some(Source::Input(input)) => self.look_at_input(alloc, registry, input, paused),
             Some(Source::Conn(conn)) => self.look_at_conn(alloc, conn, paused),
             Some(Source::Link(link)) => self.look_at_link(alloc, link),
-            Some(Source::Page(number)) => {
-                self.look_at_page(alloc, registry, number)?;
-                Ok(None)
-            }
             None => Ok(None),
         }
-    }
-
-    /// Looks at a number of the server of pages. It gives no event.
-    fn look_at_page(
-        &mut self,
-        alloc: Global,
-        registry: &Registry,
-        number: u64,
-    ) -> Result<(), Memory> {
-        let again = self.server.look(alloc, registry, number, self.passed)?;
-        self.queue_again(again)
-    }
-
-    fn queue_again(&mut self, again: Again) -> Result<(), Memory> {
-        if let Some(number) = again.asker {
-            self.ready.push_back(Source::Page(number))?;
-        }
-        if again.listener {
-            self.ready.push_back(Source::Page(0))?;
-        }
-        Ok(())
-    }
-
-    /// Has pages that came to the board written to those who wait for them.
-    pub fn answer_pages(&mut self) -> Result<(), Memory> {
-        for number in self.server.answer(self.rt.alloc())? {
-            self.ready.push_back(Source::Page(number))?;
-        }
-        Ok(())
-    }
-
-    /// Keeps why a link of an output broke or never opened, for the line on its retries.
-    fn note_broken(&self, output: OutputId, reason: &impl Display) {
-        if let Ok(text) = format!(in self.rt.alloc(); "{reason}") {
-            self.journal.note_reason(output, text.as_bytes());
-        }
-        let about = About::Output(output);
-        self.journal.write(Level::Debug, about, Topic::Link, reason);
-    }
-
-    /// Writes a line on an input's peers.
-    fn tell_peer(&self, level: Level, input: InputId, text: &impl Display) {
-        self.journal
-            .write(level, About::Input(input), Topic::Peer, text);
     }
 
     fn look_at_input(
@@ -436,8 +356,6 @@ impl<'a> Sources<'a> {
         match &there.feed {
             Feed::Listening(_) if is_full => {
                 self.refused.push_back(Source::Input(input))?;
-                let text = "has as many peers as there are descriptors for; others wait";
-                self.tell_peer(Level::Warn, input, &text);
                 Ok(None)
             }
             Feed::Listening(listener) => match listener.accept() {
@@ -447,7 +365,6 @@ impl<'a> Sources<'a> {
                     Ok(conn.map(|conn| Happening::Joined { input, conn }))
                 }
                 Err(error) => {
-                    self.tell_unaccepted(input, &error);
                     self.accept_later(input, error.kind())?;
                     Ok(None)
                 }
@@ -457,13 +374,6 @@ impl<'a> Sources<'a> {
                 self.look_at_stdin(alloc, registry, input, watched, paused)
             }
             Feed::Quiet => Ok(None),
-        }
-    }
-
-    fn tell_unaccepted(&self, input: InputId, error: &io::Error) {
-        if error.kind() != ErrorKind::WouldBlock {
-            let text = format_args!("no peer can be accepted: {error}");
-            self.tell_peer(Level::Warn, input, &text);
         }
     }
 
@@ -559,11 +469,8 @@ impl<'a> Sources<'a> {
                 self.end_stdin(registry, input, watched);
                 Ok(Some(Happening::InputEnd { input }))
             }
-            Unread::Failed(errno) => {
+            Unread::Failed => {
                 self.miss();
-                let error = error_of(errno);
-                let text = format_args!("standard input can't be read: {error}");
-                self.tell_peer(Level::Error, input, &text);
                 self.end_stdin(registry, input, watched);
                 Ok(Some(Happening::InputEnd { input }))
             }
@@ -664,11 +571,8 @@ impl<'a> Sources<'a> {
                 self.end_conn(id);
                 Ok(Some(Happening::Gone { input, conn: id }))
             }
-            Unread::Failed(errno) => {
+            Unread::Failed => {
                 self.miss();
-                let error = error_of(errno);
-                let text = format_args!("a peer is lost: {error}");
-                self.tell_peer(Level::Warn, input, &text);
                 self.leave(id);
                 Ok(Some(Happening::Gone { input, conn: id }))
             }
@@ -701,10 +605,9 @@ impl<'a> Sources<'a> {
                 if !peer.writable {
                     return Ok(None);
                 }
-                if let Some(error) = peer.dial_error() {
+                if !peer.is_established() {
                     peer.standing = PeerState::Over;
                     let output = peer.output;
-                    self.note_broken(output, &error);
                     self.note_unanswered(output)?;
                     self.miss();
                     return Ok(Some(Happening::Broken { link }));
@@ -730,14 +633,8 @@ impl<'a> Sources<'a> {
         let mut stream = &peer.stream;
         match read_from(alloc, &mut stream, &mut self.part) {
             Ok(bytes) => {
-                let output = peer.output;
-                let fits = peer.note_received(bytes.len(), self.passed);
-                if let Some(refusal) = peer.keep_refusal(bytes.as_slice()) {
-                    self.journal.note_reason(output, refusal);
-                }
-                if !fits {
+                if !peer.note_received(bytes.len(), self.passed) {
                     peer.standing = PeerState::Over;
-                    self.note_broken(output, &"the peer sent too much before it took its payload");
                     self.miss();
                     return Ok(Some(Happening::Broken { link }));
                 }
@@ -765,10 +662,7 @@ impl<'a> Sources<'a> {
                 if self.passed < peer.silent_at(self.patience) {
                     return Ok(None);
                 }
-                let why = silence_of(peer.standing);
                 peer.standing = PeerState::Over;
-                let output = peer.output;
-                self.note_broken(output, &why);
                 self.miss();
                 Ok(Some(Happening::Broken { link }))
             }
@@ -779,16 +673,10 @@ impl<'a> Sources<'a> {
             }
             Unread::Over => {
                 peer.standing = PeerState::Over;
-                let output = peer.output;
-                if !peer.has_refusal() {
-                    self.note_broken(output, &"the peer closed the connection");
-                }
                 Ok(Some(Happening::Broken { link }))
             }
-            Unread::Failed(errno) => {
+            Unread::Failed => {
                 peer.standing = PeerState::Over;
-                let output = peer.output;
-                self.note_broken(output, &error_of(errno));
                 self.miss();
                 Ok(Some(Happening::Broken { link }))
             }

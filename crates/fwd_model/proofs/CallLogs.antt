@@ -5,8 +5,7 @@ use Rattle.fwd_outside.proofs.LogGrowth.{grew_none, grew_trans}
 use Rattle.fwd_outside.specs.Loop.{LoopEntry}
 use Rattle.fwd_outside.specs.Disk.{DiskEntry}
 use Rattle.fwd_outside.specs.Files.{FilesEntry}
-use Rattle.fwd_keeper.specs.Keeper.{KeeperEntry}
-use Rattle.fwd_model.specs.Trace.{TraceEntry, loop_entry, disk_entry, files_entry, keeper_entry, loop_part, disk_part, files_part, keeper_part}
+use Rattle.fwd_model.specs.Trace.{KeeperEntry, TraceEntry, loop_entry, disk_entry, files_entry, keeper_entry, loop_part, disk_part, files_part, keeper_part}
 use Rattle.fwd_model.specs.CallLogs.{CallLogs, LogsGrew}
 
 pub loop_append : (xs ys : List TraceEntry) → loop_part (xs ++ ys) ≡ loop_part xs ++ loop_part ys

@@ -4,6 +4,5 @@ pub mod DeviceActions
 pub mod Refinement
 pub mod RunOver
 pub mod Example
-pub mod ExampleOffsets
 pub mod Masks
 pub mod Outputs

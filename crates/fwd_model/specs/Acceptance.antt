@@ -30,33 +30,22 @@ refuses b why h = note_then (Refused b why) h ends_refused
 
 -- What follows an append. After a failed one the state of the file is unknown, so the chunk closes at once.
 abbrev pub finishes_append : AllSettings → Batch → ℕ → History → Option (Unit {0}) → Action Acceptance
-finishes_append s b chunk h (Some done) =
-    note_then (Accepted b (AppendedTo chunk)) h (λ at. bind (closes_if_full s chunk at) taken)
-finishes_append s b chunk h None =
-    note_then IoFailed h
-    (λ at. note_then (Refused b NotStored) at (λ last. bind (shuts s chunk last) ends_refused))
+finishes_append s b chunk h (Some done) = note_then (Accepted b (AppendedTo chunk)) h (λ at. bind (closes_if_full s chunk at) taken)
+finishes_append s b chunk h None = note_then IoFailed h (λ at. note_then (Refused b NotStored) at (λ last. bind (shuts s chunk last) ends_refused))
 
 -- what follows the atomic create of a chunk's file
 abbrev pub finishes_create : AllSettings → Batch → ℕ → History → Option (Unit {0}) → Action Acceptance
-finishes_create s b chunk h (Some done) =
-    note_then (Accepted b (NewChunk chunk)) h (λ at. bind (closes_if_full s chunk at) taken)
+finishes_create s b chunk h (Some done) = note_then (Accepted b (NewChunk chunk)) h (λ at. bind (closes_if_full s chunk at) taken)
 finishes_create s b chunk h None = note_then IoFailed h (refuses b NotStored)
 
 -- append a batch to a chunk
 unfoldable pub appends : AllSettings → Batch → ℕ → History → Action Acceptance
-appends s b chunk h =
-    note_then (Offered chunk b) h
-    (λ at. bind (on_disk (append_to_program (kept_of s h chunk) (encoded b.events) s.service.full))
-    (finishes_append s b chunk at))
+appends s b chunk h = note_then (Offered chunk b) h (λ at. bind (on_disk (append_to_program (kept_of s h chunk) (encoded b.events) s.service.full)) (finishes_append s b chunk at))
 
 -- start a chunk with this id and a batch
 unfoldable pub starts_chunk : AllSettings → Batch → ℕ → History → Action Acceptance
 starts_chunk s b chunk h =
-    note_then (Offered chunk b) h
-    (λ at. bind
-    (on_disk
-    (begins_as (name_for s b.input chunk) b.tag (home_at s b.input) (encoded b.events)
-    (names_for s b.tag))) (finishes_create s b chunk at))
+    note_then (Offered chunk b) h (λ at. bind (on_disk (begins_as (name_for s b.input chunk) b.tag (home_at s b.input) (encoded b.events) (names_for s b.tag))) (finishes_create s b chunk at))
 
 -- append to the open chunk, or start one with the next id; refuse the batch if the ids are used up
 abbrev pub stores : AllSettings → Batch → Option ChunkInfo → History → Action Acceptance

@@ -1,12 +1,15 @@
 -- The call logs of the devices, and what it means to perform an action on them.
-use Rattle.std.specs.Prelude.{List, Option, Some, None}
+use Rattle.std.specs.Prelude.{ℕ, List, Option, Some, None}
 use Rattle.fwd_outside.specs.Program.{Return, Execution}
-use Rattle.fwd_outside.specs.Log.{LogGrew}
+use Rattle.fwd_outside.specs.Log.{CallLog, LogGrew}
 use Rattle.fwd_outside.specs.Loop.{LoopLog}
 use Rattle.fwd_outside.specs.Disk.{DiskLog}
 use Rattle.fwd_outside.specs.Files.{FilesLog}
-use Rattle.fwd_keeper.specs.Keeper.{KeeperLog}
-use Rattle.fwd_model.specs.Trace.{TraceEntry, Action, loop_part, disk_part, files_part, keeper_part}
+use Rattle.fwd_model.specs.Trace.{KeeperCall, KeeperAnswer, TraceEntry, Action, loop_part, disk_part, files_part, keeper_part}
+
+-- the offsets that the database has at first, by database and path
+abbrev pub KeeperLog : Type 0
+KeeperLog = CallLog (List ((List ℕ × List ℕ) × ℕ)) KeeperCall KeeperAnswer
 
 pub record CallLogs : Type 0 where
   pub loop : LoopLog

@@ -21,21 +21,11 @@ name_for s input chunk = file_name (unwrap_or s.service.path []) (input_name s i
 abbrev pub adopted : List ℕ → Option Chunk → Option Kept
 adopted name None = None
 adopted name (Some chunk) =
-    Some
-    (Adopted
-    (record {
-      name = name;
-      meta = chunk.meta;
-      size = length chunk.content;
-      selector = 0;
-      mark = chunk.mark;
-      outputs = chunk.outputs;
-    }))
+    Some (Adopted (record { name = name; meta = chunk.meta; size = length chunk.content; selector = 0; mark = chunk.mark; outputs = chunk.outputs }))
 
 -- how the store keeps a chunk that starts with a batch
 abbrev pub created_with : AllSettings → Batch → ℕ → Kept
-created_with s b chunk =
-    new_kept (name_for s b.input chunk) b.tag (home_at s b.input) (encoded b.events) (names_for s b.tag)
+created_with s b chunk = new_kept (name_for s b.input chunk) b.tag (home_at s b.input) (encoded b.events) (names_for s b.tag)
 
 -- the same chunk after a batch was appended
 abbrev pub grown_by : List ℕ → Option Kept → Option Kept
@@ -45,18 +35,14 @@ grown_by batch (Some kept) = Some (after_append kept batch)
 -- how the store keeps a chunk after a batch was stored there or elsewhere
 abbrev pub stored_after : AllSettings → Batch → Placement → ℕ → Option Kept → Option Kept
 stored_after s b NoChunk chunk before = before
-stored_after s b (NewChunk other) chunk before =
-    if other == chunk then Some (created_with s b other) else before
-stored_after s b (AppendedTo other) chunk before =
-    if other == chunk then grown_by (encoded b.events) before else before
+stored_after s b (NewChunk other) chunk before = if other == chunk then Some (created_with s b other) else before
+stored_after s b (AppendedTo other) chunk before = if other == chunk then grown_by (encoded b.events) before else before
 
 -- how the store keeps a chunk; none if it has no such chunk
 abbrev pub kept_of : AllSettings → History → ℕ → Option Kept
 kept_of s [] chunk = None
 kept_of s (Found other stream name bytes ∷ h) chunk =
-    if other == chunk
-    then adopted (found_name (unwrap_or s.service.path []) stream name) (recovered_chunk bytes)
-    else kept_of s h chunk
+    if other == chunk then adopted (found_name (unwrap_or s.service.path []) stream name) (recovered_chunk bytes) else kept_of s h chunk
 kept_of s (Accepted b place ∷ h) chunk = stored_after s b place chunk (kept_of s h chunk)
 kept_of s (Removed other ∷ h) chunk = if other == chunk then None else kept_of s h chunk
 kept_of s (FileLeft other ∷ h) chunk = if other == chunk then None else kept_of s h chunk

@@ -71,19 +71,15 @@ is_stored_in (AppendedTo other) chunk = other == chunk
 -- the events of a chunk, in the order of acceptance
 abbrev pub records : History → ℕ → List Event
 records [] chunk = []
-records (Found other stream name bytes ∷ h) chunk =
-    if other == chunk then recovered_events bytes else records h chunk
-records (Accepted b place ∷ h) chunk =
-    if is_stored_in place chunk then records h chunk ++ b.events else records h chunk
+records (Found other stream name bytes ∷ h) chunk = if other == chunk then recovered_events bytes else records h chunk
+records (Accepted b place ∷ h) chunk = if is_stored_in place chunk then records h chunk ++ b.events else records h chunk
 records (_ ∷ h) chunk = records h chunk
 
 -- the encoded content of a chunk, and its size in bytes
 abbrev pub content : History → ℕ → List ℕ
 content [] chunk = []
-content (Found other stream name bytes ∷ h) chunk =
-    if other == chunk then recovered_content bytes else content h chunk
-content (Accepted b place ∷ h) chunk =
-    if is_stored_in place chunk then content h chunk ++ encoded b.events else content h chunk
+content (Found other stream name bytes ∷ h) chunk = if other == chunk then recovered_content bytes else content h chunk
+content (Accepted b place ∷ h) chunk = if is_stored_in place chunk then content h chunk ++ encoded b.events else content h chunk
 content (_ ∷ h) chunk = content h chunk
 
 abbrev pub size : History → ℕ → ℕ

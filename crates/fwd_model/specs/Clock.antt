@@ -32,8 +32,7 @@ stopped_by false now before = before
 abbrev pub stopped : AllSettings → History → Option ℕ
 stopped s [] = None
 stopped s (Happened happening.Stop ∷ h) = stopped_by true (clock h) (stopped s h)
-stopped s (Happened (happening.InputEnd input) ∷ h) =
-    stopped_by (reads_stdin_at s input.0) (clock h) (stopped s h)
+stopped s (Happened (happening.InputEnd input) ∷ h) = stopped_by (reads_stdin_at s input.0) (clock h) (stopped s h)
 stopped s (_ ∷ h) = stopped s h
 
 -- the time of the next close after a tick: if the tick closes, a flush interval later
@@ -44,8 +43,7 @@ close_after closing now flush_ms = if nat_le closing now then saturating_plus no
 -- close.
 abbrev pub next_close : AllSettings → History → ℕ
 next_close s [] = 0
-next_close s (Happened (happening.Tick now) ∷ h) =
-    close_after (next_close s h) (clock_after (clock h) now) s.service.flush_ms
+next_close s (Happened (happening.Tick now) ∷ h) = close_after (next_close s h) (clock_after (clock h) now) s.service.flush_ms
 next_close s (_ ∷ h) = next_close s h
 
 -- whether a tick at this time closes the open chunks

@@ -15,22 +15,18 @@ use Rattle.fwd_model.specs.RecoveredFile.{recovered_chunk, is_marked_done}
 -- batches and events accepted from an input, and what was refused: batches, and bytes that aren't a message
 abbrev pub batches : History → ℕ → ℕ
 batches [] input = 0
-batches (Accepted b place ∷ h) input =
-    if b.input == input then saturating_plus (batches h input) 1 else batches h input
+batches (Accepted b place ∷ h) input = if b.input == input then saturating_plus (batches h input) 1 else batches h input
 batches (_ ∷ h) input = batches h input
 
 abbrev pub events : History → ℕ → ℕ
 events [] input = 0
-events (Accepted b place ∷ h) input =
-    if b.input == input then saturating_plus (events h input) (length b.events) else events h input
+events (Accepted b place ∷ h) input = if b.input == input then saturating_plus (events h input) (length b.events) else events h input
 events (_ ∷ h) input = events h input
 
 abbrev pub refused : History → ℕ → ℕ
 refused [] input = 0
-refused (Refused b why ∷ h) input =
-    if b.input == input then saturating_plus (refused h input) 1 else refused h input
-refused (Malformed other ∷ h) input =
-    if other == input then saturating_plus (refused h input) 1 else refused h input
+refused (Refused b why ∷ h) input = if b.input == input then saturating_plus (refused h input) 1 else refused h input
+refused (Malformed other ∷ h) input = if other == input then saturating_plus (refused h input) 1 else refused h input
 refused (_ ∷ h) input = refused h input
 
 -- ---- outputs
@@ -60,15 +56,13 @@ counts_of Evicted = record no_counts { lost = 1 }
 abbrev pub outcome_count : (Counts → ℕ) → History → ℕ → ℕ
 outcome_count which [] output = 0
 outcome_count which (OnRoute route outcome ∷ h) output =
-    if route.output == output then saturating_plus (outcome_count which h output) (which (counts_of outcome))
-    else outcome_count which h output
+    if route.output == output then saturating_plus (outcome_count which h output) (which (counts_of outcome)) else outcome_count which h output
 outcome_count which (_ ∷ h) output = outcome_count which h output
 
 -- the bytes that links of an output took
 abbrev pub taken : History → ℕ → ℕ
 taken [] output = 0
-taken (Sent other bytes ∷ h) output =
-    if other == output then saturating_plus (taken h output) bytes else taken h output
+taken (Sent other bytes ∷ h) output = if other == output then saturating_plus (taken h output) bytes else taken h output
 taken (_ ∷ h) output = taken h output
 
 -- ---- files
@@ -83,8 +77,7 @@ pub data FileFate : Type 0 where
 abbrev pub file_fate_by : AllSettings → Chunk → List ℕ → FileFate
 file_fate_by s chunk [] = Unrouted
 file_fate_by s chunk (output ∷ outputs) =
-    if list_all (λ one. is_marked_done (output_name s one) (Some chunk)) (output ∷ outputs) then LeftAsIs
-    else Loaded
+    if list_all (λ one. is_marked_done (output_name s one) (Some chunk)) (output ∷ outputs) then LeftAsIs else Loaded
 
 abbrev pub file_fate : AllSettings → Option Chunk → FileFate
 file_fate s None = LeftAsIs
@@ -108,8 +101,7 @@ as_left LeftAsIs = 1
 -- how many of the recovered files count so
 abbrev pub files_counted : AllSettings → (FileFate → ℕ) → History → ℕ
 files_counted s count [] = 0
-files_counted s count (Found number stream name bytes ∷ h) =
-    saturating_plus (files_counted s count h) (count (file_fate s (recovered_chunk bytes)))
+files_counted s count (Found number stream name bytes ∷ h) = saturating_plus (files_counted s count h) (count (file_fate s (recovered_chunk bytes)))
 files_counted s count (_ ∷ h) = files_counted s count h
 
 -- how many calls on the disk and on files failed

@@ -39,53 +39,15 @@ localhost = codes "127.0.0.1"
 -- matches every tag; output 1 matches tag t and uses acknowledgements.
 abbrev pub settings : AllSettings
 settings = record {
-  service =
-      record {
-        flush_ms = 1000;
-        grace_s = 5;
-        path = Some (codes "S");
-        full = true;
-        max_up = 128;
-        backlog_limit = 5000000;
-        base = 5;
-        cap = 2000;
-      };
+  service = record { flush_ms = 1000; grace_s = 5; path = Some (codes "S"); full = true; max_up = 128; backlog_limit = 5000000; base = 5; cap = 2000 };
   inputs =
-      record {
-        name = codes "forward.0";
-        kind = input_kind.Forward localhost 24224;
-        tag = None;
-        stored = true;
-        mem_limit = None;
-        db = None;
-        parser = plain;
-      }
-      ∷ record {
-        name = codes "tail.0";
-        kind = input_kind.Tail (codes "/l" ∷ []) true;
-        tag = Some (codes "app");
-        stored = false;
-        mem_limit = None;
-        db = None;
-        parser = plain;
-      }
+      record { name = codes "forward.0"; kind = input_kind.Forward localhost 24224; tag = None; stored = true; mem_limit = None; parser = plain }
+      ∷ record { name = codes "tail.0"; kind = input_kind.Tail (codes "/l" ∷ []) true; tag = Some (codes "app"); stored = false; mem_limit = None; parser = plain }
       ∷ [];
   filters = [];
   outputs =
-      record {
-        name = codes "stdout.0";
-        glob = codes "*";
-        kind = output_kind.Stdout JsonLines;
-        retries = Times 1;
-        total_limit = None;
-      }
-      ∷ record {
-        name = codes "forward.0";
-        glob = codes "t";
-        kind = output_kind.Forward localhost 24225 true false;
-        retries = Times 2;
-        total_limit = None;
-      }
+      record { name = codes "stdout.0"; glob = codes "*"; kind = output_kind.Stdout JsonLines; retries = Times 1; total_limit = None }
+      ∷ record { name = codes "forward.0"; glob = codes "t"; kind = output_kind.Forward localhost 24225 true false; retries = Times 2; total_limit = None }
       ∷ [];
 }
 
@@ -96,9 +58,7 @@ abbrev pub first_piece : List ℕ
 first_piece = 147 ∷ 161 ∷ 116 ∷ 196 ∷ 16 ∷ 146 ∷ 199 ∷ 8 ∷ 0 ∷ 0 ∷ []
 
 abbrev pub second_piece : List ℕ
-second_piece =
-    0 ∷ 0 ∷ 10 ∷ 0 ∷ 0 ∷ 0 ∷ 0 ∷ 129 ∷ 161 ∷ 97 ∷ 1 ∷ 129 ∷ 165 ∷ 99 ∷ 104 ∷ 117 ∷ 110 ∷ 107 ∷ 162 ∷ 120 ∷ 49
-    ∷ []
+second_piece = 0 ∷ 0 ∷ 10 ∷ 0 ∷ 0 ∷ 0 ∷ 0 ∷ 129 ∷ 161 ∷ 97 ∷ 1 ∷ 129 ∷ 165 ∷ 99 ∷ 104 ∷ 117 ∷ 110 ∷ 107 ∷ 162 ∷ 120 ∷ 49 ∷ []
 
 -- its acknowledgement
 abbrev pub acknowledged : List ℕ
@@ -113,11 +73,7 @@ abbrev pub file_name : List ℕ
 file_name = codes "S/forward.0/00000000000000000001.flb"
 
 abbrev pub file : List ℕ
-file =
-    193 ∷ 0 ∷ 0 ∷ 0 ∷ 0 ∷ 0 ∷ 2 ∷ 0 ∷ 0 ∷ 0 ∷ 0 ∷ 0 ∷ 0 ∷ 0 ∷ 0 ∷ 0 ∷ 0 ∷ 17 ∷ 0 ∷ 0 ∷ 0 ∷ 0 ∷ 0 ∷ 29 ∷ 241
-    ∷ 119 ∷ 0 ∷ 2 ∷ 0 ∷ 1 ∷ 116 ∷ 2 ∷ 0 ∷ 8 ∷ 115 ∷ 116 ∷ 100 ∷ 111 ∷ 117 ∷ 116 ∷ 46 ∷ 48 ∷ 0 ∷ 9 ∷ 102 ∷ 111
-    ∷ 114 ∷ 119 ∷ 97 ∷ 114 ∷ 100 ∷ 46 ∷ 48 ∷ 146 ∷ 146 ∷ 215 ∷ 0 ∷ 0 ∷ 0 ∷ 0 ∷ 10 ∷ 0 ∷ 0 ∷ 0 ∷ 0 ∷ 128 ∷ 129
-    ∷ 161 ∷ 97 ∷ 1 ∷ []
+file = 193 ∷ 0 ∷ 0 ∷ 0 ∷ 0 ∷ 0 ∷ 2 ∷ 0 ∷ 0 ∷ 0 ∷ 0 ∷ 0 ∷ 0 ∷ 0 ∷ 0 ∷ 0 ∷ 0 ∷ 17 ∷ 0 ∷ 0 ∷ 0 ∷ 0 ∷ 0 ∷ 29 ∷ 241 ∷ 119 ∷ 0 ∷ 2 ∷ 0 ∷ 1 ∷ 116 ∷ 2 ∷ 0 ∷ 8 ∷ 115 ∷ 116 ∷ 100 ∷ 111 ∷ 117 ∷ 116 ∷ 46 ∷ 48 ∷ 0 ∷ 9 ∷ 102 ∷ 111 ∷ 114 ∷ 119 ∷ 97 ∷ 114 ∷ 100 ∷ 46 ∷ 48 ∷ 146 ∷ 146 ∷ 215 ∷ 0 ∷ 0 ∷ 0 ∷ 0 ∷ 10 ∷ 0 ∷ 0 ∷ 0 ∷ 0 ∷ 128 ∷ 129 ∷ 161 ∷ 97 ∷ 1 ∷ []
 
 -- what output 0 is sent for each chunk, and output 1 for the first
 abbrev pub printed : List ℕ
@@ -127,16 +83,11 @@ abbrev pub printed_line : List ℕ
 printed_line = codes "{\"date\":1.000000000,\"log\":\"aa\"}\n"
 
 abbrev pub sent : List ℕ
-sent =
-    147 ∷ 161 ∷ 116 ∷ 196 ∷ 15 ∷ 146 ∷ 215 ∷ 0 ∷ 0 ∷ 0 ∷ 0 ∷ 10 ∷ 0 ∷ 0 ∷ 0 ∷ 0 ∷ 129 ∷ 161 ∷ 97 ∷ 1 ∷ 130
-    ∷ 164 ∷ 115 ∷ 105 ∷ 122 ∷ 101 ∷ 1 ∷ 165 ∷ 99 ∷ 104 ∷ 117 ∷ 110 ∷ 107 ∷ 184 ∷ 65 ∷ 65 ∷ 65 ∷ 65 ∷ 65 ∷ 65
-    ∷ 65 ∷ 65 ∷ 65 ∷ 65 ∷ 69 ∷ 65 ∷ 65 ∷ 65 ∷ 65 ∷ 66 ∷ 65 ∷ 65 ∷ 65 ∷ 65 ∷ 65 ∷ 65 ∷ 61 ∷ 61 ∷ []
+sent = 147 ∷ 161 ∷ 116 ∷ 196 ∷ 15 ∷ 146 ∷ 215 ∷ 0 ∷ 0 ∷ 0 ∷ 0 ∷ 10 ∷ 0 ∷ 0 ∷ 0 ∷ 0 ∷ 129 ∷ 161 ∷ 97 ∷ 1 ∷ 130 ∷ 164 ∷ 115 ∷ 105 ∷ 122 ∷ 101 ∷ 1 ∷ 165 ∷ 99 ∷ 104 ∷ 117 ∷ 110 ∷ 107 ∷ 184 ∷ 65 ∷ 65 ∷ 65 ∷ 65 ∷ 65 ∷ 65 ∷ 65 ∷ 65 ∷ 65 ∷ 65 ∷ 69 ∷ 65 ∷ 65 ∷ 65 ∷ 65 ∷ 66 ∷ 65 ∷ 65 ∷ 65 ∷ 65 ∷ 65 ∷ 65 ∷ 61 ∷ 61 ∷ []
 
 -- the reply to that
 abbrev pub reply : List ℕ
-reply =
-    129 ∷ 163 ∷ 97 ∷ 99 ∷ 107 ∷ 184 ∷ 65 ∷ 65 ∷ 65 ∷ 65 ∷ 65 ∷ 65 ∷ 65 ∷ 65 ∷ 65 ∷ 65 ∷ 69 ∷ 65 ∷ 65 ∷ 65 ∷ 65
-    ∷ 66 ∷ 65 ∷ 65 ∷ 65 ∷ 65 ∷ 65 ∷ 65 ∷ 61 ∷ 61 ∷ []
+reply = 129 ∷ 163 ∷ 97 ∷ 99 ∷ 107 ∷ 184 ∷ 65 ∷ 65 ∷ 65 ∷ 65 ∷ 65 ∷ 65 ∷ 65 ∷ 65 ∷ 65 ∷ 65 ∷ 69 ∷ 65 ∷ 65 ∷ 65 ∷ 65 ∷ 66 ∷ 65 ∷ 65 ∷ 65 ∷ 65 ∷ 65 ∷ 65 ∷ 61 ∷ 61 ∷ []
 
 -- ---- the trace
 

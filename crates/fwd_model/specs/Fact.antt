@@ -58,8 +58,6 @@ pub data Fact : Type 0 where
   Happened : Happening → Fact
   -- reading of a followed file, by the index of its path in the input, resumes at an offset
   Resumed : (input index place : ℕ) → Fact
-  -- the database of a followed file took this offset, from which a later run resumes
-  Saved : (input index place : ℕ) → Fact
   -- a poll of a followed file found this length and read these bytes
   Polled : (input index length : ℕ) → (bytes : List ℕ) → Fact
   -- the engine dropped a connection

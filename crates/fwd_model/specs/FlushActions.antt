@@ -52,15 +52,12 @@ stands s r progress h = notes_stage s r progress progress.stage h
 
 -- count the bytes that the link took since, then log the flush's progress or outcome
 unfoldable pub notes_calls : AllSettings → Route → ℕ → Progress → History → Action History
-notes_calls s r before progress h =
-    note_then (Sent r.output (progress.taken - before)) h (stands s r progress)
+notes_calls s r before progress h = note_then (Sent r.output (progress.taken - before)) h (stands s r progress)
 
 -- start a flush of these events
 unfoldable pub starts_with : AllSettings → Route → List Event → History → Action History
 starts_with s r events h =
-    note_then (OnRoute r (FlushStarted events)) h
-    (λ at. bind (on_loop (starts (delivery s at r) r.output (tag_of_chunk at r.chunk) not_started))
-    (λ progress. notes_calls s r 0 progress at))
+    note_then (OnRoute r (FlushStarted events)) h (λ at. bind (on_loop (starts (delivery s at r) r.output (tag_of_chunk at r.chunk) not_started)) (λ progress. notes_calls s r 0 progress at))
 
 -- whether a read returned as many bytes as the chunk has, and all of them are events
 abbrev pub is_complete_read : ℕ → List ℕ → Bool
@@ -70,17 +67,14 @@ is_complete_read kept bytes = length bytes == kept && (events_in bytes).1 == kep
 -- idle.
 abbrev pub after_read : AllSettings → Route → ℕ → History → Option (List ℕ) → Action History
 after_read s r kept h None = note IoFailed h
-after_read s r kept h (Some bytes) =
-    if is_complete_read kept bytes then starts_with s r (events_in bytes).0 h else Return h
+after_read s r kept h (Some bytes) = if is_complete_read kept bytes then starts_with s r (events_in bytes).0 h else Return h
 
 -- start a flush of a chunk's events, which are read from its file first, if it has one
 abbrev pub begins_as : AllSettings → Route → Option Kept → History → Action History
 begins_as s r None h = Return h
 begins_as s r (Some (InMemory content)) h = starts_with s r (records h r.chunk) h
-begins_as s r (Some (InFile head)) h =
-    bind (on_disk (read_content_program (InFile head))) (after_read s r (size_of (InFile head)) h)
-begins_as s r (Some (Adopted head)) h =
-    bind (on_disk (read_content_program (Adopted head))) (after_read s r (size_of (Adopted head)) h)
+begins_as s r (Some (InFile head)) h = bind (on_disk (read_content_program (InFile head))) (after_read s r (size_of (InFile head)) h)
+begins_as s r (Some (Adopted head)) h = bind (on_disk (read_content_program (Adopted head))) (after_read s r (size_of (Adopted head)) h)
 
 unfoldable pub starts_flush : AllSettings → Route → History → Action History
 starts_flush s r h = begins_as s r (kept_of s h r.chunk) h
@@ -97,14 +91,11 @@ unfoldable pub walk : AllSettings → History → Action History
 walk s h = turns s (due_routes s h) h
 
 -- continue a flush at an event of its link
-abbrev pub goes_on : AllSettings → (Delivery → Progress → Action Progress) → Route → Option Progress → History
-    → Action History
+abbrev pub goes_on : AllSettings → (Delivery → Progress → Action Progress) → Route → Option Progress → History → Action History
 goes_on s go r None h = Return h
-goes_on s go r (Some progress) h =
-    bind (go (delivery s h r) progress) (λ now. notes_calls s r progress.taken now h)
+goes_on s go r (Some progress) h = bind (go (delivery s h r) progress) (λ now. notes_calls s r progress.taken now h)
 
-abbrev pub resumes : AllSettings → (Delivery → Progress → Action Progress) → Option Route → History
-    → Action History
+abbrev pub resumes : AllSettings → (Delivery → Progress → Action Progress) → Option Route → History → Action History
 resumes s go None h = Return h
 resumes s go (Some r) h = goes_on s go r (flight h r) h
 

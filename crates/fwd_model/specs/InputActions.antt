@@ -33,30 +33,24 @@ replies conn (Some bytes) next h = Ask (OnLoop (Reply conn bytes)) (after_reply 
 
 -- acknowledge an accepted message, if it asks for that; drop the connection of a refused one
 abbrev pub acknowledges : ℕ → Option (List ℕ) → (History → Action History) → Acceptance → Action History
-acknowledges conn asked next a =
-    if a.taken then replies conn asked next a.history else hangs_up conn a.history
+acknowledges conn asked next a = if a.taken then replies conn asked next a.history else hangs_up conn a.history
 
 -- Accept the messages of a read one by one. If the bytes after them can't be a message, count that and drop
 -- the connection.
 abbrev pub accepts_messages : AllSettings → ℕ → ℕ → Bool → List MessageContent → History → Action History
 accepts_messages s input conn false [] h = Return h
 accepts_messages s input conn true [] h = note_then (Malformed input) h (hangs_up conn)
-accepts_messages s input conn breaks (m ∷ ms) h =
-    bind (accepts s (message_batch s input m) h)
-    (acknowledges conn (reply_of m) (accepts_messages s input conn breaks ms))
+accepts_messages s input conn breaks (m ∷ ms) h = bind (accepts s (message_batch s input m) h) (acknowledges conn (reply_of m) (accepts_messages s input conn breaks ms))
 
 -- Accept what a read completes: its lines as one batch, or each message as a batch. The bytes before it are
 -- those of the earlier history.
 abbrev pub accepts_stream : AllSettings → History → ℕ → List ℕ → Option Stream → History → Action History
 accepts_stream s before input bytes None h = Return h
-accepts_stream s before input bytes (Some (LineStream conn)) h =
-    ingests s (piece_batch s before input (LineStream conn) bytes) h
+accepts_stream s before input bytes (Some (LineStream conn)) h = ingests s (piece_batch s before input (LineStream conn) bytes) h
 accepts_stream s before input bytes (Some (MessageStream conn)) h =
     let said_before = said s before (MessageStream conn) in
-    accepts_messages s input conn (becomes_malformed said_before bytes)
-    (completed_messages said_before bytes) h
-accepts_stream s before input bytes (Some (Standard reader)) h =
-    ingests s (piece_batch s before input (Standard reader) bytes) h
+    accepts_messages s input conn (becomes_malformed said_before bytes) (completed_messages said_before bytes) h
+accepts_stream s before input bytes (Some (Standard reader)) h = ingests s (piece_batch s before input (Standard reader) bytes) h
 
 unfoldable pub pieces : AllSettings → History → ℕ → ℕ → List ℕ → History → Action History
 pieces s before input conn bytes h = accepts_stream s before input bytes (stream_of s before input conn) h
@@ -64,20 +58,16 @@ pieces s before input conn bytes h = accepts_stream s before input bytes (stream
 -- what follows a poll: the lines that it completes are a batch
 abbrev pub polled : AllSettings → ℕ → ℕ → History → Option Poll → Action History
 polled s input index h None = note IoFailed h
-polled s input index h (Some poll) =
-    note_then (Polled input index poll.long poll.bytes) h (ingests s (poll_batch s h input index poll))
+polled s input index h (Some poll) = note_then (Polled input index poll.long poll.bytes) h (ingests s (poll_batch s h input index poll))
 
 -- poll a followed file
 unfoldable pub polls_file : AllSettings → ℕ → ℕ → List ℕ → History → Action History
-polls_file s input index path h =
-    bind (on_files (polls path (from_head_at s input) (file_at s h input index).place))
-    (polled s input index h)
+polls_file s input index path h = bind (on_files (polls path (from_head_at s input) (file_at s h input index).place)) (polled s input index h)
 
 -- poll the files of an input in the order of its paths, from this index on
 abbrev pub polls_files : AllSettings → ℕ → ℕ → List (List ℕ) → History → Action History
 polls_files s input index [] h = Return h
-polls_files s input index (path ∷ paths) h =
-    bind (polls_file s input index path h) (polls_files s input (index + 1) paths)
+polls_files s input index (path ∷ paths) h = bind (polls_file s input index path h) (polls_files s input (index + 1) paths)
 
 -- poll the files of an input, unless the input is paused
 unfoldable pub polls_input : AllSettings → ℕ → History → Action History

@@ -25,8 +25,6 @@ pub mod FlushActions
 pub mod InputActions
 pub mod StepActions
 pub mod RecoveryActions
-pub mod KeptOffsets
 pub mod Run
 pub mod Example
 pub mod ExampleRecovery
-pub mod ExampleOffsets

@@ -16,16 +16,12 @@ use Rattle.fwd_model.specs.Routes.{route, home_of, owed, rows_of}
 -- the routes that an output with a limit evicts when this chunk closes, the lowest chunk first
 abbrev pub evictions_to : AllSettings → History → ℕ → ℕ → Option ℕ → List Route
 evictions_to s h chunk output None = []
-evictions_to s h chunk output (Some limit) =
-    map (λ (lost : ChunkId). route lost.0 output)
-    (evicted_for (record { 0 = output }) limit (record { 0 = chunk }) (rows_of s h))
+evictions_to s h chunk output (Some limit) = map (λ (lost : ChunkId). route lost.0 output) (evicted_for (record { 0 = output }) limit (record { 0 = chunk }) (rows_of s h))
 
 abbrev pub evictions_for : AllSettings → History → Option ChunkInfo → List Route
 evictions_for s h None = []
 evictions_for s h (Some c) =
-    if is_file (home_of s c.input)
-    then flat_map (λ output. evictions_to s h c.number output (total_limit_at s output)) (owed s h c)
-    else []
+    if is_file (home_of s c.input) then flat_map (λ output. evictions_to s h c.number output (total_limit_at s output)) (owed s h c) else []
 
 -- the routes that are evicted when a chunk in a file closes, output by output
 abbrev pub evicted_at : AllSettings → History → ℕ → List Route

@@ -12,8 +12,7 @@ use Rattle.fwd_model.specs.Settings.{own_tag}
 
 -- the messages that a read completes, given the bytes before it
 abbrev pub completed_messages : List ℕ → List ℕ → List MessageContent
-completed_messages before piece =
-    drop (length (messages_in before).messages) (messages_in (before ++ piece)).messages
+completed_messages before piece = drop (length (messages_in before).messages) (messages_in (before ++ piece)).messages
 
 abbrev pub is_malformed : Ending → Bool
 is_malformed (waiting rest) = false

@@ -12,8 +12,7 @@ use Rattle.fwd_model.specs.Notes.{note_then}
 -- log each file with its number, which counts from 1
 abbrev pub notes_files : ℕ → List FileRead → History → Action (Option History)
 notes_files number [] h = Return (Some h)
-notes_files number (read ∷ reads) h =
-    note_then (Found number read.file.stream read.file.name read.bytes) h (notes_files (number + 1) reads)
+notes_files number (read ∷ reads) h = note_then (Found number read.file.stream read.file.name read.bytes) h (notes_files (number + 1) reads)
 
 -- none if a disk call failed
 abbrev pub loaded : Option (List FileRead) → Action (Option History)

@@ -28,13 +28,10 @@ after_mark r h None = note IoFailed h
 -- mark a route as done in the chunk's file, if the file has a byte for it
 abbrev pub marks_at : AllSettings → Route → Option Kept → Option ℕ → History → Action History
 marks_at s r kept None h = Return h
-marks_at s r kept (Some place) h =
-    note_then (MarkStarted r) h
-    (λ at. bind (on_disk (settle_for_program kept (output_name s r.output) s.service.full)) (after_mark r at))
+marks_at s r kept (Some place) h = note_then (MarkStarted r) h (λ at. bind (on_disk (settle_for_program kept (output_name s r.output) s.service.full)) (after_mark r at))
 
 unfoldable pub records : AllSettings → Route → History → Action History
-records s r h =
-    marks_at s r (kept_of s h r.chunk) (mark_position (output_name s r.output) (kept_of s h r.chunk)) h
+records s r h = marks_at s r (kept_of s h r.chunk) (mark_position (output_name s r.output) (kept_of s h r.chunk)) h
 
 -- what follows the outcome that resolves a route
 unfoldable pub marks_or_removes : AllSettings → Route → History → Action History

@@ -38,8 +38,7 @@ is_retry Evicted = false
 -- how often flushes of a route ended with RETRY
 abbrev pub tries : History → Route → ℕ
 tries [] r = 0
-tries (OnRoute other outcome ∷ h) r =
-    if same_route other r && is_retry outcome then saturating_plus (tries h r) 1 else tries h r
+tries (OnRoute other outcome ∷ h) r = if same_route other r && is_retry outcome then saturating_plus (tries h r) 1 else tries h r
 tries (_ ∷ h) r = tries h r
 
 -- the wait in seconds before the n-th retry, from its random word
@@ -50,8 +49,7 @@ wait_for s n word = wait n s.service.base s.service.cap word
 abbrev pub due_after_outcome : AllSettings → ℕ → ℕ → Outcome → ℕ → ℕ
 due_after_outcome s now tried (FlushStarted events) before = before
 due_after_outcome s now tried (InFlight progress) before = before
-due_after_outcome s now tried (Retries word) before =
-    due_after now (wait_for s (saturating_plus tried 1) word)
+due_after_outcome s now tried (Retries word) before = due_after now (wait_for s (saturating_plus tried 1) word)
 due_after_outcome s now tried Delivered before = before
 due_after_outcome s now tried Failed before = before
 due_after_outcome s now tried Exhausted before = before
@@ -62,8 +60,7 @@ due_after_outcome s now tried Evicted before = before
 abbrev pub due : AllSettings → History → Route → ℕ
 due s [] r = 0
 due s (ChunkClosed chunk ∷ h) r = if chunk == r.chunk then clock h else due s h r
-due s (OnRoute other outcome ∷ h) r =
-    if same_route other r then due_after_outcome s (clock h) (tries h r) outcome (due s h r) else due s h r
+due s (OnRoute other outcome ∷ h) r = if same_route other r then due_after_outcome s (clock h) (tries h r) outcome (due s h r) else due s h r
 due s (_ ∷ h) r = due s h r
 
 -- the progress that an outcome leaves
@@ -94,8 +91,7 @@ events_begun Evicted before = before
 
 abbrev pub begun : History → Route → List Event
 begun [] r = []
-begun (OnRoute other outcome ∷ h) r =
-    if same_route other r then events_begun outcome (begun h r) else begun h r
+begun (OnRoute other outcome ∷ h) r = if same_route other r then events_begun outcome (begun h r) else begun h r
 begun (_ ∷ h) r = begun h r
 
 abbrev pub resolves : Outcome → Bool
@@ -111,9 +107,7 @@ resolves Evicted = true
 -- evicted it; or the chunk's file marks it as done in an earlier run.
 abbrev pub is_resolved : AllSettings → History → Route → Bool
 is_resolved s [] r = false
-is_resolved s (Found number stream name bytes ∷ h) r =
-    (number == r.chunk && is_marked_done (output_name s r.output) (recovered_chunk bytes))
-    || is_resolved s h r
+is_resolved s (Found number stream name bytes ∷ h) r = (number == r.chunk && is_marked_done (output_name s r.output) (recovered_chunk bytes)) || is_resolved s h r
 is_resolved s (OnRoute other outcome ∷ h) r = (same_route other r && resolves outcome) || is_resolved s h r
 is_resolved s (_ ∷ h) r = is_resolved s h r
 
@@ -134,8 +128,7 @@ owes s h chunk = option_map_or (is_owed s h) (chunk_at h chunk) false
 abbrev pub table_route : AllSettings → History → ℕ → ℕ → Owed
 table_route s h chunk output =
     let r = route chunk output in
-    record
-    { output = record { 0 = output }; due = due s h r; tries = tries h r; flying = is_some (flight h r) }
+    record { output = record { 0 = output }; due = due s h r; tries = tries h r; flying = is_some (flight h r) }
 
 -- a recovered chunk is in a file; any other is where its input keeps chunks
 abbrev pub home_of : AllSettings → Option ℕ → Home
@@ -186,6 +179,5 @@ other_than r (Some other) = if same_route r other then None else Some other
 -- the route whose flush got a link last, if it still has it
 abbrev pub route_on_link : History → ℕ → Option Route
 route_on_link [] link = None
-route_on_link (OnRoute r outcome ∷ h) link =
-    if uses_link link (progress_of outcome) then Some r else other_than r (route_on_link h link)
+route_on_link (OnRoute r outcome ∷ h) link = if uses_link link (progress_of outcome) then Some r else other_than r (route_on_link h link)
 route_on_link (_ ∷ h) link = route_on_link h link

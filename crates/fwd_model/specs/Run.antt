@@ -31,8 +31,7 @@ is_grace_over s at h = nat_le (at + 1000 * s.service.grace_s) (clock h)
 
 abbrev pub is_over_after : AllSettings → Happening → Option ℕ → History → Bool
 is_over_after s happened None h = is_end happened
-is_over_after s happened (Some at) h =
-    is_end happened || (is_empty (rows_of s h) || (is_tick happened && is_grace_over s at h))
+is_over_after s happened (Some at) h = is_end happened || (is_empty (rows_of s h) || (is_tick happened && is_grace_over s at h))
 
 -- The run is over at End; after Stop it is over once nothing is pending, and at a tick once the grace time
 -- has passed.
@@ -66,23 +65,18 @@ is_last_tick s None happened h = false
 is_last_tick s (Some ticks) happened h = is_tick happened && (ticked h == ticks && is_none (stopped s h))
 
 -- after the last tick the run stops, without waiting for that event
-abbrev pub unless_last : AllSettings → Option ℕ → (History → Action RunResult) → Happening → History
-    → Action RunResult
-unless_last s ticks next happened h =
-    if is_last_tick s ticks happened h then steps_on s next happening.Stop h else next h
+abbrev pub unless_last : AllSettings → Option ℕ → (History → Action RunResult) → Happening → History → Action RunResult
+unless_last s ticks next happened h = if is_last_tick s ticks happened h then steps_on s next happening.Stop h else next h
 
 -- at an event of the loop: the step, and then what follows unless the run is over
-abbrev pub brought : AllSettings → Option ℕ → (History → Action RunResult) → History → Happening
-    → Action RunResult
+abbrev pub brought : AllSettings → Option ℕ → (History → Action RunResult) → History → Happening → Action RunResult
 brought s ticks next h happening.Failed = Return (lived h LoopFailed)
 brought s ticks next h happens = steps_on s (unless_last s ticks next happens) happens h
 
 -- Run at most so many turns. Each waits for an event, until `longest_wait` milliseconds after the clock.
 unfoldable pub run : AllSettings → Option ℕ → ℕ → History → Action RunResult
 run s ticks zero h = Return (lived h TurnsSpent)
-run s ticks (suc turns) h =
-    Ask (OnLoop (Wait (saturating_plus (clock h) longest_wait) (paused s h)))
-    (brought s ticks (run s ticks turns) h)
+run s ticks (suc turns) h = Ask (OnLoop (Wait (saturating_plus (clock h) longest_wait) (paused s h))) (brought s ticks (run s ticks turns) h)
 
 abbrev pub after_start : AllSettings → Option ℕ → ℕ → History → Option (Unit {0}) → Action RunResult
 after_start s ticks turns h None = Return (lived h LoopFailed)

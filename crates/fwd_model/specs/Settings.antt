@@ -32,8 +32,7 @@ hears_peers (input_kind.Tail paths from_head) = false
 hears_peers input_kind.Stdin = false
 
 abbrev pub accepts_connections_at : AllSettings → ℕ → Bool
-accepts_connections_at s input =
-    option_map_or (λ (set : InputSet). hears_peers set.kind) (input_at s input) false
+accepts_connections_at s input = option_map_or (λ (set : InputSet). hears_peers set.kind) (input_at s input) false
 
 -- whether an input reads the standard input
 abbrev pub reads_standard : InputKind → Bool
@@ -77,10 +76,6 @@ tag_at s input = unwrap_or (own_tag s input) []
 abbrev pub mem_limit_at : AllSettings → ℕ → Option ℕ
 mem_limit_at s input = option_and_then (λ (set : InputSet). set.mem_limit) (input_at s input)
 
--- the database that keeps the offsets of the files that an input follows
-abbrev pub db_at : AllSettings → ℕ → Option (List ℕ)
-db_at s input = option_and_then (λ (set : InputSet). set.db) (input_at s input)
-
 -- where the chunks of an input are kept, and the folder of their files
 abbrev pub home_by : Bool → Home
 home_by true = Disk
@@ -97,9 +92,8 @@ input_name s input = option_map_or (λ (set : InputSet). set.name) (input_at s i
 abbrev pub output_at : AllSettings → ℕ → Option OutputSet
 output_at s output = slice_get s.outputs output
 
--- the name that stands for an output in chunk files
 abbrev pub output_name : AllSettings → ℕ → List ℕ
-output_name s output = option_map_or (λ (set : OutputSet). set.id) (output_at s output) []
+output_name s output = option_map_or (λ (set : OutputSet). set.name) (output_at s output) []
 
 -- the outputs whose glob matches a tag, by their numbers
 abbrev pub outputs_for : AllSettings → List ℕ → List ℕ
@@ -115,7 +109,7 @@ places_of (output_kind.Stdout form) = 1
 places_of (output_kind.File folder file form) = 1
 places_of (output_kind.Tcp host port form) = most_peer_flushes
 places_of (output_kind.Forward host port ack whole_time) = most_peer_flushes
-places_of (output_kind.Http host port uri form options) = most_peer_flushes
+places_of (output_kind.Http host port uri form) = most_peer_flushes
 
 abbrev pub slots_at : Option OutputSet → ℕ
 slots_at None = 0

@@ -29,10 +29,7 @@ stops s before h = if is_some before then Return h else closes_and_dispatches s 
 
 -- the end of the standard input: the unfinished line is a batch, then as at Stop
 unfoldable pub at_input_end : AllSettings → History → ℕ → History → Action History
-at_input_end s before input h =
-    if reads_stdin_at s input
-    then bind (ingests s (end_batch s before input (Standard input)) h) (stops s (stopped s before))
-    else Return h
+at_input_end s before input h = if reads_stdin_at s input then bind (ingests s (end_batch s before input (Standard input)) h) (stops s (stopped s before)) else Return h
 
 -- the action of an event; the history before the event decides what the read bytes complete
 abbrev pub handles : AllSettings → History → Happening → History → Action History

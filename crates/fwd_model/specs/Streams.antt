@@ -27,10 +27,8 @@ left_by false input before = before
 -- the input that a connection has joined; none if it isn't connected
 abbrev pub input_of : AllSettings → History → ℕ → Option ℕ
 input_of s [] conn = None
-input_of s (Happened (happening.Joined input other) ∷ h) conn =
-    joined_by (other.0 == conn && accepts_connections_at s input.0) input.0 (input_of s h conn)
-input_of s (Happened (happening.Gone input other) ∷ h) conn =
-    left_by (other.0 == conn) input.0 (input_of s h conn)
+input_of s (Happened (happening.Joined input other) ∷ h) conn = joined_by (other.0 == conn && accepts_connections_at s input.0) input.0 (input_of s h conn)
+input_of s (Happened (happening.Gone input other) ∷ h) conn = left_by (other.0 == conn) input.0 (input_of s h conn)
 input_of s (Disconnected other ∷ h) conn = if other == conn then None else input_of s h conn
 input_of s (_ ∷ h) conn = input_of s h conn
 
@@ -42,8 +40,7 @@ is_joined s h input conn = is_input input (input_of s h conn)
 -- has joined it. The standard input is connection 0, which doesn't join.
 abbrev pub stream_by : ℕ → ℕ → Bool → InputKind → Option Stream
 stream_by input conn joined (input_kind.Tcp host port) = if joined then Some (LineStream conn) else None
-stream_by input conn joined (input_kind.Forward host port) =
-    if joined then Some (MessageStream conn) else None
+stream_by input conn joined (input_kind.Forward host port) = if joined then Some (MessageStream conn) else None
 stream_by input conn joined (input_kind.Tail paths from_head) = None
 stream_by input conn joined input_kind.Stdin = if conn == 0 then Some (Standard input) else None
 
@@ -90,11 +87,8 @@ emptied_if false before = before
 -- since its last end.
 abbrev pub said : AllSettings → History → Stream → List ℕ
 said s [] stream = []
-said s (Happened (happening.Piece input conn bytes) ∷ h) stream =
-    said_more (is_stream stream (stream_of s h input.0 conn.0)) bytes (said s h stream)
-said s (Happened (happening.Gone input conn) ∷ h) stream =
-    emptied_if (is_joined s h input.0 conn.0 && is_of_conn conn.0 stream) (said s h stream)
-said s (Happened (happening.InputEnd input) ∷ h) stream =
-    emptied_if (same_stream (Standard input.0) stream) (said s h stream)
+said s (Happened (happening.Piece input conn bytes) ∷ h) stream = said_more (is_stream stream (stream_of s h input.0 conn.0)) bytes (said s h stream)
+said s (Happened (happening.Gone input conn) ∷ h) stream = emptied_if (is_joined s h input.0 conn.0 && is_of_conn conn.0 stream) (said s h stream)
+said s (Happened (happening.InputEnd input) ∷ h) stream = emptied_if (same_stream (Standard input.0) stream) (said s h stream)
 said s (Disconnected conn ∷ h) stream = emptied_if (is_of_conn conn stream) (said s h stream)
 said s (_ ∷ h) stream = said s h stream

@@ -1,12 +1,24 @@
 -- The trace of a run: the calls on the loop, the disk, the files and the offset database in their order,
 -- interleaved with the facts that the engine logs.
-use Rattle.std.specs.Prelude.{List, [], ◌∷◌, ◌++◌}
+use Rattle.std.specs.Prelude.{ℕ, List, [], ◌∷◌, ◌++◌, Option}
 use Rattle.fwd_outside.specs.Program.{Entry, entry, Program}
 use Rattle.fwd_outside.specs.Loop.{LoopCall, LoopAnswer, LoopEntry}
 use Rattle.fwd_outside.specs.Disk.{DiskCall, DiskAnswer, DiskEntry}
 use Rattle.fwd_outside.specs.Files.{FilesCall, FilesAnswer, FilesEntry}
-use Rattle.fwd_keeper.specs.Keeper.{KeeperCall, KeeperAnswer, KeeperEntry}
 use Rattle.fwd_model.specs.Fact.{Fact, History}
+
+-- calls on the offset database of followed files: get the offset of a path, and store one
+pub data KeeperCall : Type 0 where
+  Get : (db path : List ℕ) → KeeperCall
+  Put : (db path : List ℕ) → (place : ℕ) → KeeperCall
+
+-- None if the call failed. A path without an offset answers Some None.
+abbrev pub KeeperAnswer : KeeperCall → Type 0
+KeeperAnswer (Get db path) = Option (Option ℕ)
+KeeperAnswer (Put db path place) = Option (Unit {0})
+
+abbrev pub KeeperEntry : Type 0
+KeeperEntry = Entry KeeperCall KeeperAnswer
 
 pub data Call : Type 0 where
   OnLoop : LoopCall → Call

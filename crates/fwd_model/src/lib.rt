@@ -6,10 +6,9 @@
 //! asks of each step without the engine's table, timers, readers and counters. It is written to be read,
 //! and the engine is proved to refine it.
 //!
-//! Two example runs are computed from the model call by call (`example_runs`), and two that keep the offset
-//! of a followed file (`example_offsets`).
+//! Two example runs are computed from the model call by call (`example_runs`).
 #![tactic(auto)]
 
 mod theorems;
 
-pub use theorems::{example_offsets, example_runs, run_is_over_at_end};
+pub use theorems::{example_runs, run_is_over_at_end};

@@ -10,7 +10,6 @@ ghost use Rattle.fwd_model.specs.Trace.{history_after};
 ghost use Rattle.fwd_model.specs.Run.{Over, lived, life, is_over};
 ghost use Rattle.fwd_model.specs.Example.{settings, trace};
 ghost use Rattle.fwd_model.specs.ExampleRecovery.{later_trace};
-ghost use Rattle.fwd_model.specs.ExampleOffsets.{first_run, first_trace, second_run, second_trace};
 
 /// The run ends at the event `End`, whatever the history.
 pub fn run_is_over_at_end()
@@ -22,11 +21,4 @@ pub fn run_is_over_at_end()
 pub fn example_runs()
     ensures first { (ends : Ends) → Execution (life settings ends None 7) (trace ends) (Return (lived (history_after (trace ends) []) Over)) }
     ensures later { (ends : Ends) → Execution (life settings ends None 5) (later_trace ends) (Return (lived (history_after (later_trace ends) []) Over)) }
-{}
-
-/// The example traces that keep the offset of a followed file are those of two runs, the second after a
-/// crash of the first.
-pub fn example_offsets()
-    ensures first { Execution first_run first_trace (Return (history_after first_trace [])) }
-    ensures second { Execution second_run second_trace (Return (history_after second_trace [])) }
 {}

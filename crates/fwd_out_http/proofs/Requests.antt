@@ -1,6 +1,6 @@
 -- The head of a request is read back.
 use Rattle.std.proofs.Common.{◌≡◌, ℕ, ◌+◌, ◌%◌, ◌^◌, ◌<◌, ◌≤◌, Bool, true, false, List, [], ◌∷◌, ◌++◌, length, get_or, reverse, refl, sym, ap, ◌∙◌, arith, append_assoc}
-use Rattle.std.specs.Prelude.{All, codes, decimal, map, nat_lt}
+use Rattle.std.specs.Prelude.{All, codes, decimal}
 use Rattle.std.specs.List.{list_all, flat_map}
 use Rattle.std.specs.Char.{is_ascii_graphic}
 use Rattle.std.proofs.lemmas.Str.{IsUtf8-from_ascii}
@@ -9,16 +9,15 @@ use Rattle.std.proofs.lemmas.Fmt.{decimal_by_steps}
 use Rattle.std.proofs.lemmas.List.Elements.{All-head, All-cons, All-nil, All-append, All-push}
 use Rattle.std.proofs.lemmas.List.Sums.{AllPass-from_list_all}
 use Rattle.std.proofs.lemmas.Bool.Decides.{nat_tests}
-use Rattle.std.proofs.lemmas.Bool.{and_parts, ltb-true}
 use Rattle.fwd_base.specs.declared.output_options.Form.{Form}
 use Rattle.fwd_base.specs.declared.output_options.Form.TheVariants.{JsonLines, OutFile, MsgPack}
-use Rattle.httparse.specs.Grammar.{is_token_byte, is_uri_byte, is_value_byte, is_ows, AllPass, IsToken, crlf, Field, print_field, IsField, skip_ows, RequestHead, print_request, IsRequestHead, trim_ows}
+use Rattle.fwd_event.specs.declared.event.Event.{Event}
+use Rattle.fwd_out_text.specs.Payload.{payload_of}
+use Rattle.httparse.specs.Grammar.{is_token_byte, is_uri_byte, is_value_byte, is_ows, AllPass, IsToken, crlf, Field, print_field, IsField, skip_ows, RequestHead, print_request, IsRequestHead}
 use Rattle.httparse.specs.Spans.{name_and_value}
 use Rattle.httparse.proofs.GrammarLemmas.{print_request-append}
 use Rattle.httparse.proofs.TrimLemmas.{trim_ows_space, AllPass-reverse}
-use Rattle.fwd_out_http.specs.Request.{content_type, request_line, field, further_fields, server, http_head, IsVisible, IsUri, ReadsBack}
-use Rattle.fwd_out_http.specs.declared.fields.HeaderField.{HeaderField}
-use Rattle.fwd_out_http.specs.Fields.{is_printable, AreHeaderFields}
+use Rattle.fwd_out_http.specs.Request.{content_type, request_line, field, server, http_head, IsVisible, IsUri, ReadsBack}
 
 -- each byte is visible
 abbrev AreVisible : List ℕ → Type 0
@@ -91,71 +90,40 @@ line_says name value visible =
 
 -- ---- the whole request
 
--- a further field's line
-abbrev further_line : HeaderField → Field
-further_line more = line more.name more.value
-
-further_lines : (more : List HeaderField) → further_fields more ≡ flat_map print_field (map further_line more)
-further_lines [] = refl
-further_lines (one ∷ more) = λ i. line_is one.name one.value i ++ further_lines more i
-
-printable_value : (b : ℕ) → is_printable b ≡ true → is_value_byte b ≡ true
-printable_value b is = grind (arith, nat_tests)
-
-further_is : (more : List HeaderField) → AreHeaderFields more → All IsField (map further_line more)
-further_is [] are = All-nil IsField
-further_is (one ∷ more) are =
-    let name = and_parts (nat_lt 0 (length one.name)) (list_all is_token_byte one.name) are.0.0 in
-    let value = AllPass-from_list_all is_printable one.value are.0.1 in
-    All-cons IsField (further_line one) (map further_line more)
-    (record {
-      name = (ltb-true 0 (length one.name) name.0, AllPass-from_list_all is_token_byte one.name name.1);
-      raw = All-cons (λ b. is_value_byte b ≡ true) 32 one.value refl (λ k d within. printable_value (get_or one.value k d) (value k d within));
-    })
-    (further_is more are.1)
-
-further_said : (more : List HeaderField) → map name_and_value (map further_line more) ≡ map (λ (one : HeaderField). (one.name, trim_ows one.value)) more
-unfolding trim_ows
-further_said [] = refl
-further_said (one ∷ more) = λ i. (one.name, trim_ows one.value) ∷ further_said more i
-
-abbrev lines_of : List ℕ → ℕ → Form → List HeaderField → ℕ → List Field
-lines_of host port form more size =
+abbrev lines_of : List ℕ → ℕ → Form → ℕ → List Field
+lines_of host port form size =
     line (codes "Host") (server host port)
     ∷ line (codes "Content-Length") (decimal size)
     ∷ line (codes "Content-Type") (content_type form)
     ∷ line (codes "Connection") (codes "close")
-    ∷ map further_line more
+    ∷ []
 
-abbrev head_of : List ℕ → ℕ → List ℕ → Form → List HeaderField → ℕ → RequestHead
-head_of host port uri form more size = record {
+abbrev head_of : List ℕ → ℕ → List ℕ → Form → ℕ → RequestHead
+head_of host port uri form size = record {
   blank = [];
   method = codes "POST";
   target = uri;
   minor = 1;
   line_end = crlf;
-  fields = lines_of host port form more size;
+  fields = lines_of host port form size;
   last = crlf;
 }
 
-regroup : (first a b c d more end body : List ℕ) → first ++ a ++ b ++ c ++ d ++ more ++ end ++ body ≡ first ++ (((a ++ (b ++ (c ++ (d ++ more)))) ++ end) ++ body)
-regroup first a b c d more end body = simp append_assoc
+regroup : (first a b c d end body : List ℕ) → first ++ a ++ b ++ c ++ d ++ end ++ body ≡ first ++ (((a ++ (b ++ (c ++ (d ++ [])))) ++ end) ++ body)
+regroup first a b c d end body = simp append_assoc
 
 begins : (uri rest : List ℕ) → request_line uri ++ rest ≡ codes "POST" ++ 32 ∷ (uri ++ 32 ∷ (codes "HTTP/1.1" ++ (codes "\r\n" ++ rest)))
 begins uri rest = append_assoc (codes "POST " ++ uri) (codes " HTTP/1.1\r\n") rest ∙ append_assoc (codes "POST ") uri (codes " HTTP/1.1\r\n" ++ rest)
 
-printed : (host uri body : List ℕ) (port : ℕ) (form : Form) (more : List HeaderField) (size : ℕ) → http_head host port uri form more size ++ body ≡ print_request (head_of host port uri form more size) ++ body
-printed host uri body port form more size =
-    regroup (request_line uri) (field (codes "Host") (server host port)) (field (codes "Content-Length") (decimal size)) (field (codes "Content-Type") (content_type form)) (field (codes "Connection") (codes "close")) (further_fields more) (codes "\r\n") body
+printed : (host uri body : List ℕ) (port : ℕ) (form : Form) (size : ℕ) → http_head host port uri form size ++ body ≡ print_request (head_of host port uri form size) ++ body
+printed host uri body port form size =
+    regroup (request_line uri) (field (codes "Host") (server host port)) (field (codes "Content-Length") (decimal size)) (field (codes "Content-Type") (content_type form)) (field (codes "Connection") (codes "close")) (codes "\r\n") body
     ∙ ap (λ (t : List ℕ). request_line uri ++ ((t ++ codes "\r\n") ++ body)) fields
-    ∙ begins uri ((flat_map print_field (lines_of host port form more size) ++ codes "\r\n") ++ body)
-    ∙ sym (print_request-append (head_of host port uri form more size) body)
+    ∙ begins uri ((flat_map print_field (lines_of host port form size) ++ codes "\r\n") ++ body)
+    ∙ sym (print_request-append (head_of host port uri form size) body)
   where
-    fields : field (codes "Host") (server host port) ++ (field (codes "Content-Length") (decimal size) ++ (field (codes "Content-Type") (content_type form) ++ (field (codes "Connection") (codes "close") ++ further_fields more)))
-        ≡ flat_map print_field (lines_of host port form more size)
-    fields = λ i.
-        line_is (codes "Host") (server host port) i
-        ++ (line_is (codes "Content-Length") (decimal size) i ++ (line_is (codes "Content-Type") (content_type form) i ++ (line_is (codes "Connection") (codes "close") i ++ further_lines more i)))
+    fields : field (codes "Host") (server host port) ++ (field (codes "Content-Length") (decimal size) ++ (field (codes "Content-Type") (content_type form) ++ (field (codes "Connection") (codes "close") ++ []))) ≡ flat_map print_field (lines_of host port form size)
+    fields = λ i. line_is (codes "Host") (server host port) i ++ (line_is (codes "Content-Length") (decimal size) i ++ (line_is (codes "Content-Type") (content_type form) i ++ (line_is (codes "Connection") (codes "close") i ++ [])))
 
 token_by : (name : List ℕ) → 0 < length name → list_all is_token_byte name ≡ true → IsToken name
 token_by name some all = (some, AllPass-from_list_all is_token_byte name all)
@@ -191,45 +159,43 @@ uri_visible (b ∷ uri) is =
       All-cons (λ c. is_ascii_graphic c ≡ true) b uri slash (AllPass-from_list_all is_ascii_graphic uri is.1),
     )
 
-four : (a b c d : Field) (more : List Field) → IsField a → IsField b → IsField c → IsField d → All IsField more → All IsField (a ∷ b ∷ c ∷ d ∷ more)
-four a b c d more first second third fourth others =
-    All-cons IsField a (b ∷ c ∷ d ∷ more) first (All-cons IsField b (c ∷ d ∷ more) second (All-cons IsField c (d ∷ more) third (All-cons IsField d more fourth others)))
+four : (a b c d : Field) → IsField a → IsField b → IsField c → IsField d → All IsField (a ∷ b ∷ c ∷ d ∷ [])
+four a b c d first second third fourth =
+    All-cons IsField a (b ∷ c ∷ d ∷ []) first (All-cons IsField b (c ∷ d ∷ []) second (All-cons IsField c (d ∷ []) third (All-cons IsField d [] fourth (All-nil IsField))))
 
-module _ (host : List ℕ) (port : ℕ) (form : Form) (more : List HeaderField) (size : ℕ) (visible : AreVisible host) (small : port < 2 ^ 64) (are : AreHeaderFields more) (fits : size < 2 ^ 64) where
-  lines_are : All IsField (lines_of host port form more size)
-  lines_are =
-      four (line (codes "Host") (server host port)) (line (codes "Content-Length") (decimal size)) (line (codes "Content-Type") (content_type form)) (line (codes "Connection") (codes "close")) (map further_line more)
-      (named_line (codes "Host") (server host port) host_token (server_visible host port visible small))
-      (named_line (codes "Content-Length") (decimal size) length_token (decimal_visible size fits))
-      (named_line (codes "Content-Type") (content_type form) type_token (type_visible form))
-      (named_line (codes "Connection") (codes "close") connection_token close_visible)
-      (further_is more are)
+lines_are : (host : List ℕ) (port : ℕ) (form : Form) (size : ℕ) → AreVisible host → port < 2 ^ 64 → size < 2 ^ 64 → All IsField (lines_of host port form size)
+lines_are host port form size visible small fits =
+    four (line (codes "Host") (server host port)) (line (codes "Content-Length") (decimal size)) (line (codes "Content-Type") (content_type form)) (line (codes "Connection") (codes "close"))
+    (named_line (codes "Host") (server host port) host_token (server_visible host port visible small))
+    (named_line (codes "Content-Length") (decimal size) length_token (decimal_visible size fits))
+    (named_line (codes "Content-Type") (content_type form) type_token (type_visible form))
+    (named_line (codes "Connection") (codes "close") connection_token close_visible)
 
-  head_is : (uri : List ℕ) → IsUri uri → IsRequestHead (head_of host port uri form more size)
-  head_is uri is =
-      let target = uri_visible uri is in
-      record {
-        method = post_token;
-        target = (target.0, weaker is_uri_byte visible_uri uri target.1);
-        target_text = IsUtf8-from_ascii uri (IsAscii-from_all uri (λ k d within. visible_small (get_or uri k d) (target.1 k d within)));
-        minor = omega arith;
-        fields = lines_are;
-      }
+head_is : (host uri : List ℕ) (port : ℕ) (form : Form) (size : ℕ) → AreVisible host → IsUri uri → port < 2 ^ 64 → size < 2 ^ 64 → IsRequestHead (head_of host port uri form size)
+head_is host uri port form size visible is small fits =
+    let target = uri_visible uri is in
+    record {
+      method = post_token;
+      target = (target.0, weaker is_uri_byte visible_uri uri target.1);
+      target_text = IsUtf8-from_ascii uri (IsAscii-from_all uri (λ k d within. visible_small (get_or uri k d) (target.1 k d within)));
+      minor = omega arith;
+      fields = lines_are host port form size visible small fits;
+    }
 
-pub reads_back : (host uri body : List ℕ) (port : ℕ) (form : Form) (more : List HeaderField) → IsVisible host → IsUri uri → port < 2 ^ 16 → AreHeaderFields more → length body < 2 ^ 64
-    → ReadsBack host port uri form more body
-reads_back host uri body port form more visible is small are fits =
+pub reads_back : (host uri tag : List ℕ) (port : ℕ) (form : Form) (events : List Event) → IsVisible host → IsUri uri → port < 2 ^ 16 → length (payload_of form tag events) < 2 ^ 64 → ReadsBack host port uri form tag events
+reads_back host uri tag port form events visible is small fits =
+    let size : ℕ = length (payload_of form tag events) in
     let seen : AreVisible host = AllPass-from_list_all is_ascii_graphic host visible in
     record {
-      head = head_of host port uri form more (length body);
-      reads = (head_is host port form more (length body) seen (omega (arith, small)) are fits uri is, printed host uri body port form more (length body));
+      head = head_of host port uri form (length (payload_of form tag events));
+      reads = (head_is host uri port form (length (payload_of form tag events)) seen is (omega (arith, small)) fits, printed host uri (payload_of form tag events) port form (length (payload_of form tag events)));
       method = refl;
       target = refl;
       version = refl;
-      said = λ i.
+      fields = λ i.
           line_says (codes "Host") (server host port) (server_visible host port seen (omega (arith, small))) i
-          ∷ line_says (codes "Content-Length") (decimal (length body)) (decimal_visible (length body) fits) i
+          ∷ line_says (codes "Content-Length") (decimal (length (payload_of form tag events))) (decimal_visible (length (payload_of form tag events)) fits) i
           ∷ line_says (codes "Content-Type") (content_type form) (type_visible form) i
           ∷ line_says (codes "Connection") (codes "close") close_visible i
-          ∷ further_said more i;
+          ∷ [];
     }

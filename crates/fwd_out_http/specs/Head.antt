@@ -5,8 +5,6 @@ use Rattle.fwd_base.specs.Limits.{longest_head}
 use Rattle.fwd_flush.specs.declared.judgement.Judged.{Judged}
 use Rattle.fwd_flush.specs.declared.judgement.Judged.TheVariants.{More, Right, Wrong, Fatal}
 use Rattle.httparse.specs.Grammar.{ResponseHead, ReadsResponse, status_code}
-use Rattle.fwd_out_http.specs.declared.statuses.StatusRange.{StatusRange}
-use Rattle.fwd_out_http.specs.Statuses.{is_retried}
 use Rattle.fwd_out_http.specs.Reply.{most_fields, is_interim}
 
 -- the bytes start with this head, which has at most `most_fields` fields, and this rest follows it
@@ -17,11 +15,9 @@ pub record BeginsWith (bytes : List ℕ) (head : ResponseHead) (rest : List ℕ)
 -- the first head in the bytes that isn't interim
 pub data IsHead : List ℕ → ResponseHead → Type 0 where
   -- the bytes start with it
-  First : (bytes : List ℕ) (head : ResponseHead) (rest : List ℕ) → BeginsWith bytes head rest
-      → is_interim (status_code head) ≡ false → IsHead bytes head
+  First : (bytes : List ℕ) (head : ResponseHead) (rest : List ℕ) → BeginsWith bytes head rest → is_interim (status_code head) ≡ false → IsHead bytes head
   -- the bytes start with an interim one, and it is the first one after that
-  Later : (bytes : List ℕ) (interim head : ResponseHead) (rest : List ℕ) → BeginsWith bytes interim rest
-      → is_interim (status_code interim) ≡ true → IsHead rest head → IsHead bytes head
+  Later : (bytes : List ℕ) (interim head : ResponseHead) (rest : List ℕ) → BeginsWith bytes interim rest → is_interim (status_code interim) ≡ true → IsHead rest head → IsHead bytes head
 
 -- a reply has a final head with this status, within as many bytes as are read
 pub record HasHead (reply : List ℕ) (status : ℕ) : Type 0 where
@@ -33,19 +29,16 @@ pub record HasHead (reply : List ℕ) (status : ℕ) : Type 0 where
 abbrev pub HasNoHead : List ℕ → Type 0
 HasNoHead reply = (status : ℕ) → HasHead reply status → ⊥
 
--- a status for a retry, one of these ranges or one that is always retried, and a status for delivered records
-abbrev pub IsBusy : List StatusRange → ℕ → Type 0
-IsBusy ranges status = (is_retried ranges status ≡ true) ⊎ (status ≡ 429) ⊎ ((500 ≤ status) × (status ≤ 599))
+-- a status for delivered records, and a status for a retry
+abbrev pub IsGood : ℕ → Type 0
+IsGood status = (200 ≤ status) × (status ≤ 299)
 
-abbrev pub IsGood : List StatusRange → ℕ → Type 0
-IsGood ranges status = (is_retried ranges status ≡ false) × (200 ≤ status) × (status ≤ 299)
+abbrev pub IsBusy : ℕ → Type 0
+IsBusy status = (status ≡ 429) ⊎ ((500 ≤ status) × (status ≤ 599))
 
 -- the judgement of a reply: by its head, or by its length if it has none
-abbrev pub IsJudged : List StatusRange → List ℕ → Judged → Type 0
-IsJudged ranges reply Right = (status : ℕ) × HasHead reply status × IsGood ranges status
-IsJudged ranges reply Wrong =
-    ((status : ℕ) × HasHead reply status × IsBusy ranges status)
-    ⊎ (HasNoHead reply × (longest_head ≤ length reply))
-IsJudged ranges reply Fatal =
-    (status : ℕ) × HasHead reply status × (IsGood ranges status → ⊥) × (IsBusy ranges status → ⊥)
-IsJudged ranges reply More = HasNoHead reply × (length reply < longest_head)
+abbrev pub IsJudged : List ℕ → Judged → Type 0
+IsJudged reply Right = (status : ℕ) × HasHead reply status × IsGood status
+IsJudged reply Wrong = ((status : ℕ) × HasHead reply status × IsBusy status) ⊎ (HasNoHead reply × (longest_head ≤ length reply))
+IsJudged reply Fatal = (status : ℕ) × HasHead reply status × (IsGood status → ⊥) × (IsBusy status → ⊥)
+IsJudged reply More = HasNoHead reply × (length reply < longest_head)

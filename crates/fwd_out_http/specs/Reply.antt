@@ -10,8 +10,6 @@ use Rattle.fwd_frames.specs.Lines.{ended_parts}
 use Rattle.fwd_flush.specs.declared.judgement.Judged.{Judged}
 use Rattle.fwd_flush.specs.declared.judgement.Judged.TheVariants.{More, Right, Wrong, Fatal}
 use Rattle.httparse.specs.Grammar.{is_token_byte, is_value_byte}
-use Rattle.fwd_out_http.specs.declared.statuses.StatusRange.{StatusRange}
-use Rattle.fwd_out_http.specs.Statuses.{is_retried}
 
 -- the largest number of fields of a head
 abbrev pub most_fields : ℕ
@@ -47,8 +45,7 @@ status_after_version _ = None
 
 -- the status of a status line; none for any other line
 abbrev pub status_of : List ℕ → Option ℕ
-status_of line =
-    if starts_with nat_eq line (codes "HTTP/1.") then status_after_version (drop 7 line) else None
+status_of line = if starts_with nat_eq line (codes "HTTP/1.") then status_after_version (drop 7 line) else None
 
 -- whether a line is a field line, or the end of one: a name, unless it has come already, then a colon and a
 -- value
@@ -107,20 +104,18 @@ status_in bytes = status_read (fold reading_after Before (whole_lines bytes))
 
 -- ---- what a reply is
 
--- by the status of its head, where the statuses of these ranges are retried
-abbrev pub by_status : List StatusRange → ℕ → Judged
-by_status ranges status =
-    if is_retried ranges status then Wrong
-    else if is_between 200 299 status then Right
+-- by the status of its head
+abbrev pub by_status : ℕ → Judged
+by_status status =
+    if is_between 200 299 status then Right
     else if status == 429 || is_between 500 599 status then Wrong
     else Fatal
 
 -- by the status of its head, if there is one, and by whether more bytes would be read
-abbrev pub judged_by : List StatusRange → Option ℕ → Bool → Judged
-judged_by ranges (Some status) full = by_status ranges status
-judged_by ranges None true = Wrong
-judged_by ranges None false = More
+abbrev pub judged_by : Option ℕ → Bool → Judged
+judged_by (Some status) full = by_status status
+judged_by None true = Wrong
+judged_by None false = More
 
-abbrev pub http_judged : List StatusRange → List ℕ → Judged
-http_judged ranges reply =
-    judged_by ranges (status_in (take longest_head reply)) (nat_le longest_head (length reply))
+abbrev pub http_judged : List ℕ → Judged
+http_judged reply = judged_by (status_in (take longest_head reply)) (nat_le longest_head (length reply))

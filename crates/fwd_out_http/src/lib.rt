@@ -5,22 +5,17 @@
 //! to be retried, or are rejected for good.
 //!
 //! `payload_http` and `request_of` write one request whose head is read back with its method, URI, fields
-//! and length (`request_is_read_back`); `request_of` may add further fields. A reply is judged by the status of its first head that isn't
-//! interim, within 8,192 bytes and with at most 64 fields a head (`judged_by_the_head`). A reader may name
-//! further statuses that are retried.
+//! and length (`request_is_read_back`). A reply is judged by the status of its first head that isn't
+//! interim, within 8,192 bytes and with at most 64 fields a head (`judged_by_the_head`).
 #![tactic(auto)]
 
-mod fields;
 mod reply;
 mod request;
-mod statuses;
 mod theorems;
 
-pub use fields::{HeaderField, HeaderFields, is_field_name, is_field_value};
 pub use fwd_base::{Bytes, Form, Memory};
 pub use fwd_event::{Event, Events};
 pub use fwd_flush::{Judged, ReplyReader};
 pub use reply::HttpReader;
 pub use request::{payload_http, request_of};
-pub use statuses::{StatusRange, StatusRanges};
 pub use theorems::{judged_by_the_head, request_is_read_back};

@@ -1,10 +1,9 @@
 //! The judgement of a server's reply.
 
-ghost use Rattle.std.specs.Prelude.{◌≡◌, IfOk, IfSome, IfNone};
+ghost use Rattle.std.specs.Prelude.{◌≡◌, IfSome, IfNone};
 ghost use Rattle.fwd_out_http.specs.Reply.{by_status, is_interim, status_in, http_judged};
 ghost use Rattle.fwd_out_http.specs.FirstHead.{StartsWithHead, StartsWithNoHead};
 
-use crate::statuses::{StatusRange, StatusRanges, copy_of, is_retried};
 use fwd_base::Memory;
 use fwd_base::limits::LONGEST_HEAD;
 use fwd_flush::{Judged, ReplyReader};
@@ -15,27 +14,14 @@ use std::alloc::Global;
 /// The largest number of fields of a head.
 const MOST_FIELDS: usize = 64;
 
-/// Judges replies of HTTP servers by the status of the first head that isn't interim. The statuses of
-/// `retried` are retried, 429 and 500 to 599 too, and so is a reply without such a head in its first 8,192
-/// bytes. Of the others 200 to 299 is right, and the rest is fatal. The bytes after the head aren't read.
+/// Judges replies of HTTP servers by the status of the first head that isn't interim. 200 to 299 is right.
+/// 429 and 500 to 599 are retried, and so is a reply without such a head in its first 8,192 bytes. Every
+/// other status is fatal. The bytes after the head aren't read.
 ///
 /// Each piece of a reply is judged from the reply's start. A piece has a byte at least and only the first
 /// 8,192 bytes are read, so this is quadratic in these bytes alone.
-#[derive(Debug, Drop)]
-pub struct HttpReader {
-    pub retried: StatusRanges,
-}
-
-impl HttpReader {
-    /// Returns a reader that retries these statuses too.
-    pub fn new(alloc: Global, retried: &[StatusRange]) -> Result<Self, Memory>
-        ensures { IfOk result (λ reader. reader.retried ≡ retried.now) }
-    {
-        Ok(HttpReader {
-            retried: copy_of(alloc, retried)?,
-        })
-    }
-}
+#[derive(Clone, Copy, Debug, PartialEq, Eq)]
+pub struct HttpReader;
 
 impl ReplyReader for HttpReader {
     ghost use Rattle.std.specs.Prelude.{true};
@@ -43,14 +29,14 @@ impl ReplyReader for HttpReader {
 
     ghost wanted = { λ _. true };
 
-    ghost judged = { λ reader reply. http_judged reader.retried reply };
+    ghost judged = { λ _ reply. http_judged reply };
 
     fn wanted(&self) -> bool {
         true
     }
 
     fn judge(&self, _alloc: Global, reply: &[u8]) -> Result<Judged, Memory> {
-        Ok(judged(self.retried.as_slice(), reply))
+        Ok(judged(reply))
     }
 }
 
@@ -62,12 +48,9 @@ fn is_interim(status: u16) -> bool
 }
 
 /// Judges a reply by the status of its head.
-fn by_status(retried: &[StatusRange], status: u16) -> Judged
-    ensures { result ≡ by_status retried.now status }
+fn by_status(status: u16) -> Judged
+    ensures { result ≡ by_status status }
 {
-    if is_retried(retried, status) {
-        return Judged::Wrong;
-    }
     match status {
         200..=299 => Judged::Right,
         429 | 500..=599 => Judged::Wrong,
@@ -114,12 +97,12 @@ fn status_in(bytes: &[u8]) -> Option<u16>
 }
 
 /// Judges a reply by all its bytes so far.
-fn judged(retried: &[StatusRange], reply: &[u8]) -> Judged
-    ensures { result ≡ http_judged retried.now reply.now }
+fn judged(reply: &[u8]) -> Judged
+    ensures { result ≡ http_judged reply.now }
 {
     let first = &reply[..reply.len().min(LONGEST_HEAD)];
     match status_in(first) {
-        Some(status) => by_status(retried, status),
+        Some(status) => by_status(status),
         None if reply.len() < LONGEST_HEAD => Judged::More,
         None => Judged::Wrong,
     }

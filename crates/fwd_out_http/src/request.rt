@@ -3,9 +3,8 @@
 ghost use Rattle.std.specs.Prelude.{◌≡◌, ◌++◌, All, IfOk, OnOk, codes, decimal, length};
 ghost use Rattle.fwd_base.specs.declared.output_options.Form.TheVariants.{MsgPack};
 ghost use Rattle.fwd_event.specs.Event.{EventFits};
-ghost use Rattle.fwd_out_http.specs.Request.{content_type, field, further_fields, http_head, http_payload, http_request, request_line, server};
+ghost use Rattle.fwd_out_http.specs.Request.{content_type, field, http_head, http_payload, request_line, server};
 
-use crate::fields::HeaderField;
 use fwd_base::{Bytes, Form, Memory};
 use fwd_event::Events;
 use fwd_out_text::payload_text;
@@ -53,16 +52,6 @@ fn write_length(out: &mut Bytes, length: usize) -> Result<(), Memory>
     write_field(out, b"Content-Length", buffer.format(length).as_bytes())
 }
 
-/// Appends further field lines.
-fn write_fields(out: &mut Bytes, fields: &[HeaderField]) -> Result<(), Memory>
-    ensures { OnOk result (out.new ≡ out.old ++ further_fields fields.now) }
-{
-    for more in fields {
-        write_field(out, more.name.as_slice(), more.value.as_slice())?;
-    }
-    Ok(())
-}
-
 /// Appends the request line.
 fn write_request_line(out: &mut Bytes, uri: &[u8]) -> Result<(), Memory>
     ensures { OnOk result (out.new ≡ out.old ++ request_line uri.now) }
@@ -72,17 +61,16 @@ fn write_request_line(out: &mut Bytes, uri: &[u8]) -> Result<(), Memory>
     out.extend_from_slice(b" HTTP/1.1\r\n")
 }
 
-/// Returns the head of a request with further fields and a body of so many bytes.
+/// Returns the head of a request with a body of so many bytes.
 fn head(
     alloc: Global,
     host: &[u8],
     port: u16,
     uri: &[u8],
     form: Form,
-    fields: &[HeaderField],
     length: usize,
 ) -> Result<Bytes, Memory>
-    ensures { IfOk result (λ head. head ≡ http_head host.now port uri.now form fields.now length) }
+    ensures { IfOk result (λ head. head ≡ http_head host.now port uri.now form length) }
 {
     let mut out = Bytes::new(alloc);
     write_request_line(&mut out, uri)?;
@@ -90,15 +78,13 @@ fn head(
     write_length(&mut out, length)?;
     write_field(&mut out, b"Content-Type", content_type(form))?;
     write_field(&mut out, b"Connection", b"close")?;
-    write_fields(&mut out, fields)?;
     out.extend_from_slice(b"\r\n")?;
     Ok(out)
 }
 
 /// Returns the request (RFC 9112) with the events of a tag, in a format. It is a POST to a URI of a server,
 /// with the length and type of the body and `Connection: close`; its body is the payload of `fwd_out_text`.
-/// As MessagePack it requires events that can be encoded. The program doesn't use it (it has a body and asks
-/// `request_of`): it is for callers that have events.
+/// As MessagePack it requires events that can be encoded.
 pub fn payload_http(
     alloc: Global,
     host: &[u8],
@@ -112,22 +98,21 @@ pub fn payload_http(
     ensures { IfOk result (λ request. request ≡ http_payload host.now port uri.now form tag.now events.now) }
 {
     let body = payload_text(alloc, form, tag, events)?;
-    request_of(alloc, host, port, uri, form, &[], body.as_slice())
+    request_of(alloc, host, port, uri, form, body.as_slice())
 }
 
-/// Returns the same request for a body that is already written, with further fields in its head.
+/// Returns the same request for a body that is already written.
 pub fn request_of(
     alloc: Global,
     host: &[u8],
     port: u16,
     uri: &[u8],
     form: Form,
-    fields: &[HeaderField],
     body: &[u8],
 ) -> Result<Bytes, Memory>
-    ensures { IfOk result (λ request. request ≡ http_request host.now port uri.now form fields.now body.now) }
+    ensures { IfOk result (λ request. request ≡ http_head host.now port uri.now form (length body.now) ++ body.now) }
 {
-    let mut request = head(alloc, host, port, uri, form, fields, body.len())?;
+    let mut request = head(alloc, host, port, uri, form, body.len())?;
     request.extend_from_slice(body)?;
     Ok(request)
 }

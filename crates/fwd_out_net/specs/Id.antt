@@ -6,5 +6,4 @@ use Rattle.base64.specs.GeneralPurpose.{encode_of}
 
 -- base64 of the chunk's number in 8 bytes, the output's in 4 and 4 zeros
 abbrev pub chunk_id : ℕ → ℕ → List ℕ
-chunk_id chunk output =
-    encode_of standard (to_be_bytes w64 chunk ++ (to_be_bytes w32 output ++ 0 ∷ 0 ∷ 0 ∷ 0 ∷ []))
+chunk_id chunk output = encode_of standard (to_be_bytes w64 chunk ++ (to_be_bytes w32 output ++ 0 ∷ 0 ∷ 0 ∷ 0 ∷ []))

@@ -17,27 +17,20 @@ StartsWithLength k n rest b = (len : List ℕ) × (b ≡ len ++ rest) × Counts 
 
 -- the bytes are the header of a text of n bytes and then the rest
 abbrev pub StartsWithText : ℕ → List ℕ → List ℕ → Type 0
-StartsWithText n rest b =
-    (head : List ℕ) × (b ≡ head ++ rest) × ((s : List ℕ) → length s ≡ n → Encodes (text s) (head ++ s))
+StartsWithText n rest b = (head : List ℕ) × (b ≡ head ++ rest) × ((s : List ℕ) → length s ≡ n → Encodes (text s) (head ++ s))
 
 -- the bytes are the header of a map of n pairs and then the rest
 abbrev pub StartsWithMap : ℕ → List ℕ → List ℕ → Type 0
-StartsWithMap n rest b =
-    (head : List ℕ) × (b ≡ head ++ rest)
-    × ((es : Entries) (s : List ℕ) → entry_count es ≡ n → EncodesEntries es s
-    → Encodes (mapping es) (head ++ s))
+StartsWithMap n rest b = (head : List ℕ) × (b ≡ head ++ rest) × ((es : Entries) (s : List ℕ) → entry_count es ≡ n → EncodesEntries es s → Encodes (mapping es) (head ++ s))
 
 -- the bytes are the header of an event with this time and no metadata, in the encoding that this program
 -- writes, and then its record
 abbrev pub StartsWithTime : ℕ → ℕ → List ℕ → List ℕ → Type 0
-StartsWithTime sec nsec rest b =
-    (time : List ℕ) × (b ≡ 146 ∷ 146 ∷ 215 ∷ 0 ∷ (time ++ 128 ∷ rest)) × (length time ≡ 8)
-    × (event_time time ≡ Some (sec, nsec))
+StartsWithTime sec nsec rest b = (time : List ℕ) × (b ≡ 146 ∷ 146 ∷ 215 ∷ 0 ∷ (time ++ 128 ∷ rest)) × (length time ≡ 8) × (event_time time ≡ Some (sec, nsec))
 
 -- the same, and then the header of a record with so many pairs
 abbrev pub StartsWithHeader : ℕ → ℕ → ℕ → List ℕ → List ℕ → Type 0
-StartsWithHeader sec nsec count rest b =
-    (body : List ℕ) × StartsWithTime sec nsec body b × StartsWithMap count rest body
+StartsWithHeader sec nsec count rest b = (body : List ℕ) × StartsWithTime sec nsec body b × StartsWithMap count rest body
 
 -- the depth limit of a value in a record: the event and the record are two levels
 abbrev pub deepest_member : ℕ

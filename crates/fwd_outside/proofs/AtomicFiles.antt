@@ -6,7 +6,7 @@ use Rattle.fwd_outside.specs.File.{FileState, IsPostCrash, whole, absent, or_abs
 use Rattle.fwd_outside.specs.DiskStates.{Files, DiskTransition}
 use Rattle.fwd_outside.specs.PostCrash.{WholeOrAbsent, AbsentOrBefore}
 use Rattle.fwd_outside.proofs.KeepsBytes.{whole_post_crash, whole_or_absent_post_crash, absent_post_crash}
-use Rattle.fwd_outside.proofs.CallEffects.{Local, LocalThen, local_first, holds_places, holds_removes}
+use Rattle.fwd_outside.proofs.Calls.{Local, LocalThen, local_first, holds_places, holds_removes}
 
 -- P holds of each post-crash state of the file
 abbrev pub AllImages : (Option (List ℕ) → Type 0) → FileState → Type 0

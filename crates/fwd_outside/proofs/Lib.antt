@@ -1,5 +1,5 @@
 pub mod KeepsBytes
-pub mod CallEffects
+pub mod Calls
 pub mod Invariant
 pub mod UnchangedFiles
 pub mod AtomicFiles
@@ -12,4 +12,3 @@ pub mod Executions
 pub mod CrashPointLemmas
 pub mod AndThen
 pub mod SinceLemmas
-mod LogValues

@@ -5,7 +5,5 @@ use Rattle.fwd_outside.specs.Files.{FilesGiven, FilesEntry, IsConsistentLog, fou
 
 -- a file that was read whole has these bytes, and reading changes no file
 abbrev pub WholeReadIsContent : Type 0
-WholeReadIsContent =
-    (files : FilesGiven) (path bytes : List ℕ) (es : List FilesEntry) → IsConsistentLog files es
-    → Execution (read_whole_program path) es (Return (Some bytes))
+WholeReadIsContent = (files : FilesGiven) (path bytes : List ℕ) (es : List FilesEntry) → IsConsistentLog files es → Execution (read_whole_program path) es (Return (Some bytes))
     → (found files path ≡ Some bytes) × (files_after_all files es ≡ files)

@@ -45,34 +45,15 @@ pub record FileInvariant (file : FileState) : Type 0 where
 
 -- a crash leaves these bytes and nothing else
 abbrev pub whole : List ℕ → FileState
-whole bytes =
-    record {
-      bytes = bytes;
-      synced = length bytes;
-      reached = length bytes;
-      doubt = [];
-      there = true;
-      may_stay = true;
-      may_go = false;
-    }
+whole bytes = record { bytes = bytes; synced = length bytes; reached = length bytes; doubt = []; there = true; may_stay = true; may_go = false }
 
 -- there is no file
 abbrev pub absent : FileState
-absent =
-    record { bytes = []; synced = 0; reached = 0; doubt = []; there = false; may_stay = false; may_go = true }
+absent = record { bytes = []; synced = 0; reached = 0; doubt = []; there = false; may_stay = false; may_go = true }
 
 -- these bytes, or no file
 abbrev pub whole_or_absent : List ℕ → Bool → FileState
-whole_or_absent bytes there =
-    record {
-      bytes = bytes;
-      synced = length bytes;
-      reached = length bytes;
-      doubt = [];
-      there = there;
-      may_stay = true;
-      may_go = true;
-    }
+whole_or_absent bytes there = record { bytes = bytes; synced = length bytes; reached = length bytes; doubt = []; there = there; may_stay = true; may_go = true }
 
 -- the same file, of which a crash may also leave none
 abbrev pub or_absent : FileState → Bool → FileState

@@ -61,19 +61,16 @@ pub record IsReadOf (content : List ℕ) (at max : ℕ) (bytes : List ℕ) : Typ
 -- an answer that files with this content may give
 abbrev pub MayAnswer : FilesGiven → (call : FilesCall) → FilesAnswer call → Type 0
 MayAnswer files (Length path) None = Unit {0}
-MayAnswer files (Length path) (Some n) =
-    (content : List ℕ) × (found files path ≡ Some content) × (n ≡ length content)
+MayAnswer files (Length path) (Some n) = (content : List ℕ) × (found files path ≡ Some content) × (n ≡ length content)
 MayAnswer files (ReadAt path at max) None = Unit {0}
-MayAnswer files (ReadAt path at max) (Some bytes) =
-    (content : List ℕ) × (found files path ≡ Some content) × IsReadOf content at max bytes
+MayAnswer files (ReadAt path at max) (Some bytes) = (content : List ℕ) × (found files path ≡ Some content) × IsReadOf content at max bytes
 MayAnswer files (Changed path bytes) answer = Unit {0}
 MayAnswer files (FailAt number) answer = Unit {0}
 
 -- files with this first content may give these answers
 abbrev pub IsConsistentLog : FilesGiven → List FilesEntry → Type 0
 IsConsistentLog files [] = Unit {0}
-IsConsistentLog files (e ∷ es) =
-    MayAnswer files e.call e.answer × IsConsistentLog (files_after files e.call) es
+IsConsistentLog files (e ∷ es) = MayAnswer files e.call e.answer × IsConsistentLog (files_after files e.call) es
 
 -- the files after these calls
 abbrev pub files_after_all : FilesGiven → List FilesEntry → FilesGiven
@@ -81,8 +78,7 @@ files_after_all files [] = files
 files_after_all files (e ∷ es) = files_after_all (files_after files e.call) es
 
 -- after the answer to a read: a failure or the end of the file ends the reading
-abbrev pub after_read : (List ℕ → FilesProgram (Option (List ℕ))) → List ℕ → Option (List ℕ)
-    → FilesProgram (Option (List ℕ))
+abbrev pub after_read : (List ℕ → FilesProgram (Option (List ℕ))) → List ℕ → Option (List ℕ) → FilesProgram (Option (List ℕ))
 after_read go so_far None = Return None
 after_read go so_far (Some []) = Return (Some so_far)
 after_read go so_far (Some (byte ∷ bytes)) = go (so_far ++ byte ∷ bytes)
@@ -93,8 +89,7 @@ abbrev pub read_rest_program : ℕ → List ℕ → ℕ → List ℕ → FilesPr
 read_rest_program zero path wanted so_far = Return (Some so_far)
 read_rest_program (suc reads) path wanted so_far =
     if nat_lt (length so_far) wanted
-    then Ask (ReadAt path (length so_far) (wanted - length so_far))
-    (after_read (read_rest_program reads path wanted) so_far)
+    then Ask (ReadAt path (length so_far) (wanted - length so_far)) (after_read (read_rest_program reads path wanted) so_far)
     else Return (Some so_far)
 
 -- after the answer to `Length`

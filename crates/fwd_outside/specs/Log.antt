@@ -21,37 +21,30 @@ log_of_call call (Some answer) = entry call answer ∷ []
 log_of_call call None = []
 
 -- the calls since `old`, recorded or not, lead from a program to the remaining one
-pub record Leads {G C : Type 0} {A : C → Type 0} {R : Type 0} (old new : CallLog G C A)
-    (from to : Program C A R) : Type 0 where
+pub record Leads {G C : Type 0} {A : C → Type 0} {R : Type 0} (old new : CallLog G C A) (from to : Program C A R) : Type 0 where
   pub entries : List (Entry C A)
   pub grew : LogGrew old new entries
   pub way : Execution from entries to
 
 -- the calls since `old` are those of the whole program, and this is its result
-abbrev pub Completes : {G C : Type 0} {A : C → Type 0} {R : Type 0} → CallLog G C A → CallLog G C A
-    → Program C A R → R → Type 0
+abbrev pub Completes : {G C : Type 0} {A : C → Type 0} {R : Type 0} → CallLog G C A → CallLog G C A → Program C A R → R → Type 0
 Completes old new program result = Leads old new program (Return result)
 
 -- the calls since `old` are the first ones of the program
-abbrev pub IsBegun : {G C : Type 0} {A : C → Type 0} {R : Type 0} → CallLog G C A → CallLog G C A
-    → Program C A R → Type 0
+abbrev pub IsBegun : {G C : Type 0} {A : C → Type 0} {R : Type 0} → CallLog G C A → CallLog G C A → Program C A R → Type 0
 IsBegun {C = C} {A = A} {R = R} old new program = (left : Program C A R) × Leads old new program left
 
 -- With a result, the program completed with it. Without one, since memory was out, the program was begun.
-abbrev pub RunsProgram : {G C : Type 0} {A : C → Type 0} {R : Type 0} → CallLog G C A → CallLog G C A
-    → Program C A R → Option R → Type 0
+abbrev pub RunsProgram : {G C : Type 0} {A : C → Type 0} {R : Type 0} → CallLog G C A → CallLog G C A → Program C A R → Option R → Type 0
 RunsProgram old new program (Some result) = Completes old new program result
 RunsProgram old new program None = IsBegun old new program
 
 -- the calls since `old` are the first ones of a program that may fail, and it hasn't failed
-abbrev pub IsBegunUnfailed : {G C : Type 0} {A : C → Type 0} {R : Type 0} → CallLog G C A → CallLog G C A
-    → Program C A (Option R) → Type 0
-IsBegunUnfailed {C = C} {A = A} {R = R} old new program =
-    (left : Program C A (Option R)) × Leads old new program left × (left ≢ Return None)
+abbrev pub IsBegunUnfailed : {G C : Type 0} {A : C → Type 0} {R : Type 0} → CallLog G C A → CallLog G C A → Program C A (Option R) → Type 0
+IsBegunUnfailed {C = C} {A = A} {R = R} old new program = (left : Program C A (Option R)) × Leads old new program left × (left ≢ Return None)
 
 -- A program that may fail. With a result, it completed with it. Without one, since memory was out, it was
 -- begun, and it hasn't failed.
-abbrev pub RunsFallible : {G C : Type 0} {A : C → Type 0} {R : Type 0} → CallLog G C A → CallLog G C A
-    → Program C A (Option R) → Option (Option R) → Type 0
+abbrev pub RunsFallible : {G C : Type 0} {A : C → Type 0} {R : Type 0} → CallLog G C A → CallLog G C A → Program C A (Option R) → Option (Option R) → Type 0
 RunsFallible old new program (Some result) = Completes old new program result
 RunsFallible old new program None = IsBegunUnfailed old new program

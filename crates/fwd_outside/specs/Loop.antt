@@ -102,8 +102,7 @@ pub record LoopCounts : Type 0 where
 
 -- the counts after a wait
 abbrev pub counts_after_wait : {T E : Type 0} → LoopCounts → Result T E → LoopCounts
-counts_after_wait counts (Ok brought) =
-    record counts { happenings = min (counts.happenings + 1) (2 ^ 64 - 1) }
+counts_after_wait counts (Ok brought) = record counts { happenings = min (counts.happenings + 1) (2 ^ 64 - 1) }
 counts_after_wait counts (Err e) = counts
 
 -- the counts after a dial
@@ -144,8 +143,7 @@ IsNotPaused paused input = IsBitSet paused input.0 → ⊥
 -- longest piece, and no `End` if the loop is endless.
 abbrev pub MayOccur : Bool → ℕ → Happening → Type 0
 MayOccur endless paused (happening.Joined input conn) = IsNotPaused paused input
-MayOccur endless paused (happening.Piece input conn bytes) =
-    IsNotPaused paused input × (1 ≤ length bytes) × (length bytes ≤ longest_piece)
+MayOccur endless paused (happening.Piece input conn bytes) = IsNotPaused paused input × (1 ≤ length bytes) × (length bytes ≤ longest_piece)
 MayOccur endless paused (happening.Gone input conn) = IsNotPaused paused input
 MayOccur endless paused (happening.InputEnd input) = IsNotPaused paused input
 MayOccur endless paused happening.End = endless ≡ false

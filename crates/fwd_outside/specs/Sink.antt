@@ -28,10 +28,8 @@ log_of_stopped bytes taken = entry (Write bytes) (Stopped taken) ∷ []
 -- What a write adds to the log. If memory is out, the write may have done nothing and not be recorded.
 abbrev pub LogsWrite : {T : Type 0} → List ℕ → Result T SinkErr → List SinkEntry → Type 0
 LogsWrite bytes (Ok done) entries = entries ≡ entry (Write bytes) Wrote ∷ []
-LogsWrite bytes (Err Failed) entries =
-    (taken : ℕ) × (taken ≤ length bytes) × (entries ≡ log_of_stopped bytes taken)
-LogsWrite bytes (Err Memory) entries =
-    (entries ≡ []) ⊎ ((taken : ℕ) × (taken ≤ length bytes) × (entries ≡ log_of_stopped bytes taken))
+LogsWrite bytes (Err Failed) entries = (taken : ℕ) × (taken ≤ length bytes) × (entries ≡ log_of_stopped bytes taken)
+LogsWrite bytes (Err Memory) entries = (entries ≡ []) ⊎ ((taken : ℕ) × (taken ≤ length bytes) × (entries ≡ log_of_stopped bytes taken))
 
 abbrev pub written_by : (call : SinkCall) → SinkAnswer call → List ℕ
 written_by (Write bytes) Wrote = bytes

@@ -21,7 +21,6 @@
 #![tactic(auto)]
 
 mod answers;
-mod call_log;
 mod disk;
 mod ends;
 mod errors;
@@ -34,7 +33,6 @@ mod sink;
 mod theorems;
 
 pub use answers::{Begun, Dialed, Pushed, Replied};
-pub use call_log::Calls;
 pub use disk::Disk;
 pub use ends::{Ends, InEnd, InEnds, OutEnd, OutEnds};
 pub use errors::{DiskErr, FileErr, SinkErr};

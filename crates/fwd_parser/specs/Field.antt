@@ -29,8 +29,7 @@ hex_of (b ∷ c ∷ digits) =
 
 -- true or false
 unfoldable pub truth_of : List ℕ → Option Bool
-truth_of s =
-    if bytes_eq s (codes "true") then Some true else (if bytes_eq s (codes "false") then Some false else None)
+truth_of s = if bytes_eq s (codes "true") then Some true else (if bytes_eq s (codes "false") then Some false else None)
 
 -- the bytes of a field, parsed as a type
 unfoldable pub read_as : TypeKind → List ℕ → Option Val

@@ -52,15 +52,13 @@ after_colon (b ∷ text) = if b == byte ":" then text else b ∷ text
 
 -- two digits of a number up to a limit
 unfoldable pub two_digits_of : ℕ → List ℕ → Option (ℕ × List ℕ)
-two_digits_of greatest text =
-    option_and_then (λ p. if nat_le p.0 greatest then Some p else None) (number_of 2 2 text)
+two_digits_of greatest text = option_and_then (λ p. if nat_le p.0 greatest then Some p else None) (number_of 2 2 text)
 
 -- a distance from UTC in seconds: hours up to 23, a colon or nothing, minutes up to 59
 unfoldable pub distance_of : List ℕ → Option (ℕ × List ℕ)
 distance_of text =
     option_and_then (λ hours.
-    option_map (λ minutes. (3600 * hours.0 + 60 * minutes.0, minutes.1))
-    (two_digits_of 59 (after_colon hours.1)))
+    option_map (λ minutes. (3600 * hours.0 + 60 * minutes.0, minutes.1)) (two_digits_of 59 (after_colon hours.1)))
     (two_digits_of 23 text)
 
 -- an offset from UTC in seconds, positive to the east: Z, or a sign and a distance
@@ -95,9 +93,7 @@ single letter text f =
     else (if letter == byte "m" then set_field (λ n. record f { month = Some n }) (number_of 1 2 text)
     else (if letter == byte "b" then set_field (λ n. record f { month = Some n }) (month_of text)
     else (if letter == byte "d" then set_field (λ n. record f { day = Some n }) (number_of 1 2 text)
-    else
-    (if letter == byte "e"
-    then set_field (λ n. record f { day = Some n }) (number_of 1 2 (skip_blanks text))
+    else (if letter == byte "e" then set_field (λ n. record f { day = Some n }) (number_of 1 2 (skip_blanks text))
     else of_clock letter text f))))
 
 -- reads a format and a text from left to right: % and a letter are a directive, each other byte matches
@@ -119,14 +115,11 @@ directive letter text f =
 -- whether the calendar has this day
 abbrev pub is_day : ℕ → ℕ → ℕ → Bool
 is_day year month day =
-    nat_le year 9999
-    && (nat_le 1 month && nat_le month 12
-    && (nat_le 1 day && nat_le day (days_in_month (pos year) month)))
+    nat_le year 9999 && (nat_le 1 month && nat_le month 12 && (nat_le 1 day && nat_le day (days_in_month (pos year) month)))
 
 -- the days from 1970-01-01 to a day of the calendar
 unfoldable pub day_number : ℕ → ℕ → ℕ → Option ℤ
-day_number year month day =
-    if is_day year month day then Some (days_from_civil (pos year) month day) else None
+day_number year month day = if is_day year month day then Some (days_from_civil (pos year) month day) else None
 
 -- the day that was read, which requires a year, a month and a day
 abbrev pub day_of : Fields → Option ℤ
@@ -135,8 +128,7 @@ day_of f = option_and_then (λ y. option_and_then (λ m. option_and_then (day_nu
 -- the seconds of a time of day with hours up to 23, and minutes and seconds up to 59
 abbrev pub clock_seconds : ℕ → ℕ → ℕ → Option ℕ
 clock_seconds hour minute second =
-    if nat_le hour 23 && (nat_le minute 59 && nat_le second 59) then Some (3600 * hour + 60 * minute + second)
-    else None
+    if nat_le hour 23 && (nat_le minute 59 && nat_le second 59) then Some (3600 * hour + 60 * minute + second) else None
 
 -- the time of day that was read; a part that wasn't read is 0
 abbrev pub clock_of : Fields → Option ℕ
@@ -154,24 +146,12 @@ seconds_of f = option_or f.stamp (civil_seconds f)
 
 -- nothing is read yet
 abbrev pub no_fields : Fields
-no_fields =
-    record {
-      year = None;
-      month = None;
-      day = None;
-      hour = None;
-      minute = None;
-      second = None;
-      nanos = None;
-      offset = None;
-      stamp = None;
-    }
+no_fields = record { year = None; month = None; day = None; hour = None; minute = None; second = None; nanos = None; offset = None; stamp = None }
 
 -- the seconds and nanoseconds of what was read, if no text is left
 unfoldable pub moment_of : Fields × List ℕ → Option (ℤ × ℕ)
 moment_of r =
-    if length r.1 == 0 then option_map (λ seconds. (seconds, unwrap_or r.0.nanos 0)) (seconds_of r.0)
-    else None
+    if length r.1 == 0 then option_map (λ seconds. (seconds, unwrap_or r.0.nanos 0)) (seconds_of r.0) else None
 
 -- the moment of a text under a format: seconds since 1970 in UTC, and nanoseconds
 unfoldable pub time_of : List ℕ → List ℕ → Option (ℤ × ℕ)

@@ -16,12 +16,11 @@ wants (Http reader) = true
 -- the judgement of a reply
 abbrev pub judges : Reader → List ℕ → Judged
 judges (End reader) reply = end_judges reader reply
-judges (Http reader) reply = http_judged reader.retried reply
+judges (Http reader) reply = http_judged reply
 
 -- the payload, whether a reply is wanted, and its judgement are these
 abbrev pub SendsAndJudges : Delivery → List ℕ → Reader → Type 0
-SendsAndJudges d payload reader =
-    record { payload = payload; wanted = wants reader; judged = judges reader } ≡ d
+SendsAndJudges d payload reader = record { payload = payload; wanted = wants reader; judged = judges reader } ≡ d
 
 -- a flush that hasn't started goes to this output and sends this
 pub record IsFlushTo (d : Delivery) (to : OutputId) (flight : Flight Reader) : Type 0 where

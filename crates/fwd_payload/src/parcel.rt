@@ -5,8 +5,9 @@ ghost use Rattle.fwd_event.specs.Event.{EventFits};
 ghost use Rattle.fwd_out_text.specs.Payload.{payload_of};
 ghost use Rattle.fwd_model.specs.Chunks.{encoded};
 ghost use Rattle.fwd_model.specs.Routes.{route};
-ghost use Rattle.fwd_model.specs.Payloads.{delivery_to, message_to, request_to, without_reply};
-ghost use Rattle.fwd_out_http.specs.Request.{http_request};
+ghost use Rattle.fwd_model.specs.Payloads.{delivery_to, message_to, without_reply, with_reply};
+ghost use Rattle.fwd_out_http.specs.Request.{http_payload};
+ghost use Rattle.fwd_out_http.specs.Reply.{http_judged};
 ghost use Rattle.fwd_payload.specs.Content.{MadeOf};
 ghost use Rattle.fwd_payload.specs.Reader.{SendsAndJudges, IsFlushTo};
 
@@ -18,7 +19,7 @@ use fwd_event::{Events, whole_prefix};
 use fwd_flush::Flush;
 use fwd_out_http::{HttpReader, request_of};
 use fwd_out_net::{EndReader, chunk_id, entries_are_short};
-use fwd_settings::{HttpOptions, OutputKind};
+use fwd_settings::OutputKind;
 use fwd_wire::write_forward;
 use std::alloc::Global;
 
@@ -114,30 +115,27 @@ fn message(
     Ok(Some(parcel))
 }
 
-/// Returns an HTTP request with this body and the reader of its reply.
+/// Returns an HTTP request and the reader of its reply.
 fn request(
     alloc: Global,
     host: &[u8],
     port: u16,
     uri: &[u8],
     form: Form,
-    options: &HttpOptions,
-    body: &[u8],
-) -> Result<Parcel, Memory>
-    ensures { IfOk result (λ parcel. SendsAndJudges (request_to options.now (http_request host.now port uri.now form options.now.fields body.now)) parcel.payload parcel.reader) }
+    tag: &[u8],
+    content: &mut Content,
+    is_shared: bool,
+) -> Result<Option<Parcel>, Memory>
+    ensures request { MadeOf content.old (λ events parcel. SendsAndJudges (with_reply (http_payload host.now port uri.now form tag.now events) http_judged) parcel.payload parcel.reader) result }
+    ensures same { content.new ≡ content.old }
 {
-    Ok(Parcel {
-        payload: request_of(
-            alloc,
-            host,
-            port,
-            uri,
-            form,
-            options.fields.as_slice(),
-            body,
-        )?,
-        reader: Reader::Http(HttpReader::new(alloc, options.retried.as_slice())?),
-    })
+    match content.text(alloc, form, tag, is_shared)? {
+        Some(body) => Ok(Some(Parcel {
+            payload: request_of(alloc, host, port, uri, form, body.as_slice())?,
+            reader: Reader::Http(HttpReader),
+        })),
+        None => Ok(None),
+    }
 }
 
 /// Returns the payload for an output of this kind, and the reader of its reply.
@@ -176,22 +174,16 @@ fn pack(
             port,
             uri,
             form,
-            options,
-        } => {
-            let Some(body) = content.text(alloc, *form, tag, is_shared)? else {
-                return Ok(None);
-            };
-            let parcel = request(
-                alloc,
-                host.as_slice(),
-                *port,
-                uri.as_slice(),
-                *form,
-                options,
-                body.as_slice(),
-            )?;
-            Ok(Some(parcel))
-        }
+        } => request(
+            alloc,
+            host.as_slice(),
+            *port,
+            uri.as_slice(),
+            *form,
+            tag,
+            content,
+            is_shared,
+        ),
     }
 }
 

@@ -19,8 +19,7 @@ use Rattle.fwd_model.specs.Trace.{Call, Answer, TraceEntry, OnLoop, OnDisk, OnFi
 -- the content of a path after these changes, given the content before; none if there is no file
 abbrev pub content_after : Option (List ℕ) → List FileChange → List ℕ → Option (List ℕ)
 content_after now [] path = now
-content_after now (change ∷ changes) path =
-    content_after (if bytes_eq (path_of change) path then changed change now else now) changes path
+content_after now (change ∷ changes) path = content_after (if bytes_eq (path_of change) path then changed change now else now) changes path
 
 -- There was no file at first. All runs so far made these changes. This run made that many calls, and the
 -- calls of these numbers, from 1, fail.
@@ -31,9 +30,7 @@ pub record FilesAt : Type 0 where
 
 -- the bytes that the next call reads from; none if it fails
 abbrev pub reads_from : FilesAt → List ℕ → Option (List ℕ)
-reads_from files path =
-    if list_any (λ number. number == files.calls + 1) files.fails then None
-    else content_after None files.changes path
+reads_from files path = if list_any (λ number. number == files.calls + 1) files.fails then None else content_after None files.changes path
 
 abbrev pub answer_at : FilesAt → (call : FilesCall) → FilesAnswer call
 answer_at files (Length path) = option_map length (reads_from files path)
@@ -55,8 +52,7 @@ next_in paused course = find (hears paused) course.ahead
 
 -- Before a wait returns an event, the changes in the lines before it are made, unless they already were.
 abbrev pub changes_before : ℕ → Course → List FileChange
-changes_before paused course =
-    changes_between course.lines course.changed (line_ahead course.lines (next_in paused course))
+changes_before paused course = changes_between course.lines course.changed (line_ahead course.lines (next_in paused course))
 
 abbrev pub after_wait : ℕ → Course → Course
 after_wait paused course = record course {
@@ -70,9 +66,7 @@ after_loop (Wait until paused) course = after_wait paused course
 after_loop call course = course
 
 abbrev pub after_files : FilesCall → Course → Course
-after_files call course =
-    record course
-    { files = record course.files { calls = course.files.calls + (if is_made call then 1 else 0) } }
+after_files call course = record course { files = record course.files { calls = course.files.calls + (if is_made call then 1 else 0) } }
 
 abbrev pub after_call : Call → Course → Course
 after_call (OnLoop call) course = after_loop call course
@@ -96,8 +90,7 @@ IsCourseAnswer course (Note fact) answer = Unit {0}
 
 abbrev pub FilesAnswered : Course → List TraceEntry → Type 0
 FilesAnswered course [] = Unit {0}
-FilesAnswered course (e ∷ es) =
-    IsCourseAnswer course e.call e.answer × FilesAnswered (after_call e.call course) es
+FilesAnswered course (e ∷ es) = IsCourseAnswer course e.call e.answer × FilesAnswered (after_call e.call course) es
 
 -- the wait returns the last event of the run
 abbrev pub is_last_next : ℕ → Course → Bool

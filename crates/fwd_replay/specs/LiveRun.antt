@@ -12,8 +12,7 @@ use Rattle.fwd_replay.specs.declared.report.Ending.TheVariants as ending
 
 -- the calls on the devices, in a call log or not, were those of the reference model to its end, and the
 -- text is the report of its history
-pub record RunsToEnd (s : AllSettings) (ticks : Option ℕ) (turns : ℕ) (old new : CallLogs)
-    (reported : Reported) : Type 0 where
+pub record RunsToEnd (s : AllSettings) (ticks : Option ℕ) (turns : ℕ) (old new : CallLogs) (reported : Reported) : Type 0 where
   pub lived : RunResult
   pub did : Completes old new (life s (ends_of s) ticks turns) lived
   pub call_log : reported ≡ reported_by (report s lived.history) lived.end
@@ -24,8 +23,7 @@ BeginsRun s ticks turns old new = IsBegun old new (life s (ends_of s) ticks turn
 
 -- to its end; or, if memory ran out, its first calls, and then the text is empty
 abbrev pub IsRunLive : AllSettings → Option ℕ → ℕ → CallLogs → CallLogs → Reported → Type 0
-IsRunLive s ticks turns old new reported =
-    RunsToEnd s ticks turns old new reported ⊎ (BeginsRun s ticks turns old new × (reported ≡ out_of_memory))
+IsRunLive s ticks turns old new reported = RunsToEnd s ticks turns old new reported ⊎ (BeginsRun s ticks turns old new × (reported ≡ out_of_memory))
 
 -- the least number of events of a run that ended this way
 abbrev pub heard_in : ℕ → Ending → ℕ
@@ -36,24 +34,18 @@ heard_in most ending.LoopFailed = 0
 heard_in most ending.Memory = 0
 
 -- the calls were those of a run to its end, and the text is the report of its history
-pub record HasRun (s : AllSettings) (run : Action RunResult) (old new : CallLogs)
-    (reported : Reported) : Type 0 where
+pub record HasRun (s : AllSettings) (run : Action RunResult) (old new : CallLogs) (reported : Reported) : Type 0 where
   pub lived : RunResult
   pub did : Completes old new run lived
   pub call_log : reported ≡ reported_by (report s lived.history) lived.end
 
 -- to its end, or to where memory ran out
-abbrev pub ActionProduces : {E : Type 0} → AllSettings → Action RunResult → CallLogs → CallLogs
-    → Result Reported E → Type 0
-ActionProduces s run old new result =
-    MatchResult result (λ reported. HasRun s run old new reported) (λ _. IsBegun old new run)
+abbrev pub ActionProduces : {E : Type 0} → AllSettings → Action RunResult → CallLogs → CallLogs → Result Reported E → Type 0
+ActionProduces s run old new result = MatchResult result (λ reported. HasRun s run old new reported) (λ _. IsBegun old new run)
 
 -- the same for a run from its loading on
-abbrev pub RunProduces : {E : Type 0} → AllSettings → Option ℕ → ℕ → CallLogs → CallLogs → Result Reported E
-    → Type 0
-RunProduces s ticks turns old new result =
-    MatchResult result (λ reported. RunsToEnd s ticks turns old new reported)
-    (λ _. BeginsRun s ticks turns old new)
+abbrev pub RunProduces : {E : Type 0} → AllSettings → Option ℕ → ℕ → CallLogs → CallLogs → Result Reported E → Type 0
+RunProduces s ticks turns old new result = MatchResult result (λ reported. RunsToEnd s ticks turns old new reported) (λ _. BeginsRun s ticks turns old new)
 
 abbrev pub ending_of : {E : Type 0} → Result Reported E → Ending
 ending_of (Ok reported) = reported.ending

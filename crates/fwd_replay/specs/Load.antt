@@ -52,8 +52,7 @@ tick_line number = codes "tick " ++ decimal (100 * number)
 
 -- a dial and a clock reading follow each tenth line
 abbrev pub lines_at : ℕ → List (List ℕ)
-lines_at number =
-    piece_line number ∷ (if number % 10 == 0 then dial_line number ∷ tick_line number ∷ [] else [])
+lines_at number = piece_line number ∷ (if number % 10 == 0 then dial_line number ∷ tick_line number ∷ [] else [])
 
 -- the lines of the numbers from 1 to this one
 abbrev pub lines_to : ℕ → List (List ℕ)

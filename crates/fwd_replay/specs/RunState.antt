@@ -57,16 +57,13 @@ use Rattle.fwd_replay.specs.declared.report.Shown.{Shown}
 
 -- files in memory are in this state
 pub record FilesRepresent (held : FilesState) (files : FilesAt) : Type 0 where
-  pub has : (path : List ℕ)
-      → found (files_now held.given held.notes) path ≡ content_after None files.changes path
+  pub has : (path : List ℕ) → found (files_now held.given held.notes) path ≡ content_after None files.changes path
   pub made : made_of (entries_from held.given held.notes) ≡ files.calls
   pub fails : fails_of (entries_from held.given held.notes) ≡ files.fails
 
 -- A run has taken that many turns, with these calls, and `left` is left of it, whatever number of turns
 -- it has left. Loop, disk and files have these calls in their logs; the files are in this state.
-pub record RunRepresents (s : AllSettings) (start : Start) (planned : Life) (call_log : LoopLog) (taken : ℕ)
-    (seen : Seen) (held : FilesState) (trace : List TraceEntry) (left : ℕ → Action RunResult)
-    (files_at : FilesAt) : Type 0 where
+pub record RunRepresents (s : AllSettings) (start : Start) (planned : Life) (call_log : LoopLog) (taken : ℕ) (seen : Seen) (held : FilesState) (trace : List TraceEntry) (left : ℕ → Action RunResult) (files_at : FilesAt) : Type 0 where
   pub way : (more : ℕ) → Execution (life s (ends_of s) None (taken + more)) trace (left more)
   pub waits : waits_in trace ≡ taken
   pub uncut : has_cut start planned trace ≡ false
@@ -78,46 +75,34 @@ pub record RunRepresents (s : AllSettings) (start : Start) (planned : Life) (cal
   pub files_stand : FilesRepresent held files_at
 
 -- the run is to take its next turn
-pub record IsInProgress (s : AllSettings) (start : Start) (planned : Life) (going : Going) (seen : Seen)
-    (held : FilesState) : Type 0 where
+pub record IsInProgress (s : AllSettings) (start : Start) (planned : Life) (going : Going) (seen : Seen) (held : FilesState) : Type 0 where
   pub history : History
   pub at : IsAt going.engine s history
   pub trace : List TraceEntry
-  pub stands : RunRepresents s start planned (told_of going.script) going.taken seen held trace
-      (λ more. run s None more history) (course_after (course_of start planned) trace).files
+  pub stands : RunRepresents s start planned (told_of going.script) going.taken seen held trace (λ more. run s None more history) (course_after (course_of start planned) trace).files
   pub changed : going.changed ≡ (course_after (course_of start planned) trace).changed
 
 -- the changes before its wait are made, and this crash, if there is one, cuts the run in it
-pub record IsReady (s : AllSettings) (start : Start) (planned : Life) (going : Going) (seen : Seen)
-    (held : FilesState) (cut : Option Cut) : Type 0 where
+pub record IsReady (s : AllSettings) (start : Start) (planned : Life) (going : Going) (seen : Seen) (held : FilesState) (cut : Option Cut) : Type 0 where
   pub history : History
   pub at : IsAt going.engine s history
   pub trace : List TraceEntry
-  pub stands : RunRepresents s start planned (told_of going.script) going.taken seen held trace
-      (λ more. run s None more history)
-      (after_wait (paused s history) (course_after (course_of start planned) trace)).files
-  pub changed : going.changed
-      ≡ (after_wait (paused s history) (course_after (course_of start planned) trace)).changed
-  pub cut_is : cut
-      ≡ (if is_last_next (paused s history) (course_after (course_of start planned) trace) then planned.cut
-      else None)
+  pub stands : RunRepresents s start planned (told_of going.script) going.taken seen held trace (λ more. run s None more history) (after_wait (paused s history) (course_after (course_of start planned) trace)).files
+  pub changed : going.changed ≡ (after_wait (paused s history) (course_after (course_of start planned) trace)).changed
+  pub cut_is : cut ≡ (if is_last_next (paused s history) (course_after (course_of start planned) trace) then planned.cut else None)
 
 -- the run is over
-pub record IsOver (s : AllSettings) (start : Start) (planned : Life) (going : Going) (seen : Seen)
-    (held : FilesState) : Type 0 where
+pub record IsOver (s : AllSettings) (start : Start) (planned : Life) (going : Going) (seen : Seen) (held : FilesState) : Type 0 where
   pub history : History
   pub at : IsAt going.engine s history
   pub trace : List TraceEntry
-  pub stands : RunRepresents s start planned (told_of going.script) going.taken seen held trace
-      (λ more. Return (lived history Over)) (course_after (course_of start planned) trace).files
+  pub stands : RunRepresents s start planned (told_of going.script) going.taken seen held trace (λ more. Return (lived history Over)) (course_after (course_of start planned) trace).files
 
 -- its loop failed
-pub record LoopHasFailed (s : AllSettings) (start : Start) (planned : Life) (going : Going) (seen : Seen)
-    (held : FilesState) : Type 0 where
+pub record LoopHasFailed (s : AllSettings) (start : Start) (planned : Life) (going : Going) (seen : Seen) (held : FilesState) : Type 0 where
   pub history : History
   pub trace : List TraceEntry
-  pub stands : RunRepresents s start planned (told_of going.script) going.taken seen held trace
-      (λ more. Return (lived history LoopFailed)) (course_after (course_of start planned) trace).files
+  pub stands : RunRepresents s start planned (told_of going.script) going.taken seen held trace (λ more. Return (lived history LoopFailed)) (course_after (course_of start planned) trace).files
 
 -- the calls logged by loop, disk and files in memory, and no others
 abbrev pub nowhere : CallLogs
@@ -147,12 +132,9 @@ Turned s start planned going seen held (Err stop.Memory) = Unit {0}
 -- the result of at most that many of its turns
 abbrev pub Ended : AllSettings → Start → Life → ℕ → Going → Seen → FilesState → TurnsEnd → Type 0
 Ended s start planned most going seen held turns_end.Over = IsOver s start planned going seen held
-Ended s start planned most going seen held (turns_end.Cut cut) =
-    IsReady s start planned going seen held (Some cut) × (going.taken < most)
-Ended s start planned most going seen held turns_end.LoopFailed =
-    LoopHasFailed s start planned going seen held
-Ended s start planned most going seen held turns_end.TurnsSpent =
-    IsInProgress s start planned going seen held × (going.taken ≡ most)
+Ended s start planned most going seen held (turns_end.Cut cut) = IsReady s start planned going seen held (Some cut) × (going.taken < most)
+Ended s start planned most going seen held turns_end.LoopFailed = LoopHasFailed s start planned going seen held
+Ended s start planned most going seen held turns_end.TurnsSpent = IsInProgress s start planned going seen held × (going.taken ≡ most)
 
 -- a run that ended this way, with any number of turns
 pub record EndedAs (s : AllSettings) (start : Start) (planned : Life) (comes : RunResult) : Type 0 where
@@ -162,33 +144,27 @@ pub record EndedAs (s : AllSettings) (start : Start) (planned : Life) (comes : R
 -- the loop of a run was started with these endpoints, or it couldn't start; nothing is claimed if memory
 -- ran out
 abbrev pub LoopStarts : Life → Ends → Result ScriptState StartErr → Type 0
-LoopStarts planned ends (Ok script) =
-    told_of script ≡ Some (given_of planned, entry (Starting ends) (Some tt) ∷ [])
+LoopStarts planned ends (Ok script) = told_of script ≡ Some (given_of planned, entry (Starting ends) (Some tt) ∷ [])
 LoopStarts planned ends (Err start_err.DiskFailed) = ⊥
-LoopStarts planned ends (Err start_err.LoopFailed) =
-    place.IsPlayed (given_of planned) (entry (Starting ends) None ∷ [])
+LoopStarts planned ends (Err start_err.LoopFailed) = place.IsPlayed (given_of planned) (entry (Starting ends) None ∷ [])
 LoopStarts planned ends (Err start_err.Memory) = Unit {0}
 
 -- the same for a run whose engine has begun
 abbrev pub EngineStarts : Life → Ends → Engine → Result Going StartErr → Type 0
-EngineStarts planned ends engine (Ok going) =
-    (going.engine ≡ engine) × LoopStarts planned ends (Ok going.script) × (going.changed ≡ 0)
-    × (going.taken ≡ 0)
+EngineStarts planned ends engine (Ok going) = (going.engine ≡ engine) × LoopStarts planned ends (Ok going.script) × (going.changed ≡ 0) × (going.taken ≡ 0)
 EngineStarts planned ends engine (Err why) = LoopStarts planned ends (Err why)
 
 -- how a run starts; nothing is claimed if memory ran out
 abbrev pub Starts : AllSettings → Start → Life → Seen → FilesState → Result Going StartErr → Type 0
 Starts s start planned seen held (Ok going) = IsInProgress s start planned going seen held × (going.taken ≡ 0)
 Starts s start planned seen held (Err start_err.DiskFailed) = EndedAs s start planned (lived [] DiskFailed)
-Starts s start planned seen held (Err start_err.LoopFailed) =
-    (history : History) × EndedAs s start planned (lived history LoopFailed)
+Starts s start planned seen held (Err start_err.LoopFailed) = (history : History) × EndedAs s start planned (lived history LoopFailed)
 Starts s start planned seen held (Err start_err.Memory) = Unit {0}
 
 -- disk and files are in the state in which a run finds them
 pub record DevicesAreReady (start : Start) (seen : Seen) (held : FilesState) : Type 0 where
   pub disk : seen.calls ≡ start.disk
-  pub has : (path : List ℕ)
-      → found (files_now held.given held.notes) path ≡ content_after None start.changes path
+  pub has : (path : List ℕ) → found (files_now held.given held.notes) path ≡ content_after None start.changes path
   pub unasked : held.notes ≡ []
 
 -- disk and files are set up for the run
@@ -200,9 +176,7 @@ pub record IsSetUp (start : Start) (planned : Life) (seen : Seen) (held : FilesS
 pub record IsCrashed (since : ℕ) (cut : Cut) (now image : Seen) : Type 0 where
   pub files : List MemFile
   pub is : image.calls ≡ file_settings files
-  pub picks : (name : List ℕ)
-      → content (disk.files_of image.calls name)
-      ≡ picked (cut.pick % 4) (prefix_after_mark since cut.calls now.calls) name
+  pub picks : (name : List ℕ) → content (disk.files_of image.calls name) ≡ picked (cut.pick % 4) (prefix_after_mark since cut.calls now.calls) name
 
 -- the same files, with an empty call log
 pub record AreRenewed (held renewed : FilesState) : Type 0 where
@@ -211,8 +185,7 @@ pub record AreRenewed (held renewed : FilesState) : Type 0 where
 
 -- The crash of a run with this history and these calls before the turn in which it was cut: what it
 -- leaves to the next run, and the state of its engine.
-pub record HandsOver (s : AllSettings) (most : ℕ) (start : Start) (planned : Life) (cut : Cut) (going : Going)
-    (history : History) (before : List TraceEntry) (seen : Seen) (held : FilesState) : Type 0 where
+pub record HandsOver (s : AllSettings) (most : ℕ) (start : Start) (planned : Life) (cut : Cut) (going : Going) (history : History) (before : List TraceEntry) (seen : Seen) (held : FilesState) : Type 0 where
   pub cuts : CutRun
   pub is : IsCut s most start planned cuts
   pub cut_is : cuts.cut ≡ cut
@@ -225,32 +198,24 @@ pub record HandsOver (s : AllSettings) (most : ℕ) (start : Start) (planned : L
 
 -- The outcome of a run in progress, with at most `most` turns, by its text and its end: the replay ends
 -- with it, or it was cut and leaves this.
-abbrev pub EndsBy : Shown → AllSettings → ℕ → Start → Life → Going → Seen → FilesState → List ℕ → LifeEnd
-    → Type 0
-EndsBy shown s most start planned going seen held text (life_end.Ends ending) =
-    EndsIn shown s most start planned (record { text = text; ending = ending })
+abbrev pub EndsBy : Shown → AllSettings → ℕ → Start → Life → Going → Seen → FilesState → List ℕ → LifeEnd → Type 0
+EndsBy shown s most start planned going seen held text (life_end.Ends ending) = EndsIn shown s most start planned (record { text = text; ending = ending })
 EndsBy shown s most start planned going seen held text (life_end.Cut cut) =
-    (history : History) × (before : List TraceEntry)
-    × HandsOver s most start planned cut going history before seen held
-    × (text ≡ life_text shown s before history)
+    (history : History) × (before : List TraceEntry) × HandsOver s most start planned cut going history before seen held × (text ≡ life_text shown s before history)
 
 abbrev pub EndsAs : Shown → AllSettings → ℕ → Start → Life → Going → Seen → FilesState → Came → Type 0
-EndsAs shown s most start planned going seen held came =
-    EndsBy shown s most start planned going seen held came.text came.end
+EndsAs shown s most start planned going seen held came = EndsBy shown s most start planned going seen held came.text came.end
 
 -- The outcome of a run with at most `most` turns, by its text and what follows: nothing, or it was cut
 -- and leaves this to the next one.
 abbrev pub ProducesText : Shown → AllSettings → ℕ → Start → Life → Seen → FilesState → List ℕ → Next → Type 0
-ProducesText shown s most start planned seen held text (follow.Ends ending) =
-    EndsIn shown s most start planned (record { text = text; ending = ending })
+ProducesText shown s most start planned seen held text (follow.Ends ending) = EndsIn shown s most start planned (record { text = text; ending = ending })
 ProducesText shown s most start planned seen held text (follow.Life left) =
-    (c : CutRun) × IsCut s most start planned c × (text ≡ life_text shown s c.before c.history)
-    × (left.cut ≡ c.cut) × (left.settings ≡ s)
+    (c : CutRun) × IsCut s most start planned c × (text ≡ life_text shown s c.before c.history) × (left.cut ≡ c.cut) × (left.settings ≡ s)
     × DevicesAreReady c.next seen held × (left.taken ≡ waits_in (c.before ++ c.turn))
 
 abbrev pub ProducesOutcome : Shown → AllSettings → ℕ → Start → Life → Seen → FilesState → Outcome → Type 0
-ProducesOutcome shown s most start planned seen held outcome =
-    ProducesText shown s most start planned seen held outcome.text outcome.next
+ProducesOutcome shown s most start planned seen held outcome = ProducesText shown s most start planned seen held outcome.text outcome.next
 
 -- a text after a crash, if there was one
 abbrev pub after_cut : Option Cut → List ℕ → List ℕ
@@ -267,19 +232,13 @@ pub record IsFirst (between : Between) : Type 0 where
 -- what a run leaves was handed to what follows
 abbrev pub PassesOn : Next → Between → Between → After → Type 0
 PassesOn (follow.Ends ending) old new after = after ≡ afterwards.Ends ending
-PassesOn (follow.Life left) old new after =
-    (after ≡ afterwards.Life left.settings)
-    × (new ≡ record old { cut = Some left.cut; left = old.left - left.taken })
+PassesOn (follow.Life left) old new after = (after ≡ afterwards.Life left.settings) × (new ≡ record old { cut = Some left.cut; left = old.left - left.taken })
 
 -- The outcome of a run after others, by the texts before it and with it: its own text follows those
 -- before, and the replay ends with it, or another run follows.
-abbrev pub AppendsRun : Shown → AllSettings → Start → Life → Between → Between → List ℕ → List ℕ → After
-    → Type 0
+abbrev pub AppendsRun : Shown → AllSettings → Start → Life → Between → Between → List ℕ → List ℕ → After → Type 0
 AppendsRun shown s start planned old new text all (afterwards.Ends ending) =
-    (own : List ℕ) × EndsIn shown s old.left start planned (record { text = own; ending = ending })
-    × (all ≡ text ++ after_cut old.cut own)
+    (own : List ℕ) × EndsIn shown s old.left start planned (record { text = own; ending = ending }) × (all ≡ text ++ after_cut old.cut own)
 AppendsRun shown s start planned old new text all (afterwards.Life settings) =
-    (c : CutRun) × IsCut s old.left start planned c
-    × (all ≡ text ++ after_cut old.cut (life_text shown s c.before c.history)) × (settings ≡ s)
-    × DevicesAreReady c.next new.disk new.files × (new.cut ≡ Some c.cut)
-    × (new.left ≡ old.left - waits_in (c.before ++ c.turn))
+    (c : CutRun) × IsCut s old.left start planned c × (all ≡ text ++ after_cut old.cut (life_text shown s c.before c.history)) × (settings ≡ s)
+    × DevicesAreReady c.next new.disk new.files × (new.cut ≡ Some c.cut) × (new.left ≡ old.left - waits_in (c.before ++ c.turn))

@@ -39,9 +39,7 @@ first = record { disk = []; changes = [] }
 -- the calls of the setup are added to those of the disk: the files put on it, and the calls that are to
 -- fail
 abbrev pub disk_of : Start → Life → List Told
-disk_of start planned =
-    start.disk ++ map (λ (file : Stored). Preset file.name file.bytes) planned.store
-    ++ map (λ (number : ℕ). FailAt number) planned.disk_fails
+disk_of start planned = start.disk ++ map (λ (file : Stored). Preset file.name file.bytes) planned.store ++ map (λ (number : ℕ). FailAt number) planned.disk_fails
 
 abbrev pub course_of : Start → Life → Course
 course_of start planned = record {
@@ -53,8 +51,7 @@ course_of start planned = record {
 
 -- The answers to these calls are those of the run: of its loop, of the disk after these calls, and of the
 -- files.
-pub record IsAnswered (start : Start) (planned : Life) (trace : List TraceEntry)
-    (asked : List Told) : Type 0 where
+pub record IsAnswered (start : Start) (planned : Life) (trace : List TraceEntry) (asked : List Told) : Type 0 where
   pub loop : place.IsPlayed (given_of planned) (loop_part trace)
   pub are : disk.entries_of asked ≡ disk_part trace
   pub disk : disk.IsPlayed (disk_of start planned) asked
@@ -67,16 +64,14 @@ has_cut start planned trace = is_some planned.cut && has_last (course_of start p
 -- ---- a run that isn't cut
 
 -- its joined trace and its result, with at most `turns` turns
-pub record IsLife (s : AllSettings) (turns : ℕ) (start : Start) (planned : Life) (trace : List TraceEntry)
-    (comes : RunResult) : Type 0 where
+pub record IsLife (s : AllSettings) (turns : ℕ) (start : Start) (planned : Life) (trace : List TraceEntry) (comes : RunResult) : Type 0 where
   pub way : Execution (life s (ends_of s) None turns) trace (Return comes)
   pub asked : List Told
   pub answered : IsAnswered start planned trace asked
   pub uncut : has_cut start planned trace ≡ false
 
 -- The replay ends with this run. One that is over isn't to be cut.
-pub record EndsIn (shown : Shown) (s : AllSettings) (turns : ℕ) (start : Start) (planned : Life)
-    (replayed : Reported) : Type 0 where
+pub record EndsIn (shown : Shown) (s : AllSettings) (turns : ℕ) (start : Start) (planned : Life) (replayed : Reported) : Type 0 where
   pub trace : List TraceEntry
   pub comes : RunResult
   pub is : IsLife s turns start planned trace comes
@@ -89,10 +84,8 @@ pub record EndsIn (shown : Shown) (s : AllSettings) (turns : ℕ) (start : Start
 -- If the run is over before, the turn makes no call.
 abbrev pub IsCutIn : AllSettings → ℕ → Start → Life → List TraceEntry → History → List TraceEntry → Type 0
 IsCutIn s turns start planned before h turn =
-    ((waits_in before < turns)
-    × Execution (life s (ends_of s) None (waits_in before)) before (Return (lived h TurnsSpent))
-    × (is_last_next (paused s h) (course_after (course_of start planned) before) ≡ true)
-    × ((last : RunResult) × Execution (run s None 1 h) turn (Return last)))
+    ((waits_in before < turns) × Execution (life s (ends_of s) None (waits_in before)) before (Return (lived h TurnsSpent))
+    × (is_last_next (paused s h) (course_after (course_of start planned) before) ≡ true) × ((last : RunResult) × Execution (run s None 1 h) turn (Return last)))
     ⊎ (Execution (life s (ends_of s) None turns) before (Return (lived h Over)) × (turn ≡ []))
 
 -- the first of these calls, that many
@@ -120,10 +113,7 @@ pub record IsCut (s : AllSettings) (turns : ℕ) (start : Start) (planned : Life
   pub are : disk.entries_of c.asked ≡ disk_part c.before
   pub files : List MemFile
   pub disk_is : c.next.disk ≡ file_settings files
-  pub image : (name : List ℕ)
-      → content (disk.files_of c.next.disk name)
-      ≡ picked (c.cut.pick % 4)
-      ((disk_of start planned ++ c.asked) ++ first_calls c.cut.calls c.asked_in) name
+  pub image : (name : List ℕ) → content (disk.files_of c.next.disk name) ≡ picked (c.cut.pick % 4) ((disk_of start planned ++ c.asked) ++ first_calls c.cut.calls c.asked_in) name
   pub changes : c.next.changes ≡ (course_after (course_of start planned) (c.before ++ c.turn)).files.changes
 
 -- Each run in turn, with at most `turns` turns in all: the replay ends with it, or it is cut and the next
@@ -132,7 +122,5 @@ abbrev pub IsReplayed : Shown → AllSettings → ℕ → Start → List Life �
 IsReplayed shown s turns start [] replayed = replayed ≡ record { text = []; ending = ending.Over }
 IsReplayed shown s turns start (planned ∷ lives) replayed =
     EndsIn shown s turns start planned replayed
-    ⊎ ((c : CutRun) × IsCut s turns start planned c
-    × ((rest : Reported) × IsReplayed shown s (turns - waits_in (c.before ++ c.turn)) c.next lives rest
-    × (replayed ≡ joined (life_text shown s c.before c.history) c.cut rest)))
+    ⊎ ((c : CutRun) × IsCut s turns start planned c × ((rest : Reported) × IsReplayed shown s (turns - waits_in (c.before ++ c.turn)) c.next lives rest × (replayed ≡ joined (life_text shown s c.before c.history) c.cut rest)))
     ⊎ (replayed ≡ out_of_memory)

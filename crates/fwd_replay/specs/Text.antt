@@ -29,7 +29,7 @@ is_stdout (output_kind.Stdout form) = true
 is_stdout (output_kind.File folder file form) = false
 is_stdout (output_kind.Tcp host port form) = false
 is_stdout (output_kind.Forward host port ack whole_time) = false
-is_stdout (output_kind.Http host port uri form options) = false
+is_stdout (output_kind.Http host port uri form) = false
 
 -- bit i is set if output i is a standard output
 abbrev pub stdout_mask : List OutputSet → ℕ
@@ -38,8 +38,7 @@ stdout_mask (set ∷ more) = (if is_stdout set.kind then 1 else 0) + 2 * stdout_
 
 -- a line feed, if a text isn't empty and doesn't end in one
 abbrev pub line_end : List ℕ → List ℕ
-line_end text =
-    if length text == 0 then [] else if slice_index text (length text - 1) == 10 then [] else 10 ∷ []
+line_end text = if length text == 0 then [] else if slice_index text (length text - 1) == 10 then [] else 10 ∷ []
 
 abbrev pub with_line_end : List ℕ → List ℕ
 with_line_end text = text ++ line_end text

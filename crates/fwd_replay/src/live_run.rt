@@ -20,10 +20,9 @@ ghost use Rattle.fwd_replay.specs.declared.report.Ending.TheVariants as ending;
 use crate::names::Named;
 use crate::report::{Ending, Reported, Shown, report_text};
 use fwd_base::{Bytes, Memory};
-use fwd_engine::{BeginErr, Engine, RunEnd, run, shown_of};
+use fwd_engine::{BeginErr, Engine, RunEnd, run};
 use fwd_outside::{Disk, Ends, Files, Loop};
 use fwd_settings::{AllSettings, ends};
-use fwd_watch::Watch;
 use std::alloc::Global;
 use std::thread::Threads;
 
@@ -62,7 +61,6 @@ fn run_engine<L: Loop, D: Disk, F: Files>(
     files: &mut F,
     outside: &mut L,
     most: u64,
-    watch: &mut impl Watch,
 ) -> Result<Reported, Memory>
     requires { IsNamedOf named.now engine.old }
     ensures run { (others : CallLogs) (s : AllSettings) (h : History) → IsAt engine.old s h → IsNamed named.now s → ActionProduces s (after_recovery s ends.now ticks most (Some h)) (with_all (L.call_log outside.old) (D.call_log disk.old) (F.call_log files.old) others) (with_all (L.call_log outside.new) (D.call_log disk.new) (F.call_log files.new) others) result }
@@ -71,7 +69,7 @@ fn run_engine<L: Loop, D: Disk, F: Files>(
     ensures disk_cause { HasCause (D.faults disk.old) (D.faults disk.new) (ending_of result ≡ ending.DiskFailed) }
     ensures files_later { F.faults files.old ≤ F.faults files.new }
 {
-    match run(rt, engine, ends, ticks, disk, files, outside, most, watch) {
+    match run(rt, engine, ends, ticks, disk, files, outside, most) {
         Ok(end) => reported(alloc, named, engine, end),
         Err(Memory) => Err(Memory),
     }
@@ -89,7 +87,6 @@ fn run_and_drop<L: Loop, D: Disk, F: Files>(
     files: &mut F,
     outside: &mut L,
     most: u64,
-    watch: &mut impl Watch,
 ) -> Result<Reported, Memory>
     requires { IsNamedOf named.now engine }
     ensures run { (others : CallLogs) (s : AllSettings) (h : History) → IsAt engine s h → IsNamed named.now s → ActionProduces s (after_recovery s ends.now ticks most (Some h)) (with_all (L.call_log outside.old) (D.call_log disk.old) (F.call_log files.old) others) (with_all (L.call_log outside.new) (D.call_log disk.new) (F.call_log files.new) others) result }
@@ -98,7 +95,6 @@ fn run_and_drop<L: Loop, D: Disk, F: Files>(
     ensures disk_cause { HasCause (D.faults disk.old) (D.faults disk.new) (ending_of result ≡ ending.DiskFailed) }
     ensures files_later { F.faults files.old ≤ F.faults files.new }
 {
-    watch.begun(&named.inputs, &named.outputs, shown_of(&engine));
     let call_log = run_engine(
         rt,
         alloc,
@@ -110,9 +106,7 @@ fn run_and_drop<L: Loop, D: Disk, F: Files>(
         files,
         outside,
         most,
-        watch,
     );
-    watch.over(shown_of(&engine));
     let _given_back = engine.finish();
     call_log
 }
@@ -129,7 +123,6 @@ fn begin_and_run<L: Loop, D: Disk, F: Files>(
     files: &mut F,
     outside: &mut L,
     most: u64,
-    watch: &mut impl Watch,
 ) -> Result<Reported, Memory>
     requires sound { MeetsRequirements settings }
     requires named { IsNamed named.now settings }
@@ -142,7 +135,7 @@ fn begin_and_run<L: Loop, D: Disk, F: Files>(
 {
     match Engine::begin(rt, alloc, settings, disk) {
         Ok(engine) => run_and_drop(
-            rt, alloc, named, engine, ends, ticks, disk, files, outside, most, watch,
+            rt, alloc, named, engine, ends, ticks, disk, files, outside, most,
         ),
         Err(BeginErr::DiskFault) => Ok(without_text(alloc, Ending::DiskFailed)),
         Err(BeginErr::Memory) => Err(Memory),
@@ -159,7 +152,6 @@ fn lived<L: Loop, D: Disk, F: Files>(
     files: &mut F,
     outside: &mut L,
     most: u64,
-    watch: &mut impl Watch,
 ) -> Result<Reported, Memory>
     requires { MeetsRequirements settings }
     ensures life { (others : CallLogs) → RunProduces settings ticks most (with_all (L.call_log outside.old) (D.call_log disk.old) (F.call_log files.old) others) (with_all (L.call_log outside.new) (D.call_log disk.new) (F.call_log files.new) others) result }
@@ -171,7 +163,7 @@ fn lived<L: Loop, D: Disk, F: Files>(
     let named = Named::of(alloc, &settings, Shown::Report)?;
     let ends = ends(alloc, &settings)?;
     begin_and_run(
-        rt, alloc, &named, settings, &ends, ticks, disk, files, outside, most, watch,
+        rt, alloc, &named, settings, &ends, ticks, disk, files, outside, most,
     )
 }
 
@@ -179,7 +171,7 @@ fn lived<L: Loop, D: Disk, F: Files>(
 /// events: it loads the disk, and then takes the events of the loop. If a number of clock ticks is given,
 /// the run is stopped after the last of them. The text is the report. The ending is `DiskFailed` or
 /// `LoopFailed` only if a failure of the disk or the loop was counted, and `TurnsSpent` only if the loop
-/// returned that many events. The watcher is told how the run goes, and has no effect on it.
+/// returned that many events.
 pub fn run_live<L: Loop, D: Disk, F: Files>(
     rt: &(impl Threads + Sync),
     alloc: Global,
@@ -189,7 +181,6 @@ pub fn run_live<L: Loop, D: Disk, F: Files>(
     files: &mut F,
     outside: &mut L,
     most: u64,
-    watch: &mut impl Watch,
 ) -> Reported
     requires { MeetsRequirements settings }
     ensures life { (others : CallLogs) → IsRunLive settings ticks most (with_all (L.call_log outside.old) (D.call_log disk.old) (F.call_log files.old) others) (with_all (L.call_log outside.new) (D.call_log disk.new) (F.call_log files.new) others) result }
@@ -198,9 +189,7 @@ pub fn run_live<L: Loop, D: Disk, F: Files>(
     ensures disk_cause { HasCause (D.faults disk.old) (D.faults disk.new) (result.ending ≡ ending.DiskFailed) }
     ensures files_later { F.faults files.old ≤ F.faults files.new }
 {
-    match lived(
-        rt, alloc, settings, ticks, disk, files, outside, most, watch,
-    ) {
+    match lived(rt, alloc, settings, ticks, disk, files, outside, most) {
         Ok(reported) => reported,
         Err(Memory) => without_text(alloc, Ending::Memory),
     }

@@ -8,7 +8,7 @@ ghost use Rattle.std.specs.Prelude.{◌≡◌, ◌*◌, ◌++◌, codes, decimal
 ghost use Rattle.fwd_replay.specs.Load.{config_text, dial_line, ended_line, lines_at, piece_line, schedule_text, text_of, tick_line};
 
 use fwd_base::{Bytes, Memory};
-use itoa::Buffer;
+use itoa::{Buffer, Integer};
 use std::alloc::Global;
 
 /// The texts of a configuration and of a schedule for it.
@@ -42,12 +42,20 @@ const CONFIG: &[u8] = b"[SERVICE]
     Retry_Limit 2
 ";
 
+/// Appends a number.
+fn push_number<I: Integer>(text: &mut Bytes, number: I) -> Result<(), Memory>
+    ensures { OnOk result (text.new ≡ text.old ++ I.text number) }
+{
+    let mut buffer = Buffer::new();
+    text.extend_from_slice(buffer.format(number).as_bytes())
+}
+
 /// Appends the line of the schedule that reads a numbered line.
 fn push_piece(text: &mut Bytes, number: u64) -> Result<(), Memory>
     ensures { OnOk result (text.new ≡ text.old ++ ended_line (piece_line number)) }
 {
     text.extend_from_slice(b"piece 0 1 t:line ")?;
-    text.push_decimal(number)?;
+    push_number(text, number)?;
     text.extend_from_slice(b"\\n\n")?;
     Ok(())
 }
@@ -67,9 +75,8 @@ fn push_dial(text: &mut Bytes, number: u64) -> Result<(), Memory>
 fn push_tick(text: &mut Bytes, number: u64) -> Result<(), Memory>
     ensures { OnOk result (text.new ≡ text.old ++ ended_line (tick_line number)) }
 {
-    let mut buffer = Buffer::new();
     text.extend_from_slice(b"tick ")?;
-    text.extend_from_slice(buffer.format(100 * u128::from(number)).as_bytes())?;
+    push_number(text, 100 * u128::from(number))?;
     text.extend_from_slice(b"\n")?;
     Ok(())
 }

@@ -43,7 +43,13 @@ fn output_names(alloc: Global, outputs: &[OutputSet]) -> Result<Names, Memory>
 fn is_stdout(kind: &OutputKind) -> bool
     ensures { result ≡ is_stdout kind.now }
 {
-    matches!(kind, OutputKind::Stdout { .. })
+    match kind {
+        OutputKind::Stdout { .. } => true,
+        OutputKind::File { .. }
+        | OutputKind::Tcp { .. }
+        | OutputKind::Forward { .. }
+        | OutputKind::Http { .. } => false,
+    }
 }
 
 /// Returns the mask whose bit `i` is set if output `i` is a standard output.

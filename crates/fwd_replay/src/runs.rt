@@ -15,6 +15,7 @@ use fwd_base::{Bytes, Memory};
 use fwd_disk_mem::MemDisk;
 use fwd_script::{Cut, Life, Lives, MemFiles};
 use fwd_settings::AllSettings;
+use itoa::Buffer;
 use std::alloc::Global;
 use std::thread::Threads;
 
@@ -23,9 +24,10 @@ fn crash_line(alloc: Global, cut: Cut) -> Result<Bytes, Memory>
     ensures { IfOk result (λ line. line ≡ crash_line cut) }
 {
     let mut line = Bytes::from_slice(alloc, b"crash ")?;
-    line.push_decimal(cut.calls)?;
+    let mut digits = Buffer::new();
+    line.extend_from_slice(digits.format(cut.calls).as_bytes())?;
     line.extend_from_slice(b" ")?;
-    line.push_decimal(cut.pick)?;
+    line.extend_from_slice(digits.format(cut.pick).as_bytes())?;
     line.extend_from_slice(b"\n")?;
     Ok(line)
 }

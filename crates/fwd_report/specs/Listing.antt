@@ -26,8 +26,7 @@ done_text name = codes " done " ++ quoted name
 -- file's order
 unfoldable pub chunk_text : Brief → List ℕ
 chunk_text brief =
-    codes " chunk " ++ quoted brief.tag ++ codes " events " ++ decimal brief.events ++ codes " bytes "
-    ++ decimal brief.size
+    codes " chunk " ++ quoted brief.tag ++ codes " events " ++ decimal brief.events ++ codes " bytes " ++ decimal brief.size
     ++ codes " torn " ++ decimal brief.torn ++ flat_map done_text brief.done
 
 -- the reason of a refusal
@@ -56,9 +55,7 @@ line_of file = record { stream = file.stream; name = file.name; text = line_text
 
 -- by folder, then by name
 abbrev pub by_folder : ListingLine → ListingLine → Ordering
-by_folder x y =
-    ordering_then (slice_cmp nat_cmp x.stream y.stream)
-    (ordering_then (slice_cmp nat_cmp x.name y.name) (slice_cmp nat_cmp x.text y.text))
+by_folder x y = ordering_then (slice_cmp nat_cmp x.stream y.stream) (ordering_then (slice_cmp nat_cmp x.name y.name) (slice_cmp nat_cmp x.text y.text))
 
 abbrev pub text_of_line : ListingLine → List ℕ
 text_of_line line = line.text

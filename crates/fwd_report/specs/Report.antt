@@ -11,16 +11,14 @@ use Rattle.fwd_table.specs.declared.tally.Tally.{Tally}
 -- an input and its counters
 unfoldable pub input_line : List ℕ → InputTally → List ℕ
 input_line name tally =
-    codes "input " ++ name ++ codes ": batches " ++ decimal tally.batches ++ codes " events "
-    ++ decimal tally.events
+    codes "input " ++ name ++ codes ": batches " ++ decimal tally.batches ++ codes " events " ++ decimal tally.events
     ++ codes " refused " ++ decimal tally.refused ++ codes "\n"
 
 -- an output and its counters
 unfoldable pub output_line : List ℕ → OutputTally → List ℕ
 output_line name tally =
     codes "output " ++ name ++ codes ": ok " ++ decimal tally.good ++ codes " retry " ++ decimal tally.retry
-    ++ codes " error " ++ decimal tally.bad ++ codes " spent " ++ decimal tally.spent ++ codes " lost "
-    ++ decimal tally.lost
+    ++ codes " error " ++ decimal tally.bad ++ codes " spent " ++ decimal tally.spent ++ codes " lost " ++ decimal tally.lost
     ++ codes " taken " ++ decimal tally.taken ++ codes "\n"
 
 -- a line for each input, in order
@@ -34,8 +32,7 @@ output_lines names tallies = flat_map (λ (p : List ℕ × OutputTally). output_
 -- the recovered files, and how many calls failed
 unfoldable pub total_line : Tally → List ℕ
 total_line tally =
-    codes "loaded " ++ decimal tally.loaded ++ codes " unrouted " ++ decimal tally.unrouted ++ codes " left "
-    ++ decimal tally.left
+    codes "loaded " ++ decimal tally.loaded ++ codes " unrouted " ++ decimal tally.unrouted ++ codes " left " ++ decimal tally.left
     ++ codes " faults " ++ decimal tally.faults ++ codes "\n"
 
 -- The number of pending routes: a chunk has one for each output that it is pending for. It saturates at
@@ -51,14 +48,12 @@ is_owed_to output row = list_any (λ r. r.output.0 == output) row.routes
 -- each
 abbrev pub names_from : ℕ → List (List ℕ) → Row → List ℕ
 names_from output [] row = []
-names_from output (name ∷ names) row =
-    (if is_owed_to output row then codes " " ++ name else []) ++ names_from (output + 1) names row
+names_from output (name ∷ names) row = (if is_owed_to output row then codes " " ++ name else []) ++ names_from (output + 1) names row
 
 -- a chunk's id, its tag as JSON text, its size, and the outputs that it is pending for
 unfoldable pub chunk_line : List (List ℕ) → Row → List ℕ
 chunk_line outputs row =
-    codes "chunk " ++ decimal row.chunk.0 ++ codes " " ++ json (text row.tag) ++ codes " " ++ decimal row.size
-    ++ names_from 0 outputs row ++ codes "\n"
+    codes "chunk " ++ decimal row.chunk.0 ++ codes " " ++ json (text row.tag) ++ codes " " ++ decimal row.size ++ names_from 0 outputs row ++ codes "\n"
 
 -- a line for a chunk that is pending for an output, none for any other
 abbrev pub row_lines : List (List ℕ) → Row → List ℕ
@@ -66,11 +61,9 @@ row_lines outputs row = if length row.routes == 0 then [] else chunk_line output
 
 -- how many routes are pending, and a line for each pending chunk, by id
 unfoldable pub owed_part : List (List ℕ) → List Row → List ℕ
-owed_part outputs rows =
-    codes "owed " ++ decimal (owed_routes rows) ++ codes "\n" ++ flat_map (row_lines outputs) rows
+owed_part outputs rows = codes "owed " ++ decimal (owed_routes rows) ++ codes "\n" ++ flat_map (row_lines outputs) rows
 
 -- the report of the named inputs and outputs
 unfoldable pub report_of : List (List ℕ) → List (List ℕ) → List Row → Tally → List ℕ
 report_of inputs outputs rows tally =
-    input_lines inputs tally.inputs ++ output_lines outputs tally.outputs ++ total_line tally
-    ++ owed_part outputs rows
+    input_lines inputs tally.inputs ++ output_lines outputs tally.outputs ++ total_line tally ++ owed_part outputs rows

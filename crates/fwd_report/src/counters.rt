@@ -5,13 +5,23 @@ ghost use Rattle.fwd_report.specs.Report.{input_line, output_line, total_line};
 
 use fwd_base::{Bytes, Memory};
 use fwd_table::{InputTally, OutputTally, Tally};
+use itoa::Buffer;
+
+fn push_number(text: &mut Bytes, number: u64) -> Result<(), Memory>
+    ensures { OnOk result (text.new ≡ text.old ++ decimal number) }
+{
+    let mut buffer = Buffer::new();
+    text.extend_from_slice(buffer.format(number).as_bytes())?;
+    Ok(())
+}
 
 /// Appends a word and a number.
 pub fn push_count(text: &mut Bytes, word: &[u8], count: u64) -> Result<(), Memory>
     ensures { OnOk result (text.new ≡ text.old ++ word.now ++ decimal count) }
 {
     text.extend_from_slice(word)?;
-    text.push_decimal(count)
+    push_number(text, count)?;
+    Ok(())
 }
 
 /// Appends the line of an input.

@@ -13,6 +13,7 @@ mod listing_line;
 mod listing_text;
 mod pending;
 mod sections;
+mod sort_key;
 
 pub use listing_text::{ListErr, listing};
 pub use sections::report;

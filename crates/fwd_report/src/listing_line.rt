@@ -1,21 +1,31 @@
 //! The line of a file in a listing.
 
-ghost use Rattle.std.specs.Prelude.{◌≡◌, ◌++◌, IfOk, OnOk, codes};
+ghost use Rattle.std.specs.Prelude.{◌≡◌, ◌++◌, IfOk, OnOk, codes, decimal};
 ghost use Rattle.std.specs.List.{flat_map};
 ghost use Rattle.fwd_report.specs.Listing.{quoted, done_text, chunk_text, kind_name, seen_text, line_text, line_of};
 
-use crate::counters::push_count;
+use crate::sort_key::SortKey;
 use fwd_backlog::{Brief, ChunkKind, Found, Seen};
 use fwd_base::{Bytes, Memory, Names};
 use fwd_json::{Value, json_text};
+use itoa::Buffer;
 use std::alloc::Global;
 
 /// A line of the listing, with the folder and the name that order the lines.
 #[derive(Debug, PartialEq, Eq, PartialOrd, Ord, Drop)]
 pub struct ListingLine {
-    pub stream: Bytes,
-    pub name: Bytes,
-    pub text: Bytes,
+    pub stream: SortKey,
+    pub name: SortKey,
+    pub text: SortKey,
+}
+
+/// Appends a word and a number.
+pub fn push_count(text: &mut Bytes, word: &[u8], count: u64) -> Result<(), Memory>
+    ensures { OnOk result (text.new ≡ text.old ++ word.now ++ decimal count) }
+{
+    let mut buffer = Buffer::new();
+    text.extend_from_slice(word)?;
+    text.extend_from_slice(buffer.format(count).as_bytes())
 }
 
 /// Appends the JSON string of a UTF-8 text.
@@ -110,8 +120,8 @@ pub fn line_of(alloc: Global, file: &Found) -> Result<ListingLine, Memory>
     ensures { IfOk result (λ line. line ≡ line_of file.now) }
 {
     Ok(ListingLine {
-        stream: Bytes::from_slice(alloc, file.stream.as_slice())?,
-        name: Bytes::from_slice(alloc, file.name.as_slice())?,
-        text: line_text(alloc, file)?,
+        stream: SortKey::new(Bytes::from_slice(alloc, file.stream.as_slice())?),
+        name: SortKey::new(Bytes::from_slice(alloc, file.name.as_slice())?),
+        text: SortKey::new(line_text(alloc, file)?),
     })
 }

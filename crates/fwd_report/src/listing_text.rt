@@ -12,8 +12,7 @@ ghost use Rattle.fwd_backlog.specs.LoadProgram.{load_program, IsBacklog};
 ghost use Rattle.fwd_backlog.specs.Recovered.{AreRecoveredFrom, LeavesNoMore};
 ghost use Rattle.fwd_report.specs.Listing.{line_of, by_folder, text_of_line, count_line, IsListing};
 
-use crate::counters::push_count;
-use crate::listing_line::{ListingLine, line_of};
+use crate::listing_line::{ListingLine, line_of, push_count};
 use fwd_backlog::{Found, LoadErr, load_all};
 use fwd_base::{Bytes, Memory};
 use fwd_outside::Disk;

@@ -10,9 +10,7 @@ use Rattle.fwd_retry.specs.declared.timer.Timer.{Timer}
 -- whether a comes before b: by due time, then chunk, then output
 abbrev pub is_before : Timer → Timer → Bool
 is_before a b =
-    nat_lt a.due b.due
-    || (a.due == b.due
-    && (nat_lt a.chunk.0 b.chunk.0 || (a.chunk.0 == b.chunk.0 && nat_lt a.output.0 b.output.0)))
+    nat_lt a.due b.due || (a.due == b.due && (nat_lt a.chunk.0 b.chunk.0 || (a.chunk.0 == b.chunk.0 && nat_lt a.output.0 b.output.0)))
 
 -- whether a timer comes after the given one, if one is given
 abbrev pub is_after : Option Timer → Timer → Bool
@@ -43,9 +41,7 @@ pub record IsFirst (timers : List Timer) (timer : Timer) : Type 0 where
 
 -- by due time, then by chunk, then by output
 abbrev pub by_time : Timer → Timer → Ordering
-by_time a b =
-    ordering_then (nat_cmp a.due b.due)
-    (ordering_then (nat_cmp a.chunk.0 b.chunk.0) (nat_cmp a.output.0 b.output.0))
+by_time a b = ordering_then (nat_cmp a.due b.due) (ordering_then (nat_cmp a.chunk.0 b.chunk.0) (nat_cmp a.output.0 b.output.0))
 
 -- the timers in this order, each once
 abbrev pub in_time : List Timer → List Timer

@@ -16,5 +16,4 @@ IsWith timer old new = (other : Timer) → Contains new other ↔ (Contains old 
 
 -- the old timers without those of this chunk and output
 abbrev pub IsWithout : ChunkId → OutputId → List Timer → List Timer → Type 0
-IsWithout chunk output old new =
-    (other : Timer) → Contains new other ↔ (Contains old other × ¬ IsTrue (is_of chunk output other))
+IsWithout chunk output old new = (other : Timer) → Contains new other ↔ (Contains old other × ¬ IsTrue (is_of chunk output other))

@@ -10,8 +10,7 @@ use std::alloc::Global;
 use std::marker::Model;
 
 /// The timers that were set and not cleared. Contracts see them as a list without an order, and how many
-/// more are reserved. The program doesn't use it (its timers are the rows of `fwd_table`): it is for callers
-/// without a table.
+/// more are reserved.
 #[derive(Debug, Drop)]
 pub struct Timers {
     timers: Vec<Timer>,

@@ -35,13 +35,11 @@ readable_after given es path = if works es then found (files_after_all given es)
 
 abbrev pub answer_behind : FilesGiven → List FilesEntry → (call : FilesCall) → FilesAnswer call
 answer_behind given es (Length path) = option_map length (readable_after given es path)
-answer_behind given es (ReadAt path at max) =
-    option_map (λ bytes. take max (drop at bytes)) (readable_after given es path)
+answer_behind given es (ReadAt path at max) = option_map (λ bytes. take max (drop at bytes)) (readable_after given es path)
 answer_behind given es (Changed path bytes) = tt
 answer_behind given es (FailAt number) = tt
 
 -- each of these calls, after the others, has the answer that the files give
 abbrev pub IsPlayed : FilesGiven → List FilesEntry → List FilesEntry → Type 0
 IsPlayed given before [] = Unit {0}
-IsPlayed given before (e ∷ es) =
-    (e.answer ≡ answer_behind given before e.call) × IsPlayed given (before ++ e ∷ []) es
+IsPlayed given before (e ∷ es) = (e.answer ≡ answer_behind given before e.call) × IsPlayed given (before ++ e ∷ []) es

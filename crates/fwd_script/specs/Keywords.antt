@@ -31,9 +31,7 @@ name_of Crash = codes "crash"
 
 -- all keywords
 unfoldable pub keywords : List Keyword
-keywords =
-    Tick ∷ Ticks ∷ Joined ∷ Piece ∷ Gone ∷ InputEnd ∷ Room ∷ Back ∷ Broken ∷ Stop ∷ Failed ∷ Append ∷ Cut
-    ∷ Dial ∷ Push ∷ Reply ∷ Word ∷ Disk ∷ File ∷ Store ∷ Crash ∷ []
+keywords = Tick ∷ Ticks ∷ Joined ∷ Piece ∷ Gone ∷ InputEnd ∷ Room ∷ Back ∷ Broken ∷ Stop ∷ Failed ∷ Append ∷ Cut ∷ Dial ∷ Push ∷ Reply ∷ Word ∷ Disk ∷ File ∷ Store ∷ Crash ∷ []
 
 abbrev pub is_named : List ℕ → Keyword → Bool
 is_named word keyword = bytes_eq (name_of keyword) word

@@ -43,8 +43,7 @@ entries_of at (Change change) = preset_entries (path_of change) (changed change 
 -- the trace of notes
 abbrev pub entries_from : FilesGiven → List FilesNote → List FilesEntry
 entries_from at [] = []
-entries_from at (note ∷ notes) =
-    entries_of at note ++ entries_from (files_after_all at (entries_of at note)) notes
+entries_from at (note ∷ notes) = entries_of at note ++ entries_from (files_after_all at (entries_of at note)) notes
 
 -- the files after these notes
 abbrev pub files_now : FilesGiven → List FilesNote → FilesGiven
@@ -62,12 +61,10 @@ with_note held note = record held { notes = held.notes ++ note ∷ [] }
 
 -- after a failed call
 abbrev pub with_fault : FilesState → FilesNote → FilesState
-with_fault held note =
-    record held { notes = held.notes ++ note ∷ []; faults = min (held.faults + 1) (2 ^ 64 - 1) }
+with_fault held note = record held { notes = held.notes ++ note ∷ []; faults = min (held.faults + 1) (2 ^ 64 - 1) }
 
 -- A call returns this answer and is recorded. Out of memory changes nothing.
-abbrev pub Answered : {T : Type 0} → Result T FileErr → Option T → (Option T → FilesNote) → FilesState
-    → FilesState → Type 0
+abbrev pub Answered : {T : Type 0} → Result T FileErr → Option T → (Option T → FilesNote) → FilesState → FilesState → Type 0
 Answered (Ok value) answer note old new = (answer ≡ Some value) × (new ≡ with_note old (note (Some value)))
 Answered (Err file_err.Failed) answer note old new = (answer ≡ None) × (new ≡ with_fault old (note None))
 Answered (Err file_err.Memory) answer note old new = new ≡ old
@@ -78,17 +75,13 @@ SameFiles a b = (path : List ℕ) → found a path ≡ found b path
 
 -- The fields of files in memory beside their record: the bytes of each file now, the number of calls, and
 -- the numbers of the calls that are to fail.
-pub record IsKept (given now : FilesGiven) (notes : List FilesNote) (calls : ℕ)
-    (fails : List ℕ) : Type 0 where
+pub record IsKept (given now : FilesGiven) (notes : List FilesNote) (calls : ℕ) (fails : List ℕ) : Type 0 where
   pub same : SameFiles now (files_now given notes)
   pub honest : IsConsistentLog given (entries_from given notes)
   pub played : IsPlayed given [] (entries_from given notes)
   pub counted : calls ≡ made_of (entries_from given notes)
-  pub failing : (number : ℕ)
-      → list_any (is_at (nat_cmp number)) fails
-      ≡ list_any (λ n. n == number) (fails_of (entries_from given notes))
+  pub failing : (number : ℕ) → list_any (is_at (nat_cmp number)) fails ≡ list_any (λ n. n == number) (fails_of (entries_from given notes))
 
 -- The file of this path has this content now, or is missing for `None`, and the others are unchanged.
 abbrev pub HasContent : List ℕ → Option (List ℕ) → FilesGiven → FilesGiven → Type 0
-HasContent path content old new =
-    (other : List ℕ) → found new other ≡ (if bytes_eq path other then content else found old other)
+HasContent path content old new = (other : List ℕ) → found new other ≡ (if bytes_eq path other then content else found old other)

@@ -33,9 +33,7 @@ with_write held piece = record held { notes = held.notes ++ note_of piece true �
 
 -- after a failed write
 abbrev pub with_fault : SinkState → List ℕ → SinkState
-with_fault held piece =
-    record held
-    { notes = held.notes ++ note_of piece false ∷ []; faults = min (held.faults + 1) (2 ^ 64 - 1) }
+with_fault held piece = record held { notes = held.notes ++ note_of piece false ∷ []; faults = min (held.faults + 1) (2 ^ 64 - 1) }
 
 -- A write fails exactly if it is to fail, and is recorded. Out of memory changes nothing.
 abbrev pub Answered : {T : Type 0} → Result T SinkErr → List ℕ → SinkState → SinkState → Type 0

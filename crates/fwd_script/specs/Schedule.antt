@@ -56,23 +56,17 @@ is_happening (Changes change) = false
 
 -- a run with a cut is complete with the loop event
 abbrev pub with_complete_life : Life → ScheduleReader → ScheduleReader
-with_complete_life life so_far =
-    if is_some life.cut then record so_far { lives = so_far.lives ++ life ∷ []; life = empty_life }
-    else record so_far { life = life }
+with_complete_life life so_far = if is_some life.cut then record so_far { lives = so_far.lives ++ life ∷ []; life = empty_life } else record so_far { life = life }
 
 -- the state of the reader after a line of this meaning
 abbrev pub after : LineMeaning → ScheduleReader → ScheduleReader
 after (Plans planned) so_far =
     with_complete_life (record so_far.life { lines = so_far.life.lines ++ planned ∷ [] })
     (record so_far { left = so_far.left - ticks_of planned; begun = is_happening planned || so_far.begun })
-after (Answers given) so_far =
-    record so_far { life = record so_far.life { answers = so_far.life.answers ++ given ∷ [] } }
-after (DiskFails call) so_far =
-    record so_far { life = record so_far.life { disk_fails = so_far.life.disk_fails ++ call ∷ [] } }
-after (FileFails call) so_far =
-    record so_far { life = record so_far.life { file_fails = so_far.life.file_fails ++ call ∷ [] } }
-after (Stores stored) so_far =
-    record so_far { life = record so_far.life { store = so_far.life.store ++ stored ∷ [] } }
+after (Answers given) so_far = record so_far { life = record so_far.life { answers = so_far.life.answers ++ given ∷ [] } }
+after (DiskFails call) so_far = record so_far { life = record so_far.life { disk_fails = so_far.life.disk_fails ++ call ∷ [] } }
+after (FileFails call) so_far = record so_far { life = record so_far.life { file_fails = so_far.life.file_fails ++ call ∷ [] } }
+after (Stores stored) so_far = record so_far { life = record so_far.life { store = so_far.life.store ++ stored ∷ [] } }
 after (Crashes cut) so_far = record so_far { life = record so_far.life { cut = Some cut }; begun = true }
 
 abbrev pub one_happening : Option Keyword → Bool
@@ -82,9 +76,7 @@ one_happening (Some keyword) = is_one_happening keyword
 -- whether the keyword of the next line that isn't skipped has exactly one loop event
 abbrev pub next_is_happening : List (List ℕ) → Bool
 next_is_happening [] = false
-next_is_happening (line ∷ lines) =
-    if is_passed_over line then next_is_happening lines
-    else one_happening (keyword_of (split_at_byte 32 line).0)
+next_is_happening (line ∷ lines) = if is_passed_over line then next_is_happening lines else one_happening (keyword_of (split_at_byte 32 line).0)
 
 -- whether a line of this meaning is allowed here, before those lines
 abbrev pub in_order : ScheduleReader → LineMeaning → List (List ℕ) → Bool
@@ -95,8 +87,7 @@ in_order so_far (FileFails call) behind = true
 in_order so_far (Stores stored) behind = not so_far.begun
 in_order so_far (Crashes cut) behind = next_is_happening behind
 
-abbrev pub ordered : ScheduleReader → List (List ℕ) → Result LineMeaning ScheduleKind
-    → Result LineMeaning ScheduleKind
+abbrev pub ordered : ScheduleReader → List (List ℕ) → Result LineMeaning ScheduleKind → Result LineMeaning ScheduleKind
 ordered so_far behind (Ok meaning) = if in_order so_far meaning behind then Ok meaning else Err BadOrder
 ordered so_far behind (Err kind) = Err kind
 
@@ -108,8 +99,7 @@ judge so_far line behind = ordered so_far behind (line_meaning so_far.left line)
 abbrev pub schedule_so_far : ScheduleReader → Schedule
 schedule_so_far so_far = record { lives = so_far.lives ++ so_far.life ∷ [] }
 
-abbrev pub go_on : ℕ → (LineMeaning → Result Schedule ScheduleRefused) → Result LineMeaning ScheduleKind
-    → Result Schedule ScheduleRefused
+abbrev pub go_on : ℕ → (LineMeaning → Result Schedule ScheduleRefused) → Result LineMeaning ScheduleKind → Result Schedule ScheduleRefused
 go_on number next (Ok meaning) = next meaning
 go_on number next (Err kind) = Err (record { kind = kind; line = number })
 
@@ -118,8 +108,7 @@ abbrev pub read_on : ScheduleReader → ℕ → List (List ℕ) → Result Sched
 read_on so_far number [] = Ok (schedule_so_far so_far)
 read_on so_far number (line ∷ behind) =
     if is_passed_over line then read_on so_far (number + 1) behind
-    else go_on number (λ meaning. read_on (after meaning so_far) (number + 1) behind)
-    (judge so_far line behind)
+    else go_on number (λ meaning. read_on (after meaning so_far) (number + 1) behind) (judge so_far line behind)
 
 unfoldable pub schedule_of : List ℕ → Result Schedule ScheduleRefused
 schedule_of text = read_on reader_start 1 (lines_of text)

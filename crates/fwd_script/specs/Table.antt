@@ -50,9 +50,7 @@ link = do
 abbrev pub ok_or_word : List ℕ → Reader Bool
 ok_or_word not_taken = do
   chosen ← word
-  judged UnknownWord
-      (if bytes_eq chosen (codes "ok") then Some true else if bytes_eq chosen not_taken then Some false
-      else None)
+  judged UnknownWord (if bytes_eq chosen (codes "ok") then Some true else if bytes_eq chosen not_taken then Some false else None)
 
 -- `took N`, `again` or `broken`
 abbrev pub push_by : List ℕ → Reader PushWord
@@ -61,9 +59,7 @@ push_by chosen =
     then (do
       taken ← number
       judged UnknownWord (Some (push.Took taken)))
-    else judged UnknownWord
-    (if bytes_eq chosen (codes "again") then Some push.Again
-    else if bytes_eq chosen (codes "broken") then Some push.Broken else None)
+    else judged UnknownWord (if bytes_eq chosen (codes "again") then Some push.Again else if bytes_eq chosen (codes "broken") then Some push.Broken else None)
 
 abbrev pub push_word : Reader PushWord
 push_word = do
@@ -155,5 +151,4 @@ whole_line (Ok read) = Ok read.0
 whole_line (Err kind) = Err kind
 
 abbrev pub line_meaning : ℕ → List ℕ → Result LineMeaning ScheduleKind
-line_meaning left line =
-    whole_line (row_of (keyword_of (split_at_byte 32 line).0) left (split_at_byte 32 line).1)
+line_meaning left line = whole_line (row_of (keyword_of (split_at_byte 32 line).0) left (split_at_byte 32 line).1)

@@ -30,15 +30,12 @@ abbrev pub is_text : ℕ → Bool
 is_text byte = (nat_le 32 byte && nat_le byte 126) || (byte == 10 || (byte == 13 || byte == 9))
 
 abbrev pub octets_text : List ℕ → List ℕ
-octets_text bytes =
-    if list_all is_text bytes then codes "t:" ++ flat_map byte_text bytes
-    else codes "x:" ++ encode_lower bytes
+octets_text bytes = if list_all is_text bytes then codes "t:" ++ flat_map byte_text bytes else codes "x:" ++ encode_lower bytes
 
 abbrev pub happening_text : Happening → List ℕ
 happening_text (Tick now) = codes "tick " ++ decimal now
 happening_text (Joined input conn) = codes "joined " ++ decimal input.0 ++ codes " " ++ decimal conn.0
-happening_text (Piece input conn bytes) =
-    codes "piece " ++ decimal input.0 ++ codes " " ++ decimal conn.0 ++ codes " " ++ octets_text bytes
+happening_text (Piece input conn bytes) = codes "piece " ++ decimal input.0 ++ codes " " ++ decimal conn.0 ++ codes " " ++ octets_text bytes
 happening_text (Gone input conn) = codes "gone " ++ decimal input.0 ++ codes " " ++ decimal conn.0
 happening_text (Room link) = codes "room " ++ decimal link.0
 happening_text (Back link bytes) = codes "back " ++ decimal link.0 ++ codes " " ++ octets_text bytes
@@ -51,8 +48,7 @@ happening_text End = []
 
 abbrev pub planned_text : Planned → List ℕ
 planned_text (Happens happening) = happening_text happening
-planned_text (Ticks first step count) =
-    codes "ticks " ++ decimal first ++ codes " " ++ decimal step ++ codes " " ++ decimal count
+planned_text (Ticks first step count) = codes "ticks " ++ decimal first ++ codes " " ++ decimal step ++ codes " " ++ decimal count
 planned_text (Changes (change.Append path bytes)) = codes "append " ++ path ++ codes " " ++ octets_text bytes
 planned_text (Changes (change.Cut path most)) = codes "cut " ++ path ++ codes " " ++ decimal most
 
@@ -62,8 +58,7 @@ push_text push.Again = codes "again"
 push_text push.Broken = codes "broken"
 
 abbrev pub given_text : Given → List ℕ
-given_text (given.Dial output taken) =
-    codes "dial " ++ decimal output.0 ++ (if taken then codes " ok" else codes " refused")
+given_text (given.Dial output taken) = codes "dial " ++ decimal output.0 ++ (if taken then codes " ok" else codes " refused")
 given_text (given.Push output push) = codes "push " ++ decimal output.0 ++ codes " " ++ push_text push
 given_text (given.Reply taken) = if taken then codes "reply ok" else codes "reply broken"
 given_text (given.Word word) = codes "word " ++ decimal word
@@ -77,9 +72,7 @@ crash_text cut = codes "crash " ++ decimal cut.calls ++ codes " " ++ decimal cut
 -- the lines of a plan; a crash comes before the last
 abbrev pub plan_lines : Option Cut → List Planned → List (List ℕ)
 plan_lines None plan = map planned_text plan
-plan_lines (Some cut) plan =
-    map planned_text (take (length plan - 1) plan)
-    ++ crash_text cut ∷ map planned_text (drop (length plan - 1) plan)
+plan_lines (Some cut) plan = map planned_text (take (length plan - 1) plan) ++ crash_text cut ∷ map planned_text (drop (length plan - 1) plan)
 
 abbrev pub disk_text : ℕ → List ℕ
 disk_text call = codes "disk " ++ decimal call
@@ -89,8 +82,7 @@ file_text call = codes "file " ++ decimal call
 
 abbrev pub life_lines : Life → List (List ℕ)
 life_lines life =
-    map stored_text life.store ++ map disk_text life.disk_fails ++ map file_text life.file_fails
-    ++ map given_text life.answers ++ plan_lines life.cut life.lines
+    map stored_text life.store ++ map disk_text life.disk_fails ++ map file_text life.file_fails ++ map given_text life.answers ++ plan_lines life.cut life.lines
 
 -- each line ends in a line feed
 abbrev pub ended_line : List ℕ → List ℕ

@@ -11,8 +11,7 @@ use Rattle.fwd_script.specs.declared.refusal.ScheduleKind.TheVariants.{UnknownWo
 -- the text before the first of these bytes, and the text after it; `None` if the byte doesn't occur
 abbrev pub split_at_byte : ℕ → List ℕ → List ℕ × Option (List ℕ)
 split_at_byte byte [] = ([], None)
-split_at_byte byte (x ∷ xs) =
-    if x == byte then ([], Some xs) else (x ∷ (split_at_byte byte xs).0, (split_at_byte byte xs).1)
+split_at_byte byte (x ∷ xs) = if x == byte then ([], Some xs) else (x ∷ (split_at_byte byte xs).0, (split_at_byte byte xs).1)
 
 -- the rest of a line after the words that were read; `None` at the end of the line
 abbrev pub Left : Type 0
@@ -23,8 +22,7 @@ abbrev pub Reader : Type 0 → Type 0
 Reader X = Left → Result (X × Left) ScheduleKind
 
 -- one reader, and then the one for its meaning
-abbrev pub then_read : {X Y : Type 0} → (X → Reader Y) → Result (X × Left) ScheduleKind
-    → Result (Y × Left) ScheduleKind
+abbrev pub then_read : {X Y : Type 0} → (X → Reader Y) → Result (X × Left) ScheduleKind → Result (Y × Left) ScheduleKind
 then_read next (Ok read) = next read.0 read.1
 then_read next (Err kind) = Err kind
 
@@ -85,8 +83,7 @@ in_front None bytes = None
 abbrev pub unescaped : List ℕ → Option (List ℕ)
 unescaped [] = Some []
 unescaped (x ∷ []) = if x == 92 then None else Some (x ∷ [])
-unescaped (x ∷ y ∷ rest) =
-    if x == 92 then in_front (escaped y) (unescaped rest) else in_front (Some x) (unescaped (y ∷ rest))
+unescaped (x ∷ y ∷ rest) = if x == 92 then in_front (escaped y) (unescaped rest) else in_front (Some x) (unescaped (y ∷ rest))
 
 abbrev pub decoded : Result (List ℕ) FromHexError → Option (List ℕ)
 decoded (Ok bytes) = Some bytes
@@ -100,16 +97,13 @@ octets (Some rest) =
     else hex_word (split_at_byte 32 rest)
   where
     hex_word : List ℕ × Left → Result (List ℕ × Left) ScheduleKind
-    hex_word (digits, left) =
-        if starts_with nat_eq digits (codes "x:")
-        then judged BadHex (decoded (decode_of (drop 2 digits))) left else Err BadHex
+    hex_word (digits, left) = if starts_with nat_eq digits (codes "x:") then judged BadHex (decoded (decode_of (drop 2 digits))) left else Err BadHex
 
 -- the BYTES of a read event: at least one, and at most the longest piece
 abbrev pub piece : Reader (List ℕ)
 piece = do
   bytes ← octets
-  judged BadNumber
-      (if nat_lt 0 (length bytes) && nat_le (length bytes) longest_piece then Some bytes else None)
+  judged BadNumber (if nat_lt 0 (length bytes) && nat_le (length bytes) longest_piece then Some bytes else None)
 
 -- the meaning that was read, and the rest after it; `Memory` says nothing
 abbrev pub Reads : {X : Type 0} → Reader X → Left → Result X ScheduleKind → Left → Type 0

@@ -39,8 +39,7 @@ pub record IsName (name : List ℕ) : Type 0 where
 abbrev pub HappeningFits : Happening → Type 0
 HappeningFits (Tick now) = Is64 now
 HappeningFits (Joined input conn) = Is32 input.0 × Is64 conn.0
-HappeningFits (Piece input conn bytes) =
-    Is32 input.0 × Is64 conn.0 × (0 < length bytes) × (length bytes ≤ longest_piece) × IsBytes bytes
+HappeningFits (Piece input conn bytes) = Is32 input.0 × Is64 conn.0 × (0 < length bytes) × (length bytes ≤ longest_piece) × IsBytes bytes
 HappeningFits (Gone input conn) = Is32 input.0 × Is64 conn.0
 HappeningFits (Room link) = Is64 link.0
 HappeningFits (Back link bytes) = Is64 link.0 × IsBytes bytes

@@ -9,14 +9,23 @@ ghost use Rattle.fwd_script.specs.Text.{byte_text, crash_text, disk_text, ended_
 use crate::{Cut, FileChange, Given, Life, Planned, PushWord, Schedule, Stored};
 use fwd_base::{Bytes, Memory};
 use fwd_outside::Happening;
+use itoa::Buffer;
 use std::alloc::Global;
+
+/// Appends a decimal number.
+fn write_number(text: &mut Bytes, number: u64) -> Result<(), Memory>
+    ensures { OnOk result (text.new ≡ text.old ++ decimal number) }
+{
+    let mut buffer = Buffer::new();
+    text.extend_from_slice(buffer.format(number).as_bytes())
+}
 
 /// Returns a word and a number.
 fn with_number(alloc: Global, words: &[u8], number: u64) -> Result<Bytes, Memory>
     ensures { IfOk result (λ line. line ≡ words.now ++ decimal number) }
 {
     let mut line = Bytes::from_slice(alloc, words)?;
-    line.push_decimal(number)?;
+    write_number(&mut line, number)?;
     Ok(line)
 }
 
@@ -37,7 +46,7 @@ fn with_numbers(alloc: Global, words: &[u8], first: u64, second: u64) -> Result<
 {
     let mut line = with_number(alloc, words, first)?;
     line.extend_from_slice(b" ")?;
-    line.push_decimal(second)?;
+    write_number(&mut line, second)?;
     Ok(line)
 }
 
@@ -159,7 +168,7 @@ fn ticks_line(alloc: Global, first: u64, step: u64, count: u64) -> Result<Bytes,
 {
     let mut line = with_numbers(alloc, b"ticks ", first, step)?;
     line.extend_from_slice(b" ")?;
-    line.push_decimal(count)?;
+    write_number(&mut line, count)?;
     Ok(line)
 }
 
@@ -169,7 +178,7 @@ fn cut_line(alloc: Global, path: &[u8], length: u64) -> Result<Bytes, Memory>
     let mut line = Bytes::from_slice(alloc, b"cut ")?;
     line.extend_from_slice(path)?;
     line.extend_from_slice(b" ")?;
-    line.push_decimal(length)?;
+    write_number(&mut line, length)?;
     Ok(line)
 }
 
@@ -340,7 +349,7 @@ fn write_lives(alloc: Global, text: &mut Bytes, lives: &[Life]) -> Result<(), Me
 /// and clock readings keep the limits of the format; and no line is `End`. Any other schedule is written by
 /// the same rules, and the meaning of its text is unspecified.
 ///
-/// The only error is out of memory. The program doesn't use it: it is for tools that generate schedules.
+/// The only error is out of memory.
 pub fn write_schedule(alloc: Global, s: &Schedule) -> Result<Bytes, Memory>
     ensures text { IfOk result (λ text. text ≡ text_of s.now) }
     ensures read_back { IsWritable s.now → IfOk result (λ text. schedule_of text ≡ Ok s.now) }

@@ -1,6 +1,5 @@
 -- The remaining events of a run, as they go into the queue and out of it.
-use Rattle.std.proofs.Common.{◌≡◌, ℕ, ◌+◌, Bool, true, false, not, ◌&&◌, eqb, leb, if◌then◌else◌, List, [], ◌∷◌, ◌++◌, length, get_or, drop, find, map, remove, Option, Some, None, option_map, unwrap_or, refl, sym, ap, subst, ◌∙◌, append_assoc, arith}
-use Rattle.std.specs.Int.{bit_at}
+use Rattle.std.proofs.Common.{◌≡◌, ℕ, ◌+◌, Bool, true, false, not, ◌&&◌, leb, if◌then◌else◌, List, [], ◌∷◌, ◌++◌, length, get_or, drop, find, map, remove, Option, Some, None, option_map, unwrap_or, refl, sym, ap, subst, ◌∙◌, append_assoc, arith}
 use Rattle.std.proofs.lemmas.Bool.{leb-true}
 use Rattle.fwd_outside.specs.declared.happening.Happening.{Happening}
 use Rattle.fwd_outside.specs.declared.happening.Happening.TheVariants.{Tick, Joined, Piece, Gone, Room, Back, Broken, InputEnd, Stop, End, Failed}
@@ -17,7 +16,7 @@ use Rattle.fwd_script_loop.specs.declared.run_events.MovedEvent.TheVariants as f
 use Rattle.fwd_script_loop.specs.RunEvents.{Fetches, Finds, ahead_of}
 use Rattle.fwd_script_loop.specs.FirstMatch.{IsFirst, first_in, without_first}
 use Rattle.fwd_script_loop.specs.Lines.{ends_life, is_last, line_ahead, place_in}
-use Rattle.fwd_script_loop.specs.PauseMask.{comes, happening_of, hears, is_heard, next_happening}
+use Rattle.fwd_script_loop.specs.PauseMask.{comes, happening_of, hears, is_heard, is_set, next_happening}
 use Rattle.fwd_script_loop.proofs.FirstMatches.{find_here, find_map, first_behind, without_here}
 use Rattle.fwd_script_loop.proofs.MaskBits.{not_set}
 
@@ -135,8 +134,8 @@ both : (a b : Bool) → (a && b) ≡ true → (a ≡ true) × (b ≡ true)
 both true b is = (refl, is)
 both false b is = absurd (cc is)
 
-heard : (paused : ℕ) (input : InputId) → not (eqb (bit_at paused input.0) 1) ≡ true → IsNotPaused paused input
-heard paused input is set = not_set paused input.0 (false_of (eqb (bit_at paused input.0) 1) is) set
+heard : (paused : ℕ) (input : InputId) → not (is_set paused input.0) ≡ true → IsNotPaused paused input
+heard paused input is set = not_set paused input.0 (false_of (is_set paused input.0) is) set
 
 -- an event that passes the mask and is valid may come
 pub may : (paused : ℕ) (brought : Happening) → is_heard paused brought ≡ true → comes brought ≡ true → MayOccur false paused brought

@@ -10,5 +10,4 @@ lane_of lanes output = unwrap_or (get nat_cmp lanes output) []
 -- those answers of a list that belong to an output
 abbrev pub picked : {T : Type 0} → ℕ → List (ℕ × T) → List T
 picked output [] = []
-picked output (answer ∷ answers) =
-    if answer.0 == output then answer.1 ∷ picked output answers else picked output answers
+picked output (answer ∷ answers) = if answer.0 == output then answer.1 ∷ picked output answers else picked output answers

@@ -17,12 +17,8 @@ pub record AnswersLeft (a : Answers) (p : Place) : Type 0 where
 
 -- one more answer is appended to those of its kind
 pub record Adds (old new : Answers) (given : Given) : Type 0 where
-  pub dials : (output : ℕ)
-      → lane_of new.dials.lanes output
-      ≡ lane_of old.dials.lanes output ++ picked output (cons_option (dial_in given) [])
-  pub pushes : (output : ℕ)
-      → map word_answer (lane_of new.pushes.lanes output)
-      ≡ map word_answer (lane_of old.pushes.lanes output) ++ picked output (cons_option (push_in given) [])
+  pub dials : (output : ℕ) → lane_of new.dials.lanes output ≡ lane_of old.dials.lanes output ++ picked output (cons_option (dial_in given) [])
+  pub pushes : (output : ℕ) → map word_answer (lane_of new.pushes.lanes output) ≡ map word_answer (lane_of old.pushes.lanes output) ++ picked output (cons_option (push_in given) [])
   pub replies : new.replies.items ≡ old.replies.items ++ cons_option (reply_in given) []
   pub words : new.words.items ≡ old.words.items ++ cons_option (word_in given) []
   pub links : new.links.items ≡ old.links.items

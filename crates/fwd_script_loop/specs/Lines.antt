@@ -19,14 +19,11 @@ use Rattle.fwd_script_loop.specs.FirstMatch.{first_in}
 -- `count` clock readings from `first` by `step`; a reading above 2^64 - 1 counts as that
 abbrev pub ticks : ℕ → ℕ → ℕ → ℕ → List Coming
 ticks line first step zero = []
-ticks line first step (suc count) =
-    record { line = line; behind = count; happening = happening.Tick (min first (2 ^ 64 - 1)) }
-    ∷ ticks line (first + step) step count
+ticks line first step (suc count) = record { line = line; behind = count; happening = happening.Tick (min first (2 ^ 64 - 1)) } ∷ ticks line (first + step) step count
 
 -- the events of the line at this index
 abbrev pub events_of_line : ℕ → Planned → List Coming
-events_of_line line (Happens happening) =
-    if comes happening then record { line = line; behind = 0; happening = happening } ∷ [] else []
+events_of_line line (Happens happening) = if comes happening then record { line = line; behind = 0; happening = happening } ∷ [] else []
 events_of_line line (Ticks first step count) = ticks line first step count
 events_of_line line (Changes change) = []
 

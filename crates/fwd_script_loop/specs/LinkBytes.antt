@@ -1,7 +1,7 @@
 -- The bytes that links received.
-use Rattle.std.specs.Prelude.{ℕ, zero, suc, ◌==◌, Bool, false, if◌then◌else◌, List, [], ◌∷◌, ◌++◌, take, slice_get, Option, Some, None}
-use Rattle.std.specs.Int.{bit_at}
+use Rattle.std.specs.Prelude.{ℕ, zero, suc, Bool, false, if◌then◌else◌, List, [], ◌∷◌, ◌++◌, take, slice_get, Option, Some, None}
 use Rattle.fwd_outside.specs.Loop.{LoopCall, LoopAnswer, LoopEntry, PushAnswer, Start, Wait, Dial, Push, Close, Reply, DropConn, Word, Took, Again, Broke}
+use Rattle.fwd_script_loop.specs.PauseMask.{is_set}
 
 abbrev pub taken_of : List ℕ → PushAnswer → List ℕ
 taken_of bytes (Took taken) = take taken bytes
@@ -9,7 +9,7 @@ taken_of bytes Again = []
 taken_of bytes Broke = []
 
 abbrev pub is_one_of : ℕ → Option ℕ → Bool
-is_one_of outputs (Some output) = bit_at outputs output == 1
+is_one_of outputs (Some output) = is_set outputs output
 is_one_of outputs None = false
 
 -- whether a link belongs to one of the outputs, by the outputs of all links in the order of their numbers
@@ -34,8 +34,7 @@ dialed_by links (DropConn conn) answer = links
 dialed_by links Word answer = links
 
 abbrev pub taken_by : ℕ → List ℕ → (call : LoopCall) → LoopAnswer call → List ℕ
-taken_by outputs links (Push link bytes) answer =
-    if leads_to outputs links link then taken_of bytes answer else []
+taken_by outputs links (Push link bytes) answer = if leads_to outputs links link then taken_of bytes answer else []
 taken_by outputs links (Start ends) answer = []
 taken_by outputs links (Wait until paused) answer = []
 taken_by outputs links (Dial output tag) answer = []
@@ -47,5 +46,4 @@ taken_by outputs links Word answer = []
 -- the bytes that links of the outputs in a mask received, in order
 abbrev pub handed : ℕ → List ℕ → List LoopEntry → List ℕ
 handed outputs links [] = []
-handed outputs links (e ∷ es) =
-    taken_by outputs links e.call e.answer ++ handed outputs (dialed_by links e.call e.answer) es
+handed outputs links (e ∷ es) = taken_by outputs links e.call e.answer ++ handed outputs (dialed_by links e.call e.answer) es

@@ -6,16 +6,19 @@ use Rattle.fwd_outside.specs.declared.happening.Happening.{Happening}
 use Rattle.fwd_outside.specs.declared.happening.Happening.TheVariants.{Tick, Joined, Piece, Gone, Room, Back, Broken, InputEnd, Stop, End, Failed}
 use Rattle.fwd_script_loop.specs.declared.queue.Coming.{Coming}
 
+abbrev pub is_set : ℕ → ℕ → Bool
+is_set mask bit = bit_at mask bit == 1
+
 -- the input of the event isn't paused
 abbrev pub is_heard : ℕ → Happening → Bool
 is_heard paused (Tick now) = true
-is_heard paused (Joined input conn) = not (bit_at paused input.0 == 1)
-is_heard paused (Piece input conn bytes) = not (bit_at paused input.0 == 1)
-is_heard paused (Gone input conn) = not (bit_at paused input.0 == 1)
+is_heard paused (Joined input conn) = not (is_set paused input.0)
+is_heard paused (Piece input conn bytes) = not (is_set paused input.0)
+is_heard paused (Gone input conn) = not (is_set paused input.0)
 is_heard paused (Room link) = true
 is_heard paused (Back link bytes) = true
 is_heard paused (Broken link) = true
-is_heard paused (InputEnd input) = not (bit_at paused input.0 == 1)
+is_heard paused (InputEnd input) = not (is_set paused input.0)
 is_heard paused Stop = true
 is_heard paused End = true
 is_heard paused Failed = true

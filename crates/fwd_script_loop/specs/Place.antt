@@ -22,9 +22,7 @@ next_for output answers = option_map (λ answer. answer.1) (find (is_for output)
 
 -- the number of the link that a dial gives; `None` if it is refused, as it is if no number is left
 abbrev pub dialed : Place → ℕ → Option ℕ
-dialed place output =
-    if unwrap_or (next_for output place.left.dials) true && nat_lt (length place.links) (2 ^ 64 - 1)
-    then Some (length place.links + 1) else None
+dialed place output = if unwrap_or (next_for output place.left.dials) true && nat_lt (length place.links) (2 ^ 64 - 1) then Some (length place.links + 1) else None
 
 abbrev pub linked_to : List (Option ℕ) → ℕ → Option ℕ → List (Option ℕ)
 linked_to links output (Some number) = links ++ Some output ∷ []
@@ -66,20 +64,13 @@ closed links (suc number) = slice_set links number None
 
 -- the place after each call
 abbrev pub after_wait : Place → ℕ → Place
-after_wait place paused =
-    record place
-    { left = record place.left { happenings = without_first (is_heard paused) place.left.happenings } }
+after_wait place paused = record place { left = record place.left { happenings = without_first (is_heard paused) place.left.happenings } }
 
 abbrev pub after_dial : Place → ℕ → Place
-after_dial place output =
-    record {
-      left = record place.left { dials = without_first (is_for output) place.left.dials };
-      links = linked_to place.links output (dialed place output);
-    }
+after_dial place output = record { left = record place.left { dials = without_first (is_for output) place.left.dials }; links = linked_to place.links output (dialed place output) }
 
 abbrev pub after_push_to : Place → Option ℕ → Place
-after_push_to place (Some output) =
-    record place { left = record place.left { pushes = without_first (is_for output) place.left.pushes } }
+after_push_to place (Some output) = record place { left = record place.left { pushes = without_first (is_for output) place.left.pushes } }
 after_push_to place None = place
 
 abbrev pub after_push : Place → ℕ → Place

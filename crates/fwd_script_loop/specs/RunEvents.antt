@@ -14,8 +14,7 @@ ahead_of course = course.queue ++ unread course.unread
 -- one more event is in the queue, or none is left after the queue
 abbrev pub Fetches : ℕ → RunEvents → RunEvents → MovedEvent → Type 0
 Fetches paused old new (fetched.Coming heard) =
-    (c : Coming) × (new.queue ≡ old.queue ++ c ∷ []) × (hears paused c ≡ heard)
-    × (length (unread new.unread) + 1 ≡ length (unread old.unread))
+    (c : Coming) × (new.queue ≡ old.queue ++ c ∷ []) × (hears paused c ≡ heard) × (length (unread new.unread) + 1 ≡ length (unread old.unread))
 Fetches paused old new fetched.Nothing = (new.queue ≡ old.queue) × (unread new.unread ≡ [])
 
 -- the first event whose input isn't paused is at this index of the queue; there is none if there is no index

@@ -21,23 +21,11 @@ use Rattle.std.specs.Prelude.{Bool, false}
 
 -- a run without calls so far
 abbrev pub new_script : Life → ScriptState
-new_script life =
-    record {
-      lines = life.lines;
-      answers = life.answers;
-      crashes = is_some life.cut;
-      changed = 0;
-      notes = [];
-      brought = 0;
-      greatest = 0;
-      fails_to_start = false;
-      faults = 0;
-    }
+new_script life = record { lines = life.lines; answers = life.answers; crashes = is_some life.cut; changed = 0; notes = []; brought = 0; greatest = 0; fails_to_start = false; faults = 0 }
 
 -- a script that is to fail at its start, which no run says, has an empty trace
 abbrev pub told_of : ScriptState → LoopLog
-told_of held =
-    if held.fails_to_start then None else Some (given_in held.lines held.answers, entries_of held.notes)
+told_of held = if held.fails_to_start then None else Some (given_in held.lines held.answers, entries_of held.notes)
 
 abbrev pub counts_of : ScriptState → LoopCounts
 counts_of held = record { happenings = held.brought; greatest = held.greatest; endless = false }
@@ -87,8 +75,7 @@ changed paused held = record held { changed = max held.changed (upto_in paused h
 
 -- The fields of a script: its answers so far are those of the run, and what remains of the run is what
 -- remains at its place.
-pub record IsKept (lines : List Planned) (answers : List Given) (notes : List LoopNote) (ahead : List Coming)
-    (left : Answers) : Type 0 where
+pub record IsKept (lines : List Planned) (answers : List Given) (notes : List LoopNote) (ahead : List Coming) (left : Answers) : Type 0 where
   pub played : IsPlayed (given_in lines answers) (entries_of notes)
   pub ahead_is : ahead ≡ ahead_after_calls (coming 0 lines) (entries_of notes)
   pub stands : AnswersLeft left (behind (beginning (given_in lines answers)) (entries_of notes))

@@ -6,7 +6,8 @@ ghost use Rattle.fwd_script_loop.specs.Lines.{word_answer};
 ghost use Rattle.fwd_script_loop.specs.Told.{entries_of, entry_of};
 
 use crate::call_record::LoopNote;
-use fwd_base::{Bytes, Memory, is_set};
+use crate::masks::is_set;
+use fwd_base::{Bytes, Memory};
 use fwd_script::PushWord;
 use std::alloc::Global;
 

@@ -1,11 +1,20 @@
-//! The valid loop events, and those that pass a mask of paused inputs.
+//! Sets of inputs and outputs as masks, and the events that pass a mask of paused inputs.
 
 ghost use Rattle.std.specs.Prelude.{◌≡◌};
-ghost use Rattle.fwd_script_loop.specs.PauseMask.{comes, is_heard};
+ghost use Rattle.fwd_script_loop.specs.PauseMask.{comes, is_heard, is_set};
 
-use fwd_base::is_set;
 use fwd_base::limits::LONGEST_PIECE;
 use fwd_outside::Happening;
+
+/// Returns whether a bit is set.
+pub fn is_set(mask: u64, bit: u32) -> bool
+    ensures { result ≡ is_set mask bit }
+{
+    match mask.checked_shr(bit) {
+        Some(shifted) => shifted % 2 == 1,
+        None => false,
+    }
+}
 
 /// Returns whether the input of a loop event isn't paused. Events without an input always pass.
 pub fn is_heard(paused: u64, happening: &Happening) -> bool

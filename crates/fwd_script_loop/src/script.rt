@@ -309,10 +309,18 @@ impl Loop for Script {
 fn faults_after(faults: u64, brought: &Happening) -> u64
     ensures { result ≡ counted (is_failure brought.now) faults }
 {
-    if matches!(brought, Happening::Failed) {
-        faults.saturating_add(1)
-    } else {
-        faults
+    match brought {
+        Happening::Failed => faults.saturating_add(1),
+        Happening::Tick { .. }
+        | Happening::Joined { .. }
+        | Happening::Piece { .. }
+        | Happening::Gone { .. }
+        | Happening::Room { .. }
+        | Happening::Back { .. }
+        | Happening::Broken { .. }
+        | Happening::InputEnd { .. }
+        | Happening::Stop
+        | Happening::End => faults,
     }
 }
 

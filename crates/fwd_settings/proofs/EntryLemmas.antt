@@ -15,7 +15,7 @@ use Rattle.fwd_settings_schema.specs.declared.properties.Value.{Value}
 use Rattle.fwd_settings_schema.specs.declared.properties.Value.TheVariants as value
 use Rattle.fwd_settings_schema.specs.declared.properties.Property.{Property}
 use Rattle.fwd_settings.specs.declared.sections.PartialSettings.{PartialSettings}
-use Rattle.fwd_settings_schema.specs.Keys.{key_of}
+use Rattle.fwd_settings_schema.specs.Keys.{key_of, kind_of}
 use Rattle.fwd_settings.specs.Reading.{Reading, ◌>>=◌, known, fault, IsResult, ReturnsResult}
 use Rattle.fwd_settings.specs.Values.{property_value, key_property, entry_property, entry_properties}
 use Rattle.fwd_settings.specs.Parsers.{no_parser, parser_from, parser_of, is_parser_named, parser_in_section, parser_named}
@@ -24,21 +24,21 @@ use Rattle.fwd_settings.proofs.Readings.{result_then, returns_then, returns_refu
 
 module _ (by_name : Entry → Reading Parser) (p : Target) (entry : Entry) where
   pub unknown_key : (r : Result Property Stop) → key_of p entry.key ≡ None → ReturnsResult (known (Err (fault UnknownKey entry.place))) r → ReturnsResult (entry_property by_name p entry) r
-  unknown_key r none gives = subst (λ (o : Option (Key × Kind)). ReturnsResult (key_property by_name entry o) r) (sym none) gives
+  unknown_key r none gives = subst (λ (o : Option Key). ReturnsResult (key_property by_name entry o) r) (sym none) gives
 
-  module _ (k : Key) (how : Kind) (is : key_of p entry.key ≡ Some (k, how)) where
+  module _ (k : Key) (is : key_of p entry.key ≡ Some k) where
     abbrev with_key : Value → Reading Property
     with_key v = known (Ok (record { key = k; value = v }))
 
-    pub key_value : (v : Value) → IsResult (property_value by_name how entry) (Ok v) → IsResult (entry_property by_name p entry) (Ok (record { key = k; value = v }))
-    key_value v comes =
-        subst (λ (o : Option (Key × Kind)). IsResult (key_property by_name entry o) (Ok (record { key = k; value = v }))) (sym is)
-        (result_then (property_value by_name how entry) with_key v (Ok (record { key = k; value = v })) comes refl)
+    pub key_value : (how : Kind) (v : Value) → how ≡ kind_of k → IsResult (property_value by_name how entry) (Ok v) → IsResult (entry_property by_name p entry) (Ok (record { key = k; value = v }))
+    key_value how v of_key comes =
+        subst (λ (o : Option Key). IsResult (key_property by_name entry o) (Ok (record { key = k; value = v }))) (sym is)
+        (result_then (property_value by_name (kind_of k) entry) with_key v (Ok (record { key = k; value = v })) (subst (λ (h : Kind). IsResult (property_value by_name h entry) (Ok v)) of_key comes) refl)
 
-    pub key_refused : (s : Stop) → ReturnsResult (property_value by_name how entry) (Err s) → ReturnsResult (entry_property by_name p entry) (Err s)
-    key_refused s gives =
-        subst (λ (o : Option (Key × Kind)). ReturnsResult (key_property by_name entry o) (Err s)) (sym is)
-        (returns_refused (property_value by_name how entry) with_key s gives)
+    pub key_refused : (how : Kind) (s : Stop) → how ≡ kind_of k → ReturnsResult (property_value by_name how entry) (Err s) → ReturnsResult (entry_property by_name p entry) (Err s)
+    key_refused how s of_key gives =
+        subst (λ (o : Option Key). ReturnsResult (key_property by_name entry o) (Err s)) (sym is)
+        (returns_refused (property_value by_name (kind_of k) entry) with_key s (subst (λ (h : Kind). ReturnsResult (property_value by_name h entry) (Err s)) of_key gives))
 
 abbrev value_of_parser : Parser → Reading Value
 value_of_parser p = known (Ok (value.Parser p))

@@ -2,18 +2,15 @@
 use Rattle.std.proofs.Common.{◌≡◌, ◌⊎◌, inl, inr, ℕ, ◌+◌, ◌≤◌, ◌<◌, Bool, true, false, not, ◌&&◌, ◌||◌, nat_le, nat_lt, if◌then◌else◌, List, [], ◌∷◌, ◌++◌, length, Option, Some, None, Ok, Err, IsSome, IsTrue, unwrap_or, option_map, refl, sym, ap, subst, arith, length-append, append_assoc, codes, decimal}
 use Rattle.std.specs.List.{AllByRecursion, list_all, list_any}
 use Rattle.std.specs.Str.{bytes_eq, IsAscii}
-use Rattle.std.specs.Prelude.{All, AllPairs, ◌≢◌, count_by, ◌^◌}
+use Rattle.std.specs.Prelude.{count_by, ◌^◌}
 use Rattle.std.proofs.lemmas.Bool.Decides.{nat_tests}
 use Rattle.std.proofs.lemmas.Str.{IsUtf8-from_ascii, IsAscii-append}
 use Rattle.std.proofs.lemmas.Fmt.{IsAscii-decimal, length-decimal-le}
 use Rattle.std.proofs.lemmas.List.Sums.{count_by-le-length}
-use Rattle.std.proofs.lemmas.List.Elements.{All-nil, All-cons, All-head, All-tail, All-push}
-use Rattle.std.proofs.lemmas.List.Kept.{AllPairs-cons}
-use Rattle.std.proofs.lemmas.Slice.Eq.{bytes_eq-Decides}
 use Rattle.std.proofs.Common.{zero, suc}
 use Rattle.std.proofs.Common.{lit≤}
 use Rattle.fwd_settings_schema.specs.Text.{is_visible_text, is_uri_text}
-use Rattle.fwd_settings_schema.specs.declared.error_kind.SettingKind.TheVariants.{Missing, TooMany, BadChoice}
+use Rattle.fwd_settings_schema.specs.declared.error_kind.SettingKind.TheVariants.{Missing, TooMany}
 use Rattle.fwd_filters.specs.declared.filter_step.FilterStep.{FilterStep}
 use Rattle.fwd_config.specs.declared.section.Place.{Place}
 use Rattle.fwd_config.specs.declared.section.Entry.{Entry}
@@ -40,18 +37,18 @@ use Rattle.fwd_settings_schema.specs.declared.properties.Value.{Value}
 use Rattle.fwd_settings_schema.specs.declared.properties.Value.TheVariants as value
 use Rattle.fwd_settings_schema.specs.declared.properties.Property.{Property}
 use Rattle.fwd_settings.specs.declared.sections.PartialSettings.{PartialSettings}
-use Rattle.fwd_settings_schema.specs.Keys.{name_of_input, name_of_output, name_of, table, key_of, input_of, output_of, filter_of, head_of}
-use Rattle.fwd_settings_schema.specs.Property.{last_value, as_number, as_text, as_id, text_at, id_at, id_place_at, header_count}
+use Rattle.fwd_settings_schema.specs.Keys.{name_of_input, name_of, keys_of, kind_of, key_of, input_of, output_of, filter_of, head_of}
+use Rattle.fwd_settings_schema.specs.Property.{last_value, as_number, as_text, text_at}
 use Rattle.fwd_settings.specs.Reading.{Checked, ◌>>=◌, known, fault, IsResult}
 use Rattle.fwd_settings.specs.Values.{entry_property, entry_properties}
 use Rattle.fwd_settings.specs.Parsers.{parser_named, name_entry}
 use Rattle.fwd_settings.specs.Inputs.{input_plugin, is_input_of, input_kind, input_name, tag_of, input_set, stored_in, input_by, input_from, has_path, is_path_entry, names_path, is_service_head, tail_by}
-use Rattle.fwd_settings.specs.Outputs.{output_plugin, output_kind, output_set, output_from, output_name, most_headers, is_output_of, has_id}
+use Rattle.fwd_settings.specs.Outputs.{output_plugin, output_kind, output_from, output_name}
 use Rattle.fwd_settings.specs.Filters.{filter_from}
 use Rattle.fwd_settings.specs.Settings.{nothing, plugin_at, by_name, of_header, part_of, entries_here, with_input, with_filter, with_output, with_target, with_section, with_sections, all_of, settings_of}
-use Rattle.fwd_settings.specs.Requirements.{AreInputsNamed, AreOutputsNamed, IsTagText, IsIdText, HasTag, CanRequest, MeetsRequirements}
+use Rattle.fwd_settings.specs.Requirements.{AreInputsNamed, AreOutputsNamed, IsTagText, HasTag, CanRequest, MeetsRequirements}
 use Rattle.fwd_settings.proofs.Always.{Always, always_then, always_known, always_result, always_each, Pairs, all_of_pairs}
-use Rattle.fwd_settings.proofs.Table.{IsPositive, IsTagValue, IsText, IsTextSo, IsIdValue, IsOfKind, IsPropertyOf, always_property, row_passes, kind_passes, Holds, last_holds, last_there}
+use Rattle.fwd_settings.proofs.Table.{IsPositive, IsTagValue, IsText, IsTextSo, IsOfKind, IsPropertyOf, always_property, named_passes, kind_passes, Holds, last_holds, last_there}
 
 -- ---- lists that grow
 
@@ -66,23 +63,6 @@ all_both P (x ∷ xs) ys all more = (all.0, all_both P xs ys all.1 more)
 all_so : {X : Type 0} (P Q : X → Type 0) → ((x : X) → P x → Q x) → (xs : List X) → AllByRecursion P xs → AllByRecursion Q xs
 all_so P Q gives [] all = tt
 all_so P Q gives (x ∷ xs) all = (gives x all.0, all_so P Q gives xs all.1)
-
-pairs_more : {X : Type 0} (R : X → X → Type 0) (xs : List X) (x : X) → AllPairs R xs → All (λ y. R y x) xs → AllPairs R (xs ++ x ∷ [])
-pairs_more R [] x pairs all = AllPairs-cons R x [] (All-nil (R x)) (λ i j d less within. absurd (omega (arith, within)))
-pairs_more R (y ∷ xs) x pairs all =
-    AllPairs-cons R y (xs ++ x ∷ []) (All-push (R y) xs x (λ k d within. pairs 0 (suc k) d (omega arith) (omega (arith, within))) (All-head (λ z. R z x) y xs all))
-    (pairs_more R xs x (λ i j d less within. pairs (suc i) (suc j) d (omega (arith, less)) (omega (arith, within))) (All-tail (λ z. R z x) y xs all))
-
-bytes_ne : (one other : List ℕ) → bytes_eq one other ≡ false → one ≢ other
-bytes_ne one other isnt same = let is = (bytes_eq-Decides one other).1 same in absurd (cc (sym is ∙ isnt))
-
-no_id : (id : List ℕ) (xs : List OutputSet) → list_any (has_id id) xs ≡ false → All (λ (one : OutputSet). one.id ≢ id) xs
-no_id id [] none = All-nil (λ (one : OutputSet). one.id ≢ id)
-no_id id (x ∷ xs) none = by (bytes_eq x.id id) refl none
-  where
-    by : (b : Bool) → bytes_eq x.id id ≡ b → (b || list_any (has_id id) xs) ≡ false → All (λ (one : OutputSet). one.id ≢ id) (x ∷ xs)
-    by true is none = absurd (cc none)
-    by false is none = All-cons (λ (one : OutputSet). one.id ≢ id) x xs (bytes_ne x.id id is) (no_id id xs none)
 
 inputs_more : (before xs : List InputSet) (x : InputSet) → AreInputsNamed before xs → x.name ≡ input_name (before ++ xs) (input_plugin x.kind) → AreInputsNamed before (xs ++ x ∷ [])
 inputs_more before [] x all is = (subst (λ (l : List InputSet). x.name ≡ input_name l (input_plugin x.kind)) (nil before) is, tt)
@@ -103,10 +83,10 @@ outputs_more before (y ∷ xs) x all is =
 -- ---- what is known of the entries of a part
 
 abbrev ArePropertiesOf : Target → Property → Type 0
-ArePropertiesOf p item = (name : List ℕ) × (how : Kind) × (key_of p name ≡ Some (item.key, how)) × IsOfKind how item.value
+ArePropertiesOf p item = ((name : List ℕ) × (key_of p name ≡ Some item.key)) × IsOfKind (kind_of item.key) item.value
 
 properties_in : (p : Target) (entry : Entry) (item : Property) → IsPropertyOf p entry item → ArePropertiesOf p item
-properties_in p entry item is = (entry.key, is.0, is.1, is.2)
+properties_in p entry item is = ((entry.key, is.0), is.1)
 
 abbrev is_positive : Kind → Bool
 is_positive (kind.Plain plain.Positive) = true
@@ -129,10 +109,6 @@ abbrev is_uri : Kind → Bool
 is_uri (kind.Plain plain.Uri) = true
 is_uri _ = false
 
-abbrev is_id_kind : Kind → Bool
-is_id_kind kind.Id = true
-is_id_kind _ = false
-
 visible_of_kind : (k : Kind) (v : Value) → is_visible k ≡ true → IsOfKind k v → IsTextSo is_visible_text v
 visible_of_kind (kind.Plain plain.Visible) v so of = of
 visible_of_kind _ v so of = absurd (cc so)
@@ -154,9 +130,9 @@ text_of_kind : (k : Kind) (v : Value) → is_text k ≡ true → IsOfKind k v �
 text_of_kind (kind.Plain plain.Text) v so of = of
 text_of_kind _ v so of = absurd (cc so)
 
-module _ (by_name : Key) (test : Kind → Bool) (P : Value → Type 0) (gives : (k : Kind) (v : Value) → test k ≡ true → IsOfKind k v → P v) (p : Target) (rows : list_all (row_passes p by_name test) table ≡ true) where
+module _ (by_name : Key) (test : Kind → Bool) (P : Value → Type 0) (gives : (k : Kind) (v : Value) → test k ≡ true → IsOfKind k v → P v) (p : Target) (table : list_all (named_passes by_name test) (keys_of p) ≡ true) where
   of_named : (item : Property) → ArePropertiesOf p item → bytes_eq (name_of by_name) (name_of item.key) ≡ true → P item.value
-  of_named item is same = gives is.1 item.value (kind_passes by_name test p rows item.key is.1 is.0 is.2 same) is.3
+  of_named item is same = gives (kind_of item.key) item.value (kind_passes by_name test p table item.key is.0.0 is.0.1 same) is.1
 
   last_of_named : (properties : List Property) → AllByRecursion (ArePropertiesOf p) properties → Holds P (last_value by_name properties)
   last_of_named properties all = last_holds by_name P properties (all_so (ArePropertiesOf p) (λ s. bytes_eq (name_of by_name) (name_of s.key) ≡ true → P s.value) of_named properties all)
@@ -167,9 +143,7 @@ base_is (Some (value.Number n)) here = here
 base_is (Some value.Nothing) here = absurd here
 base_is (Some (value.Port n)) here = absurd here
 base_is (Some (value.Truth b)) here = absurd here
-base_is (Some (value.Format w)) here = absurd here
-base_is (Some (value.Form w)) here = absurd here
-base_is (Some (value.Operation w)) here = absurd here
+base_is (Some (value.Word w)) here = absurd here
 base_is (Some (value.Text t)) here = absurd here
 base_is (Some (value.Retries r)) here = absurd here
 base_is (Some (value.Pattern p)) here = absurd here
@@ -178,8 +152,6 @@ base_is (Some (value.Grep g)) here = absurd here
 base_is (Some (value.Condition c)) here = absurd here
 base_is (Some (value.Change c)) here = absurd here
 base_is (Some (value.Wildcard w)) here = absurd here
-base_is (Some (value.Header w)) here = absurd here
-base_is (Some (value.Id w x)) here = absurd here
 
 path_is : (o : Option Value) → Holds IsText o → IsSome o → IsSome (as_text o)
 path_is None here some = absurd (cc some)
@@ -188,9 +160,7 @@ path_is (Some value.Nothing) here some = absurd here
 path_is (Some (value.Number n)) here some = absurd here
 path_is (Some (value.Port n)) here some = absurd here
 path_is (Some (value.Truth b)) here some = absurd here
-path_is (Some (value.Format w)) here some = absurd here
-path_is (Some (value.Form w)) here some = absurd here
-path_is (Some (value.Operation w)) here some = absurd here
+path_is (Some (value.Word w)) here some = absurd here
 path_is (Some (value.Retries r)) here some = absurd here
 path_is (Some (value.Pattern p)) here some = absurd here
 path_is (Some (value.Parser p)) here some = absurd here
@@ -198,8 +168,6 @@ path_is (Some (value.Grep g)) here some = absurd here
 path_is (Some (value.Condition c)) here some = absurd here
 path_is (Some (value.Change c)) here some = absurd here
 path_is (Some (value.Wildcard w)) here some = absurd here
-path_is (Some (value.Header w)) here some = absurd here
-path_is (Some (value.Id w x)) here some = absurd here
 
 -- a text that passes a test, or a default that does
 text_or_so : (test : List ℕ → Bool) (default : List ℕ) → test default ≡ true → (o : Option Value) → Holds (IsTextSo test) o → test (unwrap_or (as_text o) default) ≡ true
@@ -209,9 +177,7 @@ text_or_so test default so (Some value.Nothing) here = absurd here
 text_or_so test default so (Some (value.Number n)) here = absurd here
 text_or_so test default so (Some (value.Port n)) here = absurd here
 text_or_so test default so (Some (value.Truth b)) here = absurd here
-text_or_so test default so (Some (value.Format w)) here = absurd here
-text_or_so test default so (Some (value.Form w)) here = absurd here
-text_or_so test default so (Some (value.Operation w)) here = absurd here
+text_or_so test default so (Some (value.Word w)) here = absurd here
 text_or_so test default so (Some (value.Retries r)) here = absurd here
 text_or_so test default so (Some (value.Pattern p)) here = absurd here
 text_or_so test default so (Some (value.Parser p)) here = absurd here
@@ -219,25 +185,6 @@ text_or_so test default so (Some (value.Grep g)) here = absurd here
 text_or_so test default so (Some (value.Condition c)) here = absurd here
 text_or_so test default so (Some (value.Change c)) here = absurd here
 text_or_so test default so (Some (value.Wildcard w)) here = absurd here
-text_or_so test default so (Some (value.Header w)) here = absurd here
-text_or_so test default so (Some (value.Id w x)) here = absurd here
-
--- the kinds of these keys, by computation
-host_passes : list_all (row_passes (target.Output out_plugin.Http) key.Host is_visible) table ≡ true
-unfolding table
-host_passes = refl
-
-uri_passes : list_all (row_passes (target.Output out_plugin.Http) key.Uri is_uri) table ≡ true
-unfolding table
-uri_passes = refl
-
-base_passes : list_all (row_passes target.Service key.SchedulerBase is_positive) table ≡ true
-unfolding table
-base_passes = refl
-
-path_passes : list_all (row_passes target.Service key.StoragePath is_text) table ≡ true
-unfolding table
-path_passes = refl
 
 can_request : (p : OutputPlugin) (properties : List Property) → AllByRecursion (ArePropertiesOf (target.Output p)) properties → CanRequest (output_kind p properties)
 can_request out_plugin.Stdout properties all = tt
@@ -245,45 +192,9 @@ can_request out_plugin.File properties all = tt
 can_request out_plugin.Tcp properties all = tt
 can_request out_plugin.Forward properties all = tt
 can_request out_plugin.Http properties all = (
-  text_or_so is_visible_text (codes "127.0.0.1") refl (last_value key.Host properties) (last_of_named key.Host is_visible (IsTextSo is_visible_text) visible_of_kind (target.Output out_plugin.Http) host_passes properties all),
-  text_or_so is_uri_text (codes "/") refl (last_value key.Uri properties) (last_of_named key.Uri is_uri (IsTextSo is_uri_text) uri_of_kind (target.Output out_plugin.Http) uri_passes properties all),
+  text_or_so is_visible_text (codes "127.0.0.1") refl (last_value key.Host properties) (last_of_named key.Host is_visible (IsTextSo is_visible_text) visible_of_kind (target.Output out_plugin.Http) refl properties all),
+  text_or_so is_uri_text (codes "/") refl (last_value key.Uri properties) (last_of_named key.Uri is_uri (IsTextSo is_uri_text) uri_of_kind (target.Output out_plugin.Http) refl properties all),
 )
-
-abbrev HoldsId : Option (List ℕ) → Type 0
-HoldsId None = Unit {0}
-HoldsId (Some t) = IsIdText t
-
-id_of_kind : (k : Kind) (v : Value) → is_id_kind k ≡ true → IsOfKind k v → IsIdValue v
-id_of_kind kind.Id v so of = of
-id_of_kind _ v so of = absurd (cc so)
-
-id_is : (o : Option Value) → Holds IsIdValue o → HoldsId (as_id o)
-id_is None here = tt
-id_is (Some (value.Id name place)) here = here
-id_is (Some (value.Text t)) here = absurd here
-id_is (Some value.Nothing) here = absurd here
-id_is (Some (value.Number n)) here = absurd here
-id_is (Some (value.Port n)) here = absurd here
-id_is (Some (value.Truth b)) here = absurd here
-id_is (Some (value.Format w)) here = absurd here
-id_is (Some (value.Form w)) here = absurd here
-id_is (Some (value.Operation w)) here = absurd here
-id_is (Some (value.Retries r)) here = absurd here
-id_is (Some (value.Pattern p)) here = absurd here
-id_is (Some (value.Parser p)) here = absurd here
-id_is (Some (value.Grep g)) here = absurd here
-id_is (Some (value.Condition c)) here = absurd here
-id_is (Some (value.Change c)) here = absurd here
-id_is (Some (value.Wildcard w)) here = absurd here
-id_is (Some (value.Header w)) here = absurd here
-
-id_passes : (p : OutputPlugin) → list_all (row_passes (target.Output p) key.StorageId is_id_kind) table ≡ true
-unfolding table
-id_passes out_plugin.Stdout = refl
-id_passes out_plugin.File = refl
-id_passes out_plugin.Tcp = refl
-id_passes out_plugin.Forward = refl
-id_passes out_plugin.Http = refl
 
 abbrev HoldsText : Option (List ℕ) → Type 0
 HoldsText None = Unit {0}
@@ -296,9 +207,7 @@ tag_is (Some value.Nothing) here = tt
 tag_is (Some (value.Number n)) here = tt
 tag_is (Some (value.Port n)) here = tt
 tag_is (Some (value.Truth b)) here = tt
-tag_is (Some (value.Format w)) here = tt
-tag_is (Some (value.Form w)) here = tt
-tag_is (Some (value.Operation w)) here = tt
+tag_is (Some (value.Word w)) here = tt
 tag_is (Some (value.Retries r)) here = tt
 tag_is (Some (value.Pattern p)) here = tt
 tag_is (Some (value.Parser p)) here = tt
@@ -306,8 +215,6 @@ tag_is (Some (value.Grep g)) here = tt
 tag_is (Some (value.Condition c)) here = tt
 tag_is (Some (value.Change c)) here = tt
 tag_is (Some (value.Wildcard w)) here = tt
-tag_is (Some (value.Header w)) here = tt
-tag_is (Some (value.Id w x)) here = tt
 
 -- ---- names of instances are valid tags
 
@@ -320,8 +227,8 @@ ascii_by [] all i = omega arith
 ascii_by (b ∷ bytes) all zero = let low : nat_lt b 128 ≡ true = (and_parts (nat_lt b 128) (list_all (λ b. nat_lt b 128) bytes) all).0 in grind (arith, nat_tests, low)
 ascii_by (b ∷ bytes) all (suc i) = ascii_by bytes (and_parts (nat_lt b 128) (list_all (λ b. nat_lt b 128) bytes) all).1 i
 
-name_short : (plugin : List ℕ) (n : ℕ) → list_all (λ b. nat_lt b 128) plugin ≡ true → length plugin ≤ 20 → n ≤ 64 → IsIdText (plugin ++ codes "." ++ decimal n)
-name_short plugin n ascii short few =
+name_tag : (plugin : List ℕ) (n : ℕ) → list_all (λ b. nat_lt b 128) plugin ≡ true → length plugin ≤ 20 → n ≤ 64 → IsTagText (plugin ++ codes "." ++ decimal n)
+name_tag plugin n ascii short few =
     let long : length (decimal n) ≤ 2 = length-decimal-le 2 n (omega arith) (lit_lt n few) (small n few) in
     let dotted : length (plugin ++ codes ".") ≡ length plugin + 1 = length-append plugin (codes ".") in
     let size : length (plugin ++ codes "." ++ decimal n) ≡ length (plugin ++ codes ".") + length (decimal n) = length-append (plugin ++ codes ".") (decimal n) in (
@@ -337,9 +244,6 @@ name_short plugin n ascii short few =
 
     lit_lt : (n : ℕ) → n ≤ 64 → n < 10 ^ 2
     lit_lt n few = omega arith
-
-name_tag : (plugin : List ℕ) (n : ℕ) → list_all (λ b. nat_lt b 128) plugin ≡ true → length plugin ≤ 20 → n ≤ 64 → IsTagText (plugin ++ codes "." ++ decimal n)
-name_tag plugin n ascii short few = let is = name_short plugin n ascii short few in (is.0, omega (arith, is.1), is.2)
 
 -- ---- an input
 
@@ -374,9 +278,6 @@ kind_ok is = cc
 set_ok : {a b : InputSet} → ◌≡◌ {A = Checked InputSet} (Ok a) (Ok b) → a ≡ b
 set_ok is = cc
 
-output_ok : {a b : OutputSet} → ◌≡◌ {A = Checked OutputSet} (Ok a) (Ok b) → a ≡ b
-output_ok is = cc
-
 part_ok : {a b : Target} → ◌≡◌ {A = Checked Target} (Ok a) (Ok b) → a ≡ b
 part_ok is = cc
 
@@ -388,7 +289,7 @@ tail_kind place properties None kind is = absurd (cc is)
 tail_kind place properties (Some paths) kind is = sym (ap input_plugin (kind_ok is))
 
 kind_is : (p : InputPlugin) (place : Place) (properties : List Property) (kind : InputKind) → input_kind p place properties ≡ Ok kind → input_plugin kind ≡ p
-kind_is in_plugin.Tail place properties kind is = tail_kind place properties (text_at key.Path properties) kind is
+kind_is in_plugin.Tail place properties kind is = tail_kind place properties (text_at key.Paths properties) kind is
 kind_is in_plugin.Tcp place properties kind is = sym (ap input_plugin (kind_ok is))
 kind_is in_plugin.Forward place properties kind is = sym (ap input_plugin (kind_ok is))
 kind_is in_plugin.Stdin place properties kind is = sym (ap input_plugin (kind_ok is))
@@ -422,8 +323,6 @@ pub record Sound (path : Bool) (s : PartialSettings) : Type 0 where
   pub few_outputs : length s.outputs ≤ 64
   pub inputs_named : AreInputsNamed [] s.inputs
   pub outputs_named : AreOutputsNamed [] s.outputs
-  pub ids : All (λ set. IsIdText set.id) s.outputs
-  pub ids_differ : AllPairs (λ one other. one.id ≢ other.id) s.outputs
   pub requests : AllByRecursion (λ set. CanRequest set.kind) s.outputs
   pub tagged : AllByRecursion (λ set. HasTag set.kind set.tag) s.inputs
   pub stored : AllByRecursion (λ set. set.stored ≡ true → path ≡ true) s.inputs
@@ -435,22 +334,18 @@ with_input_meets path s set sound room new = record {
   few_outputs = sound.few_outputs;
   inputs_named = inputs_more [] s.inputs set sound.inputs_named new.0;
   outputs_named = sound.outputs_named;
-  ids = sound.ids;
-  ids_differ = sound.ids_differ;
   requests = sound.requests;
   tagged = all_more (λ x. HasTag x.kind x.tag) s.inputs set sound.tagged new.1.0;
   stored = all_more (λ x. x.stored ≡ true → path ≡ true) s.inputs set sound.stored new.1.1;
 }
 
-with_output_meets : (path : Bool) (s : PartialSettings) (set : OutputSet) → Sound path s → length s.outputs < 64 → set.name ≡ output_name s.outputs (output_plugin set.kind) → IsIdText set.id → All (λ one. one.id ≢ set.id) s.outputs → CanRequest set.kind → Sound path (record s { outputs = s.outputs ++ set ∷ [] })
-with_output_meets path s set sound room new id other asked = record {
+with_output_meets : (path : Bool) (s : PartialSettings) (set : OutputSet) → Sound path s → length s.outputs < 64 → set.name ≡ output_name s.outputs (output_plugin set.kind) → CanRequest set.kind → Sound path (record s { outputs = s.outputs ++ set ∷ [] })
+with_output_meets path s set sound room new asked = record {
   properties = sound.properties;
   few_inputs = sound.few_inputs;
   few_outputs = omega (arith, room, length-append s.outputs (set ∷ []));
   inputs_named = sound.inputs_named;
   outputs_named = outputs_more [] s.outputs set sound.outputs_named new;
-  ids = All-push (λ x. IsIdText x.id) s.outputs set sound.ids id;
-  ids_differ = pairs_more (λ one other. one.id ≢ other.id) s.outputs set sound.ids_differ other;
   requests = all_more (λ x. CanRequest x.kind) s.outputs set sound.requests asked;
   tagged = sound.tagged;
   stored = sound.stored;
@@ -502,19 +397,11 @@ room_of s section (Some head.Filter) p is = room_of_filter s section.place (name
 room_of s section (Some head.Parser) p is = room_of_parser s section.place (name_entry section.entries) p is
 
 -- the Tag of an input is a valid tag
-tag_passes : (p : InputPlugin) → list_all (row_passes (target.Input p) key.Tag is_tag) table ≡ true
-unfolding table
+tag_passes : (p : InputPlugin) → list_all (named_passes key.Tag is_tag) (keys_of (target.Input p)) ≡ true
 tag_passes in_plugin.Tail = refl
 tag_passes in_plugin.Tcp = refl
 tag_passes in_plugin.Forward = refl
 tag_passes in_plugin.Stdin = refl
-
-plain_output : (p : OutputPlugin) → (list_all (λ b. nat_lt b 128) (name_of_output p) ≡ true) × (length (name_of_output p) ≤ 20)
-plain_output out_plugin.Stdout = (refl, lit≤ tt)
-plain_output out_plugin.File = (refl, lit≤ tt)
-plain_output out_plugin.Tcp = (refl, lit≤ tt)
-plain_output out_plugin.Forward = (refl, lit≤ tt)
-plain_output out_plugin.Http = (refl, lit≤ tt)
 
 -- an output has the plugin that it is built for
 its_plugin : (p : OutputPlugin) (properties : List Property) → output_plugin (output_kind p properties) ≡ p
@@ -541,35 +428,15 @@ module _ (path : Bool) (s : PartialSettings) (place : Place) (properties : List 
     few_outputs = sound.few_outputs;
     inputs_named = sound.inputs_named;
     outputs_named = sound.outputs_named;
-    ids = sound.ids;
-    ids_differ = sound.ids_differ;
     requests = sound.requests;
     tagged = sound.tagged;
     stored = sound.stored;
   })
 
-  -- a new output is the set, and no other has its id
-  output_is : (full taken : Bool) (id_place : Place) (set out : OutputSet) → ◌≡◌ {A = Checked OutputSet} (if full then Err (fault TooMany place) else (if taken then Err (fault BadChoice id_place) else Ok set)) (Ok out) → (set ≡ out) × (taken ≡ false)
-  output_is true taken id_place set out is = absurd (cc is)
-  output_is false true id_place set out is = absurd (cc is)
-  output_is false false id_place set out is = (output_ok is, refl)
-
-  id_short : (p : OutputPlugin) (o : Option (List ℕ)) → HoldsId o → length s.outputs ≤ 64 → IsIdText (unwrap_or o (output_name s.outputs p))
-  id_short p (Some t) here few = here
-  id_short p None here few =
-      let plain = plain_output p in
-      name_short (name_of_output p) (count_by (is_output_of p) s.outputs) plain.0 plain.1 (omega (arith, few, count_by-le-length (is_output_of p) s.outputs))
-
-  output_meets : (p : OutputPlugin) → AllByRecursion (ArePropertiesOf (target.Output p)) properties → length s.outputs < 64 → (r : Checked OutputSet) → output_from p place s.outputs properties ≡ r → with_output s r ≡ Ok new → Sound path new
-  output_meets p all room (Err refusal) r_is is = absurd (cc is)
-  output_meets p all room (Ok set) r_is is =
-      let made : OutputSet = output_set p s.outputs properties in
-      let parts = output_is (nat_lt most_headers (header_count properties)) (list_any (has_id made.id) s.outputs) (unwrap_or (id_place_at key.StorageId properties) place) made set r_is in
-      let id = id_is (last_value key.StorageId properties) (last_of_named key.StorageId is_id_kind IsIdValue id_of_kind (target.Output p) (id_passes p) properties all) in
+  output_meets : (p : OutputPlugin) → AllByRecursion (ArePropertiesOf (target.Output p)) properties → length s.outputs < 64 → ◌≡◌ {A = Checked PartialSettings} (Ok (with_output s (output_from p s.outputs properties))) (Ok new) → Sound path new
+  output_meets p all room is =
       subst (Sound path) (so_far_ok is)
-      (subst (λ (x : OutputSet). Sound path (record s { outputs = s.outputs ++ x ∷ [] })) parts.0
-      (with_output_meets path s made sound room (ap (output_name s.outputs) (sym (its_plugin p properties)))
-      (id_short p (id_at key.StorageId properties) id (omega (arith, room))) (no_id made.id s.outputs parts.1) (can_request p properties all)))
+      (with_output_meets path s (output_from p s.outputs properties) sound room (ap (output_name s.outputs) (sym (its_plugin p properties))) (can_request p properties all))
 
   service_meets : AllByRecursion (ArePropertiesOf target.Service) properties → ◌≡◌ {A = Checked PartialSettings} (Ok (record s { service = s.service ++ properties })) (Ok new) → Sound path new
   service_meets all is = subst (Sound path) (so_far_ok is) (record {
@@ -578,8 +445,6 @@ module _ (path : Bool) (s : PartialSettings) (place : Place) (properties : List 
     few_outputs = sound.few_outputs;
     inputs_named = sound.inputs_named;
     outputs_named = sound.outputs_named;
-    ids = sound.ids;
-    ids_differ = sound.ids_differ;
     requests = sound.requests;
     tagged = sound.tagged;
     stored = sound.stored;
@@ -590,7 +455,7 @@ module _ (path : Bool) (s : PartialSettings) (place : Place) (properties : List 
   target_meets target.Parser room all is = subst (Sound path) (so_far_ok is) sound
   target_meets (target.Input plugin) room all is = input_meets plugin all room (input_from path plugin place s.inputs properties) refl is
   target_meets (target.Filter plugin) room all is = filter_meets (filter_from plugin place properties) is
-  target_meets (target.Output plugin) room all is = output_meets plugin all room (output_from plugin place s.outputs properties) refl is
+  target_meets (target.Output plugin) room all is = output_meets plugin all room is
 
 -- ---- a storage path that is set is there at the end
 
@@ -620,7 +485,7 @@ path_property : (entries : List Entry) (properties : List Property) → Pairs (I
 path_property [] [] pairs any = absurd (cc any)
 path_property [] (x ∷ properties) pairs any = absurd pairs
 path_property (e ∷ entries) [] pairs any = absurd pairs
-path_property (e ∷ entries) (x ∷ properties) pairs any = by_test (is_path_said x) (is_path_entry e) (path_property entries properties pairs.1) (ap names_path pairs.0.1) any
+path_property (e ∷ entries) (x ∷ properties) pairs any = by_test (is_path_said x) (is_path_entry e) (path_property entries properties pairs.1) (ap names_path pairs.0.0) any
   where
     by_test : (b c : Bool) → (list_any is_path_entry entries ≡ true → NamesPath properties) → c ≡ b → (c || list_any is_path_entry entries) ≡ true → (b || list_any is_path_said properties) ≡ true
     by_test true c later same so = refl
@@ -644,16 +509,12 @@ with_filter_stays : (s new : PartialSettings) (r : Checked FilterStep) → with_
 with_filter_stays s new (Err refusal) is any = absurd (cc is)
 with_filter_stays s new (Ok step) is any = subst (λ (x : PartialSettings). NamesPath x.service) (so_far_ok is) any
 
-with_output_stays : (s new : PartialSettings) (r : Checked OutputSet) → with_output s r ≡ Ok new → NamesPath s.service → NamesPath new.service
-with_output_stays s new (Err refusal) is any = absurd (cc is)
-with_output_stays s new (Ok set) is any = subst (λ (x : PartialSettings). NamesPath x.service) (so_far_ok is) any
-
 service_stays : (path : Bool) (s : PartialSettings) (place : Place) (properties : List Property) (new : PartialSettings) (p : Target) → with_target path s p place properties ≡ Ok new → NamesPath s.service → NamesPath new.service
 service_stays path s place properties new target.Service is any = subst (λ (x : PartialSettings). NamesPath x.service) (so_far_ok is) (any_before s.service properties any)
 service_stays path s place properties new target.Parser is any = subst (λ (x : PartialSettings). NamesPath x.service) (so_far_ok is) any
 service_stays path s place properties new (target.Input plugin) is any = with_input_stays s new (input_from path plugin place s.inputs properties) is any
 service_stays path s place properties new (target.Filter plugin) is any = with_filter_stays s new (filter_from plugin place properties) is any
-service_stays path s place properties new (target.Output plugin) is any = with_output_stays s new (output_from plugin place s.outputs properties) is any
+service_stays path s place properties new (target.Output plugin) is any = subst (λ (x : PartialSettings). NamesPath x.service) (so_far_ok is) any
 
 -- ---- all sections
 
@@ -713,19 +574,17 @@ all_meet path s sound there = record {
   few_outputs = sound.few_outputs;
   inputs_named = sound.inputs_named;
   outputs_named = sound.outputs_named;
-  ids = sound.ids;
-  ids_differ = sound.ids_differ;
   requests = sound.requests;
   tagged = sound.tagged;
-  base = base_is (last_value key.SchedulerBase s.service) (last_of_named key.SchedulerBase is_positive IsPositive positive_of_kind target.Service base_passes s.service sound.properties);
+  base = base_is (last_value key.SchedulerBase s.service) (last_of_named key.SchedulerBase is_positive IsPositive positive_of_kind target.Service refl s.service sound.properties);
   stored = all_so (λ set. set.stored ≡ true → path ≡ true) (λ set. IsTrue set.stored → IsSome (text_at key.StoragePath s.service))
-      (λ set gives so. path_is (last_value key.StoragePath s.service) (last_of_named key.StoragePath is_text IsText text_of_kind target.Service path_passes s.service sound.properties)
+      (λ set gives so. path_is (last_value key.StoragePath s.service) (last_of_named key.StoragePath is_text IsText text_of_kind target.Service refl s.service sound.properties)
       (last_there key.StoragePath s.service (there (gives (true_is set.stored so))) None))
       s.inputs sound.stored;
 }
 
 nothing_meets : (path : Bool) → Sound path nothing
-nothing_meets path = record { properties = tt; few_inputs = omega arith; few_outputs = omega arith; inputs_named = tt; outputs_named = tt; ids = All-nil (λ set. IsIdText set.id); ids_differ = λ i j d less within. absurd (omega (arith, within)); requests = tt; tagged = tt; stored = tt }
+nothing_meets path = record { properties = tt; few_inputs = omega arith; few_outputs = omega arith; inputs_named = tt; outputs_named = tt; requests = tt; tagged = tt; stored = tt }
 
 always_meets : (sections : List Section) → Always MeetsRequirements (settings_of sections)
 unfolding settings_of

@@ -1,5 +1,5 @@
--- What the table says of each key of a section or plugin, and so of its entries.
-use Rattle.std.proofs.Common.{◌≡◌, ℕ, ◌≤◌, Bool, true, false, cond, not, ◌&&◌, ◌||◌, nat_le, nat_lt, if◌then◌else◌, List, [], ◌∷◌, length, Option, Some, None, Result, Ok, Err, IsSome, refl, sym, ap, subst, arith, option_and_then, option_map}
+-- What the table says of every key of a section or plugin, and so of its entries.
+use Rattle.std.proofs.Common.{◌≡◌, ℕ, ◌≤◌, Bool, true, false, cond, not, ◌&&◌, ◌||◌, nat_le, nat_lt, if◌then◌else◌, List, [], ◌∷◌, length, Option, Some, None, Result, Ok, Err, IsSome, refl, subst, arith, option_and_then}
 use Rattle.std.specs.List.{AllByRecursion, find, filter_map, last_or, list_all, list_any, cons_option}
 use Rattle.std.specs.Str.{bytes_eq, is_utf8}
 use Rattle.std.proofs.lemmas.Bool.Decides.{nat_tests}
@@ -10,7 +10,7 @@ use Rattle.fwd_parser.specs.declared.parser.Parser.{Parser}
 use Rattle.fwd_settings_schema.specs.declared.error_kind.SettingKind.{SettingKind}
 use Rattle.fwd_settings_schema.specs.declared.error_kind.SettingKind.TheVariants.{BadNumber, BadChoice}
 use Rattle.fwd_settings_schema.specs.Number.{positive_of, within}
-use Rattle.fwd_settings_schema.specs.Text.{is_tag_text, is_id_text, is_plain_text, is_visible_text, is_uri_text}
+use Rattle.fwd_settings_schema.specs.Text.{is_tag_text, is_plain_text, is_visible_text, is_uri_text}
 use Rattle.fwd_config.specs.declared.section.Entry.{Entry}
 use Rattle.fwd_settings_schema.specs.declared.keys.Key.{Key}
 use Rattle.fwd_settings_schema.specs.declared.keys.Kind.{Kind}
@@ -21,12 +21,12 @@ use Rattle.fwd_settings_schema.specs.declared.section_kind.Target.{Target}
 use Rattle.fwd_settings_schema.specs.declared.properties.Value.{Value}
 use Rattle.fwd_settings_schema.specs.declared.properties.Value.TheVariants as value
 use Rattle.fwd_settings_schema.specs.declared.properties.Property.{Property}
-use Rattle.fwd_settings_schema.specs.Keys.{name_of, Row, table, covers, is_row_of, row_of, key_of, is_key_named}
+use Rattle.fwd_settings_schema.specs.Keys.{name_of, keys_of, kind_of, key_of, is_key_named}
 use Rattle.fwd_settings_schema.specs.Property.{value_for, last_value}
-use Rattle.fwd_settings.specs.Reading.{Reading, Checked, known, fault}
-use Rattle.fwd_settings.specs.Values.{or_else, when, value_of, id_value, property_value, key_property, entry_property}
-use Rattle.fwd_settings.specs.Requirements.{IsTagText, IsIdText}
-use Rattle.fwd_settings.proofs.Always.{Always, always_then, always_known, always_at}
+use Rattle.fwd_settings.specs.Reading.{Reading, known}
+use Rattle.fwd_settings.specs.Values.{or_else, when, value_of, property_value, key_property, entry_property}
+use Rattle.fwd_settings.specs.Requirements.{IsTagText}
+use Rattle.fwd_settings.proofs.Always.{Always, always_then, always_at}
 
 -- ---- values by their kind
 
@@ -56,13 +56,8 @@ IsOfPlain plain.Visible v = IsTextSo is_visible_text v
 IsOfPlain plain.Uri v = IsTextSo is_uri_text v
 IsOfPlain _ v = Unit {0}
 
-abbrev pub IsIdValue : Value → Type 0
-IsIdValue (value.Id name place) = IsIdText name
-IsIdValue _ = ⊥
-
 abbrev pub IsOfKind : Kind → Value → Type 0
 IsOfKind (kind.Plain plain) v = IsOfPlain plain v
-IsOfKind kind.Id v = IsIdValue v
 IsOfKind _ v = Unit {0}
 
 within_is : (least most n : ℕ) (m : ℕ) → within least most n ≡ Some m → least ≤ m
@@ -129,37 +124,15 @@ plain_is plain.Size text v is = tt
 plain_is plain.Flush text v is = tt
 plain_is plain.Truth text v is = tt
 plain_is plain.False text v is = tt
-plain_is plain.Sync text v is = tt
-plain_is plain.Store text v is = tt
-plain_is plain.LineFormat text v is = tt
-plain_is plain.ParserFormat text v is = tt
-plain_is plain.RecordForm text v is = tt
-plain_is plain.FileForm text v is = tt
-plain_is plain.Operation text v is = tt
+plain_is (plain.Choice menu) text v is = tt
 plain_is plain.Paths text v is = tt
 plain_is plain.Retries text v is = tt
 plain_is plain.Visible text v is = text_so is_visible_text text v (is_visible_text text) refl is
 plain_is plain.Uri text v is = text_so is_uri_text text v (is_uri_text text) refl is
 plain_is plain.Types text v is = tt
-plain_is plain.Statuses text v is = tt
-plain_is plain.Header text v is = tt
-plain_is plain.Printable text v is = tt
 plain_is plain.Condition text v is = tt
 plain_is (plain.Change word) text v is = tt
 plain_is plain.Wildcard text v is = tt
-
-id_text_is : (text : List ℕ) (first second third fourth : Bool) → nat_lt 0 (length text) ≡ first → nat_le (length text) 255 ≡ second → is_utf8 text ≡ third → (first && (second && (third && fourth))) ≡ true → IsIdText text
-id_text_is text true true true fourth a b c all = (grind (arith, nat_tests, a), grind (arith, nat_tests, b), IsUtf8-from_is_utf8 text c)
-id_text_is text true true false fourth a b c all = absurd (cc all)
-id_text_is text true false third fourth a b c all = absurd (cc all)
-id_text_is text false second third fourth a b c all = absurd (cc all)
-
-id_is : (entry : Entry) (test : Bool) → is_id_text entry.value ≡ test → (v : Value) → ◌≡◌ {A = Checked Value} (if test then Ok (value.Id entry.value entry.place) else Err (fault BadChoice entry.place)) (Ok v) → IsIdValue v
-id_is entry true so v is = subst IsIdValue (ok_value is) (id_text_is entry.value _ _ _ _ refl refl refl so)
-  where
-    ok_value : ◌≡◌ {A = Checked Value} (Ok (value.Id entry.value entry.place)) (Ok v) → value.Id entry.value entry.place ≡ v
-    ok_value e = cc
-id_is entry false so v is = absurd (cc is)
 
 -- any result, if nothing is required of it
 always_any : {X : Type 0} (reading : Reading X) → Always (λ _. Unit {0}) reading
@@ -169,21 +142,20 @@ always_any (Ask text go) = λ answer. always_any (go answer)
 
 -- what is read for an entry of a section or plugin
 abbrev pub IsPropertyOf : Target → Entry → Property → Type 0
-IsPropertyOf p entry item = (how : Kind) × (key_of p entry.key ≡ Some (item.key, how)) × IsOfKind how item.value
+IsPropertyOf p entry item = (key_of p entry.key ≡ Some item.key) × IsOfKind (kind_of item.key) item.value
 
 module _ (by_name : Entry → Reading Parser) where
   always_value : (k : Kind) (entry : Entry) → Always (IsOfKind k) (property_value by_name k entry)
   always_value (kind.Plain p) entry = always_at (IsOfPlain p) entry.place (value_of p entry.value) (plain_is p entry.value)
   always_value kind.Pattern entry = always_any (property_value by_name kind.Pattern entry)
   always_value (kind.Grep exclude) entry = always_any (property_value by_name (kind.Grep exclude) entry)
-  always_value kind.Id entry = always_known (IsOfKind kind.Id) (id_value entry) (id_is entry (is_id_text entry.value) refl)
   always_value kind.Parser entry = always_any (property_value by_name kind.Parser entry)
 
-  always_key : (p : Target) (entry : Entry) (o : Option (Key × Kind)) → key_of p entry.key ≡ o → Always (IsPropertyOf p entry) (key_property by_name entry o)
+  always_key : (p : Target) (entry : Entry) (o : Option Key) → key_of p entry.key ≡ o → Always (IsPropertyOf p entry) (key_property by_name entry o)
   always_key p entry None is = tt
-  always_key p entry (Some (k, how)) is =
-      always_then (IsOfKind how) (IsPropertyOf p entry) (property_value by_name how entry) (λ v. known (Ok (record { key = k; value = v })))
-      (always_value how entry) (λ v of_kind. (how, is, of_kind))
+  always_key p entry (Some k) is =
+      always_then (IsOfKind (kind_of k)) (IsPropertyOf p entry) (property_value by_name (kind_of k) entry) (λ v. known (Ok (record { key = k; value = v })))
+      (always_value (kind_of k) entry) (λ v of_kind. (is, of_kind))
 
   pub always_property : (p : Target) (entry : Entry) → Always (IsPropertyOf p entry) (entry_property by_name p entry)
   always_property p entry = always_key p entry (key_of p entry.key) refl
@@ -202,47 +174,16 @@ found_passes {X = X} test found (first ∷ keys) k all is = here (test first) (f
     here true false later so all is = later all is
     here false f later so all is = absurd (cc all)
 
--- each row of a section or plugin with this key has a kind that passes the test
-abbrev pub row_passes : Target → Key → (Kind → Bool) → Row → Bool
-row_passes p by_name test row = not (covers row.0 p && bytes_eq (name_of by_name) (name_of row.1)) || test row.2
+-- every key of the part with the same name as `by_name` has a kind that passes the test
+abbrev pub named_passes : Key → (Kind → Bool) → Key → Bool
+named_passes by_name test k = not (bytes_eq (name_of by_name) (name_of k)) || test (kind_of k)
 
-found_is : {X : Type 0} (found : X → Bool) (rows : List X) (x : X) → find found rows ≡ Some x → found x ≡ true
-found_is found [] x is = absurd (cc is)
-found_is {X = X} found (first ∷ rows) x is = here (found first) (found_is found rows x) refl is
+pub kind_passes : (by_name : Key) (test : Kind → Bool) (p : Target) → list_all (named_passes by_name test) (keys_of p) ≡ true → (k : Key) (name : List ℕ) → key_of p name ≡ Some k → bytes_eq (name_of by_name) (name_of k) ≡ true → test (kind_of k) ≡ true
+kind_passes by_name test p all k name is same = by_test (bytes_eq (name_of by_name) (name_of k)) same (found_passes (named_passes by_name test) (is_key_named name) (keys_of p) k all is)
   where
-    some_is : ◌≡◌ {A = Option X} (Some first) (Some x) → first ≡ x
-    some_is e = cc
-
-    here : (f : Bool) → (find found rows ≡ Some x → found x ≡ true) → found first ≡ f → cond f (Some first) (find found rows) ≡ Some x → found x ≡ true
-    here true later so is = subst (λ (y : X). found y ≡ true) (some_is is) so
-    here false later so is = later is
-
-first_so : (a b : Bool) → (a && b) ≡ true → a ≡ true
-first_so true b so = refl
-first_so false b so = absurd (cc so)
-
-both_so : (a b t : Bool) → a ≡ true → b ≡ true → (not (a && b) || t) ≡ true → t ≡ true
-both_so true true t a_so b_so passes = passes
-both_so true false t a_so b_so passes = absurd (cc b_so)
-both_so false b t a_so b_so passes = absurd (cc a_so)
-
-module _ (by_name : Key) (test : Kind → Bool) (p : Target) (all : list_all (row_passes p by_name test) table ≡ true) where
-  by_row : (k : Key) (how : Kind) (name : List ℕ) (o : Option Row) → row_of p name ≡ o → option_map (λ (row : Row). (row.1, row.2)) o ≡ Some (k, how) → bytes_eq (name_of by_name) (name_of k) ≡ true → test how ≡ true
-  by_row k how name None found is same = absurd (cc is)
-  by_row k how name (Some row) found is same =
-      let parts : (row.1, row.2) ≡ (k, how) = pair_is is in
-      let passes : row_passes p by_name test row ≡ true = found_passes (row_passes p by_name test) (is_row_of p name) table row all found in
-      let covered : covers row.0 p ≡ true = first_so (covers row.0 p) (is_key_named name row.1) (found_is (is_row_of p name) table row found) in
-      let named : bytes_eq (name_of by_name) (name_of row.1) ≡ true =
-      subst (λ (x : Key). bytes_eq (name_of by_name) (name_of x) ≡ true) (sym (ap (λ (q : Key × Kind). q.0) parts)) same in
-      subst (λ (h : Kind). test h ≡ true) (ap (λ (q : Key × Kind). q.1) parts)
-      (both_so (covers row.0 p) (bytes_eq (name_of by_name) (name_of row.1)) (test row.2) covered named passes)
-    where
-      pair_is : ◌≡◌ {A = Option (Key × Kind)} (Some (row.1, row.2)) (Some (k, how)) → (row.1, row.2) ≡ (k, how)
-      pair_is e = cc
-
-  pub kind_passes : (k : Key) (how : Kind) (name : List ℕ) → key_of p name ≡ Some (k, how) → bytes_eq (name_of by_name) (name_of k) ≡ true → test how ≡ true
-  kind_passes k how name is same = by_row k how name (row_of p name) refl is same
+    by_test : (b : Bool) → b ≡ true → (not b || test (kind_of k)) ≡ true → test (kind_of k) ≡ true
+    by_test true so passes = passes
+    by_test false so passes = absurd (cc so)
 
 -- ---- the last value of a key
 

@@ -23,7 +23,7 @@ out_end_of (output.Stdout form) = out_end.Stdout
 out_end_of (output.File folder file form) = out_end.Folder folder file
 out_end_of (output.Tcp host port form) = out_end.Peer host port
 out_end_of (output.Forward host port ack whole_time) = out_end.Peer host port
-out_end_of (output.Http host port uri form options) = out_end.Peer host port
+out_end_of (output.Http host port uri form) = out_end.Peer host port
 
 -- the endpoints of all inputs and outputs, in order
 abbrev pub ends_of : AllSettings → Ends

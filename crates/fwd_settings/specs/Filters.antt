@@ -10,10 +10,10 @@ use Rattle.fwd_settings_schema.specs.declared.plugins.FilterPlugin.{FilterPlugin
 use Rattle.fwd_settings_schema.specs.declared.plugins.FilterPlugin.TheVariants as plugin
 use Rattle.fwd_settings_schema.specs.declared.keys.Key.{Key}
 use Rattle.fwd_settings_schema.specs.declared.keys.Key.TheVariants as key
-use Rattle.fwd_settings_schema.specs.declared.words.Operation.{Operation}
-use Rattle.fwd_settings_schema.specs.declared.words.Operation.TheVariants as operation
+use Rattle.fwd_settings_schema.specs.declared.words.Word.{Word}
+use Rattle.fwd_settings_schema.specs.declared.words.Word.TheVariants as word
 use Rattle.fwd_settings_schema.specs.declared.properties.Property.{Property}
-use Rattle.fwd_settings_schema.specs.Property.{operation_at, text_at, grep_in, condition_in, change_in, wildcard_in}
+use Rattle.fwd_settings_schema.specs.Property.{word_at, text_at, grep_in, condition_in, change_in, wildcard_in}
 use Rattle.fwd_settings.specs.Reading.{Checked, fault}
 
 -- a prefix, empty if it isn't given
@@ -25,43 +25,25 @@ abbrev pub nest_by : Place → List Property → Option (List ℕ) → Checked F
 nest_by place properties None = Err (fault Missing place)
 nest_by place properties (Some under) =
     if length (filter_map wildcard_in properties) == 0 then Err (fault Missing place)
-    else Ok
-    (filter.Nest
-    (record {
-      wildcards = filter_map wildcard_in properties;
-      under = under;
-      remove_prefix =
-          prefix key.RemovePrefix properties;
-      add_prefix = prefix key.AddPrefix properties;
-    }))
+    else Ok (filter.Nest (record { wildcards = filter_map wildcard_in properties; under = under; remove_prefix = prefix key.RemovePrefix properties; add_prefix = prefix key.AddPrefix properties }))
 
 -- lift requires the key whose map is lifted
 abbrev pub lift_by : Place → List Property → Option (List ℕ) → Checked FilterKind
 lift_by place properties None = Err (fault Missing place)
 lift_by place properties (Some under) =
-    Ok (filter.Lift
-    (record {
-      under = under;
-      remove_prefix = prefix key.RemovePrefix properties;
-      add_prefix = prefix key.AddPrefix properties;
-    }))
+    Ok (filter.Lift (record { under = under; remove_prefix = prefix key.RemovePrefix properties; add_prefix = prefix key.AddPrefix properties }))
 
 -- an Operation is required
-abbrev pub operation_by : Place → List Property → Option Operation → Checked FilterKind
-operation_by place properties (Some operation.Nest) =
-    nest_by place properties (text_at key.NestUnder properties)
-operation_by place properties (Some operation.Lift) =
-    lift_by place properties (text_at key.NestedUnder properties)
-operation_by place properties None = Err (fault Missing place)
+abbrev pub operation_by : Place → List Property → Option Word → Checked FilterKind
+operation_by place properties (Some word.Nest) = nest_by place properties (text_at key.NestUnder properties)
+operation_by place properties (Some word.Lift) = lift_by place properties (text_at key.NestedUnder properties)
+operation_by place properties _ = Err (fault Missing place)
 
 -- every rule counts, in order
 abbrev pub filter_kind : FilterPlugin → Place → List Property → Checked FilterKind
 filter_kind plugin.Grep place properties = Ok (filter.Grep (filter_map grep_in properties))
-filter_kind plugin.Modify place properties =
-    Ok (filter.Modify
-    (record { conditions = filter_map condition_in properties; rules = filter_map change_in properties }))
-filter_kind plugin.Nest place properties =
-    operation_by place properties (operation_at key.Operation properties)
+filter_kind plugin.Modify place properties = Ok (filter.Modify (record { conditions = filter_map condition_in properties; rules = filter_map change_in properties }))
+filter_kind plugin.Nest place properties = operation_by place properties (word_at key.Operation properties)
 
 -- a filter or an output without Match gets all tags
 abbrev pub glob_of : List Property → List ℕ

@@ -20,12 +20,11 @@ use Rattle.fwd_settings_schema.specs.declared.plugins.InputPlugin.{InputPlugin}
 use Rattle.fwd_settings_schema.specs.declared.plugins.InputPlugin.TheVariants as plugin
 use Rattle.fwd_settings_schema.specs.declared.keys.Key.{Key}
 use Rattle.fwd_settings_schema.specs.declared.keys.Key.TheVariants as key
-use Rattle.fwd_settings_schema.specs.declared.keys.Kind.{Kind}
-use Rattle.fwd_settings_schema.specs.declared.words.LineFormat.{LineFormat}
-use Rattle.fwd_settings_schema.specs.declared.words.LineFormat.TheVariants as format
+use Rattle.fwd_settings_schema.specs.declared.words.Word.{Word}
+use Rattle.fwd_settings_schema.specs.declared.words.Word.TheVariants as word
 use Rattle.fwd_settings_schema.specs.declared.properties.Property.{Property}
 use Rattle.fwd_settings_schema.specs.Keys.{name_of, name_of_input, key_of, head_of}
-use Rattle.fwd_settings_schema.specs.Property.{number_at, port_at, truth_at, format_at, text_at, last_in, parser_in}
+use Rattle.fwd_settings_schema.specs.Property.{number_at, port_at, truth_at, word_at, text_at, last_in, parser_in}
 use Rattle.fwd_settings.specs.Reading.{Checked, fault}
 use Rattle.fwd_settings.specs.Parsers.{timeless}
 
@@ -50,18 +49,13 @@ input_name before plugin = instance (name_of_input plugin) (count_by (is_input_o
 
 abbrev pub tail_by : Place → List Property → Option (List ℕ) → Checked InputKind
 tail_by place properties None = Err (fault Missing place)
-tail_by place properties (Some paths) =
-    Ok (input.Tail (parts_of (codes ",") paths) (unwrap_or (truth_at key.ReadFromHead properties) false))
+tail_by place properties (Some paths) = Ok (input.Tail (parts_of (codes ",") paths) (unwrap_or (truth_at key.ReadFromHead properties) false))
 
 -- a tail input requires its Path, which is split at each comma
 abbrev pub input_kind : InputPlugin → Place → List Property → Checked InputKind
-input_kind plugin.Tail place properties = tail_by place properties (text_at key.Path properties)
-input_kind plugin.Tcp place properties =
-    Ok (input.Tcp (unwrap_or (text_at key.Listen properties) (codes "0.0.0.0"))
-    (unwrap_or (port_at key.Port properties) 5170))
-input_kind plugin.Forward place properties =
-    Ok (input.Forward (unwrap_or (text_at key.Listen properties) (codes "0.0.0.0"))
-    (unwrap_or (port_at key.Port properties) 24224))
+input_kind plugin.Tail place properties = tail_by place properties (text_at key.Paths properties)
+input_kind plugin.Tcp place properties = Ok (input.Tcp (unwrap_or (text_at key.Listen properties) (codes "0.0.0.0")) (unwrap_or (port_at key.Port properties) 5170))
+input_kind plugin.Forward place properties = Ok (input.Forward (unwrap_or (text_at key.Listen properties) (codes "0.0.0.0")) (unwrap_or (port_at key.Port properties) 24224))
 input_kind plugin.Stdin place properties = Ok input.Stdin
 
 -- without a Tag the instance's name is the tag, except for forward, whose messages bring theirs
@@ -71,23 +65,25 @@ tag_of plugin.Tcp name tag = Some (unwrap_or tag name)
 tag_of plugin.Forward name tag = tag
 tag_of plugin.Stdin name tag = Some (unwrap_or tag name)
 
-abbrev pub lines_shape : Option LineFormat → Shape
-lines_shape (Some format.Plain) = shape.Plain
-lines_shape (Some format.Json) = shape.Json
-lines_shape (Some format.Regex) = shape.Json
-lines_shape None = shape.Json
+abbrev pub is_stored : Option Word → Bool
+is_stored (Some word.Filesystem) = true
+is_stored _ = false
+
+abbrev pub lines_shape : Option Word → Shape
+lines_shape (Some word.Plain) = shape.Plain
+lines_shape _ = shape.Json
 
 -- the Parser of tail and stdin, by default none and JSON; the Format of tcp
 abbrev pub input_parser : InputPlugin → List Property → Parser
 input_parser plugin.Tail properties = unwrap_or (last_in parser_in properties) (timeless shape.Plain)
 input_parser plugin.Stdin properties = unwrap_or (last_in parser_in properties) (timeless shape.Json)
-input_parser plugin.Tcp properties = timeless (lines_shape (format_at key.Format properties))
+input_parser plugin.Tcp properties = timeless (lines_shape (word_at key.LineFormat properties))
 input_parser plugin.Forward properties = timeless shape.Plain
 
 -- some SERVICE section has a storage.path
-abbrev pub names_path : Option (Key × Kind) → Bool
+abbrev pub names_path : Option Key → Bool
 names_path None = false
-names_path (Some found) = bytes_eq (name_of key.StoragePath) (name_of found.0)
+names_path (Some k) = bytes_eq (name_of key.StoragePath) (name_of k)
 
 abbrev pub is_path_entry : Entry → Bool
 is_path_entry entry = names_path (key_of target.Service entry.key)
@@ -104,9 +100,8 @@ input_set plugin name properties kind = record {
   name = name;
   kind = kind;
   tag = tag_of plugin name (text_at key.Tag properties);
-  stored = unwrap_or (truth_at key.StorageType properties) false;
+  stored = is_stored (word_at key.StorageType properties);
   mem_limit = number_at key.MemBufLimit properties;
-  db = None;
   parser = input_parser plugin properties;
 }
 
@@ -114,13 +109,10 @@ input_set plugin name properties kind = record {
 abbrev pub stored_in : Bool → Place → InputSet → Checked InputSet
 stored_in path place set = if set.stored && not path then Err (fault Missing place) else Ok set
 
-abbrev pub input_by : Bool → InputPlugin → Place → List ℕ → List Property → Checked InputKind
-    → Checked InputSet
-input_by path plugin place name properties (Ok kind) =
-    stored_in path place (input_set plugin name properties kind)
+abbrev pub input_by : Bool → InputPlugin → Place → List ℕ → List Property → Checked InputKind → Checked InputSet
+input_by path plugin place name properties (Ok kind) = stored_in path place (input_set plugin name properties kind)
 input_by path plugin place name properties (Err refusal) = Err refusal
 
 -- the settings of an input, given those of the inputs before it
 abbrev pub input_from : Bool → InputPlugin → Place → List InputSet → List Property → Checked InputSet
-input_from path plugin place before properties =
-    input_by path plugin place (input_name before plugin) properties (input_kind plugin place properties)
+input_from path plugin place before properties = input_by path plugin place (input_name before plugin) properties (input_kind plugin place properties)

@@ -17,11 +17,11 @@ use Rattle.fwd_settings_schema.specs.declared.section_kind.SectionKind.{SectionK
 use Rattle.fwd_settings_schema.specs.declared.section_kind.SectionKind.TheVariants as head
 use Rattle.fwd_settings_schema.specs.declared.section_kind.Target.TheVariants as target
 use Rattle.fwd_settings_schema.specs.declared.keys.Key.TheVariants as key
-use Rattle.fwd_settings_schema.specs.declared.words.LineFormat.{LineFormat}
-use Rattle.fwd_settings_schema.specs.declared.words.LineFormat.TheVariants as format
+use Rattle.fwd_settings_schema.specs.declared.words.Word.{Word}
+use Rattle.fwd_settings_schema.specs.declared.words.Word.TheVariants as word
 use Rattle.fwd_settings_schema.specs.declared.properties.Property.{Property}
 use Rattle.fwd_settings_schema.specs.Keys.{head_of}
-use Rattle.fwd_settings_schema.specs.Property.{format_at, text_at, truth_at, last_in, pattern_in}
+use Rattle.fwd_settings_schema.specs.Property.{word_at, text_at, truth_at, last_in, pattern_in}
 use Rattle.fwd_settings.specs.Reading.{Reading, Checked, ◌>>=◌, known, fault}
 use Rattle.fwd_settings.specs.Values.{entry_properties}
 
@@ -33,11 +33,7 @@ timeless shape = record { shape = shape; time = None }
 abbrev pub time_of : List Property → Option TimeRule
 time_of properties =
     option_map
-    (λ format. record {
-      key = unwrap_or (text_at key.TimeKey properties) (codes "time");
-      format = format;
-      keep = unwrap_or (truth_at key.TimeKeep properties) false;
-    })
+    (λ format. record { key = unwrap_or (text_at key.TimeKey properties) (codes "time"); format = format; keep = unwrap_or (truth_at key.TimeKeep properties) false })
     (text_at key.TimeFormat properties)
 
 abbrev pub parser_by : List Property → Shape → Parser
@@ -52,15 +48,14 @@ types_by (Some text) = unwrap_or (types_of text) []
 abbrev pub groups_by : Place → List Property → Option Pattern → Checked Shape
 groups_by place properties None = Err (fault Missing place)
 groups_by place properties (Some p) =
-    Ok (shape.Groups p (types_by (text_at key.Types properties))
-    (unwrap_or (truth_at key.SkipEmptyValues properties) true))
+    Ok (shape.Groups p (types_by (text_at key.Types properties)) (unwrap_or (truth_at key.SkipEmptyValues properties) true))
 
 -- a Format is required
-abbrev pub shape_by : Place → List Property → Option LineFormat → Checked Shape
+abbrev pub shape_by : Place → List Property → Option Word → Checked Shape
 shape_by place properties None = Err (fault Missing place)
-shape_by place properties (Some format.Json) = Ok shape.Json
-shape_by place properties (Some format.Regex) = groups_by place properties (last_in pattern_in properties)
-shape_by place properties (Some format.Plain) = Ok shape.Plain
+shape_by place properties (Some word.Json) = Ok shape.Json
+shape_by place properties (Some word.Regex) = groups_by place properties (last_in pattern_in properties)
+shape_by place properties (Some _) = Ok shape.Plain
 
 abbrev pub with_time : List Property → Checked Shape → Checked Parser
 with_time properties (Ok shape) = Ok (parser_by properties shape)
@@ -68,8 +63,7 @@ with_time properties (Err refusal) = Err refusal
 
 -- the parser that the entries of a section describe, whose header is at this place
 abbrev pub parser_from : Place → List Property → Checked Parser
-parser_from place properties =
-    with_time properties (shape_by place properties (format_at key.Format properties))
+parser_from place properties = with_time properties (shape_by place properties (word_at key.ParserFormat properties))
 
 -- an entry of a PARSER section can't name a parser
 abbrev pub no_parser : Entry → Reading Parser
@@ -96,8 +90,7 @@ has_name name None = false
 has_name name (Some entry) = bytes_eq entry.value name
 
 abbrev pub is_parser_named : List ℕ → Section → Bool
-is_parser_named name section =
-    is_parser_head (head_of section.name) && has_name name (name_entry section.entries)
+is_parser_named name section = is_parser_head (head_of section.name) && has_name name (name_entry section.entries)
 
 abbrev pub parser_in_section : Entry → Option Section → Reading Parser
 parser_in_section entry None = known (Err (fault BadChoice entry.place))

@@ -75,21 +75,16 @@ abbrev pub with_filter : PartialSettings → Checked FilterStep → Checked Part
 with_filter partial (Ok step) = Ok (record partial { filters = partial.filters ++ step ∷ [] })
 with_filter partial (Err refusal) = Err refusal
 
-abbrev pub with_output : PartialSettings → Checked OutputSet → Checked PartialSettings
-with_output partial (Ok set) = Ok (record partial { outputs = partial.outputs ++ set ∷ [] })
-with_output partial (Err refusal) = Err refusal
+abbrev pub with_output : PartialSettings → OutputSet → PartialSettings
+with_output partial set = record partial { outputs = partial.outputs ++ set ∷ [] }
 
 -- the settings so far, with those of a section added
 abbrev pub with_target : Bool → PartialSettings → Target → Place → List Property → Checked PartialSettings
-with_target path partial target.Service place properties =
-    Ok (record partial { service = partial.service ++ properties })
+with_target path partial target.Service place properties = Ok (record partial { service = partial.service ++ properties })
 with_target path partial target.Parser place properties = Ok partial
-with_target path partial (target.Input plugin) place properties =
-    with_input partial (input_from path plugin place partial.inputs properties)
-with_target path partial (target.Filter plugin) place properties =
-    with_filter partial (filter_from plugin place properties)
-with_target path partial (target.Output plugin) place properties =
-    with_output partial (output_from plugin place partial.outputs properties)
+with_target path partial (target.Input plugin) place properties = with_input partial (input_from path plugin place partial.inputs properties)
+with_target path partial (target.Filter plugin) place properties = with_filter partial (filter_from plugin place properties)
+with_target path partial (target.Output plugin) place properties = Ok (with_output partial (output_from plugin partial.outputs properties))
 
 -- A section is checked in five steps: its header, its Name if it requires one, its plugin, each entry in
 -- order, and what else is required.
@@ -107,13 +102,7 @@ with_sections all path partial (section ∷ more) = do
   with_sections all path behind more
 
 abbrev pub all_of : PartialSettings → AllSettings
-all_of partial =
-    record {
-      service = service_of partial.service;
-      inputs = partial.inputs;
-      filters = partial.filters;
-      outputs = partial.outputs;
-    }
+all_of partial = record { service = service_of partial.service; inputs = partial.inputs; filters = partial.filters; outputs = partial.outputs }
 
 unfoldable pub settings_of : List Section → Reading AllSettings
 settings_of sections = do
@@ -122,5 +111,4 @@ settings_of sections = do
 
 -- the settings of the sections, or their first error; or out of memory
 abbrev pub AreSettingsOf : List Section → Result AllSettings SettingFault → Type 0
-AreSettingsOf sections result =
-    IsErrAnd result (λ refusal. refusal.kind ≡ kind.Memory) ⊎ IsResult (settings_of sections) result
+AreSettingsOf sections result = IsErrAnd result (λ refusal. refusal.kind ≡ kind.Memory) ⊎ IsResult (settings_of sections) result

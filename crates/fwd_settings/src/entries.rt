@@ -2,7 +2,7 @@
 
 ghost use Rattle.fwd_settings_schema.specs.Rule.{key_and_rest_of};
 ghost use Rattle.fwd_settings.specs.Reading.{ReturnsResult, known, fault, at};
-ghost use Rattle.fwd_settings.specs.Values.{value_of, pattern_property, grep_of, id_value, property_value, entry_property, entry_properties};
+ghost use Rattle.fwd_settings.specs.Values.{value_of, pattern_property, grep_of, property_value, entry_property, entry_properties};
 ghost use Rattle.fwd_settings.specs.Parsers.{no_parser, parser_named};
 
 use crate::fault::{SettingFault, Stop};
@@ -12,7 +12,7 @@ use fwd_base::{Bytes, Pattern, PatternErr};
 use fwd_config::{Entry, Place, Section};
 use fwd_grep::GrepRule;
 use fwd_settings_schema::{
-    Kind, Plain, Properties, Property, SettingKind, Target, Value, is_id, key_and_rest, key_of,
+    Key, Kind, Plain, Properties, Property, SettingKind, Target, Value, key_and_rest,
 };
 use std::alloc::Global;
 
@@ -79,19 +79,6 @@ fn read_grep(alloc: Global, exclude: bool, entry: &Entry) -> Result<Value, Stop>
     }
 }
 
-/// Reads the id of an output.
-fn read_id(alloc: Global, entry: &Entry) -> Result<Value, Stop>
-    ensures { ReturnsResult (known (id_value entry.now)) result }
-{
-    if !is_id(entry.value.as_slice()) {
-        return refuse(alloc, SettingKind::BadChoice, &entry.place);
-    }
-    Ok(Value::Id {
-        name: entry.value.try_clone(alloc)?,
-        place: entry.place.try_clone(alloc)?,
-    })
-}
-
 /// Reads a value of a PARSER section.
 fn read_parser_value(alloc: Global, kind: Kind, entry: &Entry) -> Result<Value, Stop>
     ensures { ReturnsResult (property_value no_parser kind entry.now) result }
@@ -100,7 +87,6 @@ fn read_parser_value(alloc: Global, kind: Kind, entry: &Entry) -> Result<Value, 
         Kind::Plain(plain) => read_plain_value(alloc, plain, entry),
         Kind::Pattern => read_pattern(alloc, entry),
         Kind::Grep { exclude } => read_grep(alloc, exclude, entry),
-        Kind::Id => read_id(alloc, entry),
         Kind::Parser => refuse(alloc, SettingKind::BadChoice, &entry.place),
     }
 }
@@ -113,7 +99,6 @@ fn value(alloc: Global, all: &[Section], kind: Kind, entry: &Entry) -> Result<Va
         Kind::Plain(plain) => read_plain_value(alloc, plain, entry),
         Kind::Pattern => read_pattern(alloc, entry),
         Kind::Grep { exclude } => read_grep(alloc, exclude, entry),
-        Kind::Id => read_id(alloc, entry),
         Kind::Parser => {
             let parser = parser_named(alloc, all, entry)?;
             Ok(Value::Parser(parser))
@@ -124,10 +109,10 @@ fn value(alloc: Global, all: &[Section], kind: Kind, entry: &Entry) -> Result<Va
 fn read_parser_entry(alloc: Global, entry: &Entry) -> Result<Property, Stop>
     ensures { ReturnsResult (entry_property no_parser Target.Parser entry.now) result }
 {
-    let Some((key, kind)) = key_of(Target::Parser, entry.key.as_slice()) else {
+    let Some(key) = Key::of(Target::Parser, entry.key.as_slice()) else {
         return refuse(alloc, SettingKind::UnknownKey, &entry.place);
     };
-    let value = read_parser_value(alloc, kind, entry)?;
+    let value = read_parser_value(alloc, key.kind(), entry)?;
     Ok(Property { key, value })
 }
 
@@ -139,10 +124,10 @@ fn read_entry(
 ) -> Result<Property, Stop>
     ensures { ReturnsResult (entry_property (parser_named all.now) target entry.now) result }
 {
-    let Some((key, kind)) = key_of(target, entry.key.as_slice()) else {
+    let Some(key) = Key::of(target, entry.key.as_slice()) else {
         return refuse(alloc, SettingKind::UnknownKey, &entry.place);
     };
-    let value = value(alloc, all, kind, entry)?;
+    let value = value(alloc, all, key.kind(), entry)?;
     Ok(Property { key, value })
 }
 

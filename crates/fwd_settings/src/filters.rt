@@ -12,8 +12,8 @@ use fwd_config::Place;
 use fwd_filters::{FilterKind, FilterStep};
 use fwd_reshape::{LiftRule, NestRule};
 use fwd_settings_schema::{
-    FilterPlugin, Key, Operation, Properties, Property, SettingKind, grep_rules, modify_rules,
-    operation_at, own_text, text_or, wildcards,
+    FilterPlugin, Key, Properties, Property, SettingKind, Word, grep_rules, modify_rules, own_text,
+    text_or, wildcards, word_at,
 };
 use std::alloc::Global;
 
@@ -48,18 +48,18 @@ fn lift(alloc: Global, place: &Place, properties: &[Property]) -> Result<FilterK
     }))
 }
 
-fn nest_kind(
+fn operation(
     alloc: Global,
     place: &Place,
-    operation: Option<Operation>,
+    word: Option<Word>,
     properties: &[Property],
 ) -> Result<FilterKind, Stop>
-    ensures { ReturnsResult (known (operation_by place.now properties.now operation)) result }
+    ensures { ReturnsResult (known (operation_by place.now properties.now word)) result }
 {
-    match operation {
-        Some(Operation::Nest) => nest(alloc, place, properties),
-        Some(Operation::Lift) => lift(alloc, place, properties),
-        None => refuse(alloc, SettingKind::Missing, place),
+    match word {
+        Some(Word::Nest) => nest(alloc, place, properties),
+        Some(Word::Lift) => lift(alloc, place, properties),
+        _ => refuse(alloc, SettingKind::Missing, place),
     }
 }
 
@@ -76,8 +76,8 @@ fn filter_kind(
         FilterPlugin::Grep => Ok(FilterKind::Grep(grep_rules(alloc, properties)?)),
         FilterPlugin::Modify => Ok(FilterKind::Modify(modify_rules(alloc, properties)?)),
         FilterPlugin::Nest => {
-            let operation = operation_at(properties.as_slice(), Key::Operation);
-            nest_kind(alloc, place, operation, properties.as_slice())
+            let word = word_at(properties.as_slice(), Key::Operation);
+            operation(alloc, place, word, properties.as_slice())
         }
     }
 }

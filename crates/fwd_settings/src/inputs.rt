@@ -5,7 +5,7 @@ ghost use Rattle.std.specs.Option.{option_copied};
 ghost use Rattle.std.specs.List.{list_any};
 ghost use Rattle.fwd_settings_schema.specs.Keys.{head_of};
 ghost use Rattle.fwd_settings.specs.Reading.{ReturnsResult, known};
-ghost use Rattle.fwd_settings.specs.Inputs.{instance, input_plugin, is_input_of, input_name, input_kind, tag_of, lines_shape, input_parser, is_path_entry, is_service_head, has_path, input_from};
+ghost use Rattle.fwd_settings.specs.Inputs.{instance, input_plugin, is_input_of, input_name, input_kind, tag_of, is_stored, lines_shape, input_parser, is_path_entry, is_service_head, has_path, input_from};
 ghost use Rattle.std.specs.Prelude.{unwrap_or};
 ghost use Rattle.fwd_settings.specs.Parsers.{timeless};
 ghost use Rattle.fwd_settings_schema.specs.Property.{text_at, last_in, parser_in};
@@ -18,9 +18,9 @@ use fwd_base::{Bytes, Memory};
 use fwd_config::{Entry, Place, Section};
 use fwd_parser::{Parser, Shape};
 use fwd_settings_schema::{
-    FORWARD_PORT, InputPlugin, Key, LineFormat, Properties, Property, SectionKind, SettingKind,
-    TCP_PORT, Target, format_at, key_of, last_parser, number_at, own_text, parts_at, port_at,
-    text_at, text_or, truth_at,
+    FORWARD_PORT, InputPlugin, Key, Properties, Property, SectionKind, SettingKind, TCP_PORT,
+    Target, Word, last_parser, number_at, own_text, parts_at, port_at, text_at, text_or, truth_at,
+    word_at,
 };
 use itoa::Buffer;
 use std::alloc::Global;
@@ -86,7 +86,7 @@ fn input_kind(
 fn tail_kind(alloc: Global, place: &Place, properties: &[Property]) -> Result<InputKind, Stop>
     ensures { ReturnsResult (known (input_kind InputPlugin.Tail place.now properties.now)) result }
 {
-    match text_at(properties, Key::Path) {
+    match text_at(properties, Key::Paths) {
         Some(paths) => Ok(InputKind::Tail {
             paths: parts_at(alloc, b",", paths)?,
             from_head: truth_at(properties, Key::ReadFromHead).unwrap_or(false),
@@ -112,13 +112,18 @@ fn tag_of(
     }
 }
 
-/// Returns how a tcp input reads lines, by default as JSON.
-fn lines_shape(format: Option<LineFormat>) -> Shape
-    ensures { result ≡ lines_shape format }
+fn is_stored(word: Option<Word>) -> bool
+    ensures { result ≡ is_stored word }
 {
-    match format {
-        Some(LineFormat::Plain) => Shape::Plain,
-        Some(LineFormat::Json | LineFormat::Regex) | None => Shape::Json,
+    matches!(word, Some(Word::Filesystem))
+}
+
+fn lines_shape(word: Option<Word>) -> Shape
+    ensures { result ≡ lines_shape word }
+{
+    match word {
+        Some(Word::Plain) => Shape::Plain,
+        _ => Shape::Json,
     }
 }
 
@@ -129,7 +134,7 @@ fn input_parser(plugin: InputPlugin, properties: Properties) -> Parser
     match plugin {
         InputPlugin::Tail => parser_or(Shape::Plain, properties),
         InputPlugin::Stdin => parser_or(Shape::Json, properties),
-        InputPlugin::Tcp => timeless(lines_shape(format_at(properties.as_slice(), Key::Format))),
+        InputPlugin::Tcp => timeless(lines_shape(word_at(properties.as_slice(), Key::LineFormat))),
         InputPlugin::Forward => timeless(Shape::Plain),
     }
 }
@@ -146,8 +151,8 @@ fn parser_or(shape: Shape, properties: Properties) -> Parser
 fn is_path_entry(entry: &Entry) -> bool
     ensures { result ≡ is_path_entry entry.now }
 {
-    match key_of(Target::Service, entry.key.as_slice()) {
-        Some((key, _)) => Key::StoragePath.is_same(key),
+    match Key::of(Target::Service, entry.key.as_slice()) {
+        Some(key) => Key::StoragePath.is_written_as(key),
         None => false,
     }
 }
@@ -195,7 +200,7 @@ pub fn input_from(
     let kind = input_kind(alloc, plugin, place, properties.as_slice())?;
     let name = instance(alloc, plugin.name(), count_of(plugin, before))?;
     let tag = tag_of(alloc, plugin, name.as_slice(), properties.as_slice())?;
-    let stored = truth_at(properties.as_slice(), Key::StorageType).unwrap_or(false);
+    let stored = is_stored(word_at(properties.as_slice(), Key::StorageType));
     if stored && !path {
         return refuse(alloc, SettingKind::Missing, place);
     }
@@ -207,7 +212,6 @@ pub fn input_from(
         tag,
         stored,
         mem_limit,
-        db: None,
         parser,
     })
 }

@@ -25,6 +25,5 @@ pub use fwd_outside::{Ends, InEnd, InEnds, OutEnd, OutEnds};
 pub use fwd_settings_schema::SettingKind;
 pub use sections::settings;
 pub use settings_types::{
-    AllSettings, HttpOptions, InputKind, InputSet, InputSets, OutputKind, OutputSet, OutputSets,
-    Service,
+    AllSettings, InputKind, InputSet, InputSets, OutputKind, OutputSet, OutputSets, Service,
 };

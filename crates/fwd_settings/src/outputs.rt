@@ -1,30 +1,17 @@
 //! Settings of outputs.
 
-ghost use Rattle.std.specs.Prelude.{◌≡◌, IfOk, count_by, unwrap_or};
-ghost use Rattle.std.specs.Option.{option_copied};
-ghost use Rattle.fwd_settings.specs.Outputs.{output_plugin, is_output_of, host_of, statuses_by, basic, authorization, header_fields, options_of, output_kind, output_set, has_id, output_from};
-ghost use Rattle.fwd_settings_schema.specs.Property.{id_at, id_place_at};
-ghost use Rattle.std.specs.List.{list_any};
-ghost use Rattle.fwd_settings.specs.Reading.{ReturnsResult, known};
+ghost use Rattle.std.specs.Prelude.{◌≡◌, IfOk, count_by};
+ghost use Rattle.fwd_settings.specs.Outputs.{output_plugin, is_output_of, record_form, file_form, request_form, host_of, output_kind, output_from};
 
-use crate::entries::refuse;
-use crate::fault::Stop;
 use crate::filters::glob_of;
 use crate::inputs::instance;
-use crate::{HttpOptions, OutputKind, OutputSet};
-use base64::engine::general_purpose::STANDARD;
+use crate::{OutputKind, OutputSet};
 use fwd_base::{Bytes, Form, Memory, Retries};
-use fwd_config::Place;
-use fwd_out_http::{HeaderField, HeaderFields, StatusRanges};
 use fwd_settings_schema::{
-    FORWARD_PORT, HTTP_PORT, Key, OutputPlugin, Property, SettingKind, TCP_PORT, form_at,
-    header_count, id_at, id_place_at, number_at, own_text, port_at, push_headers, retries_at,
-    status_ranges, text_at, text_or, truth_at,
+    FORWARD_PORT, HTTP_PORT, Key, OutputPlugin, Property, TCP_PORT, Word, number_at, own_text,
+    port_at, retries_at, text_or, truth_at, word_at,
 };
 use std::alloc::Global;
-
-/// The most Header entries of an output.
-const MOST_HEADERS: usize = 32;
 
 /// Returns the plugin of an output.
 fn output_plugin(kind: &OutputKind) -> OutputPlugin
@@ -54,70 +41,37 @@ fn count_of(plugin: OutputPlugin, before: &[OutputSet]) -> usize
         .count()
 }
 
+fn record_form(word: Option<Word>) -> Form
+    ensures { result ≡ record_form word }
+{
+    match word {
+        Some(Word::MsgPack) => Form::MsgPack,
+        _ => Form::JsonLines,
+    }
+}
+
+fn file_form(word: Option<Word>) -> Form
+    ensures { result ≡ file_form word }
+{
+    match word {
+        Some(Word::JsonLines) => Form::JsonLines,
+        _ => Form::OutFile,
+    }
+}
+
+fn request_form(word: Option<Word>) -> Form
+    ensures { result ≡ request_form word }
+{
+    match word {
+        Some(Word::JsonLines) => Form::JsonLines,
+        _ => Form::MsgPack,
+    }
+}
+
 fn host_of(alloc: Global, properties: &[Property]) -> Result<Bytes, Memory>
     ensures { IfOk result (λ host. host ≡ host_of properties.now) }
 {
     text_or(alloc, properties, Key::Host, b"127.0.0.1")
-}
-
-/// Returns the statuses of a text, none without one.
-fn statuses_by(alloc: Global, text: Option<&[u8]>) -> Result<StatusRanges, Memory>
-    ensures { IfOk result (λ ranges. ranges ≡ statuses_by (option_copied text.entry)) }
-{
-    let Some(text) = text else {
-        return Ok(StatusRanges::new(alloc));
-    };
-    match status_ranges(alloc, text)? {
-        Some(ranges) => Ok(ranges),
-        None => Ok(StatusRanges::new(alloc)),
-    }
-}
-
-/// Returns the value of a field for basic authorization.
-fn basic(alloc: Global, user: &[u8], passwd: &[u8]) -> Result<Bytes, Memory>
-    ensures { IfOk result (λ value. value ≡ basic user.now passwd.now) }
-{
-    let mut pair = Bytes::from_slice(alloc, user)?;
-    pair.push(b':')?;
-    pair.extend_from_slice(passwd)?;
-    let text = STANDARD.encode(alloc, pair.as_slice())?;
-    let mut value = Bytes::from_slice(alloc, b"Basic ")?;
-    value.extend_from_slice(text.as_bytes())?;
-    Ok(value)
-}
-
-/// Returns the field that authorizes a user, if there is one.
-fn authorization(alloc: Global, user: Option<&[u8]>, passwd: &[u8]) -> Result<HeaderFields, Memory>
-    ensures { IfOk result (λ fields. fields ≡ authorization (option_copied user.entry) passwd.now) }
-{
-    let mut fields = HeaderFields::new(alloc);
-    if let Some(user) = user {
-        fields.push(HeaderField {
-            name: Bytes::from_slice(alloc, b"Authorization")?,
-            value: basic(alloc, user, passwd)?,
-        })?;
-    }
-    Ok(fields)
-}
-
-/// Returns the further fields of a request's head: the authorization, and then each Header.
-fn header_fields(alloc: Global, properties: &[Property]) -> Result<HeaderFields, Memory>
-    ensures { IfOk result (λ fields. fields ≡ header_fields properties.now) }
-{
-    let passwd = text_at(properties, Key::HttpPasswd).unwrap_or(b"");
-    let mut fields = authorization(alloc, text_at(properties, Key::HttpUser), passwd)?;
-    push_headers(alloc, &mut fields, properties)?;
-    Ok(fields)
-}
-
-/// Returns what else an http output is told.
-fn options_of(alloc: Global, properties: &[Property]) -> Result<HttpOptions, Memory>
-    ensures { IfOk result (λ options. options ≡ options_of properties.now) }
-{
-    Ok(HttpOptions {
-        retried: statuses_by(alloc, text_at(properties, Key::RetryStatus))?,
-        fields: header_fields(alloc, properties)?,
-    })
 }
 
 /// Returns the plugin of an output with its own settings.
@@ -130,17 +84,17 @@ fn output_kind(
 {
     match plugin {
         OutputPlugin::Stdout => Ok(OutputKind::Stdout {
-            form: form_at(properties, Key::Format).unwrap_or(Form::JsonLines),
+            form: record_form(word_at(properties, Key::RecordFormat)),
         }),
         OutputPlugin::File => Ok(OutputKind::File {
-            folder: text_or(alloc, properties, Key::Path, b".")?,
+            folder: text_or(alloc, properties, Key::Folder, b".")?,
             file: own_text(alloc, properties, Key::File)?,
-            form: form_at(properties, Key::Format).unwrap_or(Form::OutFile),
+            form: file_form(word_at(properties, Key::FileFormat)),
         }),
         OutputPlugin::Tcp => Ok(OutputKind::Tcp {
             host: host_of(alloc, properties)?,
             port: port_at(properties, Key::Port).unwrap_or(TCP_PORT),
-            form: form_at(properties, Key::Format).unwrap_or(Form::JsonLines),
+            form: record_form(word_at(properties, Key::RecordFormat)),
         }),
         OutputPlugin::Forward => Ok(OutputKind::Forward {
             host: host_of(alloc, properties)?,
@@ -152,85 +106,25 @@ fn output_kind(
             host: host_of(alloc, properties)?,
             port: port_at(properties, Key::Port).unwrap_or(HTTP_PORT),
             uri: text_or(alloc, properties, Key::Uri, b"/")?,
-            form: form_at(properties, Key::Format).unwrap_or(Form::MsgPack),
-            options: options_of(alloc, properties)?,
+            form: request_form(word_at(properties, Key::RecordFormat)),
         }),
     }
-}
-
-/// Returns a copy of the `storage.id`, or of a default.
-fn id_or(alloc: Global, properties: &[Property], default: &[u8]) -> Result<Bytes, Memory>
-    ensures { IfOk result (λ id. id ≡ unwrap_or (id_at Key.StorageId properties.now) default.now) }
-{
-    match id_at(properties, Key::StorageId) {
-        Some(id) => Bytes::from_slice(alloc, id),
-        None => Bytes::from_slice(alloc, default),
-    }
-}
-
-/// Returns the place of the `storage.id`, or a default.
-fn id_place_or<'a>(properties: &'a [Property], default: &'a Place) -> &'a Place
-    ensures { result.now ≡ unwrap_or (id_place_at Key.StorageId properties.now) default.now }
-{
-    match id_place_at(properties, Key::StorageId) {
-        Some(place) => place,
-        None => default,
-    }
-}
-
-fn has_id(set: &OutputSet, id: &[u8]) -> bool
-    ensures { result ≡ has_id id.now set.now }
-{
-    set.id.as_slice() == id
-}
-
-/// Returns whether some output has an id.
-fn is_taken(outputs: &[OutputSet], id: &[u8]) -> bool
-    ensures { result ≡ list_any (has_id id.now) outputs.now }
-{
-    outputs.iter().any(|set| has_id(set, id))
-}
-
-fn output_set(
-    alloc: Global,
-    plugin: OutputPlugin,
-    before: &[OutputSet],
-    properties: &[Property],
-) -> Result<OutputSet, Memory>
-    ensures { IfOk result (λ set. set ≡ output_set plugin before.now properties.now) }
-{
-    let name = instance(alloc, plugin.name(), count_of(plugin, before))?;
-    let id = id_or(alloc, properties, name.as_slice())?;
-    Ok(OutputSet {
-        name,
-        id,
-        glob: glob_of(alloc, properties)?,
-        kind: output_kind(alloc, plugin, properties)?,
-        retries: retries_at(properties, Key::RetryLimit).unwrap_or(Retries::Times(1)),
-        total_limit: number_at(properties, Key::TotalLimit),
-    })
 }
 
 /// Returns the settings of an output, given those of the outputs before it.
 pub fn output_from(
     alloc: Global,
     plugin: OutputPlugin,
-    place: &Place,
     before: &[OutputSet],
     properties: &[Property],
-) -> Result<OutputSet, Stop>
-    ensures { ReturnsResult (known (output_from plugin place.now before.now properties.now)) result }
+) -> Result<OutputSet, Memory>
+    ensures { IfOk result (λ set. set ≡ output_from plugin before.now properties.now) }
 {
-    if header_count(properties) > MOST_HEADERS {
-        return refuse(alloc, SettingKind::TooMany, place);
-    }
-    let set = output_set(alloc, plugin, before, properties)?;
-    if is_taken(before, set.id.as_slice()) {
-        return refuse(
-            alloc,
-            SettingKind::BadChoice,
-            id_place_or(properties, place),
-        );
-    }
-    Ok(set)
+    Ok(OutputSet {
+        name: instance(alloc, plugin.name(), count_of(plugin, before))?,
+        glob: glob_of(alloc, properties)?,
+        kind: output_kind(alloc, plugin, properties)?,
+        retries: retries_at(properties, Key::RetryLimit).unwrap_or(Retries::Times(1)),
+        total_limit: number_at(properties, Key::TotalLimit),
+    })
 }

@@ -13,8 +13,8 @@ use fwd_base::Memory;
 use fwd_config::{Entry, Place, Section};
 use fwd_parser::{FieldTypes, Parser, Shape, TimeRule};
 use fwd_settings_schema::{
-    Key, LineFormat, Properties, Property, SectionKind, SettingKind, field_types, format_at,
-    last_pattern, own_text, same_name, text_at, text_or, truth_at,
+    Key, Properties, Property, SectionKind, SettingKind, Word, field_types, last_pattern, own_text,
+    same_name, text_at, text_or, truth_at, word_at,
 };
 use std::alloc::Global;
 
@@ -41,16 +41,16 @@ fn time_of(alloc: Global, properties: &[Property]) -> Result<Option<TimeRule>, M
 fn shape_of(
     alloc: Global,
     place: &Place,
-    format: Option<LineFormat>,
+    format: Option<Word>,
     properties: Properties,
 ) -> Result<Shape, Stop>
     ensures { ReturnsResult (known (shape_by place.now properties format)) result }
 {
     match format {
         None => refuse(alloc, SettingKind::Missing, place),
-        Some(LineFormat::Json) => Ok(Shape::Json),
-        Some(LineFormat::Regex) => groups(alloc, place, properties),
-        Some(LineFormat::Plain) => Ok(Shape::Plain),
+        Some(Word::Json) => Ok(Shape::Json),
+        Some(Word::Regex) => groups(alloc, place, properties),
+        Some(_) => Ok(Shape::Plain),
     }
 }
 
@@ -68,7 +68,7 @@ fn types_of(alloc: Global, text: Option<&[u8]>) -> Result<FieldTypes, Memory>
 }
 
 fn groups(alloc: Global, place: &Place, properties: Properties) -> Result<Shape, Stop>
-    ensures { ReturnsResult (known (shape_by place.now properties (Some LineFormat.Regex))) result }
+    ensures { ReturnsResult (known (shape_by place.now properties (Some Word.Regex))) result }
 {
     let skip_empty = truth_at(properties.as_slice(), Key::SkipEmptyValues).unwrap_or(true);
     let types = types_of(alloc, text_at(properties.as_slice(), Key::Types))?;
@@ -87,7 +87,7 @@ fn parser_from(alloc: Global, place: &Place, properties: Properties) -> Result<P
     ensures { ReturnsResult (known (parser_from place.now properties)) result }
 {
     let time = time_of(alloc, properties.as_slice())?;
-    let format = format_at(properties.as_slice(), Key::Format);
+    let format = word_at(properties.as_slice(), Key::ParserFormat);
     let shape = shape_of(alloc, place, format, properties)?;
     Ok(Parser { shape, time })
 }

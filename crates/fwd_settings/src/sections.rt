@@ -93,7 +93,7 @@ impl PartialSettings {
             Target::Parser => Ok(self),
             Target::Input(plugin) => self.with_input(alloc, path, plugin, place, properties),
             Target::Filter(plugin) => self.with_filter(alloc, plugin, place, properties),
-            Target::Output(plugin) => self.with_output(alloc, plugin, place, properties),
+            Target::Output(plugin) => self.with_output(alloc, plugin, properties),
         }
     }
 
@@ -149,16 +149,14 @@ impl PartialSettings {
         self,
         alloc: Global,
         plugin: OutputPlugin,
-        place: &Place,
         properties: Properties,
     ) -> Result<PartialSettings, Stop>
-        ensures { ReturnsResult (known (with_output self (output_from plugin place.now self.outputs properties))) result }
+        ensures { ReturnsResult (known (Ok (with_output self (output_from plugin self.outputs properties)))) result }
     {
         let mut partial = self;
         let set = output_from(
             alloc,
             plugin,
-            place,
             partial.outputs.as_slice(),
             properties.as_slice(),
         )?;

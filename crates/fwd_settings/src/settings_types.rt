@@ -2,7 +2,6 @@
 
 use fwd_base::{Bytes, Form, Items, Names, Retries};
 use fwd_filters::FilterSteps;
-use fwd_out_http::{HeaderFields, StatusRanges};
 use fwd_parser::Parser;
 
 /// The settings of the engine itself.
@@ -50,8 +49,6 @@ pub struct InputSet {
     pub stored: bool,
     /// The bytes of chunks in memory at which the input pauses.
     pub mem_limit: Option<u64>,
-    /// The database that keeps the offsets of its followed files, if any.
-    pub db: Option<Bytes>,
     pub parser: Parser,
 }
 
@@ -83,22 +80,13 @@ pub enum OutputKind {
         /// Whether to write times as whole seconds.
         whole_time: bool,
     },
+    /// A peer that receives events by HTTP requests.
     Http {
         host: Bytes,
         port: u16,
         uri: Bytes,
         form: Form,
-        options: HttpOptions,
     },
-}
-
-/// What else an http output is told.
-#[derive(Debug, Drop)]
-pub struct HttpOptions {
-    /// The statuses that are retried besides those that always are.
-    pub retried: StatusRanges,
-    /// The further fields of each request's head.
-    pub fields: HeaderFields,
 }
 
 /// The settings of an output.
@@ -106,8 +94,6 @@ pub struct HttpOptions {
 pub struct OutputSet {
     /// The name of the instance, such as `stdout.0`.
     pub name: Bytes,
-    /// The name that stands for it in chunk files: its `storage.id`, or the name of the instance.
-    pub id: Bytes,
     /// The glob of the tags that go to it.
     pub glob: Bytes,
     pub kind: OutputKind,

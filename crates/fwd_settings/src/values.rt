@@ -6,12 +6,10 @@ ghost use Rattle.fwd_settings_schema.specs.declared.error_kind.SettingKind.TheVa
 ghost use Rattle.fwd_settings.specs.Values.{value_of, or_else, when};
 ghost use Rattle.fwd_settings_schema.specs.declared.keys.Plain.TheVariants as plain;
 
-use fwd_base::{Bytes, Form, number, parse_size};
-use fwd_out_http::is_field_value;
+use fwd_base::{Bytes, number, parse_size};
 use fwd_settings_schema::{
-    ChangeWord, LineFormat, Plain, SettingKind, Value, change, condition, field_types, file_form,
-    flush_ms, header, is_false, is_plain, is_tag, is_uri, is_visible, line_format, nest_operation,
-    parser_format, port, positive, record_form, retries, status_ranges, store, sync, truth,
+    ChangeWord, Menu, Plain, SettingKind, Value, Word, change, condition, field_types, flush_ms,
+    is_false, is_plain, is_tag, is_uri, is_visible, port, positive, retries, truth,
 };
 use std::alloc::Global;
 
@@ -52,10 +50,10 @@ fn read_size(text: &[u8]) -> Result<Value, SettingKind>
     }
 }
 
-fn read_truth(truth: Option<bool>) -> Result<Value, SettingKind>
-    ensures { result ≡ or_else BadChoice Value.Truth truth }
+fn read_truth(text: &[u8]) -> Result<Value, SettingKind>
+    ensures { result ≡ value_of plain.Truth text.now }
 {
-    match truth {
+    match truth(text) {
         Some(truth) => Ok(Value::Truth(truth)),
         None => Err(SettingKind::BadChoice),
     }
@@ -71,29 +69,11 @@ fn read_false(text: &[u8]) -> Result<Value, SettingKind>
     }
 }
 
-fn read_format(format: Option<LineFormat>) -> Result<Value, SettingKind>
-    ensures { result ≡ or_else BadChoice Value.Format format }
+fn read_word(menu: Menu, text: &[u8]) -> Result<Value, SettingKind>
+    ensures { result ≡ value_of (plain.Choice menu) text.now }
 {
-    match format {
-        Some(format) => Ok(Value::Format(format)),
-        None => Err(SettingKind::BadChoice),
-    }
-}
-
-fn read_form(form: Option<Form>) -> Result<Value, SettingKind>
-    ensures { result ≡ or_else BadChoice Value.Form form }
-{
-    match form {
-        Some(form) => Ok(Value::Form(form)),
-        None => Err(SettingKind::BadChoice),
-    }
-}
-
-fn read_operation(text: &[u8]) -> Result<Value, SettingKind>
-    ensures { result ≡ value_of plain.Operation text.now }
-{
-    match nest_operation(text) {
-        Some(operation) => Ok(Value::Operation(operation)),
+    match Word::of(menu, text) {
+        Some(word) => Ok(Value::Word(word)),
         None => Err(SettingKind::BadChoice),
     }
 }
@@ -115,23 +95,6 @@ fn read_types(alloc: Global, text: &[u8]) -> Result<Value, SettingKind>
     ensures err { IfErr result (λ kind. kind ≢ Memory → value_of plain.Types text.now ≡ Err kind) }
 {
     text_if(alloc, field_types(alloc, text)?.is_some(), text)
-}
-
-fn read_statuses(alloc: Global, text: &[u8]) -> Result<Value, SettingKind>
-    ensures ok { IfOk result (λ value. value_of plain.Statuses text.now ≡ Ok value) }
-    ensures err { IfErr result (λ kind. kind ≢ Memory → value_of plain.Statuses text.now ≡ Err kind) }
-{
-    text_if(alloc, status_ranges(alloc, text)?.is_some(), text)
-}
-
-fn read_header(alloc: Global, text: &[u8]) -> Result<Value, SettingKind>
-    ensures ok { IfOk result (λ value. value_of plain.Header text.now ≡ Ok value) }
-    ensures err { IfErr result (λ kind. kind ≢ Memory → value_of plain.Header text.now ≡ Err kind) }
-{
-    match header(alloc, text)? {
-        Some(field) => Ok(Value::Header(field)),
-        None => Err(SettingKind::BadChoice),
-    }
 }
 
 fn read_condition(alloc: Global, text: &[u8]) -> Result<Value, SettingKind>
@@ -167,15 +130,9 @@ pub fn read_plain(alloc: Global, plain: Plain, text: &[u8]) -> Result<Value, Set
         Plain::Port => read_port(text),
         Plain::Retries => read_retries(text),
         Plain::Size => read_size(text),
-        Plain::Truth => read_truth(truth(text)),
+        Plain::Truth => read_truth(text),
         Plain::False => read_false(text),
-        Plain::Sync => read_truth(sync(text)),
-        Plain::Store => read_truth(store(text)),
-        Plain::LineFormat => read_format(line_format(text)),
-        Plain::ParserFormat => read_format(parser_format(text)),
-        Plain::RecordForm => read_form(record_form(text)),
-        Plain::FileForm => read_form(file_form(text)),
-        Plain::Operation => read_operation(text),
+        Plain::Choice(menu) => read_word(menu, text),
         Plain::Text => Ok(Value::Text(Bytes::from_slice(alloc, text)?)),
         Plain::Tag => text_if(alloc, is_tag(text), text),
         Plain::PlainTag => text_if(alloc, is_plain(text) && is_tag(text), text),
@@ -183,9 +140,6 @@ pub fn read_plain(alloc: Global, plain: Plain, text: &[u8]) -> Result<Value, Set
         Plain::Visible => text_if(alloc, is_visible(text), text),
         Plain::Uri => text_if(alloc, is_uri(text), text),
         Plain::Types => read_types(alloc, text),
-        Plain::Statuses => read_statuses(alloc, text),
-        Plain::Header => read_header(alloc, text),
-        Plain::Printable => text_if(alloc, is_field_value(text), text),
         Plain::Condition => read_condition(alloc, text),
         Plain::Change(word) => read_change(alloc, word, text),
         Plain::Wildcard => Ok(Value::Wildcard(Bytes::from_slice(alloc, text)?)),

@@ -1,5 +1,5 @@
--- The table of sections, plugins and keys. All names are in lower case here, and ignore case.
-use Rattle.std.specs.Prelude.{ℕ, Bool, true, false, ◌&&◌, List, [], ◌∷◌, codes, Option, None, option_map}
+-- The table of sections, plugins, keys and words. All are in lower case here, and ignore case.
+use Rattle.std.specs.Prelude.{ℕ, Bool, true, false, List, [], ◌∷◌, codes, Option, None, option_map}
 use Rattle.std.specs.List.{find}
 use Rattle.std.specs.Str.{str_eq_ignore_ascii_case}
 use Rattle.fwd_settings_schema.specs.declared.rules.ChangeWord.TheVariants as change
@@ -8,8 +8,10 @@ use Rattle.fwd_settings_schema.specs.declared.keys.Key.TheVariants as key
 use Rattle.fwd_settings_schema.specs.declared.keys.Kind.{Kind}
 use Rattle.fwd_settings_schema.specs.declared.keys.Kind.TheVariants as kind
 use Rattle.fwd_settings_schema.specs.declared.keys.Plain.TheVariants as plain
-use Rattle.fwd_settings_schema.specs.declared.table.Part.{Part}
-use Rattle.fwd_settings_schema.specs.declared.table.Part.TheVariants as part
+use Rattle.fwd_settings_schema.specs.declared.words.Menu.{Menu}
+use Rattle.fwd_settings_schema.specs.declared.words.Menu.TheVariants as menu
+use Rattle.fwd_settings_schema.specs.declared.words.Word.{Word}
+use Rattle.fwd_settings_schema.specs.declared.words.Word.TheVariants as word
 use Rattle.fwd_settings_schema.specs.declared.section_kind.SectionKind.{SectionKind}
 use Rattle.fwd_settings_schema.specs.declared.section_kind.SectionKind.TheVariants as head
 use Rattle.fwd_settings_schema.specs.declared.section_kind.Target.{Target}
@@ -62,6 +64,23 @@ name_of_output output.Http = codes "http"
 abbrev pub output_plugins : List OutputPlugin
 output_plugins = output.Stdout ∷ output.File ∷ output.Tcp ∷ output.Forward ∷ output.Http ∷ []
 
+-- the keys of each section and plugin
+abbrev pub keys_of : Target → List Key
+keys_of target.Service = key.Flush ∷ key.Grace ∷ key.StoragePath ∷ key.StorageSync ∷ key.StorageChecksum ∷ key.MaxChunksUp ∷ key.BacklogMemLimit ∷ key.SchedulerBase ∷ key.SchedulerCap ∷ key.ParsersFile ∷ key.Daemon ∷ key.LogLevel ∷ key.LogFile ∷ key.HttpServer ∷ key.HttpListen ∷ key.HttpPort ∷ key.HealthCheck ∷ key.StorageMetrics ∷ key.PluginsFile ∷ []
+keys_of target.Parser = key.Name ∷ key.ParserFormat ∷ key.Regex ∷ key.TimeKey ∷ key.TimeFormat ∷ key.TimeKeep ∷ key.Types ∷ key.SkipEmptyValues ∷ []
+keys_of (target.Input input.Tail) = key.Name ∷ key.PlainTag ∷ key.StorageType ∷ key.MemBufLimit ∷ key.Alias ∷ key.LogLevel ∷ key.Paths ∷ key.ParserName ∷ key.ReadFromHead ∷ key.RefreshInterval ∷ key.RotateWait ∷ key.SkipLongLines ∷ key.BufferChunkSize ∷ key.BufferMaxSize ∷ []
+keys_of (target.Input input.Tcp) = key.Name ∷ key.Tag ∷ key.StorageType ∷ key.MemBufLimit ∷ key.Alias ∷ key.LogLevel ∷ key.Listen ∷ key.Port ∷ key.LineFormat ∷ key.ChunkSize ∷ key.BufferSize ∷ []
+keys_of (target.Input input.Forward) = key.Name ∷ key.Tag ∷ key.StorageType ∷ key.MemBufLimit ∷ key.Alias ∷ key.LogLevel ∷ key.Listen ∷ key.Port ∷ key.BufferChunkSize ∷ key.BufferMaxSize ∷ []
+keys_of (target.Input input.Stdin) = key.Name ∷ key.Tag ∷ key.StorageType ∷ key.MemBufLimit ∷ key.Alias ∷ key.LogLevel ∷ key.ParserName ∷ []
+keys_of (target.Filter filter.Grep) = key.Name ∷ key.Match ∷ key.GrepRegex ∷ key.GrepExclude ∷ []
+keys_of (target.Filter filter.Modify) = key.Name ∷ key.Match ∷ key.Condition ∷ key.Set ∷ key.Add ∷ key.Remove ∷ key.RemoveWildcard ∷ key.Rename ∷ key.HardRename ∷ key.Copy ∷ key.HardCopy ∷ []
+keys_of (target.Filter filter.Nest) = key.Name ∷ key.Match ∷ key.Operation ∷ key.Wildcard ∷ key.NestUnder ∷ key.NestedUnder ∷ key.RemovePrefix ∷ key.AddPrefix ∷ []
+keys_of (target.Output output.Stdout) = key.Name ∷ key.Match ∷ key.RetryLimit ∷ key.TotalLimit ∷ key.Tls ∷ key.Alias ∷ key.LogLevel ∷ key.Workers ∷ key.RecordFormat ∷ []
+keys_of (target.Output output.File) = key.Name ∷ key.Match ∷ key.RetryLimit ∷ key.TotalLimit ∷ key.Tls ∷ key.Alias ∷ key.LogLevel ∷ key.Workers ∷ key.Folder ∷ key.File ∷ key.FileFormat ∷ key.Mkdir ∷ []
+keys_of (target.Output output.Tcp) = key.Name ∷ key.Match ∷ key.RetryLimit ∷ key.TotalLimit ∷ key.Tls ∷ key.Alias ∷ key.LogLevel ∷ key.Workers ∷ key.Host ∷ key.Port ∷ key.RecordFormat ∷ []
+keys_of (target.Output output.Forward) = key.Name ∷ key.Match ∷ key.RetryLimit ∷ key.TotalLimit ∷ key.Tls ∷ key.Alias ∷ key.LogLevel ∷ key.Workers ∷ key.Host ∷ key.Port ∷ key.RequireAck ∷ key.TimeAsInteger ∷ []
+keys_of (target.Output output.Http) = key.Name ∷ key.Match ∷ key.RetryLimit ∷ key.TotalLimit ∷ key.Tls ∷ key.Alias ∷ key.LogLevel ∷ key.Workers ∷ key.RequestHost ∷ key.Port ∷ key.Uri ∷ key.RecordFormat ∷ []
+
 -- the name of each key
 abbrev pub name_of : Key → List ℕ
 name_of key.Name = codes "name"
@@ -85,11 +104,12 @@ name_of key.HealthCheck = codes "health_check"
 name_of key.StorageMetrics = codes "storage.metrics"
 name_of key.PluginsFile = codes "plugins_file"
 name_of key.Tag = codes "tag"
+name_of key.PlainTag = codes "tag"
 name_of key.StorageType = codes "storage.type"
 name_of key.MemBufLimit = codes "mem_buf_limit"
 name_of key.Alias = codes "alias"
-name_of key.Path = codes "path"
-name_of key.Parser = codes "parser"
+name_of key.Paths = codes "path"
+name_of key.ParserName = codes "parser"
 name_of key.ReadFromHead = codes "read_from_head"
 name_of key.RefreshInterval = codes "refresh_interval"
 name_of key.RotateWait = codes "rotate_wait"
@@ -98,9 +118,10 @@ name_of key.BufferChunkSize = codes "buffer_chunk_size"
 name_of key.BufferMaxSize = codes "buffer_max_size"
 name_of key.Listen = codes "listen"
 name_of key.Port = codes "port"
-name_of key.Format = codes "format"
+name_of key.LineFormat = codes "format"
 name_of key.ChunkSize = codes "chunk_size"
 name_of key.BufferSize = codes "buffer_size"
+name_of key.ParserFormat = codes "format"
 name_of key.Regex = codes "regex"
 name_of key.TimeKey = codes "time_key"
 name_of key.TimeFormat = codes "time_format"
@@ -108,7 +129,8 @@ name_of key.TimeKeep = codes "time_keep"
 name_of key.Types = codes "types"
 name_of key.SkipEmptyValues = codes "skip_empty_values"
 name_of key.Match = codes "match"
-name_of key.Exclude = codes "exclude"
+name_of key.GrepRegex = codes "regex"
+name_of key.GrepExclude = codes "exclude"
 name_of key.Condition = codes "condition"
 name_of key.Set = codes "set"
 name_of key.Add = codes "add"
@@ -128,127 +150,120 @@ name_of key.RetryLimit = codes "retry_limit"
 name_of key.TotalLimit = codes "storage.total_limit_size"
 name_of key.Tls = codes "tls"
 name_of key.Workers = codes "workers"
+name_of key.RecordFormat = codes "format"
+name_of key.Folder = codes "path"
 name_of key.File = codes "file"
+name_of key.FileFormat = codes "format"
 name_of key.Mkdir = codes "mkdir"
 name_of key.Host = codes "host"
 name_of key.RequireAck = codes "require_ack_response"
 name_of key.TimeAsInteger = codes "time_as_integer"
+name_of key.RequestHost = codes "host"
 name_of key.Uri = codes "uri"
-name_of key.RetryStatus = codes "retry_status"
-name_of key.Header = codes "header"
-name_of key.HttpUser = codes "http_user"
-name_of key.HttpPasswd = codes "http_passwd"
-name_of key.StorageId = codes "storage.id"
 
--- a row of the table: where the key stands, the key, and how its value is read there
-abbrev pub Row : Type 0
-Row = Part × Key × Kind
+-- how the value of each key is read
+abbrev pub kind_of : Key → Kind
+kind_of key.Name = kind.Plain plain.Ignored
+kind_of key.Flush = kind.Plain plain.Flush
+kind_of key.Grace = kind.Plain plain.Number
+kind_of key.StoragePath = kind.Plain plain.Text
+kind_of key.StorageSync = kind.Plain (plain.Choice menu.Sync)
+kind_of key.StorageChecksum = kind.Plain plain.False
+kind_of key.MaxChunksUp = kind.Plain plain.Positive
+kind_of key.BacklogMemLimit = kind.Plain plain.Size
+kind_of key.SchedulerBase = kind.Plain plain.Positive
+kind_of key.SchedulerCap = kind.Plain plain.Positive
+kind_of key.ParsersFile = kind.Plain plain.Ignored
+kind_of key.Daemon = kind.Plain plain.Ignored
+kind_of key.LogLevel = kind.Plain plain.Ignored
+kind_of key.LogFile = kind.Plain plain.Ignored
+kind_of key.HttpServer = kind.Plain plain.Ignored
+kind_of key.HttpListen = kind.Plain plain.Ignored
+kind_of key.HttpPort = kind.Plain plain.Ignored
+kind_of key.HealthCheck = kind.Plain plain.Ignored
+kind_of key.StorageMetrics = kind.Plain plain.Ignored
+kind_of key.PluginsFile = kind.Plain plain.Ignored
+kind_of key.Tag = kind.Plain plain.Tag
+kind_of key.PlainTag = kind.Plain plain.PlainTag
+kind_of key.StorageType = kind.Plain (plain.Choice menu.Store)
+kind_of key.MemBufLimit = kind.Plain plain.Size
+kind_of key.Alias = kind.Plain plain.Ignored
+kind_of key.Paths = kind.Plain plain.Paths
+kind_of key.ParserName = kind.Parser
+kind_of key.ReadFromHead = kind.Plain plain.Truth
+kind_of key.RefreshInterval = kind.Plain plain.Ignored
+kind_of key.RotateWait = kind.Plain plain.Ignored
+kind_of key.SkipLongLines = kind.Plain plain.Ignored
+kind_of key.BufferChunkSize = kind.Plain plain.Ignored
+kind_of key.BufferMaxSize = kind.Plain plain.Ignored
+kind_of key.Listen = kind.Plain plain.Text
+kind_of key.Port = kind.Plain plain.Port
+kind_of key.LineFormat = kind.Plain (plain.Choice menu.Lines)
+kind_of key.ChunkSize = kind.Plain plain.Ignored
+kind_of key.BufferSize = kind.Plain plain.Ignored
+kind_of key.ParserFormat = kind.Plain (plain.Choice menu.Shapes)
+kind_of key.Regex = kind.Pattern
+kind_of key.TimeKey = kind.Plain plain.Text
+kind_of key.TimeFormat = kind.Plain plain.Text
+kind_of key.TimeKeep = kind.Plain plain.Truth
+kind_of key.Types = kind.Plain plain.Types
+kind_of key.SkipEmptyValues = kind.Plain plain.Truth
+kind_of key.Match = kind.Plain plain.Text
+kind_of key.GrepRegex = kind.Grep false
+kind_of key.GrepExclude = kind.Grep true
+kind_of key.Condition = kind.Plain plain.Condition
+kind_of key.Set = kind.Plain (plain.Change change.Set)
+kind_of key.Add = kind.Plain (plain.Change change.Add)
+kind_of key.Remove = kind.Plain (plain.Change change.Remove)
+kind_of key.RemoveWildcard = kind.Plain (plain.Change change.RemoveWildcard)
+kind_of key.Rename = kind.Plain (plain.Change change.Rename)
+kind_of key.HardRename = kind.Plain (plain.Change change.HardRename)
+kind_of key.Copy = kind.Plain (plain.Change change.Copy)
+kind_of key.HardCopy = kind.Plain (plain.Change change.HardCopy)
+kind_of key.Operation = kind.Plain (plain.Choice menu.Operations)
+kind_of key.Wildcard = kind.Plain plain.Wildcard
+kind_of key.NestUnder = kind.Plain plain.Text
+kind_of key.NestedUnder = kind.Plain plain.Text
+kind_of key.RemovePrefix = kind.Plain plain.Text
+kind_of key.AddPrefix = kind.Plain plain.Text
+kind_of key.RetryLimit = kind.Plain plain.Retries
+kind_of key.TotalLimit = kind.Plain plain.Size
+kind_of key.Tls = kind.Plain plain.False
+kind_of key.Workers = kind.Plain plain.Ignored
+kind_of key.RecordFormat = kind.Plain (plain.Choice menu.Records)
+kind_of key.Folder = kind.Plain plain.Text
+kind_of key.File = kind.Plain plain.Text
+kind_of key.FileFormat = kind.Plain (plain.Choice menu.FileRecords)
+kind_of key.Mkdir = kind.Plain plain.Ignored
+kind_of key.Host = kind.Plain plain.Text
+kind_of key.RequireAck = kind.Plain plain.Truth
+kind_of key.TimeAsInteger = kind.Plain plain.Truth
+kind_of key.RequestHost = kind.Plain plain.Visible
+kind_of key.Uri = kind.Plain plain.Uri
 
-unfoldable pub table : List Row
-table =
-    (part.Service, key.Flush, kind.Plain plain.Flush) ∷
-    (part.Service, key.Grace, kind.Plain plain.Number) ∷
-    (part.Service, key.StoragePath, kind.Plain plain.Text) ∷
-    (part.Service, key.StorageSync, kind.Plain plain.Sync) ∷
-    (part.Service, key.StorageChecksum, kind.Plain plain.False) ∷
-    (part.Service, key.MaxChunksUp, kind.Plain plain.Positive) ∷
-    (part.Service, key.BacklogMemLimit, kind.Plain plain.Size) ∷
-    (part.Service, key.SchedulerBase, kind.Plain plain.Positive) ∷
-    (part.Service, key.SchedulerCap, kind.Plain plain.Positive) ∷
-    (part.Service, key.ParsersFile, kind.Plain plain.Ignored) ∷
-    (part.Service, key.Daemon, kind.Plain plain.Ignored) ∷
-    (part.Service, key.LogLevel, kind.Plain plain.Ignored) ∷
-    (part.Service, key.LogFile, kind.Plain plain.Ignored) ∷
-    (part.Service, key.HttpServer, kind.Plain plain.Ignored) ∷
-    (part.Service, key.HttpListen, kind.Plain plain.Ignored) ∷
-    (part.Service, key.HttpPort, kind.Plain plain.Ignored) ∷
-    (part.Service, key.HealthCheck, kind.Plain plain.Ignored) ∷
-    (part.Service, key.StorageMetrics, kind.Plain plain.Ignored) ∷
-    (part.Service, key.PluginsFile, kind.Plain plain.Ignored) ∷
-    (part.Parser, key.Name, kind.Plain plain.Ignored) ∷
-    (part.Parser, key.Format, kind.Plain plain.ParserFormat) ∷
-    (part.Parser, key.Regex, kind.Pattern) ∷
-    (part.Parser, key.TimeKey, kind.Plain plain.Text) ∷
-    (part.Parser, key.TimeFormat, kind.Plain plain.Text) ∷
-    (part.Parser, key.TimeKeep, kind.Plain plain.Truth) ∷
-    (part.Parser, key.Types, kind.Plain plain.Types) ∷
-    (part.Parser, key.SkipEmptyValues, kind.Plain plain.Truth) ∷
-    (part.EachInput, key.Name, kind.Plain plain.Ignored) ∷
-    (part.EachInput, key.StorageType, kind.Plain plain.Store) ∷
-    (part.EachInput, key.MemBufLimit, kind.Plain plain.Size) ∷
-    (part.EachInput, key.Alias, kind.Plain plain.Ignored) ∷
-    (part.EachInput, key.LogLevel, kind.Plain plain.Ignored) ∷
-    (part.TailInput, key.Tag, kind.Plain plain.PlainTag) ∷
-    (part.TailInput, key.Path, kind.Plain plain.Paths) ∷
-    (part.TailInput, key.Parser, kind.Parser) ∷
-    (part.TailInput, key.ReadFromHead, kind.Plain plain.Truth) ∷
-    (part.TailInput, key.RefreshInterval, kind.Plain plain.Ignored) ∷
-    (part.TailInput, key.RotateWait, kind.Plain plain.Ignored) ∷
-    (part.TailInput, key.SkipLongLines, kind.Plain plain.Ignored) ∷
-    (part.TailInput, key.BufferChunkSize, kind.Plain plain.Ignored) ∷
-    (part.TailInput, key.BufferMaxSize, kind.Plain plain.Ignored) ∷
-    (part.TcpInput, key.Tag, kind.Plain plain.Tag) ∷
-    (part.TcpInput, key.Listen, kind.Plain plain.Text) ∷
-    (part.TcpInput, key.Port, kind.Plain plain.Port) ∷
-    (part.TcpInput, key.Format, kind.Plain plain.LineFormat) ∷
-    (part.TcpInput, key.ChunkSize, kind.Plain plain.Ignored) ∷
-    (part.TcpInput, key.BufferSize, kind.Plain plain.Ignored) ∷
-    (part.ForwardInput, key.Tag, kind.Plain plain.Tag) ∷
-    (part.ForwardInput, key.Listen, kind.Plain plain.Text) ∷
-    (part.ForwardInput, key.Port, kind.Plain plain.Port) ∷
-    (part.ForwardInput, key.BufferChunkSize, kind.Plain plain.Ignored) ∷
-    (part.ForwardInput, key.BufferMaxSize, kind.Plain plain.Ignored) ∷
-    (part.StdinInput, key.Tag, kind.Plain plain.Tag) ∷
-    (part.StdinInput, key.Parser, kind.Parser) ∷
-    (part.EachFilter, key.Name, kind.Plain plain.Ignored) ∷
-    (part.EachFilter, key.Match, kind.Plain plain.Text) ∷
-    (part.GrepFilter, key.Regex, kind.Grep false) ∷
-    (part.GrepFilter, key.Exclude, kind.Grep true) ∷
-    (part.ModifyFilter, key.Condition, kind.Plain plain.Condition) ∷
-    (part.ModifyFilter, key.Set, kind.Plain (plain.Change change.Set)) ∷
-    (part.ModifyFilter, key.Add, kind.Plain (plain.Change change.Add)) ∷
-    (part.ModifyFilter, key.Remove, kind.Plain (plain.Change change.Remove)) ∷
-    (part.ModifyFilter, key.RemoveWildcard, kind.Plain (plain.Change change.RemoveWildcard)) ∷
-    (part.ModifyFilter, key.Rename, kind.Plain (plain.Change change.Rename)) ∷
-    (part.ModifyFilter, key.HardRename, kind.Plain (plain.Change change.HardRename)) ∷
-    (part.ModifyFilter, key.Copy, kind.Plain (plain.Change change.Copy)) ∷
-    (part.ModifyFilter, key.HardCopy, kind.Plain (plain.Change change.HardCopy)) ∷
-    (part.NestFilter, key.Operation, kind.Plain plain.Operation) ∷
-    (part.NestFilter, key.Wildcard, kind.Plain plain.Wildcard) ∷
-    (part.NestFilter, key.NestUnder, kind.Plain plain.Text) ∷
-    (part.NestFilter, key.NestedUnder, kind.Plain plain.Text) ∷
-    (part.NestFilter, key.RemovePrefix, kind.Plain plain.Text) ∷
-    (part.NestFilter, key.AddPrefix, kind.Plain plain.Text) ∷
-    (part.EachOutput, key.Name, kind.Plain plain.Ignored) ∷
-    (part.EachOutput, key.Match, kind.Plain plain.Text) ∷
-    (part.EachOutput, key.RetryLimit, kind.Plain plain.Retries) ∷
-    (part.EachOutput, key.TotalLimit, kind.Plain plain.Size) ∷
-    (part.EachOutput, key.Tls, kind.Plain plain.False) ∷
-    (part.EachOutput, key.Alias, kind.Plain plain.Ignored) ∷
-    (part.EachOutput, key.LogLevel, kind.Plain plain.Ignored) ∷
-    (part.EachOutput, key.Workers, kind.Plain plain.Ignored) ∷
-    (part.EachOutput, key.StorageId, kind.Id) ∷
-    (part.StdoutOutput, key.Format, kind.Plain plain.RecordForm) ∷
-    (part.FileOutput, key.Path, kind.Plain plain.Text) ∷
-    (part.FileOutput, key.File, kind.Plain plain.Text) ∷
-    (part.FileOutput, key.Format, kind.Plain plain.FileForm) ∷
-    (part.FileOutput, key.Mkdir, kind.Plain plain.Ignored) ∷
-    (part.TcpOutput, key.Host, kind.Plain plain.Text) ∷
-    (part.TcpOutput, key.Port, kind.Plain plain.Port) ∷
-    (part.TcpOutput, key.Format, kind.Plain plain.RecordForm) ∷
-    (part.ForwardOutput, key.Host, kind.Plain plain.Text) ∷
-    (part.ForwardOutput, key.Port, kind.Plain plain.Port) ∷
-    (part.ForwardOutput, key.RequireAck, kind.Plain plain.Truth) ∷
-    (part.ForwardOutput, key.TimeAsInteger, kind.Plain plain.Truth) ∷
-    (part.HttpOutput, key.Host, kind.Plain plain.Visible) ∷
-    (part.HttpOutput, key.Port, kind.Plain plain.Port) ∷
-    (part.HttpOutput, key.Uri, kind.Plain plain.Uri) ∷
-    (part.HttpOutput, key.Format, kind.Plain plain.RecordForm) ∷
-    (part.HttpOutput, key.RetryStatus, kind.Plain plain.Statuses) ∷
-    (part.HttpOutput, key.Header, kind.Plain plain.Header) ∷
-    (part.HttpOutput, key.HttpUser, kind.Plain plain.Printable) ∷
-    (part.HttpOutput, key.HttpPasswd, kind.Plain plain.Printable) ∷
-    []
+-- the words of each menu
+abbrev pub words_of : Menu → List Word
+words_of menu.Sync = word.Normal ∷ word.Full ∷ []
+words_of menu.Store = word.Memory ∷ word.Filesystem ∷ []
+words_of menu.Lines = word.Json ∷ word.Plain ∷ []
+words_of menu.Shapes = word.Json ∷ word.Regex ∷ word.Plain ∷ []
+words_of menu.Records = word.JsonLines ∷ word.MsgPack ∷ []
+words_of menu.FileRecords = word.OutFile ∷ word.JsonLines ∷ []
+words_of menu.Operations = word.Nest ∷ word.Lift ∷ []
+
+abbrev pub text_of : Word → List ℕ
+text_of word.Normal = codes "normal"
+text_of word.Full = codes "full"
+text_of word.Memory = codes "memory"
+text_of word.Filesystem = codes "filesystem"
+text_of word.Json = codes "json"
+text_of word.Regex = codes "regex"
+text_of word.Plain = codes "none"
+text_of word.JsonLines = codes "json_lines"
+text_of word.MsgPack = codes "msgpack"
+text_of word.OutFile = codes "out_file"
+text_of word.Nest = codes "nest"
+text_of word.Lift = codes "lift"
 
 -- the kind of section with this name
 abbrev pub is_head_named : List ℕ → SectionKind → Bool
@@ -284,36 +299,16 @@ plugin_of head.Parser name = None
 plugin_of head.Filter name = option_map target.Filter (filter_of name)
 plugin_of head.Output name = option_map target.Output (output_of name)
 
--- the key with this name and how its value is read, if the section or plugin has it
+-- the key with this name, if the section or plugin has it
 abbrev pub is_key_named : List ℕ → Key → Bool
 is_key_named name key = str_eq_ignore_ascii_case (name_of key) name
 
--- whether a part has a section or plugin in it
-abbrev pub covers : Part → Target → Bool
-covers part.Service target.Service = true
-covers part.Parser target.Parser = true
-covers part.EachInput (target.Input plugin) = true
-covers part.TailInput (target.Input input.Tail) = true
-covers part.TcpInput (target.Input input.Tcp) = true
-covers part.ForwardInput (target.Input input.Forward) = true
-covers part.StdinInput (target.Input input.Stdin) = true
-covers part.EachFilter (target.Filter plugin) = true
-covers part.GrepFilter (target.Filter filter.Grep) = true
-covers part.ModifyFilter (target.Filter filter.Modify) = true
-covers part.NestFilter (target.Filter filter.Nest) = true
-covers part.EachOutput (target.Output plugin) = true
-covers part.StdoutOutput (target.Output output.Stdout) = true
-covers part.FileOutput (target.Output output.File) = true
-covers part.TcpOutput (target.Output output.Tcp) = true
-covers part.ForwardOutput (target.Output output.Forward) = true
-covers part.HttpOutput (target.Output output.Http) = true
-covers _ _ = false
+abbrev pub key_of : Target → List ℕ → Option Key
+key_of target name = find (is_key_named name) (keys_of target)
 
-abbrev pub is_row_of : Target → List ℕ → Row → Bool
-is_row_of target name row = covers row.0 target && is_key_named name row.1
+-- the word of a menu
+abbrev pub is_written : List ℕ → Word → Bool
+is_written text word = str_eq_ignore_ascii_case (text_of word) text
 
-abbrev pub row_of : Target → List ℕ → Option Row
-row_of target name = find (is_row_of target name) table
-
-abbrev pub key_of : Target → List ℕ → Option (Key × Kind)
-key_of target name = option_map (λ row. (row.1, row.2)) (row_of target name)
+abbrev pub word_of : Menu → List ℕ → Option Word
+word_of menu text = find (is_written text) (words_of menu)

@@ -36,16 +36,13 @@ thousandths (a ∷ b ∷ c ∷ more) = (a - 48) * 100 + (b - 48) * 10 + (c - 48)
 abbrev pub flush_of : List ℕ → Option ℕ
 flush_of text =
     if is_digits (decimals text) && nat_le (length (decimals text)) 9
-    then option_and_then
-    (λ seconds. option_and_then (within 1 18446744073709551615)
-    (within_64_bits (seconds * 1000 + thousandths (decimals text))))
+    then option_and_then (λ seconds. option_and_then (within 1 18446744073709551615) (within_64_bits (seconds * 1000 + thousandths (decimals text))))
     (number_of (before_first (λ b. b == byte ".") text))
     else None
 
 -- how often to retry: a number, `no_limits` or `False` for no limit, `no_retries` for never, case ignored
 abbrev pub retries_of : List ℕ → Option Retries
 retries_of text =
-    if str_eq_ignore_ascii_case text (codes "no_limits") || str_eq_ignore_ascii_case text (codes "false")
-    then Some Unlimited
+    if str_eq_ignore_ascii_case text (codes "no_limits") || str_eq_ignore_ascii_case text (codes "false") then Some Unlimited
     else (if str_eq_ignore_ascii_case text (codes "no_retries") then Some (Times 0)
     else option_map Times (number_of text))

@@ -4,19 +4,15 @@ use Rattle.std.specs.List.{list_all, list_any, slice_split, before_first}
 use Rattle.std.specs.Char.{is_ascii_graphic}
 use Rattle.std.specs.Str.{str_eq_ignore_ascii_case, byte, is_utf8}
 use Rattle.fwd_base.specs.Blanks.{is_blank, skip_blanks}
-use Rattle.fwd_base.specs.Limits.{longest_tag, longest_name}
+use Rattle.fwd_base.specs.Limits.{longest_tag}
 
 -- On, True and Yes, case ignored
 abbrev pub is_true_word : List ℕ → Bool
-is_true_word text =
-    str_eq_ignore_ascii_case text (codes "on")
-    || (str_eq_ignore_ascii_case text (codes "true") || str_eq_ignore_ascii_case text (codes "yes"))
+is_true_word text = str_eq_ignore_ascii_case text (codes "on") || (str_eq_ignore_ascii_case text (codes "true") || str_eq_ignore_ascii_case text (codes "yes"))
 
 -- Off, False and No, case ignored
 abbrev pub is_false_word : List ℕ → Bool
-is_false_word text =
-    str_eq_ignore_ascii_case text (codes "off")
-    || (str_eq_ignore_ascii_case text (codes "false") || str_eq_ignore_ascii_case text (codes "no"))
+is_false_word text = str_eq_ignore_ascii_case text (codes "off") || (str_eq_ignore_ascii_case text (codes "false") || str_eq_ignore_ascii_case text (codes "no"))
 
 abbrev pub truth_of : List ℕ → Option Bool
 truth_of text = if is_true_word text then Some true else (if is_false_word text then Some false else None)
@@ -24,14 +20,6 @@ truth_of text = if is_true_word text then Some true else (if is_false_word text 
 -- a tag: bytes of UTF-8, at least one, and at most as many as a tag may have
 abbrev pub is_tag_text : List ℕ → Bool
 is_tag_text text = nat_lt 0 (length text) && (nat_le (length text) longest_tag && is_utf8 text)
-
-abbrev pub has_blank : List ℕ → Bool
-has_blank text = list_any is_blank text
-
--- the id of an output: bytes of UTF-8 without blanks, at least one, and at most as many as a name may have
-abbrev pub is_id_text : List ℕ → Bool
-is_id_text text =
-    nat_lt 0 (length text) && (nat_le (length text) longest_name && (is_utf8 text && not (has_blank text)))
 
 abbrev pub is_one_of : List ℕ → ℕ → Bool
 is_one_of some b = list_any (λ s. b == s) some

@@ -1,16 +1,14 @@
 //! The entries of a section with the values read for them.
 
-ghost use Rattle.std.specs.Prelude.{◌≡◌, ◌++◌, ◌∷◌, [], IfOk, OnOk, unwrap_or, count_by};
+ghost use Rattle.std.specs.Prelude.{◌≡◌, ◌++◌, ◌∷◌, [], IfOk, OnOk, unwrap_or};
 ghost use Rattle.std.specs.Option.{option_copied};
 ghost use Rattle.std.specs.List.{filter_map, last_or};
-ghost use Rattle.fwd_settings_schema.specs.Property.{last_value, number_at, port_at, truth_at, format_at, form_at, operation_at, text_at, id_at, id_place_at, retries_at, last_in, pattern_in, parser_in, grep_in, condition_in, change_in, wildcard_in, header_in, is_header};
+ghost use Rattle.fwd_settings_schema.specs.Property.{last_value, number_at, port_at, truth_at, word_at, text_at, retries_at, last_in, pattern_in, parser_in, grep_in, condition_in, change_in, wildcard_in};
 
 use crate::keys::Key;
-use crate::words::{LineFormat, Operation};
-use fwd_base::{Bytes, Form, Items, Memory, Names, Pattern, Retries};
-use fwd_config::Place;
+use crate::words::Word;
+use fwd_base::{Bytes, Items, Memory, Names, Pattern, Retries};
 use fwd_grep::{GrepRule, GrepRules};
-use fwd_out_http::{HeaderField, HeaderFields};
 use fwd_parser::Parser;
 use fwd_reshape::{Change, Changes, Condition, Conditions, ModifyRules};
 use std::alloc::Global;
@@ -22,9 +20,7 @@ pub enum Value {
     Number(u64),
     Port(u16),
     Truth(bool),
-    Format(LineFormat),
-    Form(Form),
-    Operation(Operation),
+    Word(Word),
     Text(Bytes),
     Retries(Retries),
     Pattern(Pattern),
@@ -33,9 +29,6 @@ pub enum Value {
     Condition(Condition),
     Change(Change),
     Wildcard(Bytes),
-    Header(HeaderField),
-    /// The id of an output, and where it stands.
-    Id { name: Bytes, place: Place },
 }
 
 /// An entry: its key and the value read for it.
@@ -54,7 +47,7 @@ fn last_value(properties: &[Property], key: Key) -> Option<&Value>
 {
     let mut last = None;
     for item in properties {
-        if key.is_same(item.key) {
+        if key.is_written_as(item.key) {
             last = Some(&item.value);
         }
     }
@@ -88,29 +81,11 @@ pub fn truth_at(properties: &[Property], key: Key) -> Option<bool>
     }
 }
 
-pub fn format_at(properties: &[Property], key: Key) -> Option<LineFormat>
-    ensures { result ≡ format_at key properties.now }
+pub fn word_at(properties: &[Property], key: Key) -> Option<Word>
+    ensures { result ≡ word_at key properties.now }
 {
     match last_value(properties, key) {
-        Some(Value::Format(format)) => Some(*format),
-        _ => None,
-    }
-}
-
-pub fn form_at(properties: &[Property], key: Key) -> Option<Form>
-    ensures { result ≡ form_at key properties.now }
-{
-    match last_value(properties, key) {
-        Some(Value::Form(form)) => Some(*form),
-        _ => None,
-    }
-}
-
-pub fn operation_at(properties: &[Property], key: Key) -> Option<Operation>
-    ensures { result ≡ operation_at key properties.now }
-{
-    match last_value(properties, key) {
-        Some(Value::Operation(operation)) => Some(*operation),
+        Some(Value::Word(word)) => Some(*word),
         _ => None,
     }
 }
@@ -130,26 +105,6 @@ pub fn text_at(properties: &[Property], key: Key) -> Option<&[u8]>
 {
     match last_value(properties, key) {
         Some(Value::Text(text)) => Some(text.as_slice()),
-        _ => None,
-    }
-}
-
-/// Returns the id of the last entry with a key.
-pub fn id_at(properties: &[Property], key: Key) -> Option<&[u8]>
-    ensures { option_copied result ≡ id_at key properties.now }
-{
-    match last_value(properties, key) {
-        Some(Value::Id { name, .. }) => Some(name.as_slice()),
-        _ => None,
-    }
-}
-
-/// Returns the place of the id of the last entry with a key.
-pub fn id_place_at(properties: &[Property], key: Key) -> Option<&Place>
-    ensures { option_copied result ≡ id_place_at key properties.now }
-{
-    match last_value(properties, key) {
-        Some(Value::Id { place, .. }) => Some(place),
         _ => None,
     }
 }
@@ -289,47 +244,6 @@ pub fn modify_rules(alloc: Global, properties: Properties) -> Result<ModifyRules
         push_modify(&mut rules, item)?;
     }
     Ok(rules)
-}
-
-/// Appends the header field of an entry, if it has one.
-fn push_header(alloc: Global, fields: &mut HeaderFields, item: &Property) -> Result<(), Memory>
-    ensures { OnOk result (fields.new ≡ fields.old ++ filter_map header_in (item.now ∷ [])) }
-{
-    match &item.value {
-        Value::Header(field) => fields.push(HeaderField {
-            name: field.name.try_clone(alloc)?,
-            value: field.value.try_clone(alloc)?,
-        }),
-        _ => Ok(()),
-    }
-}
-
-/// Appends the header fields of an http output, in order.
-pub fn push_headers(
-    alloc: Global,
-    fields: &mut HeaderFields,
-    properties: &[Property],
-) -> Result<(), Memory>
-    ensures { OnOk result (fields.new ≡ fields.old ++ filter_map header_in properties.now) }
-{
-    for item in properties {
-        push_header(alloc, fields, item)?;
-    }
-    Ok(())
-}
-
-#[tactic(auto, unfolding(crate::specs::Property::is_header))]
-fn is_header(item: &Property) -> bool
-    ensures { result ≡ is_header item.now }
-{
-    matches!(&item.value, Value::Header(_))
-}
-
-/// Returns how many header fields an http output has.
-pub fn header_count(properties: &[Property]) -> usize
-    ensures { result ≡ count_by is_header properties.now }
-{
-    properties.iter().filter(|item| is_header(item)).count()
 }
 
 /// Appends the wildcard of an entry, if it has one.

@@ -1,11 +1,10 @@
-//! Rules of the filters `grep` and `modify`, and header fields.
+//! Rules of the filters `grep` and `modify`.
 
 ghost use Rattle.std.specs.Prelude.{◌≡◌, IfOk, option_map};
-ghost use Rattle.fwd_settings_schema.specs.Rule.{is_key, one_key, key_and_rest_of, two_keys, header_of, condition_of, change_of};
+ghost use Rattle.fwd_settings_schema.specs.Rule.{is_key, one_key, key_and_rest_of, two_keys, condition_of, change_of};
 
 use crate::texts::{same_name, split_word};
 use fwd_base::{Bytes, Memory};
-use fwd_out_http::{HeaderField, is_field_name, is_field_value};
 use fwd_reshape::{Change, Condition};
 use std::alloc::Global;
 
@@ -69,21 +68,6 @@ fn two_keys(alloc: Global, text: &[u8]) -> Result<Option<(Bytes, Bytes)>, Memory
         Bytes::from_slice(alloc, key)?,
         Bytes::from_slice(alloc, other)?,
     )))
-}
-
-/// Parses the name and the value of a header field: the first word, and the whole rest after it. `None` if
-/// one of them isn't there or has other characters.
-pub fn header(alloc: Global, text: &[u8]) -> Result<Option<HeaderField>, Memory>
-    ensures { IfOk result (λ field. field ≡ header_of text.now) }
-{
-    let (name, value) = split_word(text);
-    if !is_field_name(name) || value.is_empty() || !is_field_value(value) {
-        return Ok(None);
-    }
-    Ok(Some(HeaderField {
-        name: Bytes::from_slice(alloc, name)?,
-        value: Bytes::from_slice(alloc, value)?,
-    }))
 }
 
 /// Parses a condition of `modify`, whose first word ignores case. `None` if the text isn't one.

@@ -2,10 +2,10 @@
 
 ghost use Rattle.std.specs.Prelude.{◌≡◌, IfOk};
 ghost use Rattle.std.specs.Str.{str_eq_ignore_ascii_case};
-ghost use Rattle.fwd_settings_schema.specs.Text.{is_tag_text, is_id_text, has_blank, is_plain_text, is_visible_text, is_uri_text, is_one_of, parts_of, first_word, rest};
+ghost use Rattle.fwd_settings_schema.specs.Text.{is_tag_text, is_plain_text, is_visible_text, is_uri_text, is_one_of, parts_of, first_word, rest};
 
-use fwd_base::limits::{LONGEST_NAME, LONGEST_TAG};
-use fwd_base::{Bytes, Memory, Names, index_of_blank, is_blank, is_utf8, skip_blanks};
+use fwd_base::limits::LONGEST_TAG;
+use fwd_base::{Bytes, Memory, Names, index_of_blank, is_utf8, skip_blanks};
 use std::alloc::Global;
 use std::mem;
 
@@ -14,19 +14,6 @@ pub fn is_tag(text: &[u8]) -> bool
     ensures { result ≡ is_tag_text text.now }
 {
     !text.is_empty() && text.len() <= LONGEST_TAG && is_utf8(text)
-}
-
-/// Returns whether a text may be the id of an output: 1 to 255 bytes of UTF-8 without blanks.
-pub fn is_id(text: &[u8]) -> bool
-    ensures { result ≡ is_id_text text.now }
-{
-    !text.is_empty() && text.len() <= LONGEST_NAME && is_utf8(text) && !has_blank(text)
-}
-
-fn has_blank(text: &[u8]) -> bool
-    ensures { result ≡ has_blank text.now }
-{
-    text.iter().any(|byte| is_blank(*byte))
 }
 
 /// Returns whether two names are the same, case ignored.

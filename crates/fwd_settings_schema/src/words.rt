@@ -1,120 +1,103 @@
-//! The words that values choose from, case ignored.
+//! The words that values choose from.
 
 ghost use Rattle.std.specs.Prelude.{◌≡◌};
-ghost use Rattle.fwd_settings_schema.specs.Words.{sync_of, store_of, line_format_of, parser_format_of, record_form_of, file_form_of, operation_of};
+ghost use Rattle.std.specs.List.{find};
+ghost use Rattle.fwd_settings_schema.specs.Keys.{text_of, words_of, is_written, word_of};
 
-use crate::texts::same_name;
-use fwd_base::Form;
+use crate::same_name;
 
-/// The format of lines.
+/// A word that a value chooses.
 #[derive(Clone, Copy)]
-pub enum LineFormat {
-    /// An object of JSON.
+pub enum Word {
+    Normal,
+    Full,
+    Memory,
+    Filesystem,
     Json,
-    /// A text that a pattern matches.
     Regex,
-    /// Any text.
     Plain,
-}
-
-/// What the filter `nest` does.
-#[derive(Clone, Copy)]
-pub enum Operation {
+    JsonLines,
+    MsgPack,
+    OutFile,
     Nest,
     Lift,
 }
 
-/// Returns whether each append is fsynced: `full`, or `normal` for no.
-pub fn sync(text: &[u8]) -> Option<bool>
-    ensures { result ≡ sync_of text.now }
-{
-    if same_name(text, b"full") {
-        return Some(true);
+/// The words that a key accepts. A `match` on the word of a key names words of this menu; its last arm is
+/// the default, and stands for the words that the menu doesn't have.
+#[derive(Clone, Copy)]
+pub enum Menu {
+    Sync,
+    Store,
+    Lines,
+    Shapes,
+    Records,
+    FileRecords,
+    Operations,
+}
+
+const SYNC: [Word; 2] = [Word::Normal, Word::Full];
+
+const STORE: [Word; 2] = [Word::Memory, Word::Filesystem];
+
+const LINES: [Word; 2] = [Word::Json, Word::Plain];
+
+const SHAPES: [Word; 3] = [Word::Json, Word::Regex, Word::Plain];
+
+const RECORDS: [Word; 2] = [Word::JsonLines, Word::MsgPack];
+
+const FILE_RECORDS: [Word; 2] = [Word::OutFile, Word::JsonLines];
+
+const OPERATIONS: [Word; 2] = [Word::Nest, Word::Lift];
+
+impl Word {
+    /// Returns the word, in lower case.
+    fn text(self) -> &'static [u8]
+        ensures { result.now ≡ text_of self }
+    {
+        match self {
+            Word::Normal => b"normal",
+            Word::Full => b"full",
+            Word::Memory => b"memory",
+            Word::Filesystem => b"filesystem",
+            Word::Json => b"json",
+            Word::Regex => b"regex",
+            Word::Plain => b"none",
+            Word::JsonLines => b"json_lines",
+            Word::MsgPack => b"msgpack",
+            Word::OutFile => b"out_file",
+            Word::Nest => b"nest",
+            Word::Lift => b"lift",
+        }
     }
-    if same_name(text, b"normal") {
-        Some(false)
-    } else {
-        None
+
+    fn is_written(self, text: &[u8]) -> bool
+        ensures { result ≡ is_written text.now self }
+    {
+        same_name(self.text(), text)
+    }
+
+    /// Returns the word of a menu that a text is, case ignored.
+    pub fn of(menu: Menu, text: &[u8]) -> Option<Word>
+        ensures { result ≡ word_of menu text.now }
+    {
+        words(menu)
+            .iter()
+            .copied()
+            .find(|word| word.is_written(text))
     }
 }
 
-/// Returns whether chunks are file-backed: `filesystem`, or `memory` for no.
-pub fn store(text: &[u8]) -> Option<bool>
-    ensures { result ≡ store_of text.now }
+fn words(menu: Menu) -> &'static [Word]
+    ensures { result.now ≡ words_of menu }
 {
-    if same_name(text, b"filesystem") {
-        return Some(true);
-    }
-    if same_name(text, b"memory") {
-        Some(false)
-    } else {
-        None
-    }
-}
-
-/// Returns the format of a tcp input's lines: `json` or `none`.
-pub fn line_format(text: &[u8]) -> Option<LineFormat>
-    ensures { result ≡ line_format_of text.now }
-{
-    if same_name(text, b"json") {
-        return Some(LineFormat::Json);
-    }
-    if same_name(text, b"none") {
-        Some(LineFormat::Plain)
-    } else {
-        None
-    }
-}
-
-/// Returns the format of a parser's lines: `json`, `none` or `regex`.
-pub fn parser_format(text: &[u8]) -> Option<LineFormat>
-    ensures { result ≡ parser_format_of text.now }
-{
-    if same_name(text, b"regex") {
-        Some(LineFormat::Regex)
-    } else {
-        line_format(text)
-    }
-}
-
-/// Returns the form of records for a stream: `json_lines` or `msgpack`.
-pub fn record_form(text: &[u8]) -> Option<Form>
-    ensures { result ≡ record_form_of text.now }
-{
-    if same_name(text, b"json_lines") {
-        return Some(Form::JsonLines);
-    }
-    if same_name(text, b"msgpack") {
-        Some(Form::MsgPack)
-    } else {
-        None
-    }
-}
-
-/// Returns the form of records in a file: `out_file` or `json_lines`.
-pub fn file_form(text: &[u8]) -> Option<Form>
-    ensures { result ≡ file_form_of text.now }
-{
-    if same_name(text, b"out_file") {
-        return Some(Form::OutFile);
-    }
-    if same_name(text, b"json_lines") {
-        Some(Form::JsonLines)
-    } else {
-        None
-    }
-}
-
-/// Returns the operation of `nest`: `nest` or `lift`.
-pub fn nest_operation(text: &[u8]) -> Option<Operation>
-    ensures { result ≡ operation_of text.now }
-{
-    if same_name(text, b"nest") {
-        return Some(Operation::Nest);
-    }
-    if same_name(text, b"lift") {
-        Some(Operation::Lift)
-    } else {
-        None
+    match menu {
+        Menu::Sync => &SYNC,
+        Menu::Store => &STORE,
+        Menu::Lines => &LINES,
+        Menu::Shapes => &SHAPES,
+        Menu::Records => &RECORDS,
+        Menu::FileRecords => &FILE_RECORDS,
+        Menu::Operations => &OPERATIONS,
     }
 }

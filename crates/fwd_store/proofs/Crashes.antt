@@ -16,7 +16,7 @@ use Rattle.fwd_outside.specs.File.{FileState, IsPostCrash, absent}
 use Rattle.fwd_outside.specs.DiskStates.{Files, DiskTransition, initial_files}
 use Rattle.fwd_outside.specs.PostCrash.{DiskSince, DiskAfter}
 use Rattle.fwd_outside.proofs.KeepsBytes.{whole_post_crash, absent_post_crash}
-use Rattle.fwd_outside.proofs.CallEffects.{Local, LocalThen}
+use Rattle.fwd_outside.proofs.Calls.{Local, LocalThen}
 use Rattle.fwd_outside.proofs.AtomicFiles.{AllImages, remove_keeps}
 use Rattle.fwd_outside.specs.PostCrash.{AbsentOrBefore}
 use Rattle.fwd_chunk.specs.Layout.{AreOutputs, new_meta}

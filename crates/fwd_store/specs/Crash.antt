@@ -35,40 +35,31 @@ FileRepresents None meta content files = Unit {0}
 -- The files at the start of an `accept`: that of the open chunk has its content; there is no file of a new
 -- name.
 abbrev pub IsReadyToAccept : Stored → Option ℕ → List ℕ → Home → List ℕ → List ℕ → Files → Type 0
-IsReadyToAccept s (Some n) stream home meta content files =
-    FileRepresents (map.get s.chunks n) meta content files
+IsReadyToAccept s (Some n) stream home meta content files = FileRepresents (map.get s.chunks n) meta content files
 IsReadyToAccept s None stream Disk meta content files = files (new_name s stream) ≡ absent
 IsReadyToAccept s None stream Ram meta content files = Unit {0}
 
 -- each post-crash state of an open chunk's file has the old content, or that and the batch, and no other
 -- file changes
 abbrev pub GrowsFrom : Option Kept → List ℕ → List ℕ → List ℕ → Files → Files → Type 0
-GrowsFrom (Some (InFile head)) meta content batch first now =
-    KeepsOldOrNew head meta content (content ++ batch) first now
+GrowsFrom (Some (InFile head)) meta content batch first now = KeepsOldOrNew head meta content (content ++ batch) first now
 GrowsFrom _ meta content batch first now = now ≡ first
 
 -- at each point of an `accept`; the file of a new chunk is complete or absent
-abbrev pub TakesBatch : Stored → Option ℕ → List ℕ → List ℕ → Home → List ℕ → List (List ℕ) → List ℕ → List ℕ
-    → Files → Files → Type 0
-TakesBatch s (Some n) stream tag home batch outputs meta content first now =
-    GrowsFrom (map.get s.chunks n) meta content batch first now
-TakesBatch s None stream tag Disk batch outputs meta content first now =
-    IsCreatedAtomically (new_name s stream) (new_file tag batch outputs) first now
+abbrev pub TakesBatch : Stored → Option ℕ → List ℕ → List ℕ → Home → List ℕ → List (List ℕ) → List ℕ → List ℕ → Files → Files → Type 0
+TakesBatch s (Some n) stream tag home batch outputs meta content first now = GrowsFrom (map.get s.chunks n) meta content batch first now
+TakesBatch s None stream tag Disk batch outputs meta content first now = IsCreatedAtomically (new_name s stream) (new_file tag batch outputs) first now
 TakesBatch s None stream tag Ram batch outputs meta content first now = now ≡ first
 
 -- After an `accept` the chunk's file has the content and the batch, or the batch alone if the chunk is new.
-abbrev pub HasBatch : Option ℕ → Option Kept → List ℕ → List ℕ → List (List ℕ) → List ℕ → List ℕ → Files
-    → Type 0
-HasBatch (Some n) kept tag batch outputs meta content files =
-    FileRepresents kept meta (content ++ batch) files
-HasBatch None kept tag batch outputs meta content files =
-    FileRepresents kept (new_meta tag outputs) batch files
+abbrev pub HasBatch : Option ℕ → Option Kept → List ℕ → List ℕ → List (List ℕ) → List ℕ → List ℕ → Files → Type 0
+HasBatch (Some n) kept tag batch outputs meta content files = FileRepresents kept meta (content ++ batch) files
+HasBatch None kept tag batch outputs meta content files = FileRepresents kept (new_meta tag outputs) batch files
 
 -- at each point of a removal each post-crash state of the file is an earlier one, or the file is absent, and
 -- no other file changes
 abbrev pub LeavesOldOrNone : Option (List ℕ) → Files → Files → Type 0
-LeavesOldOrNone (Some name) first now =
-    AllPostCrash name (AbsentOrBefore (first name)) now × OthersUnchanged name first now
+LeavesOldOrNone (Some name) first now = AllPostCrash name (AbsentOrBefore (first name)) now × OthersUnchanged name first now
 LeavesOldOrNone None first now = now ≡ first
 
 -- there is no file of this name

@@ -1,7 +1,7 @@
 -- The disk program of `accept`, and the store after it.
 use Rattle.std.specs.Prelude.{◌≡◌, ◌≢◌, ◌⊎◌, ℕ, ◌+◌, ◌^◌, ◌<◌, ◌≤◌, ◌==◌, ◌&&◌, ◌||◌, nat_lt, not, is_some, unwrap_or, Bool, true, false, if◌then◌else◌, List, [], ◌∷◌, ◌++◌, length, All, Option, Some, None, IsSome, Result, Ok, Err}
 use Rattle.std.specs.FinMap as map
-use Rattle.fwd_base.specs.Limits.{chunk_header, full_chunk, largest_batch, numbers_end}
+use Rattle.fwd_base.specs.Limits.{full_chunk, largest_batch, numbers_end}
 use Rattle.fwd_outside.specs.Program.{Return, and_then}
 use Rattle.fwd_outside.specs.Log.{LogGrew}
 use Rattle.fwd_outside.specs.declared.home.Home.{Home}
@@ -50,8 +50,7 @@ new_kept name tag Ram batch outputs = InMemory batch
 
 -- a new chunk in a file is created atomically; one in memory makes no disk call
 abbrev pub begins_as : List ℕ → List ℕ → Home → List ℕ → List (List ℕ) → DiskProgram (Option (Unit {0}))
-begins_as name tag Disk batch outputs =
-    and_then (create_program name tag batch outputs) (λ _. Return (Some tt))
+begins_as name tag Disk batch outputs = and_then (create_program name tag batch outputs) (λ _. Return (Some tt))
 begins_as name tag Ram batch outputs = Return (Some tt)
 
 abbrev pub append_to_program : Option Kept → List ℕ → Bool → DiskProgram (Option (Unit {0}))
@@ -59,16 +58,12 @@ append_to_program (Some kept) batch full = appends kept batch full
 append_to_program None batch full = Return (Some tt)
 
 -- the batch goes to the open chunk, or begins a new chunk
-abbrev pub accept_into_program : Stored → Option ℕ → List ℕ → List ℕ → Home → List ℕ → List (List ℕ)
-    → DiskProgram (Option (Unit {0}))
-accept_into_program s (Some n) stream tag home batch outputs =
-    append_to_program (map.get s.chunks n) batch s.full
-accept_into_program s None stream tag home batch outputs =
-    begins_as (new_name s stream) tag home batch outputs
+abbrev pub accept_into_program : Stored → Option ℕ → List ℕ → List ℕ → Home → List ℕ → List (List ℕ) → DiskProgram (Option (Unit {0}))
+accept_into_program s (Some n) stream tag home batch outputs = append_to_program (map.get s.chunks n) batch s.full
+accept_into_program s None stream tag home batch outputs = begins_as (new_name s stream) tag home batch outputs
 
 -- the calls of an `accept`; a batch that is too large or finds no number makes none
-abbrev pub accept_program : Stored → ℕ → List ℕ → List ℕ → Home → List ℕ → List (List ℕ)
-    → DiskProgram (Option (Unit {0}))
+abbrev pub accept_program : Stored → ℕ → List ℕ → List ℕ → Home → List ℕ → List (List ℕ) → DiskProgram (Option (Unit {0}))
 accept_program s input stream tag home batch outputs =
     if nat_lt largest_batch (length batch) || has_no_number s input tag then Return None
     else accept_into_program s (chunk_for s input tag) stream tag home batch outputs
@@ -102,24 +97,18 @@ abbrev pub sealed : Stored → ℕ → Stored
 sealed s n = record s { opened = without n s.opened }
 
 -- the batch begins a new chunk, with this answer
-abbrev pub BeginsChunk : Stored → Stored → ℕ → List ℕ → List ℕ → Home → List ℕ → List (List ℕ) → Accepted
-    → Type 0
+abbrev pub BeginsChunk : Stored → Stored → ℕ → List ℕ → List ℕ → Home → List ℕ → List (List ℕ) → Accepted → Type 0
 BeginsChunk old new input stream tag home batch outputs a =
-    (a ≡ record { chunk = record { 0 = old.next }; size = length batch; fresh = true })
-    × (new ≡ with_new old input tag (new_kept (new_name old stream) tag home batch outputs))
+    (a ≡ record { chunk = record { 0 = old.next }; size = length batch; fresh = true }) × (new ≡ with_new old input tag (new_kept (new_name old stream) tag home batch outputs))
 
 -- the batch is appended to the open chunk, with this answer
 abbrev pub GrowsChunk : Stored → Stored → ℕ → List ℕ → Accepted → Type 0
 GrowsChunk old new n batch a =
-    (kept : Kept) × (map.get old.chunks n ≡ Some kept)
-    × (a ≡ record { chunk = record { 0 = n }; size = size_of (after_append kept batch); fresh = false })
-    × (new ≡ with_kept old n (after_append kept batch))
+    (kept : Kept) × (map.get old.chunks n ≡ Some kept) × (a ≡ record { chunk = record { 0 = n }; size = size_of (after_append kept batch); fresh = false }) × (new ≡ with_kept old n (after_append kept batch))
 
 -- one of both, by the open chunk
-abbrev pub AcceptsBatch : Stored → Stored → Option ℕ → ℕ → List ℕ → List ℕ → Home → List ℕ → List (List ℕ)
-    → Accepted → Type 0
-AcceptsBatch old new None input stream tag home batch outputs a =
-    BeginsChunk old new input stream tag home batch outputs a
+abbrev pub AcceptsBatch : Stored → Stored → Option ℕ → ℕ → List ℕ → List ℕ → Home → List ℕ → List (List ℕ) → Accepted → Type 0
+AcceptsBatch old new None input stream tag home batch outputs a = BeginsChunk old new input stream tag home batch outputs a
 AcceptsBatch old new (Some n) input stream tag home batch outputs a = GrowsChunk old new n batch a
 
 abbrev pub has_file : Option Kept → Bool
@@ -145,10 +134,8 @@ named (Some n) = Some (record { 0 = n })
 -- The store after a refused batch, by the chunk that was open and the calls so far. Out of memory before the
 -- first disk call changes nothing.
 abbrev pub AbandonsBatch : DiskLog → DiskLog → Stored → Stored → Option ℕ → StoreRefusal → Type 0
-AbandonsBatch before now old new chunk (DiskFailed failed) =
-    (failed ≡ named chunk) × (new ≡ after_failure old chunk)
-AbandonsBatch before now old new chunk Memory =
-    (LogGrew before now [] × (new ≡ old)) ⊎ (new ≡ after_failure old chunk)
+AbandonsBatch before now old new chunk (DiskFailed failed) = (failed ≡ named chunk) × (new ≡ after_failure old chunk)
+AbandonsBatch before now old new chunk Memory = (LogGrew before now [] × (new ≡ old)) ⊎ (new ≡ after_failure old chunk)
 AbandonsBatch before now old new chunk _ = ⊥
 
 -- The store after a refusal. A batch that is too large, or finds no number, changes nothing.
@@ -176,16 +163,13 @@ CanGrow None = ⊥
 -- The offsets of its file fit 64 bits, and its metadata hold its outputs. A file that this run created has
 -- its number in the name.
 abbrev pub IsValidEntry : Option (List ℕ) → ℕ → Option Kept → Type 0
-IsValidEntry root n (Some (InFile head)) =
-    (end_of (InFile head) < 2 ^ 64) × FitsNames head × (stream : List ℕ)
-    × (head.name ≡ file_name (unwrap_or root []) stream n)
+IsValidEntry root n (Some (InFile head)) = (end_of (InFile head) < 2 ^ 64) × FitsNames head × (stream : List ℕ) × (head.name ≡ file_name (unwrap_or root []) stream n)
 IsValidEntry root n (Some kept) = (end_of kept < 2 ^ 64) × FitsItsNames kept
 IsValidEntry root n None = Unit {0}
 
 -- no chunk to come, from this number on, has a file of this name
 abbrev pub IsNoLater : Option (List ℕ) → ℕ → List ℕ → Type 0
-IsNoLater root next name =
-    (stream : List ℕ) (n : ℕ) → next ≤ n → n < numbers_end → name ≢ file_name (unwrap_or root []) stream n
+IsNoLater root next name = (stream : List ℕ) (n : ℕ) → next ≤ n → n < numbers_end → name ≢ file_name (unwrap_or root []) stream n
 
 -- Each open chunk is in the store and can grow, and the next number is above that of each chunk of the
 -- store. No two chunks have one file, and none has the file of a chunk to come.
@@ -194,10 +178,8 @@ pub record IsSound (s : Stored) : Type 0 where
   pub held : (n : ℕ) → IsValidEntry s.root n (map.get s.chunks n)
   pub below : (n : ℕ) → IsSome (map.get s.chunks n) → n < s.next
   pub numbers : s.next ≤ numbers_end
-  pub differ : (n m : ℕ) (name : List ℕ) → file_of_optional (map.get s.chunks n) ≡ Some name
-      → file_of_optional (map.get s.chunks m) ≡ Some name → n ≡ m
-  pub free : (n : ℕ) (name : List ℕ) → file_of_optional (map.get s.chunks n) ≡ Some name
-      → IsNoLater s.root s.next name
+  pub differ : (n m : ℕ) (name : List ℕ) → file_of_optional (map.get s.chunks n) ≡ Some name → file_of_optional (map.get s.chunks m) ≡ Some name → n ≡ m
+  pub free : (n : ℕ) (name : List ℕ) → file_of_optional (map.get s.chunks n) ≡ Some name → IsNoLater s.root s.next name
 
 -- the refusal for a failed disk call, or for memory
 abbrev pub IsRefusalOf : DiskErr → Option ChunkId → StoreRefusal → Type 0
@@ -219,21 +201,11 @@ HasFailed _ = ⊥
 
 -- the head of a recovered file
 abbrev pub head_of : List ℕ → Brief → ChunkHead
-head_of name brief =
-    record {
-      name = name;
-      meta = brief.meta;
-      size = brief.size;
-      selector = 0;
-      mark = brief.mark;
-      outputs = brief.outputs;
-    }
+head_of name brief = record { name = name; meta = brief.meta; size = brief.size; selector = 0; mark = brief.mark; outputs = brief.outputs }
 
 -- The recovered file has events. Its offsets fit 64 bits, and its metadata hold its outputs.
 abbrev pub IsWhole : Found → Type 0
-IsWhole found =
-    (brief : Brief) × (found.seen ≡ Whole brief) × (chunk_header + brief.meta + brief.size < 2 ^ 64)
-    × FitsNames (head_of [] brief)
+IsWhole found = (brief : Brief) × (found.seen ≡ Whole brief) × (24 + brief.meta + brief.size < 2 ^ 64) × FitsNames (head_of [] brief)
 
 -- the path of a recovered file
 abbrev pub path_of_recovered : Stored → Found → List ℕ

@@ -1,6 +1,6 @@
 ghost use Rattle.std.specs.Prelude.{◌≡◌, ◌≢◌, ◌⊎◌, ◌↔◌, ℕ, ◌+◌, ◌<◌, ◌≤◌, ◌^◌, ◌==◌, [], List, length, Some, None, Option, IfOk, IfErr, OnOk, OnErr, IsTrue, IsSome, IsErrOf, is_some, unwrap_or, Err, false};
 ghost use Rattle.std.specs.FinMap as map;
-ghost use Rattle.fwd_base.specs.Limits.{chunk_header, largest_batch, longest_tag, numbers_end};
+ghost use Rattle.fwd_base.specs.Limits.{largest_batch, longest_tag, numbers_end};
 ghost use Rattle.fwd_outside.specs.Program.{Return, and_then};
 ghost use Rattle.fwd_outside.specs.Log.{RunsFallible, LogGrew};
 ghost use Rattle.fwd_outside.specs.Cause.{HasCause};
@@ -28,7 +28,9 @@ use crate::answer::{Accepted, StoreRefusal};
 use crate::chunk_map::ChunkMap;
 use crate::open_chunks::{OpenChunks, Source};
 use fwd_base::limits::{FULL_CHUNK, LARGEST_BATCH, NUMBERS_END};
-use fwd_chunk::{Brief, ChunkHead, Found, Kept, PartErr, Seen, create, file_name, found_name};
+use fwd_chunk::{
+    Brief, ChunkHead, Found, Kept, PartErr, Seen, clone_names, create, file_name, found_name,
+};
 use fwd_event::Events;
 use fwd_outside::{Bytes, ChunkId, Disk, DiskErr, Home, InputId, Memory, Names};
 use std::alloc::Global;
@@ -132,7 +134,7 @@ fn create_chunk<D: Disk>(
 fn recovered_head(alloc: Global, name: Bytes, brief: &Brief) -> Result<ChunkHead, Memory>
     ensures { IfOk result (λ head. head ≡ head_of name brief.now) }
 {
-    let outputs = brief.outputs.try_clone(alloc)?;
+    let outputs = clone_names(alloc, &brief.outputs)?;
     Ok(ChunkHead {
         name,
         meta: brief.meta,
@@ -191,8 +193,7 @@ impl Store {
         self.opened.close(chunk.0);
     }
 
-    /// Returns the open chunk that was opened first. The program doesn't use it: it is for callers that close
-    /// chunks in that order.
+    /// Returns the open chunk that was opened first, for callers that close chunks in that order.
     pub fn first_open(&self) -> Option<ChunkId>
         ensures { result ≡ named (first_of self.now.opened) }
     {
@@ -268,8 +269,7 @@ impl Store {
 
     /// Returns the content of a chunk of the store, whole events. The content of a chunk in a file is read
     /// from it, in pieces. It is `Damaged` if the bytes aren't whole events of the recorded length, which
-    /// can't happen on a disk that keeps synced bytes. The program doesn't use it (it reads by `bytes`): it is
-    /// for callers that want whole events.
+    /// can't happen on a disk that keeps synced bytes.
     pub fn content<D: Disk>(
         &self,
         alloc: Global,
@@ -363,7 +363,8 @@ impl Store {
     {
         match &found.seen {
             Seen::Whole(brief) => self.adopt_file(alloc, chunk.0, found, brief),
-            Seen::Empty(_) | Seen::Refused(_) => unreachable!(),
+            Seen::Empty(_) => Err(Memory),
+            Seen::Refused(_) => Err(Memory),
         }
     }
 
@@ -377,7 +378,7 @@ impl Store {
     ) -> Result<(), Memory>
         requires number { number < self.old.next }
         requires new { map.get self.old.chunks number ≡ None }
-        requires offsets { chunk_header + brief.now.meta + brief.now.size < 2 ^ 64 }
+        requires offsets { 24 + brief.now.meta + brief.now.size < 2 ^ 64 }
         requires names { FitsNames (head_of [] brief.now) }
         requires own { IsNew self.old (path_of_recovered self.old found.now) }
         requires free { IsNoLater self.old.root self.old.next (path_of_recovered self.old found.now) }
@@ -392,66 +393,62 @@ impl Store {
         Ok(())
     }
 
-    // Removes the file of a chunk of the store, if it has one.
+    // Removes the file of a chunk, if it has one.
     fn remove_file<D: Disk>(&self, disk: &mut D, number: u64) -> Result<(), DiskErr>
-        requires { IsSome (map.get self.now.chunks number) }
         ensures calls { RunsFallible (D.call_log disk.old) (D.call_log disk.new) (drops (map.get self.now.chunks number)) (disk_outcome result) }
         ensures cause { HasCause (D.faults disk.old) (D.faults disk.new) (IsErrOf result Failed) }
     {
         match self.chunks.get(number) {
             Some(kept) => kept.remove(disk),
-            None => unreachable!(),
+            None => Ok(()),
         }
     }
 
-    // Reads the content of a chunk of the store.
+    // Reads the content of a chunk.
     fn read_content<D: Disk>(
         &self,
         alloc: Global,
         disk: &mut D,
         number: u64,
     ) -> Result<Bytes, PartErr>
-        requires { IsSome (map.get self.now.chunks number) }
         ensures calls { (kept : Kept) → map.get self.now.chunks number ≡ Some kept → ReadReturns (D.call_log disk.old) (D.call_log disk.new) (read_content_program kept) (IsContentOf kept) result }
         ensures cause { HasCause (D.faults disk.old) (D.faults disk.new) (IsErrOf result part_err.DiskFailed) }
     {
         match self.chunks.get(number) {
             Some(kept) => kept.content(alloc, disk),
-            None => unreachable!(),
+            None => Err(PartErr::Memory),
         }
     }
 
-    // Reads the bytes of a chunk of the store.
+    // Reads the bytes of a chunk.
     fn read_bytes<D: Disk>(
         &self,
         alloc: Global,
         disk: &mut D,
         number: u64,
     ) -> Result<Bytes, PartErr>
-        requires { IsSome (map.get self.now.chunks number) }
         ensures calls { (kept : Kept) → map.get self.now.chunks number ≡ Some kept → ReadReturns (D.call_log disk.old) (D.call_log disk.new) (read_content_program kept) (HasRecordedLength (size_of kept)) result }
         ensures cause { HasCause (D.faults disk.old) (D.faults disk.new) (IsErrOf result part_err.DiskFailed) }
     {
         match self.chunks.get(number) {
             Some(kept) => kept.bytes(alloc, disk),
-            None => unreachable!(),
+            None => Err(PartErr::Memory),
         }
     }
 
-    // Makes the calls of `settle` for a chunk of the store.
+    // Makes the calls of `settle`.
     fn settle_inner<D: Disk>(
         &self,
         disk: &mut D,
         number: u64,
         output: &[u8],
     ) -> Result<bool, DiskErr>
-        requires { IsSome (map.get self.now.chunks number) }
         ensures calls { RunsFallible (D.call_log disk.old) (D.call_log disk.new) (settle_for_program (map.get self.now.chunks number) output.now self.now.full) (disk_outcome result) }
         ensures cause { HasCause (D.faults disk.old) (D.faults disk.new) (IsErrOf result Failed) }
     {
         match self.chunks.get(number) {
             Some(kept) => kept.settle(disk, output, self.full),
-            None => unreachable!(),
+            None => Ok(false),
         }
     }
 

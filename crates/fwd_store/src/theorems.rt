@@ -2,7 +2,7 @@
 
 ghost use Rattle.std.specs.Prelude.{List, [], ℕ, true, Option, Some, Ok, unwrap_or, All, ◌+◌, ◌^◌, ◌<◌, ◌≤◌, ◌++◌, ◌≡◌, ◌≢◌, length};
 ghost use Rattle.std.specs.FinMap as map;
-ghost use Rattle.fwd_base.specs.Limits.{chunk_header, longest_file, longest_tag, numbers_end};
+ghost use Rattle.fwd_base.specs.Limits.{longest_file, longest_tag, numbers_end};
 ghost use Rattle.fwd_outside.specs.Program.{Execution, Return};
 ghost use Rattle.fwd_outside.specs.AtCrashPoints.{AtCrashPoints, Ends};
 ghost use Rattle.fwd_outside.specs.Disk.{DiskEntry, DiskGiven, DiskProgram};
@@ -32,10 +32,10 @@ ghost use Rattle.fwd_chunk.specs.Content.{IsContentIn, IsValidContent};
 /// that and the batch, and no other file changes. After success the file has both.
 pub fn append_keeps_old_or_new()
     ensures any_moment { (head : ChunkHead) (meta content batch : List ℕ) (files : Files) (entries : List DiskEntry) (left : DiskProgram (Option (Unit {0})))
-        → chunk_header + head.meta + head.size + length batch ≤ longest_file → DurableIn head meta content files → Execution (appends (InFile head) batch true) entries left
+        → 24 + head.meta + head.size + length batch ≤ longest_file → DurableIn head meta content files → Execution (appends (InFile head) batch true) entries left
         → AtCrashPoints DiskTransition (KeepsOldOrNew head meta content (content ++ batch) files) files entries }
     ensures accepted { (head : ChunkHead) (meta content batch : List ℕ) (files last : Files) (entries : List DiskEntry)
-        → chunk_header + head.meta + head.size + length batch ≤ longest_file → DurableIn head meta content files → Execution (appends (InFile head) batch true) entries (Return (Some tt)) → Ends DiskTransition files entries last
+        → 24 + head.meta + head.size + length batch ≤ longest_file → DurableIn head meta content files → Execution (appends (InFile head) batch true) entries (Return (Some tt)) → Ends DiskTransition files entries last
         → DurableIn (committed_head head (head.size + length batch)) meta (content ++ batch) last }
 {}
 
@@ -45,7 +45,7 @@ pub fn first_batch_is_atomic()
     ensures any_moment { (name tag batch : List ℕ) (outputs : List (List ℕ)) (files : Files) (entries : List DiskEntry) (left : DiskProgram (Option (Unit {0})))
         → files name ≡ absent → Execution (begins_as name tag home_of.Disk batch outputs) entries left → AtCrashPoints DiskTransition (IsCreatedAtomically name (new_file tag batch outputs) files) files entries }
     ensures accepted { (name tag batch : List ℕ) (outputs : List (List ℕ)) (files last : Files) (entries : List DiskEntry)
-        → length tag ≤ longest_tag → AreOutputs outputs → chunk_header + length (new_meta tag outputs) + length batch ≤ longest_file → files name ≡ absent → Execution (begins_as name tag home_of.Disk batch outputs) entries (Return (Some tt)) → Ends DiskTransition files entries last
+        → length tag ≤ longest_tag → AreOutputs outputs → 24 + length (new_meta tag outputs) + length batch ≤ longest_file → files name ≡ absent → Execution (begins_as name tag home_of.Disk batch outputs) entries (Return (Some tt)) → Ends DiskTransition files entries last
         → DurableIn (new_head name tag batch outputs) (new_meta tag outputs) batch last }
 {}
 

@@ -21,8 +21,7 @@ idle_at due output = record { output = output; due = due; tries = 0; flying = fa
 
 -- the routes to the outputs below n whose bits are set in a mask
 unfoldable pub routes_below : ℕ → ℕ → List Route
-routes_below n mask =
-    filter (λ r. bit_at mask r.output.0 == 1) (map (λ i. idle_at 0 (record { 0 = i })) (range_with_len 0 n))
+routes_below n mask = filter (λ r. bit_at mask r.output.0 == 1) (map (λ i. idle_at 0 (record { 0 = i })) (range_with_len 0 n))
 
 -- the routes to the outputs whose bits are set in a mask
 abbrev pub routes_to : ℕ → List Route

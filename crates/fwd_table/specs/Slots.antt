@@ -27,9 +27,7 @@ HasOwnRow place = IfSome place.row (λ row. row.chunk.0 ≡ place.chunk.0)
 
 -- the index of a chunk's slot, if there is one
 abbrev pub IsPlaceOf : ChunkId → List Slot → Option ℕ → Type 0
-IsPlaceOf chunk places found =
-    MatchOption found (All (λ place. place.chunk.0 ≢ chunk.0) places)
-    (λ i. (i < length places) × HoldsAt (λ place. place.chunk.0 ≡ chunk.0) places i)
+IsPlaceOf chunk places found = MatchOption found (All (λ place. place.chunk.0 ≢ chunk.0) places) (λ i. (i < length places) × HoldsAt (λ place. place.chunk.0 ≡ chunk.0) places i)
 
 -- the timers of the idle routes of a slot's row
 abbrev pub timers_of_slot : Slot → List Timer

@@ -69,8 +69,7 @@ IsTotal counted key sums sum = (key < 64 → sum ≡ total counted key sums) × 
 
 -- the totals are those of these rows
 abbrev pub AreSums : Sums → List Row → Type 0
-AreSums sums rows =
-    (counted : Counted) (key : ℕ) → key < 64 → total counted key sums ≡ sum_by (part counted key) rows
+AreSums sums rows = (counted : Counted) (key : ℕ) → key < 64 → total counted key sums ≡ sum_by (part counted key) rows
 
 -- a row's part may be added or subtracted
 abbrev pub CanShift : Way → ℕ → ℕ → Type 0

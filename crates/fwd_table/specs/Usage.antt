@@ -63,8 +63,4 @@ found_up rows = size_of (filter (λ row. is_recovered_row row && flies row) rows
 
 -- how many bytes the open and pending chunks of an input have in memory
 abbrev pub memory_of : ℕ → List Row → ℕ
-memory_of input rows =
-    size_of
-    (filter
-    (λ row. not (in_file row)
-    && (is_from input row.input && (not row.shut || not (length row.routes == 0)))) rows)
+memory_of input rows = size_of (filter (λ row. not (in_file row) && (is_from input row.input && (not row.shut || not (length row.routes == 0)))) rows)

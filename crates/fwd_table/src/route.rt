@@ -9,7 +9,7 @@ ghost use Rattle.fwd_table.specs.Routes.{idle_at, due_at, is_to, on_output, with
 ghost use Rattle.fwd_table.specs.Changes.{changed, due_by};
 
 use fwd_base::limits::MOST_OUTPUTS;
-use fwd_base::{ChunkId, Memory, OutputId, is_set};
+use fwd_base::{ChunkId, Memory, OutputId};
 use fwd_retry::{Timer, earlier};
 use std::alloc::Global;
 use std::collections::BTreeSet;
@@ -113,7 +113,7 @@ fn put_routes(routes: &mut Vec<Route>, owed: u64, end: u32)
     ensures { routes.new.items ≡ routes_below end owed }
 {
     for output in 0..end {
-        if is_set(owed, output) {
+        if owed >> output & 1 == 1 {
             routes.push_reserved(Route::idle_at(OutputId(output), 0));
         }
     }

@@ -164,8 +164,7 @@ impl Table {
     }
 
     /// Returns the first of the idle routes that are due at `now` and come after `after`, ordered by due
-    /// time, then chunk, then output. The program doesn't use it (it takes all due routes at once): it is for
-    /// callers that start one route at a time.
+    /// time, then chunk, then output.
     pub fn next_due(&self, now: u64, after: Option<Timer>) -> Option<Timer>
         ensures value { result ≡ first (filter (is_next now after) (idle_timers_of self.now.rows)) }
         ensures first { let due = filter (is_next now after) (idle_timers_of self.now.rows) in MatchOption result (due ≡ []) (IsFirst due) }

@@ -6,8 +6,8 @@ use fwd_grep::GrepRules;
 use fwd_parser::{FieldTypes, Parser, Shape, TypeKind};
 use fwd_reshape::{Change, Condition, LiftRule, ModifyRules, NestRule};
 use fwd_settings::{
-    AllSettings, Ends, Form, HttpOptions, InEnd, InputKind, InputSet, OutEnd, OutputKind,
-    OutputSet, Retries, Service, SettingFault,
+    AllSettings, Ends, Form, InEnd, InputKind, InputSet, OutEnd, OutputKind, OutputSet, Retries,
+    Service, SettingFault,
 };
 
 /// The kind of a refusal, its line and its file.
@@ -310,39 +310,19 @@ fn show_output_kind(out: &mut String, kind: &OutputKind) -> Result<(), Memory> {
             port,
             uri,
             form,
-            options,
         } => {
             show_peer(out, host, *port)?;
             let uri = text(uri);
             write!(out, " {uri}")?;
-            show_form(out, *form)?;
-            show_options(out, options)
+            show_form(out, *form)
         }
     }
-}
-
-fn show_options(out: &mut String, options: &HttpOptions) -> Result<(), Memory> {
-    for range in options.retried.as_slice() {
-        let first = range.first;
-        let last = range.last;
-        write!(out, " retried {first} {last}")?;
-    }
-    for field in options.fields.as_slice() {
-        let name = text(&field.name);
-        let value = text(&field.value);
-        write!(out, " {name}: {value}")?;
-    }
-    Ok(())
 }
 
 fn show_output(out: &mut String, set: &OutputSet) -> Result<(), Memory> {
     let name = text(&set.name);
     let glob = text(&set.glob);
     write!(out, "\n{name} {glob}")?;
-    if set.id != set.name {
-        let id = text(&set.id);
-        write!(out, " id {id}")?;
-    }
     show_output_kind(out, &set.kind)?;
     match set.retries {
         Retries::Times(times) => write!(out, " retries {times}")?,

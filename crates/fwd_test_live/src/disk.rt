@@ -1,6 +1,5 @@
 //! A disk in the folders of the machine.
 
-use crate::stage::quiet;
 use fwd_live::{Access, FolderDisk, Shared};
 use fwd_outside::{Bytes, Disk, DiskErr, Memory};
 use std::alloc::Global;
@@ -134,33 +133,18 @@ fn first_other(disk: &mut FolderDisk<'_>, rt: HostRuntime) -> usize {
 #[test]
 fn a_disk_answers(rt: HostRuntime) {
     let _ = fs::remove_dir_all(&rt, "fwd_test_live");
-    let shared = quiet(rt);
+    let shared = Shared::new();
     let steps = first_other(&mut new_disk(rt, &shared, Access::Owner), rt);
     let _ = fs::remove_dir_all(&rt, "fwd_test_live");
     assert!(rt; steps == STEPS.len(), "step {steps}");
 }
 
-const NOWHERE: &str = "fwd_test_live_nowhere";
-
 const LOCKED: &str = "fwd_test_live_locked";
 
-const LOCK: &str = "fwd_test_live_locked/.lock";
-
-const RESERVED: &str = "fwd_test_live_reserved";
-
-const RESERVE: &str = "fwd_test_live_reserved/.lock";
-
-/// Whether a disk lists a folder, which is empty. The lock stays with what it shares.
-fn is_listed(rt: HostRuntime, shared: &Shared, access: Access, folder: &str) -> bool {
+/// Whether a disk lists the folder, which is empty. The lock stays with what it shares.
+fn is_listed(rt: HostRuntime, shared: &Shared, access: Access) -> bool {
     let mut disk = new_disk(rt, shared, access);
-    matches!(lists(&mut disk, rt.alloc(), folder, &[]), Ok(true))
-}
-
-fn has_length(rt: HostRuntime, path: &str, length: u64) -> bool {
-    match fs::metadata(&rt, path) {
-        Ok(metadata) => metadata.len() == length,
-        Err(_) => false,
-    }
+    matches!(lists(&mut disk, rt.alloc(), LOCKED, &[]), Ok(true))
 }
 
 fn has_mode(rt: HostRuntime, path: &str, mode: u32) -> bool {
@@ -172,36 +156,19 @@ fn has_mode(rt: HostRuntime, path: &str, mode: u32) -> bool {
 
 #[test]
 fn a_reader_makes_nothing(rt: HostRuntime) {
-    let listed = is_listed(rt, &quiet(rt), Access::Reader, NOWHERE);
-    assert!(rt; listed && fs::metadata(&rt, NOWHERE).is_err());
+    let listed = is_listed(rt, &Shared::new(), Access::Reader);
+    assert!(rt; listed && fs::metadata(&rt, LOCKED).is_err());
 }
 
 #[test]
 fn a_folder_has_one_owner(rt: HostRuntime) {
-    let shared = quiet(rt);
-    let first = is_listed(rt, &shared, Access::Owner, LOCKED);
-    let second = is_listed(rt, &quiet(rt), Access::Owner, LOCKED);
-    let reader = is_listed(rt, &quiet(rt), Access::Reader, LOCKED);
-    let private = has_mode(rt, LOCKED, 0o700) && has_mode(rt, LOCK, 0o600);
+    let shared = Shared::new();
+    let first = is_listed(rt, &shared, Access::Owner);
+    let second = is_listed(rt, &Shared::new(), Access::Owner);
+    let reader = is_listed(rt, &Shared::new(), Access::Reader);
+    let private = has_mode(rt, LOCKED, 0o700) && has_mode(rt, "fwd_test_live_locked/.lock", 0o600);
     let _ = fs::remove_dir_all(&rt, LOCKED);
     assert!(rt; first && !second && reader && private && !shared.disk_failed.get());
-}
-
-fn is_lent(rt: HostRuntime, shared: &Shared) -> bool {
-    let full = has_length(rt, RESERVE, 4_194_304);
-    let lent = shared.release() && shared.disk_failed.get() && !shared.release();
-    let empty = has_length(rt, RESERVE, 0);
-    shared.probe();
-    full && lent && empty && !shared.disk_failed.get() && has_length(rt, RESERVE, 4_194_304)
-}
-
-#[test]
-fn a_reserve_is_lent_once_and_filled_again(rt: HostRuntime) {
-    let shared = quiet(rt);
-    let owned = is_listed(rt, &shared, Access::Owner, RESERVED);
-    let lent = is_lent(rt, &shared);
-    let _ = fs::remove_dir_all(&rt, RESERVED);
-    assert!(rt; owned && lent);
 }
 
 fn place_nowhere(rt: HostRuntime, shared: &Shared) -> bool {
@@ -211,7 +178,7 @@ fn place_nowhere(rt: HostRuntime, shared: &Shared) -> bool {
 
 #[test]
 fn a_write_that_fails_is_noted(rt: HostRuntime) {
-    let shared = quiet(rt);
+    let shared = Shared::new();
     assert!(rt; place_nowhere(rt, &shared) && shared.disk_failed.get());
 }
 
@@ -237,7 +204,7 @@ fn read_large(disk: &mut FolderDisk<'_>, alloc: Global) -> Result<bool, DiskErr>
 
 #[test]
 fn a_large_file_is_written_and_read(rt: HostRuntime) -> Result<(), Fail> {
-    let shared = quiet(rt);
+    let shared = Shared::new();
     let mut disk = new_disk(rt, &shared, Access::Owner);
     let placed = place_large(&mut disk, rt.alloc());
     let read = read_large(&mut disk, rt.alloc());

@@ -1,6 +1,5 @@
 //! Files of the machine that are read, and standard output.
 
-use crate::stage::quiet;
 use fwd_live::{FolderFiles, Shared, StdSink};
 use fwd_outside::{Bytes, FileErr, Files, Memory, Sink, SinkErr, read_whole};
 use std::alloc::Global;
@@ -55,7 +54,7 @@ fn is_read(files: &mut FolderFiles<'_>, rt: HostRuntime, lines: &Bytes) -> Resul
 #[test]
 fn a_large_file_is_read(rt: HostRuntime) -> Result<(), Fail> {
     let lines = lines(rt.alloc())?;
-    let shared = quiet(rt);
+    let shared = Shared::new();
     let read = is_read(&mut new_files(rt, &shared), rt, &lines)?;
     assert!(rt; read && shared.read_within.get() == 0);
     Ok(())
@@ -79,7 +78,7 @@ fn are_refused(files: &mut FolderFiles<'_>, alloc: Global) -> bool {
 
 #[test]
 fn nothing_is_read_while_the_disk_fails(rt: HostRuntime) -> Result<(), Fail> {
-    let shared = quiet(rt);
+    let shared = Shared::new();
     shared.disk_failed.set(true);
     fs::write(&rt, HELD, b"line\n")?;
     let held = is_held(&mut new_files(rt, &shared), rt.alloc());
@@ -90,7 +89,7 @@ fn nothing_is_read_while_the_disk_fails(rt: HostRuntime) -> Result<(), Fail> {
 
 #[test]
 fn what_is_not_there_fails(rt: HostRuntime) {
-    let shared = quiet(rt);
+    let shared = Shared::new();
     let refused = are_refused(&mut new_files(rt, &shared), rt.alloc());
     assert!(rt; refused);
 }

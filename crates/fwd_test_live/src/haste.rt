@@ -1,6 +1,6 @@
 //! Ticks that come early, since a followed file has more.
 
-use crate::stage::{clock, new_loop, quiet};
+use crate::stage::{clock, new_loop};
 use fwd_live::{LiveLoop, Shared};
 use fwd_outside::{Happening, Loop, Memory};
 use std::alloc::Global;
@@ -21,7 +21,7 @@ fn is_early(live: &mut LiveLoop<'_>, shared: &Shared, alloc: Global) -> Result<b
 
 #[test]
 fn a_file_that_is_written_brings_a_tick(rt: HostRuntime) -> Result<(), Fail> {
-    let shared = quiet(rt);
+    let shared = Shared::new();
     let early = is_early(&mut new_loop(rt, &shared)?, &shared, rt.alloc())?;
     assert!(rt; early);
     Ok(())

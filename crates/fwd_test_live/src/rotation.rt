@@ -232,9 +232,8 @@ fn rotated_files_are_read(rt: HostRuntime) -> Result<(), Fail> {
 }
 
 fn name_of(alloc: Global, number: u64) -> Result<Bytes, Memory> {
-    let mut name = Bytes::from_slice(alloc, b"fwd_test_live_many/")?;
-    name.push_decimal(number)?;
-    Ok(name)
+    let name = format!(in alloc; "fwd_test_live_many/{number}")?;
+    Bytes::from_slice(alloc, name.as_bytes())
 }
 
 fn is_found(files: &mut FollowedFiles, rt: HostRuntime, number: u64) -> Result<bool, Fail> {

@@ -1,6 +1,6 @@
 //! Scenes of the loop with its peers.
 
-use crate::stage::{Output, Stage, ends, new_loop, new_stage, quiet};
+use crate::stage::{Output, Stage, ends, new_loop, new_stage};
 use crate::steps::{Step, take};
 use fwd_live::Shared;
 use fwd_outside::{Begun, Loop, OutEnd, Pushed, Replied};
@@ -31,17 +31,6 @@ const SCENES: &[Scene] = &[
             Step::Close,
             Step::Gone(1),
             Step::Reply(1, b"ok", Replied::Broken),
-        ],
-    },
-    Scene {
-        name: "inputs are held back until the reserve is filled",
-        output: Output::Stdout,
-        steps: &[
-            Step::Connect,
-            Step::Joined(1),
-            Step::Send(b"x"),
-            Step::Held,
-            Step::Piece(b"x"),
         ],
     },
     // A peer that closes with unread bytes resets its connection.
@@ -199,7 +188,7 @@ fn first_other(stage: &mut Stage<'_>, rt: HostRuntime, steps: &[Step]) -> Result
 }
 
 fn played(rt: HostRuntime, scene: &Scene) -> Result<usize, Fail> {
-    let shared = quiet(rt);
+    let shared = Shared::new();
     let mut stage = new_stage(rt, &shared, scene.output)?;
     first_other(&mut stage, rt, scene.steps)
 }
@@ -215,7 +204,7 @@ fn scenes_go_as_they_say(rt: HostRuntime) -> Result<(), Fail> {
 
 fn is_taken(rt: HostRuntime, port: u16) -> Result<bool, Fail> {
     let ends = ends(rt.alloc(), port, OutEnd::Stdout)?;
-    let shared = quiet(rt);
+    let shared = Shared::new();
     Ok(new_loop(rt, &shared)?.start(&ends) == Begun::Failed)
 }
 

@@ -1,7 +1,7 @@
 //! A peer of an output that is silent, over the machine alone with short patience.
 
-use crate::stage::{ends, peer_at, quiet};
-use fwd_live_poll::{Handed, Machine, Patience, Shared};
+use crate::stage::{ends, peer_at};
+use fwd_live_poll::{Handed, Machine, Patience};
 use fwd_outside::{Happening, LinkId, Memory, OutputId};
 use std::alloc::Global;
 use std::net::TcpListener;
@@ -17,15 +17,15 @@ const SHORT: Patience = Patience {
 /// The most milliseconds that the test waits.
 const LONGEST: u64 = 20_000;
 
-fn started(rt: HostRuntime, shared: &Shared, port: u16) -> Result<Machine<'_>, Fail> {
+fn started(rt: HostRuntime, port: u16) -> Result<Machine, Fail> {
     let ends = ends(rt.alloc(), 0, peer_at(rt.alloc(), port)?)?;
-    let mut machine = Machine::new(rt, shared, SHORT)?;
+    let mut machine = Machine::new(rt, SHORT)?;
     machine.start(&ends)?;
     Ok(machine)
 }
 
 /// The next event that isn't a clock reading. `End` if none comes in time.
-fn next(machine: &mut Machine<'_>, alloc: Global) -> Result<Happening, Memory> {
+fn next(machine: &mut Machine, alloc: Global) -> Result<Happening, Memory> {
     let mut last = None;
     for _ in 0..100_000u32 {
         match machine.wait(alloc, last.unwrap_or(0), 0)? {
@@ -38,14 +38,14 @@ fn next(machine: &mut Machine<'_>, alloc: Global) -> Result<Happening, Memory> {
     Ok(Happening::End)
 }
 
-fn hands_over(machine: &mut Machine<'_>, alloc: Global) -> Result<bool, Fail> {
+fn hands_over(machine: &mut Machine, alloc: Global) -> Result<bool, Fail> {
     machine.dial(LINK, OutputId(0), b"app")?;
     let waits = machine.push(LINK, b"x") == Handed::Full;
     let has_room = next(machine, alloc)? == Happening::Room { link: LINK };
     Ok(waits && has_room && machine.push(LINK, b"x") == Handed::Took(1))
 }
 
-fn breaks_once(machine: &mut Machine<'_>, alloc: Global) -> Result<bool, Fail> {
+fn breaks_once(machine: &mut Machine, alloc: Global) -> Result<bool, Fail> {
     let is_broken = next(machine, alloc)? == Happening::Broken { link: LINK };
     let misses = machine.take_misses();
     Ok(is_broken && misses == 1 && machine.push(LINK, b"x") == Handed::Broken)
@@ -54,8 +54,7 @@ fn breaks_once(machine: &mut Machine<'_>, alloc: Global) -> Result<bool, Fail> {
 #[test]
 fn a_peer_that_is_silent_breaks_its_link(rt: HostRuntime) -> Result<(), Fail> {
     let listener = TcpListener::bind(&rt, "127.0.0.1:0")?;
-    let shared = quiet(rt);
-    let mut machine = started(rt, &shared, listener.local_addr()?.port())?;
+    let mut machine = started(rt, listener.local_addr()?.port())?;
     assert!(rt; hands_over(&mut machine, rt.alloc())? && breaks_once(&mut machine, rt.alloc())?);
     Ok(())
 }

@@ -1,7 +1,6 @@
 //! A loop that is started, with its peers on loopback.
 
 use fwd_live::{LiveLoop, Shared};
-use fwd_log::Journal;
 use fwd_outside::{Begun, Bytes, Ends, Happening, InEnd, InputId, Items, Loop, Memory, OutEnd};
 use std::alloc::Global;
 use std::io;
@@ -32,16 +31,10 @@ pub enum Output {
 #[derive(Drop)]
 pub struct Stage<'a> {
     pub live: LiveLoop<'a>,
-    pub shared: &'a Shared,
     pub listener: TcpListener,
     pub peers: Vec<TcpStream>,
     /// The bytes that were taken until no more were.
     pub taken: u64,
-}
-
-/// Returns what the devices share, with a log that writes nothing.
-pub fn quiet(rt: HostRuntime) -> Shared {
-    Shared::new(Journal::new(rt, None))
 }
 
 fn local(alloc: Global) -> Result<Bytes, Memory> {
@@ -120,7 +113,6 @@ pub fn new_stage(rt: HostRuntime, shared: &Shared, output: Output) -> Result<Sta
     let listener = TcpListener::bind(&rt, "127.0.0.1:0")?;
     Ok(Stage {
         live: listening(rt, shared, output, &listener)?,
-        shared,
         listener,
         peers: Vec::new(rt.alloc()),
         taken: 0,

@@ -49,8 +49,6 @@ pub enum Step {
     Gone(u64),
     /// Nothing comes while the input is paused.
     Quiet,
-    /// A write of the disk has failed, and nothing comes for a while.
-    Held,
     Reply(u64, &'static [u8], Replied),
     /// Replies to the first connection until no more is taken.
     ReplyMuch,
@@ -359,10 +357,6 @@ pub fn take(stage: &mut Stage<'_>, rt: HostRuntime, step: Step) -> Result<bool, 
         Step::Pieces(events) => Ok(brings_pieces(&mut stage.live, alloc, events)?),
         Step::Gone(number) => Ok(brings(&mut stage.live, alloc, &gone(number))?),
         Step::Quiet => Ok(is_quiet(&mut stage.live, alloc, 1)?),
-        Step::Held => {
-            stage.shared.disk_failed.set(true);
-            Ok(is_quiet(&mut stage.live, alloc, 0)?)
-        }
         Step::Reply(conn, bytes, wanted) => Ok(stage.live.reply(ConnId(conn), bytes) == wanted),
         Step::ReplyMuch => {
             stage.taken = reply_much(&mut stage.live);

@@ -5,9 +5,9 @@ ghost use Rattle.fwd_event.specs.Event.{EventFits};
 
 use fwd_base::{Bytes, Form, Memory};
 use fwd_event::{Events, can_write, read_events};
-use fwd_out_http::{HeaderField, payload_http, request_of};
+use fwd_out_http::payload_http;
 use fwd_out_text::{payload_of_content, payload_text};
-use fwd_test_rows::{argument, put_bytes};
+use fwd_test_rows::put_bytes;
 use std::alloc::Global;
 
 fn form(word: &[u8]) -> Form {
@@ -95,26 +95,4 @@ pub fn put_request(
             Ok(())
         }
     }
-}
-
-fn with_field(alloc: Global, name: &[u8], value: &[u8], body: &[u8]) -> Result<Bytes, Memory> {
-    let field = HeaderField {
-        name: Bytes::from_slice(alloc, name)?,
-        value: Bytes::from_slice(alloc, value)?,
-    };
-    request_of(
-        alloc,
-        b"127.0.0.1",
-        8080,
-        b"/in",
-        Form::MsgPack,
-        &[field],
-        body,
-    )
-}
-
-/// `field|NAME|VALUE|BODY`: the request that posts a body to `/in` of 127.0.0.1:8080 with a further field.
-pub fn put_with_field(alloc: Global, out: &mut String, row: &[Bytes]) -> Result<(), Memory> {
-    let request = with_field(alloc, argument(row, 1), argument(row, 2), argument(row, 3))?;
-    put_bytes(out, request.as_slice())
 }

@@ -2,7 +2,7 @@
 
 use fwd_base::{Bytes, ChunkId, Memory, OutputId, number};
 use fwd_flush::{Judged, ReplyReader};
-use fwd_out_http::{HttpReader, StatusRange};
+use fwd_out_http::HttpReader;
 use fwd_out_net::{EndReader, chunk_id};
 use fwd_retry::wait_of;
 use fwd_test_rows::{argument, put_bytes};
@@ -20,22 +20,7 @@ fn put_judged(out: &mut String, judged: Judged) -> Result<(), Memory> {
 
 /// Appends how an HTTP reply is judged.
 pub fn put_reply(alloc: Global, out: &mut String, reply: &[u8]) -> Result<(), Memory> {
-    let reader = HttpReader::new(alloc, &[])?;
-    put_judged(out, reader.judge(alloc, reply)?)
-}
-
-fn status_at(row: &[Bytes], place: usize) -> u16 {
-    u16::try_from(number_at(row, place)).unwrap_or(0)
-}
-
-/// `retried|FIRST|LAST|REPLY`: how an HTTP reply is judged if the statuses from FIRST to LAST are retried too.
-pub fn put_retried(alloc: Global, out: &mut String, row: &[Bytes]) -> Result<(), Memory> {
-    let range = StatusRange {
-        first: status_at(row, 1),
-        last: status_at(row, 2),
-    };
-    let reader = HttpReader::new(alloc, &[range])?;
-    put_judged(out, reader.judge(alloc, argument(row, 3))?)
+    put_judged(out, HttpReader.judge(alloc, reply)?)
 }
 
 /// The judgement on a reply where an id is to be acknowledged; without an id none is.

@@ -1,8 +1,8 @@
 //! What each operation prints.
 
 use crate::messages::{put_forward, put_message, put_pieces, put_stream};
-use crate::payloads::{put_content, put_request, put_with_field};
-use crate::replies::{put_ack, put_id, put_reply, put_retried, put_wait};
+use crate::payloads::{put_content, put_request};
+use crate::replies::{put_ack, put_id, put_reply, put_wait};
 use fwd_base::{Bytes, Memory};
 use fwd_test_rows::{argument, arguments};
 use std::alloc::Global;
@@ -23,9 +23,7 @@ fn put_answer(
         "forward" => put_forward(alloc, out, first, second),
         "payload" => put_content(alloc, out, first, second),
         "request" => put_request(alloc, out, first, second),
-        "field" => put_with_field(alloc, out, arguments),
         "reply" => put_reply(alloc, out, first),
-        "retried" => put_retried(alloc, out, arguments),
         "ack" => put_ack(alloc, out, first, second),
         "id" => put_id(alloc, out, first, second),
         "wait" => put_wait(out, arguments),

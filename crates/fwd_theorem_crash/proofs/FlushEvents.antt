@@ -8,7 +8,7 @@ use Rattle.fwd_outside.specs.DiskStates.{Files}
 use Rattle.fwd_backlog.specs.Recovered.{AreDurable}
 use Rattle.fwd_settings.specs.declared.settings_types.AllSettings.{AllSettings}
 use Rattle.fwd_settings.specs.Requirements.{MeetsRequirements}
-use Rattle.fwd_model.specs.Fact.{Fact, History, Route, Outcome, FlushStarted, InFlight, Retries, Delivered, Failed, Exhausted, Evicted, Happened, Resumed, Saved, Polled, Disconnected, Malformed, Found, Offered, Accepted, Refused, ChunkClosed, Sent, OnRoute, MarkStarted, Marked, Removed, FileLeft, IoFailed}
+use Rattle.fwd_model.specs.Fact.{Fact, History, Route, Outcome, FlushStarted, InFlight, Retries, Delivered, Failed, Exhausted, Evicted, Happened, Resumed, Polled, Disconnected, Malformed, Found, Offered, Accepted, Refused, ChunkClosed, Sent, OnRoute, MarkStarted, Marked, Removed, FileLeft, IoFailed}
 use Rattle.fwd_model.specs.Trace.{Call, Action, TraceEntry, OnLoop, OnDisk, OnFiles, OnKeeper, Note, history_after, history_after_call}
 use Rattle.fwd_model.specs.Run.{RunResult, life}
 use Rattle.fwd_theorem_trace.specs.Past.{Past, logged, past_after}
@@ -32,7 +32,6 @@ before_fact : (s : AllSettings) (fact : Fact) (h : History) → FlushesSendTheir
 before_fact s (OnRoute r outcome) h hands = before_outcome s r outcome h hands
 before_fact s (Happened brought) h hands = hands
 before_fact s (Resumed input index place) h hands = hands
-before_fact s (Saved input index place) h hands = hands
 before_fact s (Polled input index length bytes) h hands = hands
 before_fact s (Disconnected conn) h hands = hands
 before_fact s (Malformed input) h hands = hands

@@ -10,7 +10,7 @@ use Rattle.fwd_outside.proofs.KeepsBytes.{whole_post_crash}
 use Rattle.fwd_chunk.specs.declared.append.ChunkHead.{ChunkHead}
 use Rattle.fwd_chunk.specs.Layout.{HasParts, new_meta}
 use Rattle.fwd_settings.specs.declared.settings_types.AllSettings.{AllSettings}
-use Rattle.fwd_model.specs.Fact.{Fact, History, Batch, NoChunk, NewChunk, AppendedTo, Route, Happened, Resumed, Saved, Polled, Disconnected, Malformed, Found, Offered, Accepted, Refused, ChunkClosed, Sent, OnRoute, MarkStarted, Marked, Removed, FileLeft, IoFailed}
+use Rattle.fwd_model.specs.Fact.{Fact, History, Batch, NoChunk, NewChunk, AppendedTo, Route, Happened, Resumed, Polled, Disconnected, Malformed, Found, Offered, Accepted, Refused, ChunkClosed, Sent, OnRoute, MarkStarted, Marked, Removed, FileLeft, IoFailed}
 use Rattle.fwd_model.specs.Settings.{outputs_for, names_for}
 use Rattle.fwd_model.specs.Chunks.{ChunkInfo, chunks_of, open_chunks, next, is_closed, content, offered_events, encoded}
 use Rattle.fwd_model.specs.ChunkStorage.{kept_of}
@@ -28,7 +28,6 @@ use Rattle.fwd_theorem_crash.proofs.OrderTransfer.{of_still, SaysTheSame, carrie
 abbrev pub IsPlain : Fact → Type 0
 IsPlain (Happened brought) = Unit {0}
 IsPlain (Resumed input index place) = Unit {0}
-IsPlain (Saved input index place) = Unit {0}
 IsPlain (Polled input index long bytes) = Unit {0}
 IsPlain (Disconnected conn) = Unit {0}
 IsPlain (Malformed input) = Unit {0}

@@ -8,7 +8,7 @@ use Rattle.fwd_outside.specs.Disk.{removes}
 use Rattle.fwd_outside.specs.File.{IsPostCrash, absent}
 use Rattle.fwd_outside.specs.DiskStates.{Files}
 use Rattle.fwd_outside.specs.PostCrash.{AbsentOrBefore}
-use Rattle.fwd_outside.proofs.CallEffects.{Local, LocalThen}
+use Rattle.fwd_outside.proofs.Calls.{Local, LocalThen}
 use Rattle.fwd_outside.proofs.AtomicFiles.{AllImages, remove_keeps}
 use Rattle.fwd_chunk.specs.declared.kept.Kept.{Kept as Held}
 use Rattle.fwd_chunk.specs.declared.kept.Kept.TheVariants.{InFile, Adopted, InMemory}

@@ -1,7 +1,7 @@
 -- Facts that keep the order invariant, except the beginning of a flush.
 use Rattle.std.proofs.Common.{[], ◌∷◌}
 use Rattle.fwd_settings.specs.declared.settings_types.AllSettings.{AllSettings}
-use Rattle.fwd_model.specs.Fact.{Fact, History, Outcome, FlushStarted, InFlight, Retries, Delivered, Failed, Exhausted, Evicted, Happened, Resumed, Saved, Polled, Disconnected, Malformed, Found, Offered, Accepted, Refused, ChunkClosed, Sent, OnRoute, MarkStarted, Marked, Removed, FileLeft, IoFailed}
+use Rattle.fwd_model.specs.Fact.{Fact, History, Outcome, FlushStarted, InFlight, Retries, Delivered, Failed, Exhausted, Evicted, Happened, Resumed, Polled, Disconnected, Malformed, Found, Offered, Accepted, Refused, ChunkClosed, Sent, OnRoute, MarkStarted, Marked, Removed, FileLeft, IoFailed}
 use Rattle.fwd_theorem_trace.specs.Allowed.{IsLoading}
 use Rattle.fwd_theorem_crash.specs.FlushEvents.{FlushesSendTheirChunks}
 use Rattle.fwd_theorem_crash.proofs.PlainFacts.{IsPlain}
@@ -17,7 +17,6 @@ pub plain_of : (fact : Fact) → IsSimple fact → IsPlain fact
 plain_of (OnRoute r outcome) simple = outcome_plain r outcome
 plain_of (Happened brought) simple = simple
 plain_of (Resumed input index place) simple = simple
-plain_of (Saved input index place) simple = simple
 plain_of (Polled input index length bytes) simple = simple
 plain_of (Disconnected conn) simple = simple
 plain_of (Malformed input) simple = simple
@@ -44,7 +43,6 @@ hands_on s (OnRoute r Exhausted) h simple hands = hands
 hands_on s (OnRoute r Evicted) h simple hands = hands
 hands_on s (Happened brought) h simple hands = hands
 hands_on s (Resumed input index place) h simple hands = hands
-hands_on s (Saved input index place) h simple hands = hands
 hands_on s (Polled input index length bytes) h simple hands = hands
 hands_on s (Disconnected conn) h simple hands = hands
 hands_on s (Malformed input) h simple hands = hands

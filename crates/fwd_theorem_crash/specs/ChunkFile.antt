@@ -16,15 +16,10 @@ pub record RepresentsChunk (s : AllSettings) (h : History) (c : ChunkInfo) (byte
   pub chunk : Chunk
   pub found : recovered_chunk bytes ≡ Some chunk
   pub tag : chunk.tag ≡ c.tag
-  pub content : (chunk.content ≡ content h c.number)
-      ⊎ (chunk.content ≡ content h c.number ++ encoded (offered_events h c.number))
-  pub recorded : (output : ℕ) → Contains (outputs_for s c.tag) output
-      → is_recorded s h (route c.number output) ≡ true
-      → is_marked_done (output_name s output) (Some chunk) ≡ true
-  pub no_other : (output : ℕ) → Contains (outputs_for s c.tag) output
-      → is_marked_done (output_name s output) (Some chunk) ≡ true
-      → (may_be_recorded s h (route c.number output) ≡ true)
-      × (is_resolved s h (route c.number output) ≡ true)
+  pub content : (chunk.content ≡ content h c.number) ⊎ (chunk.content ≡ content h c.number ++ encoded (offered_events h c.number))
+  pub recorded : (output : ℕ) → Contains (outputs_for s c.tag) output → is_recorded s h (route c.number output) ≡ true → is_marked_done (output_name s output) (Some chunk) ≡ true
+  pub no_other : (output : ℕ) → Contains (outputs_for s c.tag) output → is_marked_done (output_name s output) (Some chunk) ≡ true
+      → (may_be_recorded s h (route c.number output) ≡ true) × (is_resolved s h (route c.number output) ≡ true)
 
 -- what a crash leaves of its file: it exists, and its bytes represent the chunk
 abbrev pub IsIntact : AllSettings → History → ChunkInfo → Option (List ℕ) → Type 0

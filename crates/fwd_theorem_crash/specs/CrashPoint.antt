@@ -33,8 +33,7 @@ IsNaming (FailAt number) answer = Unit {0}
 -- the files during a call and after it: a call on the disk changes them as a disk may
 abbrev pub Changes : (call : Call) → Answer call → Files → Files → Files → Type 0
 Changes (OnLoop call) answer old during new = disk.NoFileChanges old during new
-Changes (OnDisk call) answer old during new =
-    IsNaming call answer × disk.DiskTransition call answer old during new
+Changes (OnDisk call) answer old during new = IsNaming call answer × disk.DiskTransition call answer old during new
 Changes (OnFiles call) answer old during new = disk.NoFileChanges old during new
 Changes (OnKeeper call) answer old during new = disk.NoFileChanges old during new
 Changes (Note fact) answer old during new = disk.NoFileChanges old during new
@@ -42,5 +41,4 @@ Changes (Note fact) answer old during new = disk.NoFileChanges old during new
 -- An entry leads from one crash point to the next. Inside it nothing more is logged.
 abbrev pub LeadsTo : TransitionsOf Call Answer CrashPoint
 LeadsTo call answer old during new =
-    Changes call answer old.files during.files new.files × (during.past ≡ old.past)
-    × (new.past ≡ entry call answer ∷ old.past)
+    Changes call answer old.files during.files new.files × (during.past ≡ old.past) × (new.past ≡ entry call answer ∷ old.past)

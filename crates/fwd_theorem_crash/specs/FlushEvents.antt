@@ -19,6 +19,5 @@ chunk_events (Some (Adopted head)) h r = (events_in (content h r.chunk)).0
 -- each flush began with the events of its chunk
 abbrev pub FlushesSendTheirChunks : AllSettings → History → Type 0
 FlushesSendTheirChunks s [] = Unit {0}
-FlushesSendTheirChunks s (OnRoute r (FlushStarted events) ∷ h) =
-    (events ≡ chunk_events (kept_of s h r.chunk) h r) × FlushesSendTheirChunks s h
+FlushesSendTheirChunks s (OnRoute r (FlushStarted events) ∷ h) = (events ≡ chunk_events (kept_of s h r.chunk) h r) × FlushesSendTheirChunks s h
 FlushesSendTheirChunks s (_ ∷ h) = FlushesSendTheirChunks s h

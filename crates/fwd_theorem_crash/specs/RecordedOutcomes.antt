@@ -8,8 +8,7 @@ use Rattle.fwd_model.specs.Routes.{same_route}
 
 -- the chunk was recovered from a file that has the outcome
 abbrev pub recovered_done : AllSettings → Route → ℕ → List ℕ → Bool
-recovered_done s r number bytes =
-    number == r.chunk && is_marked_done (output_name s r.output) (recovered_chunk bytes)
+recovered_done s r number bytes = number == r.chunk && is_marked_done (output_name s r.output) (recovered_chunk bytes)
 
 -- The outcome of a route is recorded in its chunk's file, in this run or when the file was recovered, and
 -- isn't being recorded again.
@@ -23,7 +22,6 @@ is_recorded s (_ ∷ h) r = is_recorded s h r
 -- it is, or its recording began
 abbrev pub may_be_recorded : AllSettings → History → Route → Bool
 may_be_recorded s [] r = false
-may_be_recorded s (Found number stream name bytes ∷ h) r =
-    recovered_done s r number bytes || may_be_recorded s h r
+may_be_recorded s (Found number stream name bytes ∷ h) r = recovered_done s r number bytes || may_be_recorded s h r
 may_be_recorded s (MarkStarted other ∷ h) r = same_route other r || may_be_recorded s h r
 may_be_recorded s (_ ∷ h) r = may_be_recorded s h r

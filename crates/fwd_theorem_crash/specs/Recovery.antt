@@ -15,8 +15,6 @@ pub record IsRecovered (s : AllSettings) (before after : History) (c : ChunkInfo
   pub among : Contains (chunks_of after) again
   pub found : again.input ≡ None
   pub tag : again.tag ≡ c.tag
-  pub content : (content after again.number ≡ content before c.number)
-      ⊎ (content after again.number ≡ content before c.number ++ encoded (offered_events before c.number))
-  pub recorded : (output : ℕ) → Contains (outputs_for s c.tag) output
-      → is_recorded s before (route c.number output) ≡ true → Contains (owed s after again) output → ⊥
+  pub content : (content after again.number ≡ content before c.number) ⊎ (content after again.number ≡ content before c.number ++ encoded (offered_events before c.number))
+  pub recorded : (output : ℕ) → Contains (outputs_for s c.tag) output → is_recorded s before (route c.number output) ≡ true → Contains (owed s after again) output → ⊥
   pub owed : (output : ℕ) → Contains (owed s before c) output → Contains (owed s after again) output

@@ -42,14 +42,10 @@ pub record WasNotRemoved (s : AllSettings) (h : History) (chunk : ℕ) (name : L
 pub data AccountsFor (s : AllSettings) (first : Files) (h : History) (name bytes : List ℕ) : Type 0 where
   IsHeld : (chunk : ℕ) → file_of_optional (kept_of s h chunk) ≡ Some name → AccountsFor s first h name bytes
   IsLeft : (chunk : ℕ) → WasNotRemoved s h chunk name → AccountsFor s first h name bytes
-  IsPlaced : (chunk : ℕ) (b : Batch) → Contains h (Offered chunk b) → chunk_at h chunk ≡ None
-      → name ≡ name_for s b.input chunk → bytes ≡ new_file b.tag (encoded b.events) (names_for s b.tag)
-      → AccountsFor s first h name bytes
+  IsPlaced : (chunk : ℕ) (b : Batch) → Contains h (Offered chunk b) → chunk_at h chunk ≡ None → name ≡ name_for s b.input chunk → bytes ≡ new_file b.tag (encoded b.events) (names_for s b.tag) → AccountsFor s first h name bytes
   StoodThere : first name ≡ whole bytes → AccountsFor s first h name bytes
 
 -- a point of a run that began with these files
 pub record IsSafe (s : AllSettings) (first : Files) (m : CrashPoint) : Type 0 where
-  pub owed : (c : ChunkInfo) → Contains (chunks_of (logged m.past)) c → is_owed s (logged m.past) c ≡ true
-      → home_of s c.input ≡ Disk → IsFileSafe s (logged m.past) c m.files
-  pub others : (name bytes : List ℕ) → IsPostCrash (m.files name) (Some bytes)
-      → AccountsFor s first (logged m.past) name bytes
+  pub owed : (c : ChunkInfo) → Contains (chunks_of (logged m.past)) c → is_owed s (logged m.past) c ≡ true → home_of s c.input ≡ Disk → IsFileSafe s (logged m.past) c m.files
+  pub others : (name bytes : List ℕ) → IsPostCrash (m.files name) (Some bytes) → AccountsFor s first (logged m.past) name bytes

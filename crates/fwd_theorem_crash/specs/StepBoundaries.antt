@@ -37,15 +37,8 @@ turn s m = Ask (OnLoop (wait_at s m)) (takes_event s (logged m.past))
 -- earlier such point, it started the loop or waited; or it made the step of the event that the wait
 -- returned, or of the first `Stop`, to its end.
 pub data HasReached (s : AllSettings) (first : Files) : CrashPoint → Type 0 where
-  IsLoaded : (entries : List TraceEntry) (h : History) (m : CrashPoint)
-      → Execution (recovers s) entries (Return (Some h)) → Ends LeadsTo (crash_point [] first) entries m
-      → HasReached s first m
-  HasStarted : (before m : CrashPoint) (ends : InputEnds) (ready : Option (Unit {0}))
-      → HasReached s first before → Ends LeadsTo before (entry (OnLoop (Start ends)) ready ∷ []) m
-      → HasReached s first m
-  HasWaited : (before m : CrashPoint) (brought : Happening) → HasReached s first before
-      → Ends LeadsTo before (entry (OnLoop (wait_at s before)) brought ∷ []) m → HasReached s first m
-  HasStepped : (before m : CrashPoint) (brought : Happening) (entries : List TraceEntry) (h : History)
-      → HasReached s first before → EventAllowed s brought before.past
-      → Execution (step s brought (logged before.past)) entries (Return h) → Ends LeadsTo before entries m
-      → HasReached s first m
+  IsLoaded : (entries : List TraceEntry) (h : History) (m : CrashPoint) → Execution (recovers s) entries (Return (Some h)) → Ends LeadsTo (crash_point [] first) entries m → HasReached s first m
+  HasStarted : (before m : CrashPoint) (ends : InputEnds) (ready : Option (Unit {0})) → HasReached s first before → Ends LeadsTo before (entry (OnLoop (Start ends)) ready ∷ []) m → HasReached s first m
+  HasWaited : (before m : CrashPoint) (brought : Happening) → HasReached s first before → Ends LeadsTo before (entry (OnLoop (wait_at s before)) brought ∷ []) m → HasReached s first m
+  HasStepped : (before m : CrashPoint) (brought : Happening) (entries : List TraceEntry) (h : History) → HasReached s first before → EventAllowed s brought before.past
+      → Execution (step s brought (logged before.past)) entries (Return h) → Ends LeadsTo before entries m → HasReached s first m

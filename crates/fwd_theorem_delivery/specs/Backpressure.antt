@@ -11,14 +11,11 @@ use Rattle.fwd_model.specs.Routes.{is_owed}
 
 -- a chunk of this input that is kept in memory, and is open or pending for an output
 abbrev pub is_in_memory : AllSettings → History → ℕ → ChunkInfo → Bool
-is_in_memory s h input c =
-    is_from input c.input
-    && (not (is_file (home_at s input)) && (not (is_closed h c.number) || is_owed s h c))
+is_in_memory s h input c = is_from input c.input && (not (is_file (home_at s input)) && (not (is_closed h c.number) || is_owed s h c))
 
 -- the sum of their bytes
 abbrev pub memory_bytes : AllSettings → History → ℕ → ℕ
-memory_bytes s h input =
-    sum_by (λ (c : ChunkInfo). size h c.number) (filter (is_in_memory s h input) (chunks_of h))
+memory_bytes s h input = sum_by (λ (c : ChunkInfo). size h c.number) (filter (is_in_memory s h input) (chunks_of h))
 
 pub record IsStopped (s : AllSettings) (h : History) : Type 0 where
   pub moment : ℕ

@@ -22,22 +22,16 @@ use Rattle.fwd_theorem_delivery.specs.LinkOutcomes.{IsLogged, SendsPrefix, Sends
 -- the batches that a read over a stream completes, in order
 abbrev pub completed_over : AllSettings → History → ℕ → List ℕ → Option Stream → List Batch
 completed_over s before input bytes None = []
-completed_over s before input bytes (Some (LineStream conn)) =
-    piece_batch s before input (LineStream conn) bytes ∷ []
-completed_over s before input bytes (Some (MessageStream conn)) =
-    map (message_batch s input) (completed_messages (said s before (MessageStream conn)) bytes)
-completed_over s before input bytes (Some (Standard reader)) =
-    piece_batch s before input (Standard reader) bytes ∷ []
+completed_over s before input bytes (Some (LineStream conn)) = piece_batch s before input (LineStream conn) bytes ∷ []
+completed_over s before input bytes (Some (MessageStream conn)) = map (message_batch s input) (completed_messages (said s before (MessageStream conn)) bytes)
+completed_over s before input bytes (Some (Standard reader)) = piece_batch s before input (Standard reader) bytes ∷ []
 
 -- the batches that a fact completes, given the history before it: the events that became complete there
 -- and passed the filters
 abbrev pub completed_by : AllSettings → History → Fact → List Batch
-completed_by s before (Happened (happening.Piece input conn bytes)) =
-    completed_over s before input.0 bytes (stream_of s before input.0 conn.0)
-completed_by s before (Happened (happening.InputEnd input)) =
-    if reads_stdin_at s input.0 then end_batch s before input.0 (Standard input.0) ∷ [] else []
-completed_by s before (Polled input index length bytes) =
-    poll_batch s before input index (polled length bytes) ∷ []
+completed_by s before (Happened (happening.Piece input conn bytes)) = completed_over s before input.0 bytes (stream_of s before input.0 conn.0)
+completed_by s before (Happened (happening.InputEnd input)) = if reads_stdin_at s input.0 then end_batch s before input.0 (Standard input.0) ∷ [] else []
+completed_by s before (Polled input index length bytes) = poll_batch s before input index (polled length bytes) ∷ []
 completed_by s before fact = []
 
 -- the connection of a read
@@ -59,16 +53,13 @@ ConnectionDropped (Some conn) (fact ∷ during) = ConnectionDropped (Some conn) 
 -- accepted, or it was refused and counted. `rest` are the facts after that.
 pub data BatchOutcome (during : History) (b : Batch) (rest : History) : Type 0 where
   IsEmpty : is_empty b.events ≡ true → rest ≡ during → BatchOutcome during b rest
-  IsAccepted : (before : History) (place : Placement) → during ≡ before ++ Accepted b place ∷ rest
-      → BatchOutcome during b rest
-  IsRefused : (before : History) (why : Reason) → during ≡ before ++ Refused b why ∷ rest
-      → BatchOutcome during b rest
+  IsAccepted : (before : History) (place : Placement) → during ≡ before ++ Accepted b place ∷ rest → BatchOutcome during b rest
+  IsRefused : (before : History) (why : Reason) → during ≡ before ++ Refused b why ∷ rest → BatchOutcome during b rest
 
 -- For batches in order, each by a fact of its own. What follows the drop of its connection is discarded.
 abbrev pub BatchOutcomes : Option ℕ → History → List Batch → Type 0
 BatchOutcomes conn during [] = Unit {0}
-BatchOutcomes conn during (b ∷ bs) =
-    (rest : History) × BatchOutcome during b rest × (BatchOutcomes conn rest bs ⊎ ConnectionDropped conn rest)
+BatchOutcomes conn during (b ∷ bs) = (rest : History) × BatchOutcome during b rest × (BatchOutcomes conn rest bs ⊎ ConnectionDropped conn rest)
 
 -- the facts after a fact, up to the next event or poll, the oldest first
 abbrev pub until_next : Fact → History → History
@@ -79,9 +70,7 @@ until_next fact during = fact ∷ during
 -- for each batch that was completed
 abbrev pub AllBatchOutcomes : AllSettings → History → History → Type 0
 AllBatchOutcomes s during [] = Unit {0}
-AllBatchOutcomes s during (fact ∷ before) =
-    BatchOutcomes (conn_of fact) during (completed_by s before fact)
-    × AllBatchOutcomes s (until_next fact during) before
+AllBatchOutcomes s during (fact ∷ before) = BatchOutcomes (conn_of fact) during (completed_by s before fact) × AllBatchOutcomes s (until_next fact during) before
 
 -- ---- pending deliveries
 
@@ -111,6 +100,5 @@ pub data IsAccountedFor (s : AllSettings) (h : History) (es : List LoopEntry) (r
 -- link's output.
 pub record KeepsGuarantee (s : AllSettings) (h : History) (es : List LoopEntry) : Type 0 where
   pub became : AllBatchOutcomes s [] h
-  pub kept : (c : ChunkInfo) (output : ℕ) → Contains (chunks_of h) c → Contains (outputs_for s c.tag) output
-      → IsAccountedFor s h es (route c.number output)
+  pub kept : (c : ChunkInfo) (output : ℕ) → Contains (chunks_of h) c → Contains (outputs_for s c.tag) output → IsAccountedFor s h es (route c.number output)
   pub handed : (to : DialTarget) (link : ℕ) → WasDialled to link es → SendsPrefix s h es to link

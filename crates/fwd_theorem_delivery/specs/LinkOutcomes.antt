@@ -38,8 +38,7 @@ payload s h r events = (delivers s h r events).payload
 -- the facts that log the answer of a route's flush
 abbrev pub OutcomeIsLogged : History → Route → Answer → Type 0
 OutcomeIsLogged h r Good = IsLogged (OnRoute r Delivered) h
-OutcomeIsLogged h r Retry =
-    ((word : ℕ) × IsLogged (OnRoute r (Retries word)) h) ⊎ IsLogged (OnRoute r Exhausted) h
+OutcomeIsLogged h r Retry = ((word : ℕ) × IsLogged (OnRoute r (Retries word)) h) ⊎ IsLogged (OnRoute r Exhausted) h
 OutcomeIsLogged h r Bad = IsLogged (OnRoute r Failed) h
 
 -- the route's flush is in progress over this link, or its outcome is logged
@@ -54,8 +53,7 @@ closed_for (Some answer) = 1
 
 -- The bytes sent over this link are a prefix of the payload of its output for a flush of a closed chunk.
 -- The history logs the outcome of what happened on the link. If there is one, the link was closed once.
-pub record SendsPrefix (s : AllSettings) (h : History) (es : List LoopEntry) (to : DialTarget)
-    (link : ℕ) : Type 0 where
+pub record SendsPrefix (s : AllSettings) (h : History) (es : List LoopEntry) (to : DialTarget) (link : ℕ) : Type 0 where
   pub route : Route
   pub events : List Event
   pub is_for : dial_target h route ≡ to
@@ -68,8 +66,7 @@ pub record SendsPrefix (s : AllSettings) (h : History) (es : List LoopEntry) (to
   pub closed : close_count link es ≡ closed_for (verdict (delivers s h route events) (since_dial link es))
 
 -- A link that was dialled for a flush of the route with these events has this outcome.
-pub record HasOutcome (s : AllSettings) (h : History) (es : List LoopEntry) (r : Route) (events : List Event)
-    (answer : Option Answer) (link : ℕ) : Type 0 where
+pub record HasOutcome (s : AllSettings) (h : History) (es : List LoopEntry) (r : Route) (events : List Event) (answer : Option Answer) (link : ℕ) : Type 0 where
   pub begun : IsLogged (OnRoute r (FlushStarted events)) h
   pub given : WasDialled (dial_target h r) link es
   pub answered : verdict (delivers s h r events) (since_dial link es) ≡ answer
@@ -91,8 +88,7 @@ pub record IsRejected (s : AllSettings) (h : History) (es : List LoopEntry) (r :
 
 -- The flush has this link, which has no outcome yet, and its count of taken bytes is what its pushes
 -- took.
-pub record IsInProgress (s : AllSettings) (h : History) (es : List LoopEntry) (r : Route)
-    (p : Progress) : Type 0 where
+pub record IsInProgress (s : AllSettings) (h : History) (es : List LoopEntry) (r : Route) (p : Progress) : Type 0 where
   pub link : ℕ
   pub has : link_in p.stage ≡ Some (record { 0 = link })
   pub undecided : HasOutcome s h es r (begun h r) None link
@@ -100,6 +96,4 @@ pub record IsInProgress (s : AllSettings) (h : History) (es : List LoopEntry) (r
 
 -- a dial for it was refused, or a link of it has the outcome RETRY
 abbrev pub HasRetryCause : AllSettings → History → List LoopEntry → Route → Type 0
-HasRetryCause s h es r =
-    DialWasRefused (dial_target h r) es
-    ⊎ ((link : ℕ) × (events : List Event) × HasOutcome s h es r events (Some Retry) link)
+HasRetryCause s h es r = DialWasRefused (dial_target h r) es ⊎ ((link : ℕ) × (events : List Event) × HasOutcome s h es r events (Some Retry) link)

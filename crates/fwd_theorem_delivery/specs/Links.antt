@@ -17,8 +17,7 @@ pub record DialTarget : Type 0 where
 
 -- a dial for this returned this link
 abbrev pub ReturnsLink : DialTarget → ℕ → (call : LoopCall) → LoopAnswer call → Type 0
-ReturnsLink to link (Dial output tag) (Some given) =
-    (record { output = output; tag = tag } ≡ to) × (given ≡ link)
+ReturnsLink to link (Dial output tag) (Some given) = (record { output = output; tag = tag } ≡ to) × (given ≡ link)
 ReturnsLink to link call answer = ⊥
 
 abbrev pub WasDialled : DialTarget → ℕ → List LoopEntry → Type 0
@@ -44,8 +43,7 @@ IsNewLink greatest call answer = Unit {0}
 
 abbrev pub AreNewLinks : ℕ → List LoopEntry → Type 0
 AreNewLinks greatest [] = Unit {0}
-AreNewLinks greatest (e ∷ es) =
-    IsNewLink greatest e.call e.answer × AreNewLinks (greatest_by greatest e.call e.answer) es
+AreNewLinks greatest (e ∷ es) = IsNewLink greatest e.call e.answer × AreNewLinks (greatest_by greatest e.call e.answer) es
 
 -- whether a call returned this link
 abbrev pub returns_link : ℕ → (call : LoopCall) → LoopAnswer call → Bool
@@ -72,8 +70,7 @@ all_on_link link (e ∷ es) = on_link link e.call e.answer ++ all_on_link link e
 -- what happened on a link since the dial that returned it; earlier calls don't count
 abbrev pub since_dial : ℕ → List LoopEntry → List Event
 since_dial link [] = []
-since_dial link (e ∷ es) =
-    if returns_link link e.call e.answer then all_on_link link (e ∷ es) else since_dial link es
+since_dial link (e ∷ es) = if returns_link link e.call e.answer then all_on_link link (e ∷ es) else since_dial link es
 
 -- how often a link was closed
 abbrev pub close_of : ℕ → LoopCall → ℕ

@@ -1,7 +1,7 @@
 -- The origins of accepted and refused batches.
 use Rattle.std.specs.Prelude.{◌≡◌, Bool, true, false, not, List, [], ◌∷◌, ◌++◌, All, Contains, filter}
 use Rattle.fwd_settings.specs.declared.settings_types.AllSettings.{AllSettings}
-use Rattle.fwd_model.specs.Fact.{Fact, History, Batch, Happened, Resumed, Saved, Polled, Disconnected, Malformed, Found, Offered, Accepted, Refused, ChunkClosed, Sent, OnRoute, MarkStarted, Marked, Removed, FileLeft, IoFailed}
+use Rattle.fwd_model.specs.Fact.{Fact, History, Batch, Happened, Resumed, Polled, Disconnected, Malformed, Found, Offered, Accepted, Refused, ChunkClosed, Sent, OnRoute, MarkStarted, Marked, Removed, FileLeft, IoFailed}
 use Rattle.fwd_model.specs.Notes.{is_empty}
 use Rattle.fwd_theorem_delivery.specs.Guarantee.{completed_by}
 
@@ -9,7 +9,6 @@ use Rattle.fwd_theorem_delivery.specs.Guarantee.{completed_by}
 abbrev pub is_arrival : Fact → Bool
 is_arrival (Happened brought) = true
 is_arrival (Resumed input index place) = false
-is_arrival (Saved input index place) = false
 is_arrival (Polled input index length bytes) = true
 is_arrival (Disconnected conn) = false
 is_arrival (Malformed input) = false
@@ -30,7 +29,6 @@ is_arrival IoFailed = false
 abbrev pub decided_by : Fact → List Batch
 decided_by (Happened brought) = []
 decided_by (Resumed input index place) = []
-decided_by (Saved input index place) = []
 decided_by (Polled input index length bytes) = []
 decided_by (Disconnected conn) = []
 decided_by (Malformed input) = []
@@ -71,7 +69,6 @@ pub record WasCompleted (s : AllSettings) (h : History) (b : Batch) : Type 0 whe
 
 -- The batches accepted or refused since a fact are, in order, the first of the nonempty ones that it
 -- completed. So at most one fact says what became of each.
-pub record AreDecidedInOrder (s : AllSettings) (during : History) (fact : Fact)
-    (before : History) : Type 0 where
+pub record AreDecidedInOrder (s : AllSettings) (during : History) (fact : Fact) (before : History) : Type 0 where
   pub rest : List Batch
   pub is : with_events (completed_by s before fact) ≡ decided_batches during ++ rest

@@ -17,11 +17,7 @@ pub record IsOverdue (s : AllSettings) (h : History) (c : ChunkInfo) : Type 0 wh
   pub own : History
   pub between : History
   pub after : History
-  pub is : h
-      ≡ after
-      ++ Happened (happening.Tick later) ∷ (between ++ (own ++ Happened (happening.Tick earlier) ∷ before))
+  pub is : h ≡ after ++ Happened (happening.Tick later) ∷ (between ++ (own ++ Happened (happening.Tick earlier) ∷ before))
   pub step : events_only own ≡ []
   pub stood : Contains (chunks_of (own ++ Happened (happening.Tick earlier) ∷ before)) c
-  pub late : saturating_plus (clock (Happened (happening.Tick earlier) ∷ before)) s.service.flush_ms
-      ≤ clock
-      (Happened (happening.Tick later) ∷ (between ++ (own ++ Happened (happening.Tick earlier) ∷ before)))
+  pub late : saturating_plus (clock (Happened (happening.Tick earlier) ∷ before)) s.service.flush_ms ≤ clock (Happened (happening.Tick later) ∷ (between ++ (own ++ Happened (happening.Tick earlier) ∷ before)))

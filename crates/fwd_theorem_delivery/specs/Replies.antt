@@ -72,8 +72,7 @@ replies_to conn ms = map (λ (bytes : List ℕ). (conn, bytes)) (asked_by ms)
 -- accepted. `rest` are the facts after that.
 pub data WasTaken (during : List Fact) (b : Batch) (rest : List Fact) : Type 0 where
   IsEmpty : is_empty b.events ≡ true → rest ≡ during → WasTaken during b rest
-  IsAccepted : (before : List Fact) (place : Placement) → during ≡ before ++ Accepted b place ∷ rest
-      → WasTaken during b rest
+  IsAccepted : (before : List Fact) (place : Placement) → during ≡ before ++ Accepted b place ∷ rest → WasTaken during b rest
 
 -- batches were taken in order, each by a fact of its own
 abbrev pub TakenInOrder : List Fact → List Batch → Type 0
@@ -85,24 +84,17 @@ TakenInOrder during (b ∷ bs) = (rest : List Fact) × WasTaken during b rest ×
 -- Why no further messages of a read are answered. All were answered, and the connection goes on; or the
 -- bytes after them are invalid, which is counted; or the next one was refused; or the last reply failed.
 -- In all but the first case the connection is dropped.
-pub data ReadEnds (s : AllSettings) (input conn : ℕ) (breaks : Bool) (left : List MessageContent)
-    (entries : List TraceEntry) : Type 0 where
-  GoesOn : left ≡ [] → breaks ≡ false → broken_in entries ≡ [] → drops_in entries ≡ []
-      → ReadEnds s input conn breaks left entries
-  BreaksOff : left ≡ [] → breaks ≡ true → Contains (facts_in entries) (Malformed input)
-      → broken_in entries ≡ [] → drops_in entries ≡ conn ∷ [] → ReadEnds s input conn breaks left entries
-  IsRefused : (m : MessageContent) (more : List MessageContent) (why : Reason) → left ≡ m ∷ more
-      → Contains (facts_in entries) (Refused (message_batch s input m) why) → broken_in entries ≡ []
+pub data ReadEnds (s : AllSettings) (input conn : ℕ) (breaks : Bool) (left : List MessageContent) (entries : List TraceEntry) : Type 0 where
+  GoesOn : left ≡ [] → breaks ≡ false → broken_in entries ≡ [] → drops_in entries ≡ [] → ReadEnds s input conn breaks left entries
+  BreaksOff : left ≡ [] → breaks ≡ true → Contains (facts_in entries) (Malformed input) → broken_in entries ≡ [] → drops_in entries ≡ conn ∷ [] → ReadEnds s input conn breaks left entries
+  IsRefused : (m : MessageContent) (more : List MessageContent) (why : Reason) → left ≡ m ∷ more → Contains (facts_in entries) (Refused (message_batch s input m) why) → broken_in entries ≡ []
       → drops_in entries ≡ conn ∷ [] → ReadEnds s input conn breaks left entries
-  ReplyBroke : (bytes : List ℕ) (before after : List TraceEntry)
-      → entries ≡ before ++ entry (OnLoop (Reply conn bytes)) None ∷ after → broken_in before ≡ []
-      → replies_in after ≡ []
+  ReplyBroke : (bytes : List ℕ) (before after : List TraceEntry) → entries ≡ before ++ entry (OnLoop (Reply conn bytes)) None ∷ after → broken_in before ≡ [] → replies_in after ≡ []
       → drops_in entries ≡ conn ∷ [] → ReadEnds s input conn breaks left entries
 
 -- The calls and facts of a step on a read of an input's connection, after that history. The first
 -- messages that end in the read were taken, the replies that they ask for were sent, and no others.
-pub record AnswersRead (s : AllSettings) (h : History) (input conn : ℕ) (bytes : List ℕ)
-    (entries : List TraceEntry) : Type 0 where
+pub record AnswersRead (s : AllSettings) (h : History) (input conn : ℕ) (bytes : List ℕ) (entries : List TraceEntry) : Type 0 where
   pub answered : List MessageContent
   pub left : List MessageContent
   pub messages : completed_messages (said s h (MessageStream conn)) bytes ≡ answered ++ left
@@ -127,16 +119,13 @@ pub record IsDueReply (s : AllSettings) (past : Past) (conn : ℕ) (bytes : List
   pub input : InputId
   pub piece : List ℕ
   pub during : List TraceEntry
-  pub is : past
-      ≡ past_after
-      (entry (Note (Happened (happening.Piece input (record { 0 = conn }) piece))) tt ∷ older) during
+  pub is : past ≡ past_after (entry (Note (Happened (happening.Piece input (record { 0 = conn }) piece))) tt ∷ older) during
   pub last : events_only (facts_in during) ≡ []
   pub over : stream_of s (logged older) input.0 conn ≡ Some (MessageStream conn)
   pub earlier : List MessageContent
   pub message : MessageContent
   pub later : List MessageContent
-  pub messages : completed_messages (said s (logged older) (MessageStream conn)) piece
-      ≡ earlier ++ message ∷ later
+  pub messages : completed_messages (said s (logged older) (MessageStream conn)) piece ≡ earlier ++ message ∷ later
   pub asks : reply_of message ≡ Some bytes
   pub taken : TakenInOrder (facts_in during) (map (message_batch s input.0) (earlier ++ message ∷ []))
   pub replies : replies_in during ≡ replies_to conn earlier

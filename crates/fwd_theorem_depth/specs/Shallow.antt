@@ -9,8 +9,7 @@ use Rattle.fwd_wire.specs.Message.{MessageContent, nothing, batch}
 -- An event is a list of a list of time and metadata, and of a record. It may be nested 64 deep, as each
 -- value may, so its metadata 62 and its record 63.
 abbrev pub is_shallow : Event → Bool
-is_shallow e =
-    nat_le (nesting (mapping (entries_of e.meta))) 62 && nat_le (nesting (mapping (entries_of e.body))) 63
+is_shallow e = nat_le (nesting (mapping (entries_of e.meta))) 62 && nat_le (nesting (mapping (entries_of e.body))) 63
 
 -- whether all events are shallow
 abbrev pub are_shallow : List Event → Bool

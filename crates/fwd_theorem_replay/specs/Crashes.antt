@@ -33,34 +33,24 @@ pub record HasLoaded (s : AllSettings) (trace : List TraceEntry) (h : History) :
 
 -- each pending file-backed chunk is recovered, whole, and pending for the same outputs
 abbrev pub RecoversAll : AllSettings → History → History → Type 0
-RecoversAll s before after =
-    (c : ChunkInfo) → Contains (chunks_of before) c → is_owed s before c ≡ true → home_of s c.input ≡ Disk
-    → IsRecovered s before after c
+RecoversAll s before after = (c : ChunkInfo) → Contains (chunks_of before) c → is_owed s before c ≡ true → home_of s c.input ≡ Disk → IsRecovered s before after c
 
 -- this run recovers what the run that was cut had logged at the crash, if no call on the disk fails as it
 -- loads
 abbrev pub LosesNothing : AllSettings → CutRun → List TraceEntry → Type 0
-LosesNothing s c next =
-    (gone : List TraceEntry) (h : History) → CrashedAfter c gone → HasLoaded s next h
-    → RecoversAll s (history_after gone []) h
+LosesNothing s c next = (gone : List TraceEntry) (h : History) → CrashedAfter c gone → HasLoaded s next h → RecoversAll s (history_after gone []) h
 
 -- the run after a crash, as the first of what is left of a replay
-abbrev pub NextLosesNothing : (shown : Shown) (s : AllSettings) (turns : ℕ) (c : CutRun) (lives : List Life)
-    (reported : Reported) → IsReplayed shown s turns c.next lives reported → Type 0
+abbrev pub NextLosesNothing : (shown : Shown) (s : AllSettings) (turns : ℕ) (c : CutRun) (lives : List Life) (reported : Reported) → IsReplayed shown s turns c.next lives reported → Type 0
 NextLosesNothing shown s turns c [] reported is = Unit {0}
-NextLosesNothing shown s turns c (planned ∷ lives) reported (inl ends) =
-    planned.store ≡ [] → LosesNothing s c ends.trace
-NextLosesNothing shown s turns c (planned ∷ lives) reported (inr (inl cut)) =
-    planned.store ≡ [] → LosesNothing s c (cut.0.before ++ cut.0.turn)
+NextLosesNothing shown s turns c (planned ∷ lives) reported (inl ends) = planned.store ≡ [] → LosesNothing s c ends.trace
+NextLosesNothing shown s turns c (planned ∷ lives) reported (inr (inl cut)) = planned.store ≡ [] → LosesNothing s c (cut.0.before ++ cut.0.turn)
 NextLosesNothing shown s turns c (planned ∷ lives) reported (inr (inr wanting)) = Unit {0}
 
 -- at each crash between the runs of a replay
-abbrev pub NothingIsLost : (shown : Shown) (s : AllSettings) (turns : ℕ) (start : Start) (lives : List Life)
-    (reported : Reported) → IsReplayed shown s turns start lives reported → Type 0
+abbrev pub NothingIsLost : (shown : Shown) (s : AllSettings) (turns : ℕ) (start : Start) (lives : List Life) (reported : Reported) → IsReplayed shown s turns start lives reported → Type 0
 NothingIsLost shown s turns start [] reported is = Unit {0}
 NothingIsLost shown s turns start (planned ∷ lives) reported (inl ends) = Unit {0}
 NothingIsLost shown s turns start (planned ∷ lives) reported (inr (inl cut)) =
-    NextLosesNothing shown s (turns - waits_in (cut.0.before ++ cut.0.turn)) cut.0 lives cut.2.0 cut.2.1
-    × NothingIsLost shown s
-    (turns - waits_in (cut.0.before ++ cut.0.turn)) cut.0.next lives cut.2.0 cut.2.1
+    NextLosesNothing shown s (turns - waits_in (cut.0.before ++ cut.0.turn)) cut.0 lives cut.2.0 cut.2.1 × NothingIsLost shown s (turns - waits_in (cut.0.before ++ cut.0.turn)) cut.0.next lives cut.2.0 cut.2.1
 NothingIsLost shown s turns start (planned ∷ lives) reported (inr (inr wanting)) = Unit {0}

@@ -5,8 +5,7 @@ use Rattle.fwd_outside.specs.Disk.{DiskCall, DiskAnswer, Place, WriteAt, Sync, R
 use Rattle.fwd_outside.specs.Files.{FilesCall, FilesAnswer, Length, ReadAt, Changed}
 use Rattle.fwd_outside.specs.Files.{FailAt as FilesFailAt}
 use Rattle.fwd_outside.specs.declared.happening.Happening.TheVariants as happening
-use Rattle.fwd_keeper.specs.Keeper.{KeeperCall, KeeperAnswer, Get, Put, FailAt as KeeperFailAt}
-use Rattle.fwd_model.specs.Trace.{Call, Answer, OnLoop, OnDisk, OnFiles, OnKeeper, Note}
+use Rattle.fwd_model.specs.Trace.{KeeperCall, KeeperAnswer, Get, Put, Call, Answer, OnLoop, OnDisk, OnFiles, OnKeeper, Note}
 
 pub loop_says : (call : LoopCall) → LoopAnswer call
 loop_says (Start ends) = None
@@ -37,7 +36,6 @@ files_say (FilesFailAt number) = tt
 pub keeper_says : (call : KeeperCall) → KeeperAnswer call
 keeper_says (Get db path) = None
 keeper_says (Put db path place) = None
-keeper_says (KeeperFailAt number) = tt
 
 unfoldable pub says : (call : Call) → Answer call
 says (OnLoop call) = loop_says call

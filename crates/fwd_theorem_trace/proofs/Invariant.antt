@@ -8,7 +8,7 @@ use Rattle.fwd_chunk.specs.declared.chunk.Chunk.{Chunk}
 use Rattle.fwd_outside.specs.Program.{Execution}
 use Rattle.fwd_outside.specs.declared.ends.Ends.{Ends}
 use Rattle.fwd_settings.specs.declared.settings_types.AllSettings.{AllSettings}
-use Rattle.fwd_model.specs.Fact.{Fact, History, Batch, Placement, NoChunk, NewChunk, AppendedTo, Route, Outcome, FlushStarted, InFlight, Retries, Delivered, Failed, Exhausted, Evicted, Happened, Resumed, Saved, Polled, Disconnected, Malformed, Found, Offered, Accepted, Refused, ChunkClosed, Sent, OnRoute, MarkStarted, Marked, Removed, FileLeft, IoFailed}
+use Rattle.fwd_model.specs.Fact.{Fact, History, Batch, Placement, NoChunk, NewChunk, AppendedTo, Route, Outcome, FlushStarted, InFlight, Retries, Delivered, Failed, Exhausted, Evicted, Happened, Resumed, Polled, Disconnected, Malformed, Found, Offered, Accepted, Refused, ChunkClosed, Sent, OnRoute, MarkStarted, Marked, Removed, FileLeft, IoFailed}
 use Rattle.fwd_model.specs.Trace.{Call, Action, TraceEntry, Note, history_after, history_after_call}
 use Rattle.fwd_model.specs.Settings.{outputs_for}
 use Rattle.fwd_model.specs.RecoveredFile.{recovered_chunk}
@@ -136,7 +136,6 @@ module _ (s : AllSettings) where
   fact_below (FileLeft chunk) past due num = closed_below past chunk num due.shut
   fact_below (Happened brought) past due num = tt
   fact_below (Resumed input index place) past due num = tt
-  fact_below (Saved input index place) past due num = tt
   fact_below (Polled input index long bytes) past due num = tt
   fact_below (Disconnected conn) past due num = tt
   fact_below (Malformed input) past due num = tt

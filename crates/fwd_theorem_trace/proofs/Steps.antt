@@ -14,7 +14,7 @@ use Rattle.fwd_in_tail.specs.Followed.{Polled as Poll, polls as polls_of}
 use Rattle.fwd_wire.specs.Message.{MessageContent}
 use Rattle.fwd_store.specs.Store.{begins_as, append_to_program}
 use Rattle.fwd_settings.specs.declared.settings_types.AllSettings.{AllSettings}
-use Rattle.fwd_model.specs.Fact.{Fact, History, Stream, LineStream, MessageStream, Standard, Batch, NoChunk, NewChunk, AppendedTo, Reason, TooLarge, NoNumber, NotStored, Happened, Resumed, Saved, Polled, Disconnected, Malformed, Found, Offered, Accepted, Refused, IoFailed}
+use Rattle.fwd_model.specs.Fact.{Fact, History, Stream, LineStream, MessageStream, Standard, Batch, NoChunk, NewChunk, AppendedTo, Reason, TooLarge, NoNumber, NotStored, Happened, Resumed, Polled, Disconnected, Malformed, Found, Offered, Accepted, Refused, IoFailed}
 use Rattle.fwd_model.specs.Trace.{Call, Answer, Action, OnLoop, OnDisk, OnFiles, OnKeeper, Note}
 use Rattle.fwd_model.specs.DeviceActions.{on_disk, on_files}
 use Rattle.fwd_model.specs.Settings.{outputs_for, home_at, names_for, paths_at, from_head_at, reads_stdin_at}
@@ -43,7 +43,6 @@ use Rattle.fwd_theorem_trace.proofs.Actions.{IsInnerFact, IsInnerLoop, IsInner, 
 abbrev pub IsOuterFact : Fact → Type 0
 IsOuterFact (Happened brought) = ⊥
 IsOuterFact (Resumed input index place) = ⊥
-IsOuterFact (Saved input index place) = ⊥
 IsOuterFact (Found number stream name bytes) = ⊥
 IsOuterFact fact = Unit {0}
 
@@ -62,7 +61,6 @@ IsOuter (Note fact) = IsOuterFact fact
 fact_outer : (fact : Fact) → IsInnerFact fact → IsOuterFact fact
 fact_outer (Happened brought) is = absurd is
 fact_outer (Resumed input index place) is = absurd is
-fact_outer (Saved input index place) is = absurd is
 fact_outer (Found number stream name bytes) is = absurd is
 fact_outer fact is = tt
 

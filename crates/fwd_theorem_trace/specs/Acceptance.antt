@@ -22,8 +22,6 @@ pub record IsAppended (b : Batch) (chunk : ℕ) (h new : History) : Type 0 where
 -- chunk numbers ran out, or because a call on the disk failed.
 pub data AcceptanceOutcome (s : AllSettings) (b : Batch) (h : History) (a : Acceptance) : Type 0 where
   IsEmpty : is_empty b.events ≡ true → a.taken ≡ true → a.history ≡ h → AcceptanceOutcome s b h a
-  IsUnmatched : is_empty (outputs_for s b.tag) ≡ true → a.taken ≡ true → a.history ≡ Accepted b NoChunk ∷ h
-      → AcceptanceOutcome s b h a
+  IsUnmatched : is_empty (outputs_for s b.tag) ≡ true → a.taken ≡ true → a.history ≡ Accepted b NoChunk ∷ h → AcceptanceOutcome s b h a
   IsTaken : (chunk : ℕ) → a.taken ≡ true → IsAppended b chunk h a.history → AcceptanceOutcome s b h a
-  IsRefused : (why : Reason) → a.taken ≡ false → Contains a.history (Refused b why) → SameRecords h a.history
-      → AcceptanceOutcome s b h a
+  IsRefused : (why : Reason) → a.taken ≡ false → Contains a.history (Refused b why) → SameRecords h a.history → AcceptanceOutcome s b h a

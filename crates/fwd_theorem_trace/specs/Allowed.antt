@@ -1,13 +1,11 @@
 -- When each entry of a run may occur, given the entries before it.
 use Rattle.std.specs.Prelude.{◌≡◌, ◌⊎◌, ℕ, ◌+◌, nat_lt, true, false, List, [], ◌∷◌, length, Contains, Option, Some, None}
 use Rattle.fwd_base.specs.Limits.{longest_wait, numbers_end}
-use Rattle.fwd_outside.specs.Program.{entry}
 use Rattle.fwd_outside.specs.Loop.{LoopCall, Wait, Dial, DropConn}
 use Rattle.fwd_outside.specs.declared.happening.Happening.{Happening}
 use Rattle.fwd_outside.specs.declared.happening.Happening.TheVariants as happening
-use Rattle.fwd_keeper.specs.Keeper.{Put}
 use Rattle.fwd_settings.specs.declared.settings_types.AllSettings.{AllSettings}
-use Rattle.fwd_model.specs.Fact.{Fact, History, Batch, Placement, NoChunk, NewChunk, AppendedTo, Reason, TooLarge, NoNumber, NotStored, Route, Outcome, FlushStarted, InFlight, Retries, Delivered, Failed, Exhausted, Evicted, Happened, Resumed, Saved, Polled, Disconnected, Malformed, Found, Offered, Accepted, Refused, ChunkClosed, Sent, OnRoute, MarkStarted, Marked, Removed, FileLeft, IoFailed}
+use Rattle.fwd_model.specs.Fact.{Fact, History, Batch, Placement, NoChunk, NewChunk, AppendedTo, Reason, TooLarge, NoNumber, NotStored, Route, Outcome, FlushStarted, InFlight, Retries, Delivered, Failed, Exhausted, Evicted, Happened, Resumed, Polled, Disconnected, Malformed, Found, Offered, Accepted, Refused, ChunkClosed, Sent, OnRoute, MarkStarted, Marked, Removed, FileLeft, IoFailed}
 use Rattle.fwd_model.specs.Trace.{Call, OnLoop, OnDisk, OnFiles, OnKeeper, Note}
 use Rattle.fwd_model.specs.Settings.{saturating_plus, outputs_for}
 use Rattle.fwd_model.specs.Clock.{clock, stopped}
@@ -17,7 +15,6 @@ use Rattle.fwd_model.specs.Payloads.{tag_of_chunk}
 use Rattle.fwd_model.specs.Limits.{paused}
 use Rattle.fwd_model.specs.Dispatch.{may_start}
 use Rattle.fwd_model.specs.Notes.{is_empty}
-use Rattle.fwd_model.specs.KeptOffsets.{Tracked, tracked}
 use Rattle.fwd_theorem_trace.specs.Past.{Past, logged, last_event, last_fact, last_call}
 
 -- only recovered files are logged, numbered by their positions from 1 on
@@ -51,8 +48,7 @@ pub record IsToStore (s : AllSettings) (b : Batch) : Type 0 where
   pub fits : is_storable b.events ≡ true
 
 -- it was just offered to a chunk, which was in this state before
-pub record WasOffered (Stood : Batch → ℕ → History → Type 0) (b : Batch) (chunk : ℕ)
-    (h : History) : Type 0 where
+pub record WasOffered (Stood : Batch → ℕ → History → Type 0) (b : Batch) (chunk : ℕ) (h : History) : Type 0 where
   pub before : History
   pub is : h ≡ Offered chunk b ∷ before
   pub stood : Stood b chunk before
@@ -87,30 +83,18 @@ pub record IsFinished (s : AllSettings) (chunk : ℕ) (h : History) : Type 0 whe
   pub shut : is_closed h chunk ≡ true
   pub owed : owes s h chunk ≡ false
 
--- a put of this offset of this followed file just succeeded
-pub record WasSaved (s : AllSettings) (input index place : ℕ) (past : Past) : Type 0 where
-  pub file : Tracked
-  pub among : Contains (tracked s) file
-  pub of : (file.input ≡ input) × (file.index ≡ index)
-  pub before : Past
-  pub is : past ≡ entry (OnKeeper (Put file.db file.path place)) (Some tt) ∷ before
-
 -- a wait just returned it, or it is the first `Stop`
 abbrev pub EventAllowed : AllSettings → Happening → Past → Type 0
-EventAllowed s brought past =
-    (last_event past ≡ Some brought) ⊎ ((brought ≡ happening.Stop) × (stopped s (logged past) ≡ None))
+EventAllowed s brought past = (last_event past ≡ Some brought) ⊎ ((brought ≡ happening.Stop) × (stopped s (logged past) ≡ None))
 
 abbrev pub FactAllowed : AllSettings → Fact → Past → Type 0
 FactAllowed s (Happened brought) past = EventAllowed s brought past
 FactAllowed s (Resumed input index place) past = IsLoading (logged past)
-FactAllowed s (Saved input index place) past = WasSaved s input index place past
 FactAllowed s (Polled input index long bytes) past = Unit {0}
 FactAllowed s (Disconnected conn) past = last_call past ≡ Some (OnLoop (DropConn conn))
 FactAllowed s (Malformed input) past = Unit {0}
-FactAllowed s (Found number stream name bytes) past =
-    (number ≡ length (logged past) + 1) × IsLoading (logged past)
-FactAllowed s (Offered chunk b) past =
-    IsToStore s b × (StartsChunk b chunk (logged past) ⊎ AppendsTo b chunk (logged past))
+FactAllowed s (Found number stream name bytes) past = (number ≡ length (logged past) + 1) × IsLoading (logged past)
+FactAllowed s (Offered chunk b) past = IsToStore s b × (StartsChunk b chunk (logged past) ⊎ AppendsTo b chunk (logged past))
 FactAllowed s (Accepted b place) past = AcceptAllowed s b place (logged past)
 FactAllowed s (Refused b why) past = RefuseAllowed s b why (logged past)
 FactAllowed s (ChunkClosed chunk) past = IsChunk (logged past) chunk
@@ -124,13 +108,11 @@ FactAllowed s IoFailed past = Unit {0}
 
 -- directly after the beginning of a flush, for its output and the tag of its chunk
 abbrev pub DialAllowed : ℕ → List ℕ → Past → Option Fact → Type 0
-DialAllowed output tag past (Some (OnRoute r (FlushStarted events))) =
-    (output ≡ r.output) × (tag ≡ tag_of_chunk (logged past) r.chunk)
+DialAllowed output tag past (Some (OnRoute r (FlushStarted events))) = (output ≡ r.output) × (tag ≡ tag_of_chunk (logged past) r.chunk)
 DialAllowed output tag past other = ⊥
 
 abbrev pub LoopCallAllowed : AllSettings → LoopCall → Past → Type 0
-LoopCallAllowed s (Wait until mask) past =
-    (until ≡ saturating_plus (clock (logged past)) longest_wait) × (mask ≡ paused s (logged past))
+LoopCallAllowed s (Wait until mask) past = (until ≡ saturating_plus (clock (logged past)) longest_wait) × (mask ≡ paused s (logged past))
 LoopCallAllowed s (Dial output tag) past = DialAllowed output tag past (last_fact past)
 LoopCallAllowed s call past = Unit {0}
 

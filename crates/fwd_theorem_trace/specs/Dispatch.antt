@@ -66,5 +66,4 @@ pub data IsTurn (s : AllSettings) (h new : History) (r : Route) (own : List Trac
 abbrev pub IsDispatched : AllSettings → List Route → History → List TraceEntry → History → Type 0
 IsDispatched s [] h es new = (es ≡ []) × (new ≡ h)
 IsDispatched s (r ∷ rs) h es new =
-    (own : List TraceEntry) × (more : List TraceEntry) × (es ≡ own ++ more)
-    × IsTurn s h (history_after own h) r own × IsDispatched s rs (history_after own h) more new
+    (own : List TraceEntry) × (more : List TraceEntry) × (es ≡ own ++ more) × IsTurn s h (history_after own h) r own × IsDispatched s rs (history_after own h) more new

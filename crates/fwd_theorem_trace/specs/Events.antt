@@ -36,5 +36,4 @@ stop_after s ticks brought h = if is_last_tick s ticks brought h then Happened h
 -- the events of waits as they are logged: all of them, in order, plus the `Stop` after the last tick
 abbrev pub logged_events : AllSettings → Option ℕ → List Happening → History
 logged_events s ticks [] = []
-logged_events s ticks (brought ∷ before) =
-    stop_after s ticks brought (Happened brought ∷ logged_events s ticks before)
+logged_events s ticks (brought ∷ before) = stop_after s ticks brought (Happened brought ∷ logged_events s ticks before)

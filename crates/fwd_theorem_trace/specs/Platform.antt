@@ -10,5 +10,4 @@ Platform = List TraceEntry → (call : Call) → Answer call
 -- after the calls in `before`, each answer is the one that this platform gives
 abbrev pub AreAnswersOf : Platform → List TraceEntry → List TraceEntry → Type 0
 AreAnswersOf outside before [] = Unit {0}
-AreAnswersOf outside before (e ∷ es) =
-    (e.answer ≡ outside before e.call) × AreAnswersOf outside (before ++ e ∷ []) es
+AreAnswersOf outside before (e ∷ es) = (e.answer ≡ outside before e.call) × AreAnswersOf outside (before ++ e ∷ []) es

@@ -1,7 +1,7 @@
 -- What holds of every history of a run.
 use Rattle.std.specs.Prelude.{◌≡◌, ℕ, ◌<◌, true, List, [], ◌∷◌, Contains, Option, Some, None}
 use Rattle.fwd_settings.specs.declared.settings_types.AllSettings.{AllSettings}
-use Rattle.fwd_model.specs.Fact.{Fact, History, Placement, NoChunk, NewChunk, AppendedTo, Happened, Resumed, Saved, Polled, Disconnected, Malformed, Found, Offered, Accepted, Refused, ChunkClosed, Sent, OnRoute, MarkStarted, Marked, Removed, FileLeft, IoFailed}
+use Rattle.fwd_model.specs.Fact.{Fact, History, Placement, NoChunk, NewChunk, AppendedTo, Happened, Resumed, Polled, Disconnected, Malformed, Found, Offered, Accepted, Refused, ChunkClosed, Sent, OnRoute, MarkStarted, Marked, Removed, FileLeft, IoFailed}
 use Rattle.fwd_model.specs.Chunks.{ChunkInfo, chunks_of, open_chunks, next}
 use Rattle.fwd_model.specs.Routes.{is_owed}
 
@@ -14,7 +14,6 @@ chunk_in (AppendedTo chunk) = Some chunk
 abbrev pub chunk_of : Fact → Option ℕ
 chunk_of (Happened brought) = None
 chunk_of (Resumed input index place) = None
-chunk_of (Saved input index place) = None
 chunk_of (Polled input index long bytes) = None
 chunk_of (Disconnected conn) = None
 chunk_of (Malformed input) = None

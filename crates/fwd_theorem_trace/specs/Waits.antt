@@ -25,6 +25,5 @@ waits_in (e ∷ es) = if is_wait e.call then waits_in es + 1 else waits_in es
 pub record WaitsFirst (s : AllSettings) (h : History) (entries : List TraceEntry) : Type 0 where
   pub brought : Happening
   pub rest : List TraceEntry
-  pub first : entries
-      ≡ entry (OnLoop (Wait (saturating_plus (clock h) longest_wait) (paused s h))) brought ∷ rest
+  pub first : entries ≡ entry (OnLoop (Wait (saturating_plus (clock h) longest_wait) (paused s h))) brought ∷ rest
   pub no_more : waits_in rest ≡ 0

@@ -69,9 +69,7 @@ pub record AreNotCalled (old new : Platform) : Type 0 where
 -- Without a text, the calls up to one that failed, or, if memory ran out, the first ones, of which none
 -- failed.
 abbrev pub IsListed : List ℕ → DiskLog → DiskLog → List ℕ → Ending → Type 0
-IsListed root old new text ending.Over =
-    (files : List FileRead) × (backlog : Backlog) × Completes old new (load_program root) (Some files)
-    × IsBacklog files backlog × IsListing backlog.found text
+IsListed root old new text ending.Over = (files : List FileRead) × (backlog : Backlog) × Completes old new (load_program root) (Some files) × IsBacklog files backlog × IsListing backlog.found text
 IsListed root old new text ending.DiskFailed = Completes old new (load_program root) None × (text ≡ [])
 IsListed root old new text ending.Memory = IsBegunUnfailed old new (load_program root) × (text ≡ [])
 IsListed root old new text ending.TurnsSpent = ⊥
@@ -80,21 +78,16 @@ IsListed root old new text ending.LoopFailed = ⊥
 -- The outcome of a case, and the calls on the devices for it. A schedule and a generated load are
 -- replayed without them, and a listing calls the disk alone.
 abbrev pub Produces : ℕ → Case → Platform → Platform → Reported → Type 0
-Produces turns (Replays s lives) old new reported =
-    IsReplayed All s turns first lives reported × AreNotCalled old new
-Produces turns (Generates s lives) old new reported =
-    IsReplayed Report s turns first lives reported × AreNotCalled old new
+Produces turns (Replays s lives) old new reported = IsReplayed All s turns first lives reported × AreNotCalled old new
+Produces turns (Generates s lives) old new reported = IsReplayed Report s turns first lives reported × AreNotCalled old new
 Produces turns (Runs s ticks) old new reported = IsRunLive s ticks turns (world old) (world new) reported
-Produces turns (Lists root) old new reported =
-    IsListed root old.disk new.disk reported.text reported.ending
-    × (LogGrew old.files new.files [] × LogGrew old.loop new.loop [])
+Produces turns (Lists root) old new reported = IsListed root old.disk new.disk reported.text reported.ending × (LogGrew old.files new.files [] × LogGrew old.loop new.loop [])
 Produces turns (Refuses other) old new reported = ⊥
 
 -- the verdict of a case is that of its outcome
 abbrev pub IsVerdict : ℕ → Case → Platform → Platform → Verdict → Type 0
 IsVerdict turns (Refuses other) old new verdict = (verdict ≡ says [] other) × AreNotCalled old new
-IsVerdict turns case old new verdict =
-    (reported : Reported) × Produces turns case old new reported × (verdict ≡ of_reported reported)
+IsVerdict turns case old new verdict = (reported : Reported) × Produces turns case old new reported × (verdict ≡ of_reported reported)
 
 -- the call logs of all devices
 pub record Devices : Type 0 where
@@ -108,8 +101,7 @@ devices disk files loop sink = record { disk = disk; files = files; loop = loop;
 
 -- The calls on the files are those of the program's asking, to its end with this case; without a case,
 -- because memory ran out, they are its first ones.
-pub record Asks {Y : Type 0} (words : List (String Y)) (env : Values) (old new : FilesLog)
-    (case : Option Case) : Type 0 where
+pub record Asks {Y : Type 0} (words : List (String Y)) (env : Values) (old new : FilesLog) (case : Option Case) : Type 0 where
   pub checked : Checked AllSettings
   pub loaded : Option (List Section)
   pub are : AreSettingsOf loaded checked
@@ -117,13 +109,11 @@ pub record Asks {Y : Type 0} (words : List (String Y)) (env : Values) (old new :
 
 -- The devices came to this verdict: the files were read for the configuration and the schedule, up to
 -- `read`, and then all of them were called for the case.
-pub record Comes {Y : Type 0} (words : List (String Y)) (env : Values) (turns : ℕ) (old new : Devices)
-    (verdict : Verdict) : Type 0 where
+pub record Comes {Y : Type 0} (words : List (String Y)) (env : Values) (turns : ℕ) (old new : Devices) (verdict : Verdict) : Type 0 where
   pub case : Case
   pub read : FilesLog
   pub asks : Asks words env old.files read (Some case)
-  pub is : IsVerdict turns case (platform_of old.disk read old.loop)
-      (platform_of new.disk new.files new.loop) verdict
+  pub is : IsVerdict turns case (platform_of old.disk read old.loop) (platform_of new.disk new.files new.loop) verdict
 
 -- the asking was begun, and there was no other call
 pub record Begins {Y : Type 0} (words : List (String Y)) (env : Values) (old new : Devices) : Type 0 where
@@ -142,8 +132,7 @@ WroteAPrefix old new text = (taken : ℕ) × (taken ≤ length text) × LogGrew 
 -- The text written to the sink for each status, given a property of the verdict. `Memory` says nothing
 -- here.
 abbrev pub Wrote : (Verdict → Type 0) → SinkLog → SinkLog → Status → Type 0
-Wrote Holds sink out status.OutFault =
-    (text : List ℕ) × (end : Status) × Holds (says text end) × WroteAPrefix sink out text
+Wrote Holds sink out status.OutFault = (text : List ℕ) × (end : Status) × Holds (says text end) × WroteAPrefix sink out text
 Wrote Holds sink out status.Memory = Unit {0}
 Wrote Holds sink out result = (text : List ℕ) × Holds (says text result) × WroteIt sink out text
 
@@ -152,10 +141,8 @@ Wrote Holds sink out result = (text : List ℕ) × Holds (says text result) × W
 abbrev pub RanOutOfMemory : {Y : Type 0} → List (String Y) → Values → ℕ → Devices → Devices → Type 0
 RanOutOfMemory words env turns old new =
     (Begins words env old new × LogGrew old.sink new.sink [])
-    ⊎ (((text : List ℕ) × Comes words env turns old new (says text status.Memory)
-    × WroteIt old.sink new.sink text)
-    ⊎ ((text : List ℕ) × (end : Status) × Comes words env turns old new (says text end)
-    × (LogGrew old.sink new.sink [] ⊎ WroteAPrefix old.sink new.sink text)))
+    ⊎ (((text : List ℕ) × Comes words env turns old new (says text status.Memory) × WroteIt old.sink new.sink text)
+    ⊎ ((text : List ℕ) × (end : Status) × Comes words env turns old new (says text end) × (LogGrew old.sink new.sink [] ⊎ WroteAPrefix old.sink new.sink text)))
 
 -- the calls on the devices and the text written to the sink, for each status
 abbrev pub Answers : {Y : Type 0} → List (String Y) → Values → ℕ → Devices → Devices → Status → Type 0
@@ -163,26 +150,21 @@ Answers words env turns old new status.Memory = RanOutOfMemory words env turns o
 Answers words env turns old new other = Wrote (Comes words env turns old new) old.sink new.sink other
 
 -- the verdict of the existing bytes of the files
-pub record IsVerdictOf {Y : Type 0} (words : List (String Y)) (env : Values) (turns : ℕ)
-    (standing : FilesGiven) (old new : Devices) (verdict : Verdict) : Type 0 where
+pub record IsVerdictOf {Y : Type 0} (words : List (String Y)) (env : Values) (turns : ℕ) (standing : FilesGiven) (old new : Devices) (verdict : Verdict) : Type 0 where
   pub checked : Checked AllSettings
   pub loaded : Option (List Section)
   pub are : AreSettingsOf loaded checked
   pub case : Case
   pub given : given (found standing) (asks checked words env) ≡ asked loaded case
   pub read : FilesLog
-  pub is : IsVerdict turns case (platform_of old.disk read old.loop)
-      (platform_of new.disk new.files new.loop) verdict
+  pub is : IsVerdict turns case (platform_of old.disk read old.loop) (platform_of new.disk new.files new.loop) verdict
 
 -- If the files log their calls, return the existing bytes, and don't fail, the verdict is that of these
 -- bytes.
 abbrev pub IsOfTheFiles : {Y : Type 0} → List (String Y) → Values → ℕ → Devices → Devices → Status → Type 0
 IsOfTheFiles words env turns old new result =
-    (standing : FilesGiven) (before made : List FilesEntry) → old.files ≡ Some (standing, before)
-    → new.files ≡ Some (standing, before ++ made) → IsConsistentLog (files_after_all standing before) made
-    → result ≢ status.FileFault
-    → Wrote
-    (IsVerdictOf words env turns (files_after_all standing before) old new) old.sink new.sink result
+    (standing : FilesGiven) (before made : List FilesEntry) → old.files ≡ Some (standing, before) → new.files ≡ Some (standing, before ++ made) → IsConsistentLog (files_after_all standing before) made
+    → result ≢ status.FileFault → Wrote (IsVerdictOf words env turns (files_after_all standing before) old new) old.sink new.sink result
 
 -- the words ask for a run
 abbrev pub is_run : Option Command → Bool
@@ -200,8 +182,7 @@ is_over_disk (Some (ListFolder folder)) = true
 is_over_disk other = false
 
 abbrev pub IsDiskFault : {Y : Type 0} → List (String Y) → Status → Type 0
-IsDiskFault words result =
-    (is_over_disk (command_of (map string_bytes words)) ≡ true) × (result ≡ status.DiskFault)
+IsDiskFault words result = (is_over_disk (command_of (map string_bytes words)) ≡ true) × (result ≡ status.DiskFault)
 
 -- the least number of events that the loop returned
 abbrev pub spent_by : Status → Bool → ℕ → ℕ

@@ -111,9 +111,7 @@ alone x = asked x.loaded (reports_of x.case)
 
 -- a generated load: its texts, read as if they were in files
 unfoldable pub of_load : Checked AllSettings → (count : ℕ) → Asked
-of_load checked count =
-    alone
-    (given (found (load_files count)) (of_config checked load_config (ToReplay load_schedule) no_values))
+of_load checked count = alone (given (found (load_files count)) (of_config checked load_config (ToReplay load_schedule) no_values))
 
 abbrev pub of_command : Checked AllSettings → Option Command → Values → Reading Asked
 of_command checked None env = Return (asked None (Refuses status.Usage))

@@ -25,23 +25,18 @@ pub record AreSynced (s : AllSettings) : Type 0 where
 -- From each disk without unsynced state that could have answered this way, each point of these calls is
 -- safe: whatever a crash leaves has the file of each pending chunk, whole.
 abbrev pub AreSafe : AllSettings → List TraceEntry → Type 0
-AreSafe s entries =
-    (start : Files) → AreDurable start → AtCrashPoints LeadsTo (IsSafe s start) (crash_point [] start) entries
+AreSafe s entries = (start : Files) → AreDurable start → AtCrashPoints LeadsTo (IsSafe s start) (crash_point [] start) entries
 
 -- a run over devices, with a call log or not, to its end or to where memory ran out
-abbrev pub RunIsSafe : (s : AllSettings) (ticks : Option ℕ) (turns : ℕ) (old new : Platform)
-    (reported : Reported) → IsRunLive s ticks turns (world old) (world new) reported → Type 0
+abbrev pub RunIsSafe : (s : AllSettings) (ticks : Option ℕ) (turns : ℕ) (old new : Platform) (reported : Reported) → IsRunLive s ticks turns (world old) (world new) reported → Type 0
 RunIsSafe s ticks turns old new reported (inl lived) = AreSynced s → AreSafe s lived.did.entries
 RunIsSafe s ticks turns old new reported (inr begun) = AreSynced s → AreSafe s begun.0.1.entries
 
 -- the outcome of a case: no crash between the runs of a schedule loses a chunk, and each crash point of a
 -- run is safe
-abbrev pub IsCrashConsistent : (turns : ℕ) (case : Case) (old new : Platform) (reported : Reported)
-    → Produces turns case old new reported → Type 0
-IsCrashConsistent turns (Replays s lives) old new reported comes =
-    AreSynced s → NothingIsLost All s turns first lives reported comes.0
-IsCrashConsistent turns (Generates s lives) old new reported comes =
-    AreSynced s → NothingIsLost Report s turns first lives reported comes.0
+abbrev pub IsCrashConsistent : (turns : ℕ) (case : Case) (old new : Platform) (reported : Reported) → Produces turns case old new reported → Type 0
+IsCrashConsistent turns (Replays s lives) old new reported comes = AreSynced s → NothingIsLost All s turns first lives reported comes.0
+IsCrashConsistent turns (Generates s lives) old new reported comes = AreSynced s → NothingIsLost Report s turns first lives reported comes.0
 IsCrashConsistent turns (Runs s ticks) old new reported comes = RunIsSafe s ticks turns old new reported comes
 IsCrashConsistent turns (Lists root) old new reported comes = Unit {0}
 IsCrashConsistent turns (Refuses other) old new reported comes = Unit {0}

@@ -16,31 +16,21 @@ use Rattle.fwd_top.specs.Cases.{Case, Replays, Generates, Runs, Lists, Refuses}
 use Rattle.fwd_top.specs.Answers.{Platform, Produces, world}
 
 -- each run of a replay does, up to its end or to the turn in which it is cut
-abbrev pub EachIsDelivered : (shown : Shown) (s : AllSettings) (turns : ℕ) (start : Start) (lives : List Life)
-    (reported : Reported) → IsReplayed shown s turns start lives reported → Type 0
+abbrev pub EachIsDelivered : (shown : Shown) (s : AllSettings) (turns : ℕ) (start : Start) (lives : List Life) (reported : Reported) → IsReplayed shown s turns start lives reported → Type 0
 EachIsDelivered shown s turns start [] reported is = Unit {0}
-EachIsDelivered shown s turns start (planned ∷ lives) reported (inl ends) =
-    KeepsGuarantee s ends.comes.history (loop_part ends.trace)
-EachIsDelivered shown s turns start (planned ∷ lives) reported (inr (inl cut)) =
-    KeepsGuarantee s cut.0.history (loop_part cut.0.before)
-    × EachIsDelivered shown s (turns - waits_in (cut.0.before ++ cut.0.turn)) cut.0.next lives cut.2.0 cut.2.1
+EachIsDelivered shown s turns start (planned ∷ lives) reported (inl ends) = KeepsGuarantee s ends.comes.history (loop_part ends.trace)
+EachIsDelivered shown s turns start (planned ∷ lives) reported (inr (inl cut)) = KeepsGuarantee s cut.0.history (loop_part cut.0.before) × EachIsDelivered shown s (turns - waits_in (cut.0.before ++ cut.0.turn)) cut.0.next lives cut.2.0 cut.2.1
 EachIsDelivered shown s turns start (planned ∷ lives) reported (inr (inr wanting)) = Unit {0}
 
 -- a run over devices does, if the links that its loop returned have rising numbers
-abbrev pub RunIsDelivered : (s : AllSettings) (ticks : Option ℕ) (turns : ℕ) (old new : Platform)
-    (reported : Reported) → IsRunLive s ticks turns (world old) (world new) reported → Type 0
-RunIsDelivered s ticks turns old new reported (inl lived) =
-    AreNewLinks 0 (loop_part lived.did.entries)
-    → KeepsGuarantee s lived.lived.history (loop_part lived.did.entries)
+abbrev pub RunIsDelivered : (s : AllSettings) (ticks : Option ℕ) (turns : ℕ) (old new : Platform) (reported : Reported) → IsRunLive s ticks turns (world old) (world new) reported → Type 0
+RunIsDelivered s ticks turns old new reported (inl lived) = AreNewLinks 0 (loop_part lived.did.entries) → KeepsGuarantee s lived.lived.history (loop_part lived.did.entries)
 RunIsDelivered s ticks turns old new reported (inr wanting) = Unit {0}
 
 -- each run of the outcome of a case
-abbrev pub IsDelivered : (turns : ℕ) (case : Case) (old new : Platform) (reported : Reported)
-    → Produces turns case old new reported → Type 0
-IsDelivered turns (Replays s lives) old new reported comes =
-    EachIsDelivered All s turns first lives reported comes.0
-IsDelivered turns (Generates s lives) old new reported comes =
-    EachIsDelivered Report s turns first lives reported comes.0
+abbrev pub IsDelivered : (turns : ℕ) (case : Case) (old new : Platform) (reported : Reported) → Produces turns case old new reported → Type 0
+IsDelivered turns (Replays s lives) old new reported comes = EachIsDelivered All s turns first lives reported comes.0
+IsDelivered turns (Generates s lives) old new reported comes = EachIsDelivered Report s turns first lives reported comes.0
 IsDelivered turns (Runs s ticks) old new reported comes = RunIsDelivered s ticks turns old new reported comes
 IsDelivered turns (Lists root) old new reported comes = Unit {0}
 IsDelivered turns (Refuses other) old new reported comes = Unit {0}

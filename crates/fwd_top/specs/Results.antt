@@ -118,37 +118,26 @@ AreSettings sections checked (Some case) = IsResult (settings_of sections) check
 AreSettings sections checked None = Unit {0}
 
 -- the calls on the files are those of a configuration and of what is wanted with it
-pub record AsksFor (config : List ℕ) (wanted : Wanted) (env : Values) (old new : FilesLog)
-    (case : Option Case) : Type 0 where
+pub record AsksFor (config : List ℕ) (wanted : Wanted) (env : Values) (old new : FilesLog) (case : Option Case) : Type 0 where
   pub checked : Checked AllSettings
   pub loaded : Option (List Section)
   pub are : AreSettingsOf loaded checked
-  pub makes : RunsProgram old new (reads_files (of_config checked config wanted env))
-      (option_map (asked loaded) case)
+  pub makes : RunsProgram old new (reads_files (of_config checked config wanted env)) (option_map (asked loaded) case)
 
 -- after sections that were loaded, the calls on the files are those that follow
-pub record AsksAfter (sections : List Section) (wanted : Wanted) (old new : FilesLog)
-    (case : Option Case) : Type 0 where
+pub record AsksAfter (sections : List Section) (wanted : Wanted) (old new : FilesLog) (case : Option Case) : Type 0 where
   pub checked : Checked AllSettings
   pub are : AreSettings sections checked case
-  pub makes : RunsProgram old new (reads_files (with_settings (Some sections) wanted checked))
-      (option_map (asked (Some sections)) case)
+  pub makes : RunsProgram old new (reads_files (with_settings (Some sections) wanted checked)) (option_map (asked (Some sections)) case)
 
 -- files in memory with the texts of a generated load
 abbrev pub held_load : ℕ → FilesState
-held_load count =
-    record {
-      given = [];
-      notes = Preset load_schedule (schedule_text count) ∷ Preset load_config config_text ∷ [];
-      faults = 0;
-    }
+held_load count = record { given = []; notes = Preset load_schedule (schedule_text count) ∷ Preset load_config config_text ∷ []; faults = 0 }
 
 -- the texts of a generated load have this case; nothing is claimed if memory ran out
 abbrev pub ComesOfLoad : ℕ → Option Case → Type 0
 ComesOfLoad count None = Unit {0}
-ComesOfLoad count (Some case) =
-    (checked : Checked AllSettings) × (loaded : Option (List Section)) × AreSettingsOf loaded checked
-    × (of_load checked count ≡ asked loaded case)
+ComesOfLoad count (Some case) = (checked : Checked AllSettings) × (loaded : Option (List Section)) × AreSettingsOf loaded checked × (of_load checked count ≡ asked loaded case)
 
 -- the least number of events that the loop returned, and that the loop or the disk failed
 abbrev pub given_by : Job → ℕ → Reported → ℕ

@@ -52,18 +52,15 @@ unfoldable pub place_text : Place → List ℕ
 place_text place = place.file ++ codes ":" ++ decimal place.line
 
 unfoldable pub config_line : ConfigRefusal → Place → List ℕ
-config_line refusal place =
-    codes "config refused: " ++ refusal_name refusal ++ codes " at " ++ place_text place
+config_line refusal place = codes "config refused: " ++ refusal_name refusal ++ codes " at " ++ place_text place
 
 unfoldable pub schedule_line : ScheduleKind → ℕ → List ℕ
-schedule_line kind line =
-    codes "schedule refused: " ++ schedule_kind_name kind ++ codes " at line " ++ decimal line
+schedule_line kind line = codes "schedule refused: " ++ schedule_kind_name kind ++ codes " at line " ++ decimal line
 
 -- the line that says how the program ended, without a line feed
 abbrev pub line_of : Status → List ℕ
 line_of status.Done = []
-line_of status.Usage =
-    codes "usage: fwd run -c FILE [-n TICKS] | replay -c FILE -s FILE | list -p FOLDER | gen -n COUNT"
+line_of status.Usage = codes "usage: fwd run -c FILE [-n TICKS] | replay -c FILE -s FILE | list -p FOLDER | gen -n COUNT"
 line_of (status.ConfigRefused refusal place) = config_line refusal place
 line_of status.FileFault = codes "file fault"
 line_of status.DiskFault = codes "disk fault"

@@ -42,8 +42,7 @@ with_ticks (Some options) = option_map (λ ticks. Run options.0 (Some ticks)) (c
 
 -- `-c FILE -n TICKS`
 abbrev pub stopped_run_of : List (List ℕ) → Option Command
-stopped_run_of (name ∷ value ∷ other ∷ more ∷ []) =
-    with_ticks (two_options (codes "-c") (codes "-n") name value other more)
+stopped_run_of (name ∷ value ∷ other ∷ more ∷ []) = with_ticks (two_options (codes "-c") (codes "-n") name value other more)
 stopped_run_of _ = None
 
 -- `-c FILE` or `-c FILE -n TICKS`
@@ -53,9 +52,7 @@ run_of words = stopped_run_of words
 
 -- `-c FILE -s FILE`
 abbrev pub replay_of : List (List ℕ) → Option Command
-replay_of (name ∷ value ∷ other ∷ more ∷ []) =
-    option_map (λ options. Replay options.0 options.1)
-    (two_options (codes "-c") (codes "-s") name value other more)
+replay_of (name ∷ value ∷ other ∷ more ∷ []) = option_map (λ options. Replay options.0 options.1) (two_options (codes "-c") (codes "-s") name value other more)
 replay_of _ = None
 
 -- `-p FOLDER`

@@ -24,7 +24,6 @@ use fwd_replay::generate;
 use fwd_script::{MemFiles, Schedule, ScheduleKind, ScheduleRefused, read_schedule};
 use fwd_settings::{AllSettings, SettingFault, settings};
 use fwd_settings_schema::SettingKind;
-use fwd_watch::{Unwatched, Watch};
 use std::alloc::Global;
 
 /// The job of the program: on the settings of a configuration, or on a folder.
@@ -181,7 +180,6 @@ fn job_of_sections<F: Files>(
     files: &mut F,
     wanted: Wanted<'_>,
     sections: &Sections,
-    watch: &mut impl Watch,
 ) -> Result<Job, Status>
     ensures sound { IfOk result (λ job. AreSound (settings_in job)) }
     ensures asks { AsksAfter sections.now (wanted_of wanted.entry) (F.call_log files.old) (F.call_log files.new) (case_of result) }
@@ -191,14 +189,8 @@ fn job_of_sections<F: Files>(
     ensures disk { IfOk result (λ job. takes_disk job ≡ is_run_wanted (wanted_of wanted.entry)) }
 {
     match settings(alloc, sections) {
-        Ok(settings) => {
-            watch.configured(sections);
-            job_of_settings(alloc, files, wanted, settings)
-        }
-        Err(fault) => {
-            watch.refused(sections, fault.kind, &fault.place);
-            Err(refused_settings(fault))
-        }
+        Ok(settings) => job_of_settings(alloc, files, wanted, settings),
+        Err(fault) => Err(refused_settings(fault)),
     }
 }
 
@@ -209,7 +201,6 @@ fn job_of_config<F: Files>(
     wanted: Wanted<'_>,
     env: &[(String, String)],
     files: &mut F,
-    watch: &mut impl Watch,
 ) -> Result<Job, Status>
     ensures sound { IfOk result (λ job. AreSound (settings_in job)) }
     ensures asks { AsksFor config.now (wanted_of wanted.entry) (environment env.now) (F.call_log files.old) (F.call_log files.new) (case_of result) }
@@ -219,11 +210,8 @@ fn job_of_config<F: Files>(
     ensures disk { IfOk result (λ job. takes_disk job ≡ is_run_wanted (wanted_of wanted.entry)) }
 {
     match load(alloc, files, config, env) {
-        Ok(sections) => job_of_sections(alloc, files, wanted, &sections, watch),
-        Err(fault) => {
-            watch.refused_file(fault.kind, &fault.place);
-            Err(refused_config(fault))
-        }
+        Ok(sections) => job_of_sections(alloc, files, wanted, &sections),
+        Err(fault) => Err(refused_config(fault)),
     }
 }
 
@@ -278,7 +266,7 @@ fn job_of_texts(alloc: Global, files: &mut MemFiles) -> Result<Job, Status>
     let wanted = Wanted::ToReplay {
         schedule: LOAD_SCHEDULE,
     };
-    let job = job_of_config(alloc, LOAD_CONFIG, wanted, &[], files, &mut Unwatched);
+    let job = job_of_config(alloc, LOAD_CONFIG, wanted, &[], files);
     files.is_played();
     match job {
         Ok(job) => Ok(with_reports(job)),
@@ -302,13 +290,12 @@ fn job_of_load(alloc: Global, count: u64) -> Result<Job, Status>
 
 /// Reads the job that the words ask for: reads the configuration, checks its settings, and then reads the
 /// schedule of a replay. The first of these that is refused gives the status. A listing and a generated
-/// load read no file. The watcher of a live run is told what is read.
+/// load read no file.
 pub fn read_job<F: Files>(
     alloc: Global,
     words: &[String],
     env: &[(String, String)],
     files: &mut F,
-    watch: &mut impl Watch,
 ) -> Result<Job, Status>
     ensures sound { IfOk result (λ job. AreSound (settings_in job)) }
     ensures asks { Asks words.now (environment env.now) (F.call_log files.old) (F.call_log files.new) (case_of result) }
@@ -319,11 +306,10 @@ pub fn read_job<F: Files>(
 {
     match read_words(words) {
         Some(Command::Run { config, ticks }) => {
-            job_of_config(alloc, config, Wanted::ToRun { ticks }, env, files, watch)
+            job_of_config(alloc, config, Wanted::ToRun { ticks }, env, files)
         }
         Some(Command::Replay { config, schedule }) => {
-            let wanted = Wanted::ToReplay { schedule };
-            job_of_config(alloc, config, wanted, env, files, &mut Unwatched)
+            job_of_config(alloc, config, Wanted::ToReplay { schedule }, env, files)
         }
         Some(Command::List { folder }) => job_of_folder(alloc, folder),
         Some(Command::Generate { count }) => job_of_load(alloc, count),

@@ -22,5 +22,5 @@ pub use fwd_config::{ConfigKind, Place};
 pub use fwd_script::ScheduleKind;
 pub use fwd_settings_schema::SettingKind;
 pub use status::{ConfigRefusal, Status, status_line};
-pub use top::{log_forwarder, watched_forwarder};
+pub use top::log_forwarder;
 pub use words::{Command, read_words};

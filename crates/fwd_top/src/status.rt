@@ -1,12 +1,13 @@
 //! How a run of the program ended.
 
-ghost use Rattle.std.specs.Prelude.{◌≡◌, ◌++◌, IfOk, OnOk};
+ghost use Rattle.std.specs.Prelude.{◌≡◌, ◌++◌, decimal, IfOk, OnOk};
 ghost use Rattle.fwd_top.specs.Status.{config_kind_name, setting_kind_name, refusal_name, schedule_kind_name, place_text, config_line, schedule_line, line_of, number_of};
 
 use fwd_config::{ConfigKind, Place};
 use fwd_outside::{Bytes, Memory};
 use fwd_script::ScheduleKind;
 use fwd_settings_schema::SettingKind;
+use itoa::Buffer;
 use std::alloc::Global;
 
 /// Why a configuration is refused: its text, as it is loaded, or its settings.
@@ -115,12 +116,20 @@ fn refusal_name(refusal: ConfigRefusal) -> &'static [u8]
     }
 }
 
+fn push_number(text: &mut Bytes, number: u64) -> Result<(), Memory>
+    ensures { OnOk result (text.new ≡ text.old ++ decimal number) }
+{
+    let mut buffer = Buffer::new();
+    text.extend_from_slice(buffer.format(number).as_bytes())?;
+    Ok(())
+}
+
 fn push_place(text: &mut Bytes, place: &Place) -> Result<(), Memory>
     ensures { OnOk result (text.new ≡ text.old ++ place_text place.now) }
 {
     text.extend_from_slice(place.file.as_slice())?;
     text.extend_from_slice(b":")?;
-    text.push_decimal(place.line)?;
+    push_number(text, place.line)?;
     Ok(())
 }
 
@@ -144,7 +153,7 @@ fn push_schedule_refused(text: &mut Bytes, kind: ScheduleKind, line: u64) -> Res
     text.extend_from_slice(b"schedule refused: ")?;
     text.extend_from_slice(schedule_kind_name(kind))?;
     text.extend_from_slice(b" at line ")?;
-    text.push_decimal(line)?;
+    push_number(text, line)?;
     Ok(())
 }
 

@@ -19,7 +19,6 @@ use crate::status::Status;
 use fwd_outside::{Bytes, Disk, Files, Loop, Sink, SinkErr};
 use fwd_replay::{Ending, Reported, Shown, replay, run_live};
 use fwd_report::{ListErr, listing};
-use fwd_watch::{Unwatched, Watch};
 use std::alloc::Global;
 use std::thread::Threads;
 
@@ -59,7 +58,6 @@ fn run_job<D: Disk, F: Files, L: Loop>(
     files: &mut F,
     outside: &mut L,
     turns: u64,
-    watch: &mut impl Watch,
 ) -> Reported
     requires { AreSound (settings_in job) }
     ensures comes { Produces turns (of_job job) (platform_of (D.call_log disk.old) (F.call_log files.old) (L.call_log outside.old)) (platform_of (D.call_log disk.new) (F.call_log files.new) (L.call_log outside.new)) result }
@@ -70,9 +68,7 @@ fn run_job<D: Disk, F: Files, L: Loop>(
 {
     match job {
         Job::Run { settings, ticks } => {
-            run_live(
-                rt, alloc, settings, ticks, disk, files, outside, turns, watch,
-            )
+            run_live(rt, alloc, settings, ticks, disk, files, outside, turns)
         }
         Job::Replay { settings, schedule } => {
             replay(rt, alloc, settings, &schedule.lives, turns, Shown::All)
@@ -123,53 +119,6 @@ fn write_outcome<S: Sink>(out: &mut S, reported: &Reported) -> Status
     }
 }
 
-/// Does all that `log_forwarder` does, and tells a watcher how a live run goes. What the watcher does has no effect on
-/// the run, and no clause speaks of it: the clauses are those of `log_forwarder`.
-pub fn watched_forwarder<D: Disk, F: Files, L: Loop, S: Sink>(
-    rt: &(impl Threads + Sync),
-    alloc: Global,
-    words: &[String],
-    env: &[(String, String)],
-    disk: &mut D,
-    files: &mut F,
-    outside: &mut L,
-    out: &mut S,
-    turns: u64,
-    watch: &mut impl Watch,
-) -> Status
-    // The calls on the files are those of the program's asking, and then those on all devices are those
-    // of the reference model, or for a listing those of loading on the disk; the text is written.
-    ensures answers { Answers words.now (environment env.now) turns (devices (D.call_log disk.old) (F.call_log files.old) (L.call_log outside.old) (S.call_log out.old)) (devices (D.call_log disk.new) (F.call_log files.new) (L.call_log outside.new) (S.call_log out.new)) result }
-    ensures text { IsOfTheFiles words.now (environment env.now) turns (devices (D.call_log disk.old) (F.call_log files.old) (L.call_log outside.old) (S.call_log out.old)) (devices (D.call_log disk.new) (F.call_log files.new) (L.call_log outside.new) (S.call_log out.new)) result }
-    ensures file_cause { HasCause (F.faults files.old) (F.faults files.new) (result ≡ Status.FileFault) }
-    // A run answers `DiskFault` or `LoopFault` only if a failure of its disk or its loop was counted, and
-    // `TurnsSpent` only if the loop returned that many events; a listing answers `DiskFault` only if a
-    // failure of the disk was counted.
-    ensures disk_cause { HasCause (D.faults disk.old) (D.faults disk.new) (IsDiskFault words.now result) }
-    ensures loop_cause { HasCause (L.faults outside.old) (L.faults outside.new) (IsLoopFault words.now result) }
-    ensures heard { EventsTaken (spent words.now turns result) (L.counts outside.old) (L.counts outside.new) }
-    ensures out_cause { HasCause (S.faults out.old) (S.faults out.new) (result ≡ Status.OutFault) }
-    // Each run of the case in `answers` keeps the delivery guarantee. Complete input is accepted, or
-    // refused and counted, or followed the drop of its connection. Each chunk is, for each output that it
-    // matches, delivered in full, failed, out of retries, evicted, marked done before, or still pending
-    // and in the report. The bytes sent over each link are a prefix of the payload of its flush.
-    ensures promise { (case : Case) (before behind : Platform) (reported : Reported) (comes : Produces turns case before behind reported) → IsDelivered turns case before behind reported comes }
-    // If appends are fsynced, no crash between the runs of a schedule loses a pending file-backed chunk:
-    // the next run recovers it, whole, and pending for the same outputs. At each point of a run, even
-    // inside a call on the disk, whatever a crash leaves has the file of each such chunk.
-    ensures crashes { (case : Case) (before behind : Platform) (reported : Reported) (comes : Produces turns case before behind reported) → IsCrashConsistent turns case before behind reported comes }
-{
-    outcomes_are_delivered();
-    outcomes_are_crash_consistent();
-    match read_job(alloc, words, env, files, watch) {
-        Ok(job) => {
-            let reported = run_job(rt, alloc, job, disk, files, outside, turns, watch);
-            write_outcome(out, &reported)
-        }
-        Err(status) => status,
-    }
-}
-
 /// Does all that the program does. The words `run -c FILE [-n TICKS]` name a configuration, which is read
 /// and run over the given devices: the engine loads the disk, and then takes the events of the loop. With
 /// TICKS it is stopped after that many clock ticks. The words `replay -c FILE -s FILE` also name a
@@ -212,16 +161,13 @@ pub fn log_forwarder<D: Disk, F: Files, L: Loop, S: Sink>(
     // inside a call on the disk, whatever a crash leaves has the file of each such chunk.
     ensures crashes { (case : Case) (before behind : Platform) (reported : Reported) (comes : Produces turns case before behind reported) → IsCrashConsistent turns case before behind reported comes }
 {
-    watched_forwarder(
-        rt,
-        alloc,
-        words,
-        env,
-        disk,
-        files,
-        outside,
-        out,
-        turns,
-        &mut Unwatched,
-    )
+    outcomes_are_delivered();
+    outcomes_are_crash_consistent();
+    match read_job(alloc, words, env, files) {
+        Ok(job) => {
+            let reported = run_job(rt, alloc, job, disk, files, outside, turns);
+            write_outcome(out, &reported)
+        }
+        Err(status) => status,
+    }
 }

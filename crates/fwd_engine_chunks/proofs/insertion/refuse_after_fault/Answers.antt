@@ -26,7 +26,7 @@ returns-in_err-shut-clause-acts g c others h b input ahead was_open =
     let opened : is_open h n ≡ true = rw c.in-Some.is at was_open in
     let offered = Offered n b ∷ h in
     let last = Refused b NotStored ∷ IoFailed ∷ offered in
-    let state = c.count_refused.ensures.batch b NotStored input s (IoFailed ∷ offered) None (c.count_fault.ensures.notes s offered None (state_stays s _ h None (Offered n b) refl is_ahead.state)) in
+    let state = c.count_refused.ensures.batch b NotStored input s (IoFailed ∷ offered) None (c.count_fault.ensures s offered None (state_stays s _ h None (Offered n b) refl is_ahead.state)) in
     let closing : IsClosing s _ last n = closing_failed s c.args.parts.now _ h b n is_ahead opened refl refl refl state in
     rw c.in-Some.is
     (refines_err (RepresentsBatch s _) _ c.from_residual.result c.from_residual.ensures.0
@@ -41,7 +41,7 @@ returns-in_ok-shut-clause-acts g c others h b input ahead was_open =
     let opened : is_open h n ≡ true = rw c.in-Some.is at was_open in
     let offered = Offered n b ∷ h in
     let last = Refused b NotStored ∷ IoFailed ∷ offered in
-    let state = c.count_refused.ensures.batch b NotStored input s (IoFailed ∷ offered) None (c.count_fault.ensures.notes s offered None (state_stays s _ h None (Offered n b) refl is_ahead.state)) in
+    let state = c.count_refused.ensures.batch b NotStored input s (IoFailed ∷ offered) None (c.count_fault.ensures s offered None (state_stays s _ h None (Offered n b) refl is_ahead.state)) in
     let closing : IsClosing s _ last n = closing_failed s c.args.parts.now _ h b n is_ahead opened refl refl refl state in
     rw c.in-Some.is
     (completes_note_then (RepresentsBatch s _ false) _ _ IoFailed offered (λ (at : History). note_then (Refused b NotStored) at (λ (at : History). bind (shuts s n at) ends_refused))
@@ -54,7 +54,7 @@ returns-in_default-clause-acts g c others h b input ahead was_open =
     let is_ahead : StoreIsAhead s c.args.parts.now h (failed_history b h None) = rw c.in_default.is at ahead in
     let offered = Offered (next h) b ∷ h in
     let last = Refused b NotStored ∷ IoFailed ∷ offered in
-    let state = c.count_refused.ensures.batch b NotStored input s (IoFailed ∷ offered) None (c.count_fault.ensures.notes s offered None (state_stays s _ h None (Offered (next h) b) refl is_ahead.state)) in
+    let state = c.count_refused.ensures.batch b NotStored input s (IoFailed ∷ offered) None (c.count_fault.ensures s offered None (state_stays s _ h None (Offered (next h) b) refl is_ahead.state)) in
     let shown : PartsRepresentIdle s _ last = record {
       state = state;
       input_streams = input_streams.streams_after_other_fact s _ (IoFailed ∷ offered) (Refused b NotStored) refl (input_streams.streams_after_other_fact s _ offered IoFailed refl (input_streams.streams_after_other_fact s _ h (Offered (next h) b) refl is_ahead.input_streams));

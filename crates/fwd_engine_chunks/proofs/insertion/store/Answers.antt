@@ -1,4 +1,4 @@
-use Rattle.std.proofs.Common.{◌≡◌, ◌<◌, true, false, ◌∷◌, length, None, refl, sym, ◌∙◌, arith}
+use Rattle.std.proofs.Common.{◌≡◌, ◌<◌, true, false, ◌∷◌, length, None, refl, sym, arith}
 use Rattle.fwd_base.specs.Limits.{largest_batch}
 use Rattle.fwd_store.specs.Store.{has_no_number}
 use Rattle.fwd_store.specs.declared.answer.StoreRefusal.TheVariants as refusal
@@ -12,9 +12,7 @@ use Rattle.fwd_engine_chunks.proofs.StoreOutcome.{RepresentsBatch, IsGiven, no_d
 use Rattle.fwd_engine_chunks.proofs.insertion.store.Goals as goal
 
 pub returns-then-not-can_accept-clause-acts : goal.returns-then-not-can_accept-clause-acts
-returns-then-not-can_accept-clause-acts g c others h shows =
-    let ready = c.can_accept.ensures.always c.args.run.now h c.lemma_settings_are_sound.ensures c.home-home.ensures shows.store shows.sound in
-    absurd (cc (sym ready ∙ c.if-not-can_accept.true))
+returns-then-not-can_accept-clause-acts g c others h shows = (_, stays _ _)
 
 pub returns-in_err-names-clause-acts : goal.returns-in_err-names-clause-acts
 returns-in_err-names-clause-acts g c others h shows = refines_err (RepresentsBatch c.args.run.now _) _ c.from_residual.result c.from_residual.ensures.0 (_, stays _ _)

@@ -52,7 +52,7 @@ returns-in-Err-Failed-clause-acts g c s others h shows done =
     completes_after _ _ (drops s n h) (dropped n h None) (disk_completed others _ _ (removes (kept_of s h n)) None (dropped n h) did)
     (completes_note_then _ _ _ IoFailed h (λ at. note (FileLeft n) at) (completes_note _ _ (FileLeft n) (IoFailed ∷ h)
     (record {
-      state = c.lemma_other_facts_keep_state.ensures s _ (IoFailed ∷ h) None (FileLeft n) refl (c.count_fault.ensures.notes s h None shows.state);
+      state = c.lemma_other_facts_keep_state.ensures s _ (IoFailed ∷ h) None (FileLeft n) refl (c.count_fault.ensures s h None shows.state);
       input_streams = c.lemma_other_facts_keep_streams.ensures s _ (IoFailed ∷ h) (FileLeft n) refl (c.lemma_other_facts_keep_streams.ensures s _ h IoFailed refl shows.input_streams);
       followed_files = c.lemma_other_facts_keep_files.ensures s _ (IoFailed ∷ h) (FileLeft n) refl (c.lemma_other_facts_keep_files.ensures s _ h IoFailed refl shows.followed_files);
       store = rw c.in-Err-Failed.ensures.dropped (store_after_leave s _ (IoFailed ∷ h) n done (store_after_other_fact s _ h IoFailed refl held));

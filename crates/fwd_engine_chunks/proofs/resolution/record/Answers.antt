@@ -37,7 +37,7 @@ returns-in-Err-Failed-clause-acts g c others h shows =
     (λ b is. absurd (cc is))
     (λ is.
     let noted = represents_after_other_fact s _ h None None (MarkStarted r) refl refl refl refl refl shows in
-    represents_by_state s _ _ (MarkStarted r ∷ h) None None None IoFailed refl refl refl refl refl refl refl (c.count_fault.ensures.notes s (MarkStarted r ∷ h) None noted.state) noted)
+    represents_by_state s _ _ (MarkStarted r ∷ h) None None None IoFailed refl refl refl refl refl refl refl (c.count_fault.ensures s (MarkStarted r ∷ h) None noted.state) noted)
 
 pub returns-in-Err-Memory-clause-acts : goal.returns-in-Err-Memory-clause-acts
 returns-in-Err-Memory-clause-acts g c others h shows =

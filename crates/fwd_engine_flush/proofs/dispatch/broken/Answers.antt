@@ -17,7 +17,7 @@ pub returns-in_default-clause-acts : goal.returns-in_default-clause-acts
 unfolding at_break
 returns-in_default-clause-acts g c others h shows =
     let s = c.args.run.now in
-    let out = subst (λ f. IsTakenOut s h c.take.new.self c.args.link.0 f) c.in_default.is (c.take.ensures.taken s h shows.state) in
+    let out = subst (λ f. IsTakenOut s h c.take.new.self c.args.link.0 f) c.in_default.is (c.take.ensures s h shows.state) in
     rw out.1 (completes_idle _ _ h (represents_taken_out s _ _ h None None refl refl refl out.0 shows))
 
 pub returns-in_err-poll-clause-acts : goal.returns-in_err-poll-clause-acts
@@ -26,7 +26,7 @@ returns-in_err-poll-clause-acts g c others h shows =
     let s = c.args.run.now in
     let f = c.in-Some.flight in
     let r = route_of f.route in
-    let out = subst (λ f. IsTakenOut s h c.take.new.self c.args.link.0 f) c.in-Some.is (c.take.ensures.taken s h shows.state) in
+    let out = subst (λ f. IsTakenOut s h c.take.new.self c.args.link.0 f) c.in-Some.is (c.take.ensures s h shows.state) in
     let is = resumes_is s (λ d p. on_loop (breaks p)) h (route_on_link h c.args.link.0) r f.flush.progress (delivery_of wants judges f.flush) out.1 out.2 out.3.2 in
     let w = with_both (g.L.Loop.call_log c.args.outside.now) (g.D.Disk.call_log c.args.disk.now) others in
     let began = loop_begun w _ (breaks f.flush.progress) c.in_err-poll.ensures.calls.0 in
@@ -38,7 +38,7 @@ returns-clause-acts g c others h shows =
     let s = c.args.run.now in
     let f = c.in-Some.flight in
     let r = route_of f.route in
-    let out = subst (λ f. IsTakenOut s h c.take.new.self c.args.link.0 f) c.in-Some.is (c.take.ensures.taken s h shows.state) in
+    let out = subst (λ f. IsTakenOut s h c.take.new.self c.args.link.0 f) c.in-Some.is (c.take.ensures s h shows.state) in
     let is = resumes_is s (λ d p. on_loop (breaks p)) h (route_on_link h c.args.link.0) r f.flush.progress (delivery_of wants judges f.flush) out.1 out.2 out.3.2 in
     let calls = c.in_ok-poll.ensures.calls in
     let shown = represents_taken_out s _ _ h None (Some r) refl refl refl out.0 shows in

@@ -25,7 +25,6 @@ loop-route-init g c = (
   λ others h shows.
       let call_log = ap (map route_of) c.deref-route-items.ensures.value ∙ c.in_ok-routes.ensures.routes c.args.run.now h None shows.state in
       (h, record { state = c.in_ok-routes.ensures.keeps c.args.run.now h None shows.state; input_streams = shows.input_streams; followed_files = shows.followed_files; store = shows.store; sound = shows.sound }, rw (walk_is c.args.run.now h _ call_log) (stays (with_both (g.L.Loop.call_log c.args.outside.now) (g.D.Disk.call_log c.args.disk.now) others) _)),
-  omega (arith, c.in_ok-routes.ensures.damaged),
 )
 
 pub returns-in_err-turn-clause-acts : goal.returns-in_err-turn-clause-acts
@@ -49,7 +48,6 @@ loop-route-preserved g c = (
       let left = rw (drop_more c.deref-route-items.result.now c.loop-route.route-index none c.loop-route-test.true) at so_far.2 in
       let acted = c.in_ok-turn.ensures.acts others so_far.0 so_far.1 in
       (acted.result, acted.shows, goes_on left (leads_bind (turns s (map route_of (drop (c.loop-route.route-index + 1) c.deref-route-items.result.now))) acted.did (stays _ _))),
-  omega arith,
 )
 
 pub returns-clause-acts : goal.returns-clause-acts

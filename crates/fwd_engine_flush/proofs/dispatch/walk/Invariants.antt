@@ -14,4 +14,3 @@ invariant-loop-route g l =
     NoEventTaken (g.L.Loop.counts l.fn.outside) (g.L.Loop.counts l.outside) × (g.L.Loop.faults l.fn.outside ≤ g.L.Loop.faults l.outside) × (g.D.Disk.faults l.fn.disk ≤ g.D.Disk.faults l.disk)
     × ((others : CallLogs) (h : History) → PartsRepresentIdle l.run l.fn.parts h → (now : History) × PartsRepresentIdle l.run l.parts now
     × Leads (with_both (g.L.Loop.call_log l.fn.outside) (g.D.Disk.call_log l.fn.disk) others) (with_both (g.L.Loop.call_log l.outside) (g.D.Disk.call_log l.disk) others) (walk l.run h) (turns l.run (map route_of (drop l.route-index l.route-items)) now))
-    × (l.fn.parts.state.damaged ≤ l.parts.state.damaged)

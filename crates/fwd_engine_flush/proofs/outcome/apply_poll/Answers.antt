@@ -19,7 +19,7 @@ returns-in_ok-keep_attempt-in-Waiting-clause-acts g c others h shown P =
     let r = route_of c.args.flight.route in
     let p = c.args.flight.flush.progress in
     rw (poll_waiting s r p h (sym c.in-Waiting.is ∙ P.1))
-    (completes_note _ _ (OnRoute r (InFlight p)) h (represents_in_flight s _ _ h r p refl refl refl P.0.4.0 (c.in_ok-keep_attempt-in-Waiting.ensures.notes s h shown.state P.0) shown))
+    (completes_note _ _ (OnRoute r (InFlight p)) h (represents_in_flight s _ _ h r p refl refl refl P.0.4.0 (c.in_ok-keep_attempt-in-Waiting.ensures s h shown.state P.0) shown))
 
 pub returns-in-Ended-clause-acts : goal.returns-in-Ended-clause-acts
 returns-in-Ended-clause-acts g c others h shown P =

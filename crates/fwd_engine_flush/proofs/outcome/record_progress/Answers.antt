@@ -15,6 +15,6 @@ returns-clause-acts g c others h shown P =
     let r = route_of f.route in
     let n = f.flush.progress.taken - c.args.before in
     let more = c.saturating_sub-more.ensures ∙ ap (λ (m : ℕ). m - c.args.before) c.taken.ensures in
-    let standing = subst (λ (m : ℕ). StateRepresents s c.count_taken.new.self (Sent r.output m ∷ h) (Some r)) more (c.count_taken.ensures.notes s h (Some r) shown.state) in
+    let standing = subst (λ (m : ℕ). StateRepresents s c.count_taken.new.self (Sent r.output m ∷ h) (Some r)) more (c.count_taken.ensures s h (Some r) shown.state) in
     let handed = represents_by_state s _ _ h (Some r) (Some r) None (Sent r.output n) refl refl refl refl refl refl refl standing shown in
     refines_note_then _ _ _ (Sent r.output n) h (stands s r f.flush.progress) c.apply_poll.result (c.apply_poll.ensures.acts others (Sent r.output n ∷ h) handed P)

@@ -17,8 +17,8 @@ pub returns-then-may_retry-clause-acts : goal.returns-then-may_retry-clause-acts
 returns-then-may_retry-clause-acts g c others h shown P =
     let s = c.args.run.now in
     let r = route_of c.args.route in
-    let tested : may_retry c.retries-limit.result (tries h r) ≡ true = sym (c.may_retry.ensures s h (Some r) shown.state P.1) ∙ c.if-may_retry.true in
-    let may : may_retry (retries_at (output_at s r.output)) (tries h r) ≡ true = rw c.retries-limit.ensures at tested in
+    let tested : may_retry c.retries.result c.args.tries ≡ true = sym c.may_retry.ensures ∙ c.if-may_retry.true in
+    let may : may_retry (retries_at (output_at s r.output)) c.args.tries ≡ true = rw c.retries.ensures at tested in
     c.wait_to_retry.ensures.acts (with_disk (g.D.Disk.call_log c.args.disk.now) others) h shown (P.0, P.1, may)
 
 pub returns-else-may_retry-clause-acts : goal.returns-else-may_retry-clause-acts
@@ -26,9 +26,8 @@ unfolding retries
 returns-else-may_retry-clause-acts g c others h shown P =
     let s = c.args.run.now in
     let r = route_of c.args.route in
-    let tested : may_retry c.retries-limit.result (tries h r) ≡ false = sym (c.may_retry.ensures s h (Some r) shown.state P.1) ∙ c.if-may_retry.false in
-    let may : may_retry (retries_at (output_at s r.output)) (tries h r) ≡ false = rw c.retries-limit.ensures at tested in
-    let stands = c.apply_answer.ensures.notes false 0 s h shown.state (P.0, P.1, tested, λ e. absurd (cc e)) in
+    let may : may_retry (retries_at (output_at s r.output)) (tries h r) ≡ false = (λ i. may_retry (sym c.retries.ensures i) (sym P.1 i)) ∙ sym c.may_retry.ensures ∙ c.if-may_retry.false in
+    let stands = c.resolve_spent.ensures s h shown.state P.0 in
     let spent = represents_by_state s _ _ h (Some r) None None (OnRoute r Exhausted) refl refl refl refl refl refl refl stands shown in
     rw may
     (refines_note_then _ _ _ (OnRoute r Exhausted) h (marks_or_removes s r) c.settle.result

@@ -23,12 +23,11 @@ returns-clause-acts g c others h shown P =
     let s = c.args.run.now in
     let r = route_of c.args.route in
     let word = c.in_ok-word.word in
-    let tried = c.tries-tries.ensures s h (Some r) shown.state P.1 in
+    let may : may_retry (retries_at (output_at s r.output)) (tries h r) ≡ true = ap (λ (n : ℕ). may_retry (retries_at (output_at s r.output)) n) (sym P.1) ∙ P.2 in
     let seconds : c.wait_of-wait_s.result ≡ wait_for s (saturating_plus (tries h r) 1) word =
-    c.wait_of-wait_s.ensures ∙ (λ i. wait ((c.saturating_add.ensures ∙ ap (λ (n : ℕ). saturating_plus n 1) tried) i) (c.base.ensures.value i) (c.cap.ensures i) word) in
-    let again = (λ i. may_retry (c.retries-limit.ensures i) (tries h r)) ∙ P.2 in
-    let stands = c.apply_answer.ensures.notes true word s h shown.state (P.0, P.1, again, λ _. seconds) in
-    rw P.2
+    c.wait_of-wait_s.ensures ∙ (λ i. wait ((c.saturating_add.ensures ∙ ap (λ (n : ℕ). saturating_plus n 1) P.1) i) (c.base.ensures.value i) (c.cap.ensures i) word) in
+    let stands = c.schedule_retry.ensures word s h shown.state (P.0, seconds) in
+    rw may
     (completes_after _ _ _ _ (loop_called (with_loop (g.L.Loop.call_log c.args.outside.now) others) _ Word word _ c.in_ok-word.ensures.call_log)
     (completes_note _ _ (OnRoute r (Retries word)) h
     (represents_by_state s _ _ h (Some r) None None (OnRoute r (Retries word)) refl refl refl refl refl refl refl stands shown)))

@@ -8,7 +8,6 @@ use Rattle.fwd_engine_state.proofs.CounterSteps.{no_event_first}
 use Rattle.fwd_engine_chunks.proofs.ResolutionLemmas.{not_some}
 use Rattle.fwd_engine_flush.specs.LoopWorld.{with_loop}
 use Rattle.fwd_engine_flush.proofs.ContentReads.{held, begins_is, content_leads, content_failed, content_damaged, content_began}
-use Rattle.fwd_engine_flush.proofs.LinkEvents.{represents_taken_out}
 use Rattle.fwd_engine_flush.proofs.start.begin.Goals as goal
 
 pub returns-then-not-holds-clause-acts : goal.returns-then-not-holds-clause-acts
@@ -37,7 +36,7 @@ returns-in-Err-DiskFailed-clause-acts g c others h shows idle =
     let w = with_loop (g.L.Loop.call_log c.args.outside.now) others in
     let gives = rw c.in-Err-DiskFailed.field-0-is at c.in-Err-DiskFailed.ensures.calls k.0 k.1 in
     completes_after _ _ _ _ (content_failed w _ _ s r h k.0 is gives)
-    (completes_note _ _ IoFailed h (represents_by_state s _ _ h None None None IoFailed refl refl refl refl refl refl refl (c.count_fault.ensures.notes s h None shows.state) shows))
+    (completes_note _ _ IoFailed h (represents_by_state s _ _ h None None None IoFailed refl refl refl refl refl refl refl (c.count_fault.ensures s h None shows.state) shows))
 
 pub returns-in-Err-DiskFailed-clause-unheard : goal.returns-in-Err-DiskFailed-clause-unheard
 returns-in-Err-DiskFailed-clause-unheard g c = no_event_first (g.L.Loop.counts c.args.outside.now)
@@ -50,8 +49,7 @@ returns-in-Err-Damaged-clause-acts g c others h shows idle =
     let is : kept_of s h r.chunk ≡ Some k.0 = sym (shows.store.chunks r.chunk) ∙ k.1 in
     let w = with_loop (g.L.Loop.call_log c.args.outside.now) others in
     let gives = rw c.in-Err-Damaged.field-0-is at c.in-Err-Damaged.ensures.calls k.0 k.1 in
-    completes_after _ _ _ _ (content_damaged w _ _ s r h k.0 _ _ is gives)
-    (completes_idle _ _ h (represents_taken_out s _ _ h None None refl refl refl (c.count_damaged.ensures.keeps s h None shows.state) shows))
+    completes_after _ _ _ _ (content_damaged w _ _ s r h k.0 _ _ is gives) (completes_idle _ _ h shows)
 
 pub returns-in-Err-Damaged-clause-unheard : goal.returns-in-Err-Damaged-clause-unheard
 returns-in-Err-Damaged-clause-unheard g c = no_event_first (g.L.Loop.counts c.args.outside.now)

@@ -23,7 +23,7 @@ use Rattle.fwd_engine_state.proofs.IdleRoutes.{idle_has}
 use Rattle.fwd_engine_state.specs.RefinesAction.{with_both}
 use Rattle.fwd_engine_state.proofs.FactSteps.{represents_by_state}
 use Rattle.fwd_engine_flush.proofs.ContentReads.{tag_there, encoding_begins, no_encoding_waits}
-use Rattle.fwd_engine_flush.proofs.LinkEvents.{attempt_advances, begins_by, represents_taken_out}
+use Rattle.fwd_engine_flush.proofs.LinkEvents.{attempt_advances, begins_by}
 use Rattle.fwd_engine_flush.proofs.start.start_flush.Goals as goal
 
 pub returns-in_err-flush-clause-acts : goal.returns-in_err-flush-clause-acts
@@ -33,8 +33,7 @@ returns-in_err-flush-clause-acts g c others h shows idle =
 pub returns-in_default-clause-acts : goal.returns-in_default-clause-acts
 returns-in_default-clause-acts g c others h shows idle =
     let none : (events : List Event) → AreEvents events c.args.content.now → ⊥ = rw c.in_default.is at c.in_ok-flush.ensures.flush in
-    rw (no_encoding_waits c.args.run.now (route_of c.args.route) h c.args.content.now none)
-    (completes_idle _ _ h (represents_taken_out c.args.run.now _ _ h None None refl refl refl (c.count_damaged.ensures.keeps c.args.run.now h None shows.state) shows))
+    rw (no_encoding_waits c.args.run.now (route_of c.args.route) h c.args.content.now none) (completes_idle _ _ h shows)
 
 pub returns-in_err-poll-clause-acts : goal.returns-in_err-poll-clause-acts
 returns-in_err-poll-clause-acts g c others h shows idle =
@@ -78,9 +77,9 @@ returns-clause-acts g c others h shows idle =
     let w = with_both (g.L.Loop.call_log c.args.outside.now) (g.D.Disk.call_log c.args.disk.now) others in
     let out = represents_by_state s _ _ h None (Some r) None (OnRoute r (FlushStarted events)) refl refl refl refl refl refl refl (c.lemma_begun_route_is_out.ensures s c.args.parts.now.state h r events shows.state idle) shows in
     let calls = c.in_ok-poll.ensures.calls in
-    let new : FlushAttempt = record { route = c.args.route; flush = flush } in
+    let new : FlushAttempt = record { route = c.args.route; tries = c.tries-tries.result; flush = flush } in
     let first : IsFlightOf s (OnRoute r (FlushStarted events) ∷ h) new r =
-    (refl, made.output, delivers, c.lemma_idle_route_is_pending.ensures.begun s c.args.parts.now.state h None r events shows.state idle, c.lemma_idle_route_is_closed.ensures s c.args.parts.now.state h None r shows.state idle) in
+    (refl, made.output, delivers, c.tries-tries.ensures s h None shows.state idle ∙ sym (c.lemma_begun_events.ensures.tries h r events), c.lemma_idle_route_is_closed.ensures s c.args.parts.now.state h None r shows.state idle) in
     let of = attempt_advances s (OnRoute r (FlushStarted events) ∷ h) new r _ c.in_ok-poll.ensures.same first in
     rw (encoding_begins s r h content events spelled.1, begun)
     (refines_note_then _ _ _ (OnRoute r (FlushStarted events)) h (λ at. bind (on_loop act) (λ progress. notes_calls s r 0 progress at)) c.record_progress.result

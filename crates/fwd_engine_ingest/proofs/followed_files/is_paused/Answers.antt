@@ -7,6 +7,6 @@ use Rattle.fwd_engine_ingest.proofs.followed_files.is_paused.Goals as goal
 
 pub returns : goal.returns
 returns c s h out stands same =
-    let limits : c.memory_limits.result.now ≡ map (λ (set : InputSet). set.mem_limit) s.inputs = c.memory_limits.ensures.value ∙ ap (λ (x : AllSettings). map (λ (set : InputSet). set.mem_limit) x.inputs) (sym same) in
+    let limits : c.args.limits.now ≡ map (λ (set : InputSet). set.mem_limit) s.inputs = c.requires.limits ∙ ap (λ (x : AllSettings). map (λ (set : InputSet). set.mem_limit) x.inputs) (sym same) in
     let below : c.args.input.0 < length s.inputs = subst (λ (x : AllSettings). c.args.input.0 < length x.inputs) (sym same) c.requires.there in
-    c.is_set.ensures ∙ bit_paused s h c.args.input.0 c.paused.result (c.paused.ensures s h out stands limits) below
+    bit_paused s h c.args.input.0 c.paused.result (c.paused.ensures s h out stands limits) below

@@ -38,7 +38,7 @@ returns-in-Err-FileFault-clause-acts g c path here others h shows =
     let k = c.args.input.0 in
     let i = c.args.index in
     let did = rw c.in-Err-FileFault.field-0-is at (c.in-Err-FileFault.ensures.polls s h path shows.followed_files here) in
-    let shown = represents_fault s c.args.parts.now _ h refl refl (c.count_fault.ensures.notes s h None shows.state) (c.in-Err-FileFault.ensures.err s h shows.followed_files) shows in
+    let shown = represents_fault s c.args.parts.now _ h refl refl (c.count_fault.ensures s h None shows.state) (c.in-Err-FileFault.ensures.err s h shows.followed_files) shows in
     completes_after (λ (now : History). PartsRepresentIdle s _ now) _ (polls_file s k i path h) (polled s k i h None)
     (files_completed others _ _ _ (polls path (from_head_at s k) (file_at s h k i).place) None (polled s k i h) did)
     (completes_note (λ (now : History). PartsRepresentIdle s _ now) _ IoFailed h shown)

@@ -4,4 +4,4 @@ use Rattle.fwd_out_http.proofs.Judgement.{judged_is, is_judged}
 use Rattle.fwd_out_http.proofs.theorems.judged_by_the_head.Goals as goal
 
 pub returns : goal.returns
-returns c = λ ranges reply judged. (λ is. subst (IsJudged ranges reply) is (judged_is ranges reply), is_judged ranges reply judged)
+returns c = λ reply judged. (λ is. subst (IsJudged reply) is (judged_is reply), is_judged reply judged)

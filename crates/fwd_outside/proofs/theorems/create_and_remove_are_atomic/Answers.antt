@@ -5,7 +5,7 @@ use Rattle.fwd_outside.specs.File.{FileState, IsPostCrash, whole, absent}
 use Rattle.fwd_outside.specs.DiskStates.{DiskTransition}
 use Rattle.fwd_outside.specs.PostCrash.{AllPostCrash, OthersUnchanged, WholeOrAbsent, AbsentOrBefore}
 use Rattle.fwd_outside.proofs.KeepsBytes.{whole_post_crash, absent_post_crash}
-use Rattle.fwd_outside.proofs.CallEffects.{Local, LocalThen}
+use Rattle.fwd_outside.proofs.Calls.{Local, LocalThen}
 use Rattle.fwd_outside.proofs.AtomicFiles.{AllImages, place_keeps, remove_keeps}
 use Rattle.fwd_outside.proofs.theorems.create_and_remove_are_atomic.Goals as goal
 

@@ -15,9 +15,9 @@ pub returns-in_err-value : goal.returns-in_err-value
 returns-in_err-value c =
     let key = ap (key_of target.Parser) (sym c.as_slice.ensures) ∙ sym c.in-Some.ensures in
     stopped (entry_property no_parser target.Parser c.args.entry.now) c.in_err-value.field-0.0 c.from_residual.result c.from_residual.ensures.1
-    (key_refused no_parser target.Parser c.args.entry.now c.in-Some.key c.in-Some.kind key c.in_err-value.field-0.0 c.in_err-value.ensures)
+    (key_refused no_parser target.Parser c.args.entry.now c.in-Some.key key c.kind.result c.in_err-value.field-0.0 c.kind.ensures c.in_err-value.ensures)
 
 pub returns : goal.returns
 returns c =
     let key = ap (key_of target.Parser) (sym c.as_slice.ensures) ∙ sym c.in-Some.ensures in
-    key_value no_parser target.Parser c.args.entry.now c.in-Some.key c.in-Some.kind key c.in_ok-value.value c.in_ok-value.ensures
+    key_value no_parser target.Parser c.args.entry.now c.in-Some.key key c.kind.result c.in_ok-value.value c.kind.ensures c.in_ok-value.ensures

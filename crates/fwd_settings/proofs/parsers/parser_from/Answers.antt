@@ -7,8 +7,8 @@ use Rattle.fwd_config.specs.declared.section.Place.{Place}
 use Rattle.fwd_settings.specs.declared.fault.Stop.{Stop}
 use Rattle.fwd_settings_schema.specs.declared.keys.Key.TheVariants as key
 use Rattle.fwd_settings_schema.specs.declared.properties.Property.{Property}
-use Rattle.fwd_settings_schema.specs.declared.words.LineFormat.{LineFormat}
-use Rattle.fwd_settings_schema.specs.Property.{format_at}
+use Rattle.fwd_settings_schema.specs.declared.words.Word.{Word}
+use Rattle.fwd_settings_schema.specs.Property.{word_at}
 use Rattle.fwd_settings.specs.Reading.{Reading, Checked, known, ReturnsResult}
 use Rattle.fwd_settings.specs.Parsers.{time_of, parser_by, shape_by, with_time, parser_from}
 use Rattle.fwd_settings.proofs.Readings.{returns_refused, stopped}
@@ -22,12 +22,12 @@ module _ (place : Place) (properties : List Property) where
   shape_refused (Ok shape) s gives = returns_refused (known (Ok shape)) with_shape s gives
   shape_refused (Err refusal) s gives = returns_refused (known (Err refusal)) with_shape s gives
 
-  module _ (format : Option LineFormat) (of_said : format ≡ format_at key.Format properties) where
+  module _ (format : Option Word) (of_said : format ≡ word_at key.ParserFormat properties) where
     refused : (s : Stop) (r : Result Parser Stop) → IsErrAnd r (λ e. e ≡ s) → ReturnsResult (known (shape_by place properties format)) (Err s) → ReturnsResult (known (parser_from place properties)) r
     refused s r is gives =
         stopped (known (parser_from place properties)) s r is
-        (shape_refused (shape_by place properties (format_at key.Format properties)) s
-        (subst (λ (f : Option LineFormat). ReturnsResult (known (shape_by place properties f)) (Err s)) of_said gives))
+        (shape_refused (shape_by place properties (word_at key.ParserFormat properties)) s
+        (subst (λ (f : Option Word). ReturnsResult (known (shape_by place properties f)) (Err s)) of_said gives))
 
     made : (shape : Shape) (time : Option TimeRule) → time ≡ time_of properties → ◌≡◌ {A = Checked Shape} (Ok shape) (shape_by place properties format) → ◌≡◌ {A = Checked Parser} (Ok (record { shape = shape; time = time })) (parser_from place properties)
     made shape time timed is =
@@ -36,10 +36,10 @@ module _ (place : Place) (properties : List Property) where
 
 pub returns-in_err-shape : goal.returns-in_err-shape
 returns-in_err-shape c =
-    refused c.args.place.now c.args.properties c.format_at-format.result (c.format_at-format.ensures ∙ ap (format_at key.Format) c.as_slice-2.ensures) c.in_err-shape.field-0.0
+    refused c.args.place.now c.args.properties c.word_at-format.result (c.word_at-format.ensures ∙ ap (word_at key.ParserFormat) c.as_slice-2.ensures) c.in_err-shape.field-0.0
     c.from_residual-in_err-shape.result c.from_residual-in_err-shape.ensures.1 c.in_err-shape.ensures
 
 pub returns : goal.returns
 returns c =
-    made c.args.place.now c.args.properties c.format_at-format.result (c.format_at-format.ensures ∙ ap (format_at key.Format) c.as_slice-2.ensures) c.in_ok-shape.shape c.in_ok-time.time
+    made c.args.place.now c.args.properties c.word_at-format.result (c.word_at-format.ensures ∙ ap (word_at key.ParserFormat) c.as_slice-2.ensures) c.in_ok-shape.shape c.in_ok-time.time
     (c.in_ok-time.ensures ∙ ap time_of c.as_slice.ensures) c.in_ok-shape.ensures

@@ -1,9 +1,8 @@
 use Rattle.std.proofs.Common.{sym, ◌∙◌, length, ap, arith}
-use Rattle.std.specs.Int.{bit_at}
-use Rattle.std.proofs.lemmas.Bool.{eqb-true, eqb-false}
+use Rattle.std.proofs.lemmas.Nat.Bits.{shr_and_one}
 use Rattle.fwd_table.proofs.MaskRoutes.{routes_below-none, put_set, put_clear}
 use Rattle.fwd_table.proofs.route.put_routes.Goals as goal
-use Rattle.fwd_table.proofs.route.put_routes.Goals.{then-is_set, else-is_set}
+use Rattle.fwd_table.proofs.route.put_routes.Goals.{then-owed-output-eq1, else-owed-output-eq1}
 
 pub loop-output-init : goal.loop-output-init
 loop-output-init c = record {
@@ -14,15 +13,15 @@ loop-output-init c = record {
 
 pub loop-output-preserved : goal.loop-output-preserved
 loop-output-preserved c =
-    let bit = bit_at c.args.owed c.loop-output.output in
-    elim c.if-is_set.branch [
-      | then-is_set w ↦ record {
-        put = rw (w.routes-is, w.push_reserved.ensures.items) (put_set c.loop-output.output c.args.owed c.loop-output.routes.items _ (eqb-true bit 1 (sym c.is_set.ensures ∙ w.if-is_set.true)) w.idle_at.ensures c.loop-output.invariant.put);
+    let bit = shr_and_one c.args.owed c.loop-output.output in
+    elim c.if-owed-output-eq1.branch [
+      | then-owed-output-eq1 w ↦ record {
+        put = rw (w.routes-is, w.push_reserved.ensures.items) (put_set c.loop-output.output c.args.owed c.loop-output.routes.items _ (sym bit ∙ w.if-owed-output-eq1.true) w.idle_at.ensures c.loop-output.invariant.put);
         within = rw w.routes-is (omega (arith, w.push_reserved.ensures.len, c.loop-output.invariant.within));
         room = rw w.routes-is (w.push_reserved.ensures.capacity ∙ c.loop-output.invariant.room);
       }
-      | else-is_set w ↦ record {
-        put = rw w.routes-is (put_clear c.loop-output.output c.args.owed c.loop-output.routes.items (eqb-false bit 1 (sym c.is_set.ensures ∙ w.if-is_set.false)) c.loop-output.invariant.put);
+      | else-owed-output-eq1 w ↦ record {
+        put = rw w.routes-is (put_clear c.loop-output.output c.args.owed c.loop-output.routes.items (λ is. w.if-owed-output-eq1.false (bit ∙ is)) c.loop-output.invariant.put);
         within = rw w.routes-is (omega (arith, c.loop-output.invariant.within));
         room = rw w.routes-is c.loop-output.invariant.room;
       }

@@ -15,7 +15,7 @@ pub returns-in-Ok-load-clause-begins : goal.returns-in-Ok-load-clause-begins
 returns-in-Ok-load-clause-begins g c others =
     let a : CallLogs = with_disk (g.D.Disk.call_log c.args.disk.now) others in
     let b : CallLogs = with_disk (g.D.Disk.call_log c.load.new.disk) others in
-    let runs : c.in-Ok.run ≡ c.args.settings = c.in-Ok.ensures in
+    let runs : c.run.result.now ≡ c.args.settings = c.run.ensures ∙ c.in-Ok.ensures in
     let loaded = c.in-Ok-load.ensures.acts others in
     record {
       history = loaded.history;
@@ -27,7 +27,7 @@ pub returns-in-Err-DiskFailed-clause-begins : goal.returns-in-Err-DiskFailed-cla
 returns-in-Err-DiskFailed-clause-begins g c others =
     let a : CallLogs = with_disk (g.D.Disk.call_log c.args.disk.now) others in
     let b : CallLogs = with_disk (g.D.Disk.call_log c.load.new.disk) others in
-    let runs : c.in-Ok.run ≡ c.args.settings = c.in-Ok.ensures in
+    let runs : c.run.result.now ≡ c.args.settings = c.run.ensures ∙ c.in-Ok.ensures in
     let did = rw c.in-Err-DiskFailed.field-0-is at (c.in-Err-DiskFailed.ensures.acts others) in
     subst (λ (x : AllSettings). Completes a b (recovers x) None) runs did
 
@@ -35,6 +35,6 @@ pub returns-clause-begins : goal.returns-clause-begins
 returns-clause-begins g c others =
     let a : CallLogs = with_disk (g.D.Disk.call_log c.args.disk.now) others in
     let b : CallLogs = with_disk (g.D.Disk.call_log c.load.new.disk) others in
-    let runs : c.in-Ok.run ≡ c.args.settings = c.in-Ok.ensures in
+    let runs : c.run.result.now ≡ c.args.settings = c.run.ensures ∙ c.in-Ok.ensures in
     let unfailed = rw c.in-Err-Memory.field-0-is at (c.in-Err-Memory.ensures.acts others) in
     subst (λ (x : AllSettings). Unfailed a b (recovers x)) runs unfailed

@@ -12,22 +12,22 @@ pub returns-in-Ok-clause-steps : goal.returns-in-Ok-clause-steps
 returns-in-Ok-clause-steps g c others s h at =
     let a : CallLogs = with_all (g.L.Loop.call_log c.args.outside.now) (g.D.Disk.call_log c.args.disk.now) (g.F.Files.call_log c.args.files.now) others in
     let b : CallLogs = with_all (g.L.Loop.call_log c.step.new.outside) (g.D.Disk.call_log c.step.new.disk) (g.F.Files.call_log c.step.new.files) others in
-    let after : Engine = record { run = c.args.self.now.run; parts = c.step.new.parts } in
-    let run = c.args.self.now.run in
-    let shows : PartsRepresentIdle run c.args.self.now.parts h = subst (λ (x : AllSettings). PartsRepresentIdle x c.args.self.now.parts h) (sym at.settings) at.shows in
+    let after : Engine = record { setup = c.args.self.now.setup; parts = c.step.new.parts } in
+    let runs = c.run-run.ensures ∙ at.settings in
+    let shows : PartsRepresentIdle c.run-run.result.now c.args.self.now.parts h = subst (λ (x : AllSettings). PartsRepresentIdle x c.args.self.now.parts h) (sym runs) at.shows in
     let acted = c.in-Ok.ensures.acts others h shows in
-    let stepped : Stepped a b run h c.args.happening.now after c.turn_of.result = record {
+    let stepped : Stepped a b c.run-run.result.now h c.args.happening.now after c.turn_of.result = record {
       history = acted.result;
       did = acted.did;
-      at = record { settings = refl; shows = acted.shows };
+      at = record { settings = sym c.run-run.ensures; shows = acted.shows };
       over = c.turn_of.ensures ∙ ap as_turn (c.is_finished.ensures acted.result acted.shows);
     } in
-    (sym c.is_failure.ensures ∙ c.if-is_failure.false, subst (λ (x : AllSettings). Stepped a b x h c.args.happening.now after c.turn_of.result) at.settings stepped)
+    (sym c.is_failure.ensures ∙ c.if-is_failure.false, subst (λ (x : AllSettings). Stepped a b x h c.args.happening.now after c.turn_of.result) runs stepped)
 
 pub returns-in-Err-clause-steps : goal.returns-in-Err-clause-steps
 returns-in-Err-clause-steps g c others s h at =
     let a : CallLogs = with_all (g.L.Loop.call_log c.args.outside.now) (g.D.Disk.call_log c.args.disk.now) (g.F.Files.call_log c.args.files.now) others in
     let b : CallLogs = with_all (g.L.Loop.call_log c.step.new.outside) (g.D.Disk.call_log c.step.new.disk) (g.F.Files.call_log c.step.new.files) others in
-    let run = c.args.self.now.run in
-    let shows : PartsRepresentIdle run c.args.self.now.parts h = subst (λ (x : AllSettings). PartsRepresentIdle x c.args.self.now.parts h) (sym at.settings) at.shows in
-    (sym c.is_failure.ensures ∙ c.if-is_failure.false, subst (λ (x : AllSettings). IsBegun a b (step x c.args.happening.now h)) at.settings (c.in-Err.ensures.acts others h shows))
+    let runs = c.run-run.ensures ∙ at.settings in
+    let shows : PartsRepresentIdle c.run-run.result.now c.args.self.now.parts h = subst (λ (x : AllSettings). PartsRepresentIdle x c.args.self.now.parts h) (sym runs) at.shows in
+    (sym c.is_failure.ensures ∙ c.if-is_failure.false, subst (λ (x : AllSettings). IsBegun a b (step x c.args.happening.now h)) runs (c.in-Err.ensures.acts others h shows))

@@ -1,7 +1,7 @@
 use Rattle.fwd_engine_state.proofs.state.State.count_taken.Goals as goal
 
-pub returns-clause-notes : goal.returns-clause-notes
-returns-clause-notes c s h out before = record {
+pub returns : goal.returns
+returns c s h out before = record {
   rows = before.rows;
   top = before.top;
   flights = before.flights;

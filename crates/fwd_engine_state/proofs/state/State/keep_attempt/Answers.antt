@@ -9,8 +9,8 @@ use Rattle.fwd_engine_state.proofs.PendingRows.{has_on_chunk}
 use Rattle.fwd_engine_state.proofs.ChunksAndAttempts.{fresh_routed, carried_flies, landed_on}
 use Rattle.fwd_engine_state.proofs.state.State.keep_attempt.Goals as goal
 
-pub returns-clause-notes : goal.returns-clause-notes
-returns-clause-notes c s h before of =
+pub returns : goal.returns
+returns c s h before of =
     let r = route_of c.args.flight.route in
     let p = c.args.flight.flush.progress in
     let moved = rows_flies s r p h in

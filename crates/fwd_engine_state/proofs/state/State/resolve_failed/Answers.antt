@@ -1,0 +1,26 @@
+use Rattle.std.proofs.Common.{ℕ, ◌<◌, List, refl, sym, ◌∙◌, ap, subst}
+use Rattle.fwd_table.specs.Rows.{on_chunk, resolved_to, owed_rows}
+use Rattle.fwd_table.specs.declared.row.Row.{Row}
+use Rattle.fwd_model.specs.Fact.{Failed}
+use Rattle.fwd_engine_state.specs.Views.{chunk_id, output_id, route_of}
+use Rattle.fwd_engine_state.proofs.RowsAddedAndRemoved.{rows_ended}
+use Rattle.fwd_engine_state.proofs.PendingRows.{open_left_owed}
+use Rattle.fwd_engine_state.proofs.ChunksAndAttempts.{fresh_routed, carried_ended}
+use Rattle.fwd_engine_state.proofs.state.State.resolve_failed.Goals as goal
+
+pub returns : goal.returns
+returns c s h before closed =
+    let r = route_of c.args.route in
+    record {
+      rows = c.resolve.ensures.rows ∙ ap (λ (l : List Row). owed_rows (on_chunk (chunk_id r.chunk) (resolved_to (output_id r.output)) l)) before.rows ∙ rows_ended s r Failed h refl;
+      top = λ m first rise. subst (λ (k : ℕ). k < m) (sym c.resolve.ensures.top) (before.top m first rise);
+      flights = λ link. carried_ended s r Failed h link _ refl (before.flights link);
+      time = before.time;
+      ticks = before.ticks;
+      closing = before.closing;
+      stopped = before.stopped;
+      tally = c.add_failed.ensures s h r refl before.tally;
+      numbers = before.numbers;
+      fresh = fresh_routed s r Failed h closed.1 before.fresh;
+      open_owed = λ k is. open_left_owed s r Failed h refl closed.0 k is (before.open_owed k is);
+    }

@@ -1,2 +1,0 @@
-pub mod OffsetTable
-pub mod NotesKept

@@ -1,4 +1,0 @@
-pub mod KeeperAnswers
-pub mod KeeperState
-pub mod MemKeeper
-pub mod Offsets

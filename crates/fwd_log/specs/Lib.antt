@@ -1,3 +1,0 @@
-pub mod Level
-pub mod Limiter
-pub mod Line

@@ -1,8 +1,0 @@
-use Rattle.std.proofs.Common.{◌≡◌, ◌++◌, ℕ, List, take}
-use Rattle.std.specs.List.{zip}
-use Rattle.fwd_table.specs.declared.tally.InputTally.{InputTally}
-use Rattle.fwd_pages.specs.Pages.{numbered, input_sample}
-use Rattle.fwd_pages.proofs.prometheus.push_input_samples.Given as goal
-
-abbrev pub invariant-loop-index : goal.invariant-loop-index
-invariant-loop-index l = l.text ≡ l.fn.text ++ numbered (λ n (p : List ℕ × InputTally). input_sample l.metric p.0 p.1) 0 (take l.index (zip l.names l.tallies))

@@ -1,4 +1,0 @@
-pub mod Count
-pub mod Health
-pub mod Metric
-pub mod Pages
