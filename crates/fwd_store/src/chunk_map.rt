@@ -91,7 +91,7 @@ impl ChunkMap {
     {
         match self.chunks.get_mut(&number) {
             Some(kept) => kept.append(disk, batch, full),
-            None => Err(DiskErr::Memory),
+            None => unreachable!(),
         }
     }
 }

@@ -164,8 +164,8 @@ impl Table {
     }
 
     /// Returns the first of the idle routes that are due at `now` and come after `after`, ordered by due
-    /// time, then chunk, then output. The program doesn't use it (it takes all due routes at once): it is for
-    /// callers that start one route at a time.
+    /// time, then chunk, then output. The engine takes all due routes at once; this is for callers that look
+    /// at one route at a time, as the log of a live run does.
     pub fn next_due(&self, now: u64, after: Option<Timer>) -> Option<Timer>
         ensures value { result ≡ first (filter (is_next now after) (idle_timers_of self.now.rows)) }
         ensures first { let due = filter (is_next now after) (idle_timers_of self.now.rows) in MatchOption result (due ≡ []) (IsFirst due) }
@@ -197,7 +197,7 @@ impl Table {
     }
 
     /// Records that a flush of a route is over without an outcome, if the route is pending. Its due time
-    /// and tries stay.
+    /// and tries stay. The program doesn't use it: each of its flushes has an outcome.
     pub fn stayed(&mut self, chunk: ChunkId, output: OutputId)
         ensures rows { self.new.rows ≡ on_chunk chunk (stayed_to output) self.old.rows }
         ensures spare { self.old.spare ≤ self.new.spare }
