@@ -49,8 +49,8 @@ fn is_listing(words: &[String]) -> bool {
     }
 }
 
-/// Makes the devices and runs the program. The caller picks the initial files, on the disk and beside it,
-/// and what the loop will bring.
+/// Makes the devices and runs the program. The caller picks the initial files, on the disk and beside it, and
+/// what the loop will bring. Without a loop the status is `LoopFault` or `Memory`, whatever the words are.
 fn run(
     rt: &HostRuntime,
     threads: &(impl Threads + Sync),

@@ -36,7 +36,8 @@ list_folders_program root (stream ∷ streams) files =
     and_then (lists (folder_of root stream))
     (λ names. list_folders_program root streams (files ++ chunks_in stream names))
 
--- lists the root, and then each name in it as a folder
+-- Lists the root, and then each name in it as a folder. A file directly under the root is listed as an empty
+-- folder. A folder with a name of a chunk file fails its sync.
 abbrev pub list_files_program : List ℕ → DiskProgram (Option (List Listed))
 list_files_program root = and_then (lists root) (λ streams. list_folders_program root streams [])
 

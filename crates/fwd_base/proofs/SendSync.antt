@@ -1,4 +1,6 @@
--- A pattern is Send and Sync: so is each type that it is built of, from the tree of its expression up.
+-- A pattern is Send and Sync: so is each type that it is built of, from the tree of its expression up. These
+-- types hold no cell and no reference count. The tree is recursive, so the toolchain derives no proof. This
+-- is why `fwd_base` names `regex_hir`, `regex_dfa` and `regex_meta`.
 use denote.Param.Send.{IsSend, IsSync, sendable}
 use denote.Param.SendFields.{declared_send, declared_sync}
 use Rattle.std.proofs.Crossing as std

@@ -56,7 +56,8 @@ impl Pattern {
         }
     }
 
-    /// Returns a searcher, which is built once and searches one text after another.
+    /// Returns a searcher, which is built once and searches one text after another. A search is mutable, and
+    /// threads share patterns; so a searcher is made for a batch and not kept with the pattern.
     pub fn search(&self, alloc: Global) -> Result<Search<'_>, Memory>
         ensures { IfOk result (SearchesFor self.now) }
     {

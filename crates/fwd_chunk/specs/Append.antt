@@ -34,7 +34,8 @@ sync_if_program full name = if full then syncs name else Return (Some tt)
 abbrev pub next_selector : ℕ → ℕ
 next_selector selector = (selector + 1) % 256
 
--- writes the batch after the content, then the new length into the inactive slot
+-- Writes the batch after the content, then the new length into the inactive slot. The content needn't be
+-- whole events: this only requires that the file isn't too long.
 abbrev pub stage_program : ChunkHead → List ℕ → Bool → DiskProgram (Option (Unit {0}))
 stage_program head batch full =
     and_then (writes head.name (chunk_header + head.meta + head.size) batch)

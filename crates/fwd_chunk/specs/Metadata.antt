@@ -17,7 +17,8 @@ is_typed meta = (slice_index meta 0 == 241) && (slice_index meta 1 == 119)
 
 -- Metadata of marks 0 and 1 that begin with f1 77 00 are four bytes and the tag. With another third byte the
 -- chunk has no logs, whatever the mark. Other metadata, and those that end before a fourth byte, are the tag
--- themselves.
+-- themselves. So f1 77 and f1 77 00 alone are a tag that isn't UTF-8. Metadata of mark 2 that end before a
+-- third byte are `BadOutputs`.
 abbrev pub tag_of : List ℕ → Option (List ℕ)
 tag_of meta =
     if is_typed meta

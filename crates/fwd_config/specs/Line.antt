@@ -50,7 +50,8 @@ heading_of text =
     let name = before_first (λ byte. byte == 93) text in
     if nat_lt 0 (length name) && bytes_eq text (name ++ codes "]") then Heading name else NoHeading
 
--- after `@SET`: the name of a variable, which isn't empty, up to the first `=`, and its value
+-- After `@SET`: the name of a variable, which isn't empty, up to the first `=`, and its value. The blanks at
+-- the end of the line are dropped before variables are replaced.
 abbrev pub setting_of : List ℕ → Form
 setting_of text =
     let name = before_first (λ byte. byte == 61) text in

@@ -12,7 +12,8 @@ use Rattle.fwd_config.specs.declared.fault.ConfigKind.TheVariants.{EntryOutsideS
 abbrev pub folder : List ℕ → List ℕ
 folder path = take (length path - suffix_len (λ byte. not (byte == 47)) path) path
 
--- an include path is relative to the folder of the file that has it, unless it begins with a slash
+-- An include path is relative to the folder of the file that has it, unless it begins with a slash. Variables
+-- in the path are replaced first.
 abbrev pub relative_path : List ℕ → List ℕ → List ℕ
 relative_path file path = if slice_index path 0 == 47 then path else folder file ++ path
 

@@ -94,7 +94,8 @@ parser_files sections = flat_map files_of_section sections
 abbrev pub return_sections : Text → Reading (Result (List Section) ConfigFault)
 return_sections text = Return (Ok (sections_of text))
 
--- the parser files that the main file's text names come after it
+-- The parser files that the main file's text names come after it. An entry before the first section of a
+-- parser file belongs to the last section so far, and the variables so far hold.
 abbrev pub with_parser_files : Values → Text → Reading (Result (List Section) ConfigFault)
 with_parser_files env text =
     then_text (with_files env 8 (parser_files (sections_of text)) text) return_sections

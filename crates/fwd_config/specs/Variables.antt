@@ -4,7 +4,7 @@ use Rattle.std.specs.List.{before_first, list_any}
 use Rattle.std.specs.Str.{bytes_eq}
 use Rattle.std.specs.String.{string_bytes}
 
--- the value of each name; a name that isn't set has the empty value
+-- The value of each name; a name that isn't set has the empty value. Names are case-sensitive.
 abbrev pub Values : Type 0
 Values = List ℕ → List ℕ
 

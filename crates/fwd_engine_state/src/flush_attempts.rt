@@ -24,7 +24,8 @@ pub struct FlushAttempt {
     pub flush: Flush<Reader>,
 }
 
-/// The flush attempts in flight, by their connections.
+/// The flush attempts in flight, by their connections. They are in an ordered map and not in a slab: an event
+/// names the link, whose number the loop chooses.
 #[derive(Debug, Drop)]
 pub struct FlushAttempts {
     flights: BTreeMap<u64, FlushAttempt>,

@@ -24,7 +24,8 @@ abbrev pub rest : List ℕ → List ℕ
 rest [] = []
 rest (byte ∷ bytes) = if has_feed (byte ∷ bytes) then rest bytes else byte ∷ bytes
 
--- the line of a part: a long one is cut, and any other loses a trailing carriage return
+-- The line of a part: a long one is cut, and any other loses a trailing carriage return. The length counts
+-- the carriage return, and a cut line keeps one.
 abbrev pub line_of : List ℕ → Line
 line_of part =
     if nat_lt longest_line (length part) then record { bytes = take longest_line part; cut = true }

@@ -8,7 +8,7 @@ use Rattle.fwd_value.specs.Val.{Val, nil, truth, whole, text, list, mapping, Val
 use Rattle.fwd_json.specs.declared.reading.JsonErr.{JsonErr}
 use Rattle.fwd_json.specs.declared.reading.JsonErr.TheVariants.{NotJson, NotAnObject, NotWhole, TooDeep}
 
--- whether a number is an integer of at most 64 bits
+-- Whether a number is an integer of at most 64 bits. `-0` isn't one.
 abbrev pub is_whole : Num → Bool
 is_whole (unsigned n) = true
 is_whole (negative z) = true

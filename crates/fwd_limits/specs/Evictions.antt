@@ -24,7 +24,8 @@ evicted_among room (row ∷ rows) =
     if nat_le (size_of (row ∷ rows)) room then [] else row ∷ evicted_among room rows
 
 -- The chunks that an output evicts when this one has closed. It is this one alone if it doesn't fit beside
--- what is in flight. Else it is the lowest of the others, as few as make the rest fit.
+-- what is in flight. Else it is the lowest of the others, as few as make the rest fit. This is defined for
+-- any chunk, not only for one whose route is idle.
 abbrev pub evicted_for : OutputId → ℕ → ChunkId → List Row → List ChunkId
 evicted_for output limit chunk rows =
     if nat_lt limit (fixed output chunk rows) then chunk ∷ []

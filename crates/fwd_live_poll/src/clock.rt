@@ -6,7 +6,7 @@ use std::io::{self, ErrorKind};
 use std::time::{Duration, Instant, SystemTime, UNIX_EPOCH};
 
 /// The system clock, made monotonic: if the system's time is set back, this clock goes on from its last
-/// reading.
+/// reading. If it stood still instead, no tick would come, and nothing would be sent.
 #[derive(Drop)]
 pub struct Clock {
     /// The last reading of the system clock that wasn't set back, and when that was.

@@ -57,7 +57,8 @@ impl Conn {
         !self.replies.is_empty()
     }
 
-    /// Sends or buffers a whole reply, or fails.
+    /// Sends or buffers a whole reply, or fails. It fails after the end of the connection; replies that were
+    /// taken before are still written.
     pub fn reply(&mut self, bytes: &[u8]) -> io::Result<()> {
         if self.over {
             return Err(io::Error::from(ErrorKind::NotConnected));

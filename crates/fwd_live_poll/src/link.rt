@@ -14,7 +14,7 @@ use std::io::{self, ErrorKind, Write};
 use std::mem;
 
 /// The most bytes that a link may send back before it has taken its payload. A reply that counts is much
-/// shorter.
+/// shorter. If the loop stopped reading instead, it wouldn't see the end of the peer.
 const MOST_RECEIVED: u64 = 65_536;
 
 /// The most bytes of a refusing reply that are kept for the log.
@@ -44,7 +44,8 @@ pub enum PeerState {
     Over,
 }
 
-/// A connection to an output's peer.
+/// A connection to an output's peer. A peer that ends its side breaks it, though it might still read: a peer
+/// that is gone shows nothing else before bytes are lost.
 #[derive(Drop)]
 pub struct Peer {
     pub output: OutputId,

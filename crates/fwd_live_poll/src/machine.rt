@@ -443,7 +443,7 @@ fn note_failure(journal: &Journal, output: OutputId, error: &io::Error) {
     journal.write(Level::Debug, About::Output(output), Topic::Link, error);
 }
 
-/// Opens a file of a folder for appending; without a name, the tag gives the name.
+/// Opens a file of a folder for appending; without a name, the tag gives the name. The folder isn't created.
 fn open_to_append(
     rt: &HostRuntime,
     folder: &[u8],

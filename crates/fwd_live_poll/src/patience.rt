@@ -9,7 +9,9 @@ pub struct Patience {
     pub silence: u64,
 }
 
-/// Ten seconds for a dial, as Fluent Bit's `net.connect_timeout`, and a minute for everything else.
+/// Ten seconds for a dial, as Fluent Bit's `net.connect_timeout`, and a minute for everything else. Without a
+/// limit, `MOST_PEER_FLUSHES` silent links would stop an output for good, and by `Mem_Buf_Limit` its inputs
+/// too.
 pub const USUAL_PATIENCE: Patience = Patience {
     dial: 10_000,
     silence: 60_000,

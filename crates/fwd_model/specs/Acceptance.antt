@@ -63,8 +63,9 @@ abbrev pub stores : AllSettings → Batch → Option ChunkInfo → History → A
 stores s b (Some c) h = appends s b c.number h
 stores s b None h = if nat_lt (next h) numbers_end then starts_chunk s b (next h) h else refuses b NoNumber h
 
--- Accept a batch. An empty one does nothing. One that matches no output is accepted and not stored. Any
--- other is stored, or refused if it is too large.
+-- Accept a batch. An empty one does nothing. So a message without events is acknowledged and not counted:
+-- otherwise its sender would repeat it forever. A batch that matches no output is accepted and not stored.
+-- Any other is stored, or refused if it is too large.
 unfoldable pub accepts : AllSettings → Batch → History → Action Acceptance
 accepts s b h =
     if is_empty b.events then taken h

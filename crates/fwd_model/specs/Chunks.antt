@@ -96,6 +96,7 @@ offered_events (Offered other b ∷ h) chunk = if other == chunk then b.events e
 offered_events (Accepted b place ∷ h) chunk = if is_stored_in place chunk then [] else offered_events h chunk
 offered_events (_ ∷ h) chunk = offered_events h chunk
 
--- whether a batch may be stored: it has at most `largest_batch` bytes (16,777,216)
+-- Whether a batch may be stored: it has at most `largest_batch` bytes (16,777,216). An event with a length of
+-- 2^32 or more is larger than that.
 abbrev pub is_storable : List Event → Bool
 is_storable events = nat_le (length (encoded events)) largest_batch

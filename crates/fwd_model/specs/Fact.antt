@@ -1,5 +1,6 @@
 -- The facts that the engine logs: the results of its calls and its decisions. All state is a function of
--- these facts. Inputs, outputs, connections, links and chunks are given by their numbers.
+-- these facts. Inputs, outputs, connections, links and chunks are given by their numbers. Facts have one
+-- fixed type, since no clause can range over a type.
 use Rattle.std.specs.Prelude.{ℕ, List}
 use Rattle.fwd_event.specs.declared.event.Event.{Event}
 use Rattle.fwd_outside.specs.declared.happening.Happening.{Happening}

@@ -66,8 +66,8 @@ starts_with s r events h =
 abbrev pub is_complete_read : ℕ → List ℕ → Bool
 is_complete_read kept bytes = length bytes == kept && (events_in bytes).1 == kept
 
--- What follows the read of a chunk's content. If it failed or returned something else, the route stays
--- idle.
+-- What follows the read of a chunk's content. If it failed or returned something else, the route stays idle.
+-- It keeps its due time and its tries, so that the next dispatch reads again.
 abbrev pub after_read : AllSettings → Route → ℕ → History → Option (List ℕ) → Action History
 after_read s r kept h None = note IoFailed h
 after_read s r kept h (Some bytes) =
@@ -93,6 +93,8 @@ abbrev pub turns : AllSettings → List Route → History → Action History
 turns s [] h = Return h
 turns s (r ∷ rs) h = bind (turn s r h) (turns s rs)
 
+-- The routes of a dispatch are those that are due when it begins. It skips one that isn't idle any more at
+-- its turn.
 unfoldable pub walk : AllSettings → History → Action History
 walk s h = turns s (due_routes s h) h
 

@@ -67,7 +67,7 @@ polled s input index h None = note IoFailed h
 polled s input index h (Some poll) =
     note_then (Polled input index poll.long poll.bytes) h (ingests s (poll_batch s h input index poll))
 
--- poll a followed file
+-- Poll a followed file. For a file that doesn't exist the call fails, and each poll of it counts as a fault.
 unfoldable pub polls_file : AllSettings → ℕ → ℕ → List ℕ → History → Action History
 polls_file s input index path h =
     bind (on_files (polls path (from_head_at s input) (file_at s h input index).place))

@@ -9,7 +9,7 @@ use Rattle.fwd_model.specs.Trace.{Action}
 use Rattle.fwd_model.specs.DeviceActions.{on_disk}
 use Rattle.fwd_model.specs.Notes.{note_then}
 
--- log each file with its number, which counts from 1
+-- Log each file with its number, which counts from 1. Refused files count too.
 abbrev pub notes_files : ℕ → List FileRead → History → Action (Option History)
 notes_files number [] h = Return (Some h)
 notes_files number (read ∷ reads) h =

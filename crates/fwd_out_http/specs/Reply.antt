@@ -97,7 +97,8 @@ status_read (Within status fields) = None
 status_read (Whole status) = Some status
 status_read Broken = None
 
--- the complete lines, each without its end, which is CR LF or LF
+-- The complete lines, each without its end, which is CR LF or LF. Lines that end in LF alone and empty lines
+-- before a head are accepted, as by `httparse`.
 abbrev pub whole_lines : List ℕ → List (List ℕ)
 whole_lines bytes = map strip_carriage_return (ended_parts bytes)
 

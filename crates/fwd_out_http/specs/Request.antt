@@ -10,7 +10,7 @@ use Rattle.httparse.specs.Grammar.{RequestHead, ReadsRequest, trim_ows}
 use Rattle.httparse.specs.Spans.{name_and_value}
 use Rattle.fwd_http.specs.declared.fields.HeaderField.{HeaderField}
 
--- the media type of a format
+-- The media type of a format. That of `OutFile`, which no http output has, is `text/plain`.
 abbrev pub content_type : Form → List ℕ
 content_type JsonLines = codes "application/x-ndjson"
 content_type OutFile = codes "text/plain"

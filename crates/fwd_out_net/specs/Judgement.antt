@@ -22,7 +22,8 @@ judged_short n = if nat_le n longest_reply then More else Wrong
 abbrev pub judged_whole : List ℕ → Val → Judged
 judged_whole id v = if is_ack id v then Right else Wrong
 
--- by the first value of a reply of so many bytes
+-- By the first value of a reply of so many bytes. A complete and right first value counts, however long the
+-- reply is: the limit is on incomplete replies.
 abbrev pub judged_value : List ℕ → ℕ → Read Val → Judged
 judged_value id n (Ok x) = judged_whole id x.0
 judged_value id n (Err Short) = judged_short n

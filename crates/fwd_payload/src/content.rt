@@ -32,7 +32,9 @@ impl Text {
 }
 
 /// The content of a chunk as it was read, with the last text made from it. Another output with the same
-/// format gets a copy. Contracts see the bytes of the content.
+/// format gets a copy. The payload is made from the bytes, an event at a time; only a forward output needs a
+/// list of events. Whether the content is a list of events shows then. Contracts see the bytes of the
+/// content.
 #[derive(Drop)]
 pub struct Content {
     bytes: Bytes,

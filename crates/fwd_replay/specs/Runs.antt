@@ -85,8 +85,8 @@ pub record EndsIn (shown : Shown) (s : AllSettings) (turns : ℕ) (start : Start
 
 -- ---- a run that is cut
 
--- The turn in which it is cut: the run has that many turns left, and the turn's wait returns the event.
--- If the run is over before, the turn makes no call.
+-- The turn in which it is cut: the run has that many turns left, and the turn's wait returns the event. If
+-- the run is over before, the turn makes no call. In this turn a `failed` line is no failure of the loop.
 abbrev pub IsCutIn : AllSettings → ℕ → Start → Life → List TraceEntry → History → List TraceEntry → Type 0
 IsCutIn s turns start planned before h turn =
     ((waits_in before < turns)

@@ -48,7 +48,8 @@ ticks_of (Happens happening) = 0
 ticks_of (Ticks first step count) = count
 ticks_of (Changes change) = 0
 
--- a planned line of loop events, not a change of a file
+-- A planned line of loop events, not a change of a file. To a later `store` line, `ticks` with COUNT 0 is one
+-- too.
 abbrev pub is_happening : Planned → Bool
 is_happening (Happens happening) = true
 is_happening (Ticks first step count) = true
@@ -79,7 +80,9 @@ abbrev pub one_happening : Option Keyword → Bool
 one_happening None = false
 one_happening (Some keyword) = is_one_happening keyword
 
--- whether the keyword of the next line that isn't skipped has exactly one loop event
+-- Whether the keyword of the next line that isn't skipped has exactly one loop event. If it has, a fault of
+-- that line is refused there. Otherwise `BadOrder` is refused at the `crash` line, as it is if `crash` is the
+-- last line.
 abbrev pub next_is_happening : List (List ℕ) → Bool
 next_is_happening [] = false
 next_is_happening (line ∷ lines) =

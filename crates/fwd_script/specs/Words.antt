@@ -1,4 +1,5 @@
--- The words of a line, from left to right.
+-- The words of a line, from left to right. A missing word is `UnknownWord` at its place, and a further one is
+-- `UnknownWord` after the last.
 use Rattle.std.specs.Prelude.{◌≡◌, ◌≢◌, ℕ, ◌==◌, ◌&&◌, nat_lt, nat_le, if◌then◌else◌, List, [], ◌∷◌, length, drop, codes, Option, Some, None, Result, Ok, Err, nat_eq}
 use Rattle.std.specs.List.{starts_with}
 use Rattle.hex.specs.Hex.{decode_of}
@@ -60,7 +61,7 @@ number_to most = do
   digits ← word
   judged BadNumber (number_of most digits)
 
--- a number of at most 64 bits, and one of at most 32
+-- A number of at most 64 bits, and one of at most 32. Leading zeros are allowed.
 abbrev pub number : Reader ℕ
 number = number_to 18446744073709551615
 
@@ -92,7 +93,8 @@ abbrev pub decoded : Result (List ℕ) FromHexError → Option (List ℕ)
 decoded (Ok bytes) = Some bytes
 decoded (Err error) = None
 
--- BYTES: `t:` and the rest of the line with escapes, or a word of `x:` and hex digits
+-- BYTES: `t:` and the rest of the line with escapes, or a word of `x:` and hex digits. `x:` without digits is
+-- no bytes; hex digits have either case.
 abbrev pub octets : Reader (List ℕ)
 octets None = Err UnknownWord
 octets (Some rest) =
@@ -104,7 +106,8 @@ octets (Some rest) =
         if starts_with nat_eq digits (codes "x:")
         then judged BadHex (decoded (decode_of (drop 2 digits))) left else Err BadHex
 
--- the BYTES of a read event: at least one, and at most the longest piece
+-- The BYTES of a read event: at least one, and at most the longest piece. A wrong size is refused before a
+-- further word.
 abbrev pub piece : Reader (List ℕ)
 piece = do
   bytes ← octets

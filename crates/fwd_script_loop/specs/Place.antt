@@ -20,7 +20,8 @@ is_for output answer = answer.0 == output
 abbrev pub next_for : {T : Type 0} → ℕ → List (ℕ × T) → Option T
 next_for output answers = option_map (λ answer. answer.1) (find (is_for output) answers)
 
--- the number of the link that a dial gives; `None` if it is refused, as it is if no number is left
+-- The number of the link that a dial gives; `None` if it is refused, as it is if no number is left. A dial
+-- uses up its answer even then. One without an answer is accepted while numbers are left.
 abbrev pub dialed : Place → ℕ → Option ℕ
 dialed place output =
     if unwrap_or (next_for output place.left.dials) true && nat_lt (length place.links) (2 ^ 64 - 1)
@@ -50,7 +51,8 @@ abbrev pub pushed_to : Place → Option ℕ → ℕ → PushAnswer
 pushed_to place (Some output) len = limit_push (next_for output place.left.pushes) len
 pushed_to place None len = Broke
 
--- the answer to a push of `len` bytes; a link that isn't open is broken
+-- The answer to a push of `len` bytes; a link that isn't open is broken. A push to such a link uses up no
+-- answer.
 abbrev pub pushed : Place → ℕ → ℕ → PushAnswer
 pushed place link len = pushed_to place (output_of place.links link) len
 

@@ -46,7 +46,8 @@ lift_by place properties (Some under) =
       add_prefix = prefix key.AddPrefix properties;
     }))
 
--- an Operation is required
+-- An Operation is required. `nest` knows all its keys whatever the Operation; `Missing` is refused at the
+-- header.
 abbrev pub operation_by : Place → List Property → Option Operation → Checked FilterKind
 operation_by place properties (Some operation.Nest) =
     nest_by place properties (text_at key.NestUnder properties)

@@ -53,7 +53,8 @@ tail_by place properties None = Err (fault Missing place)
 tail_by place properties (Some paths) =
     Ok (input.Tail (parts_of (codes ",") paths) (unwrap_or (truth_at key.ReadFromHead properties) false))
 
--- a tail input requires its Path, which is split at each comma
+-- A tail input requires its Path, which is split at each comma. Blanks and empty names are kept, and a path
+-- given twice is two followed files.
 abbrev pub input_kind : InputPlugin → Place → List Property → Checked InputKind
 input_kind plugin.Tail place properties = tail_by place properties (text_at key.Path properties)
 input_kind plugin.Tcp place properties =
@@ -77,7 +78,8 @@ lines_shape (Some format.Json) = shape.Json
 lines_shape (Some format.Regex) = shape.Json
 lines_shape None = shape.Json
 
--- the Parser of tail and stdin, by default none and JSON; the Format of tcp
+-- The Parser of tail and stdin, by default none and JSON; the Format of tcp. A forward input has the parser
+-- of whole lines, which it never uses.
 abbrev pub input_parser : InputPlugin → List Property → Parser
 input_parser plugin.Tail properties = unwrap_or (last_in parser_in properties) (timeless shape.Plain)
 input_parser plugin.Stdin properties = unwrap_or (last_in parser_in properties) (timeless shape.Json)

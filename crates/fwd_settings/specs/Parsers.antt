@@ -66,7 +66,8 @@ abbrev pub with_time : List Property → Checked Shape → Checked Parser
 with_time properties (Ok shape) = Ok (parser_by properties shape)
 with_time properties (Err refusal) = Err refusal
 
--- the parser that the entries of a section describe, whose header is at this place
+-- The parser that the entries of a section describe, whose header is at this place. The pattern is checked
+-- whatever the Format is; Types apply to the groups of a pattern only.
 abbrev pub parser_from : Place → List Property → Checked Parser
 parser_from place properties =
     with_time properties (shape_by place properties (format_at key.Format properties))
@@ -103,7 +104,7 @@ abbrev pub parser_in_section : Entry → Option Section → Reading Parser
 parser_in_section entry None = known (Err (fault BadChoice entry.place))
 parser_in_section entry (Some section) = parser_of section
 
--- The parser that an entry names: that of the first PARSER section with this name, which is checked in
--- place of the entry.
+-- The parser that an entry names: that of the first PARSER section with this name, which is checked in place
+-- of the entry. Names of parsers are case-sensitive.
 abbrev pub parser_named : List Section → Entry → Reading Parser
 parser_named all entry = parser_in_section entry (find (is_parser_named entry.value) all)

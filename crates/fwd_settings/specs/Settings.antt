@@ -42,7 +42,8 @@ abbrev pub plugin_at : Entry → Option Target → Checked Target
 plugin_at entry None = Err (fault kind.UnknownPlugin entry.place)
 plugin_at entry (Some plugin) = Ok plugin
 
--- a section that requires a Name; a PARSER may have any
+-- A section that requires a Name; a PARSER may have any. If there are several Names, the last one counts, and
+-- only that one is checked.
 abbrev pub by_name : SectionKind → Place → Option Entry → Checked Target
 by_name head place None = Err (fault kind.Missing place)
 by_name head.Parser place (Some entry) = Ok target.Parser

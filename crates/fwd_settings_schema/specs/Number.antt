@@ -42,7 +42,8 @@ flush_of text =
     (number_of (before_first (λ b. b == byte ".") text))
     else None
 
--- how often to retry: a number, `no_limits` or `False` for no limit, `no_retries` for never, case ignored
+-- How often to retry: a number, `no_limits` or `False` for no limit, `no_retries` for never, case ignored.
+-- Any other text is `BadNumber`.
 abbrev pub retries_of : List ℕ → Option Retries
 retries_of text =
     if str_eq_ignore_ascii_case text (codes "no_limits") || str_eq_ignore_ascii_case text (codes "false")

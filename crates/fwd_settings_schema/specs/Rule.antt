@@ -38,7 +38,8 @@ header_of text =
     then Some (record { name = first_word text; value = rest text })
     else None
 
--- a condition, by its first word, case ignored
+-- A condition, by its first word, case ignored. Blanks that a replaced variable puts before a rule are
+-- skipped.
 abbrev pub condition_of : List ℕ → Option Condition
 condition_of text =
     if str_eq_ignore_ascii_case (first_word text) (codes "key_exists")

@@ -58,7 +58,7 @@ abbrev pub append_to_program : Option Kept → List ℕ → Bool → DiskProgram
 append_to_program (Some kept) batch full = appends kept batch full
 append_to_program None batch full = Return (Some tt)
 
--- the batch goes to the open chunk, or begins a new chunk
+-- The batch goes to the open chunk, or begins a new chunk. It goes to the open chunk wherever that is kept.
 abbrev pub accept_into_program : Stored → Option ℕ → List ℕ → List ℕ → Home → List ℕ → List (List ℕ)
     → DiskProgram (Option (Unit {0}))
 accept_into_program s (Some n) stream tag home batch outputs =
@@ -162,7 +162,7 @@ abbrev pub drops : Option Kept → DiskProgram (Option (Unit {0}))
 drops (Some kept) = remove_program kept
 drops None = Return (Some tt)
 
--- the store without the chunk
+-- The store without the chunk. It isn't held any more, also if the removal failed.
 abbrev pub without_chunk : Stored → ℕ → Stored
 without_chunk s n = record s { chunks = map.remove s.chunks n; opened = without n s.opened }
 

@@ -15,7 +15,8 @@ saturating_plus a b = min (a + b) (2 ^ 64 - 1)
 abbrev pub due_after : ℕ → ℕ → ℕ
 due_after now wait_s = saturating_plus now (1000 * wait_s)
 
--- whether a route that failed so often before may be retried after failing once more
+-- Whether a route that failed so often before may be retried after failing once more. A limit of 2^64 - 1 is
+-- never exceeded, since counts saturate.
 abbrev pub may_retry : Retries → ℕ → Bool
 may_retry (Times limit) tries = nat_le (saturating_plus tries 1) limit
 may_retry Unlimited tries = true

@@ -50,7 +50,7 @@ option_of _ = None
 abbrev pub chunk_key : List ℕ
 chunk_key = codes "chunk"
 
--- the key `compressed`, and its value `text`
+-- The key `compressed`, and its value `text`. A bin with these bytes counts as compressed.
 abbrev pub compressed_key : List ℕ
 compressed_key = codes "compressed"
 
@@ -121,7 +121,8 @@ CarriedSays tag chunk c (says (batch t es k)) = (t ≡ tag) × (k ≡ chunk) × 
 CarriedSays tag chunk c no_message = (es : List Event) → Carries c es → ⊥
 CarriedSays tag chunk c _ = ⊥
 
--- compressed entries are refused before they are read
+-- Compressed entries are refused before they are read. A bad tag or option is `no_message`, also with
+-- `compressed`.
 abbrev pub PlainSays : Bool → List ℕ → Option Val → Carried → Verdict → Type 0
 PlainSays true tag chunk c v = CarriedSays tag chunk c v
 PlainSays false tag chunk c v = v ≡ compressed
