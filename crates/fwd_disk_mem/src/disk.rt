@@ -85,7 +85,7 @@ impl MemDisk {
         push_number(self.alloc, &mut self.calls, &mut self.fails, call)
     }
 
-    /// Marks the place from which `image` counts calls.
+    /// Marks the place from which `image` counts calls. The program doesn't use it (it asks `image_since`).
     pub fn mark(&mut self)
         ensures { self.new ≡ record self.old { mark = length self.old.calls } }
     {
@@ -100,7 +100,8 @@ impl MemDisk {
     /// with 5a in each byte that isn't durable. 3: as 1, but each byte that isn't durable at an even offset
     /// is as at the last sync, or 0 past that length.
     ///
-    /// The returned disk is durable, has no calls, and no call of it is to fail.
+    /// The returned disk is durable, has no calls, and no call of it is to fail. The program doesn't use
+    /// `image` (it asks `image_since`): it is for callers that mark the place.
     pub fn image(&self, alloc: Global, calls: u64, pick: u64) -> Result<MemDisk, Memory>
         ensures fresh { IfOk result (λ image. ((files : List MemFile) × (image.calls ≡ file_settings files)) × (image.faults ≡ 0) × (image.mark ≡ 0)) }
         ensures picked { IfOk result (λ image. (name : List ℕ) → content (files_of image.calls name) ≡ picked (pick % 4) (prefix_after_mark self.now.mark calls self.now.calls) name) }

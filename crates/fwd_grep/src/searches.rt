@@ -55,7 +55,8 @@ impl<'r> GrepSearches<'r> {
     }
 }
 
-/// Returns whether every rule keeps one event with this record.
+/// Returns whether every rule keeps one event with this record. The program doesn't use it (it prepares the
+/// searches once for a batch): it is for callers that have one event.
 pub fn keeps(alloc: Global, rules: &GrepRules, body: &Pairs) -> Result<bool, Memory>
     ensures { IfOk result (λ keep. keep ≡ kept rules.now body.now) }
 {

@@ -71,7 +71,8 @@ impl Scan {
         })
     }
 
-    /// Returns the number of bytes fed so far.
+    /// Returns the number of bytes fed so far. The program doesn't use it: it is for callers that don't count
+    /// them.
     pub fn seen(&self) -> u64
         ensures { result ≡ self.now.seen }
     {

@@ -11,7 +11,8 @@ use fwd_event::{Event, Events, write_event};
 use std::alloc::Global;
 
 /// Returns the payload of the events of a tag, in a format. As MessagePack it requires events that can be
-/// encoded.
+/// encoded. The program doesn't use it (it has encoded events and asks `payload_of_content`): it is for
+/// callers that have decoded ones.
 pub fn payload_text(alloc: Global, form: Form, tag: &[u8], events: &Events) -> Result<Bytes, Memory>
     requires { form ≡ MsgPack → All EventFits events.now }
     ensures { IfOk result (λ payload. payload ≡ payload_of form tag.now events.now) }

@@ -75,7 +75,8 @@ impl Parser {
 
     /// Returns the event of one line. `now` is the greatest reading of the clock so far, in milliseconds
     /// since 1970 in UTC; above 4,294,967,295,999 it counts as this. A line that doesn't have the parser's
-    /// shape is kept whole under `log`.
+    /// shape is kept whole under `log`. The program doesn't use it (it makes one reader for a batch): it is
+    /// for callers that have one line.
     pub fn parse(&self, alloc: Global, line: &[u8], now: u64) -> Result<Event, Memory>
         ensures { IfOk result (λ event. event ≡ parsed self.now line.now now) }
     {

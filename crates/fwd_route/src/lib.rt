@@ -108,7 +108,8 @@ pub fn matches(pattern: &[u8], tag: &[u8]) -> bool
 }
 
 /// Returns the mask of the globs that match a tag: bit `i` is set exactly if glob `i` does. There may be at
-/// most `MOST_OUTPUTS` globs.
+/// most `MOST_OUTPUTS` globs. The program doesn't use it (it asks `matches` for each output): it is for
+/// callers that have a list of globs.
 pub fn routes(globs: &Names, tag: &[u8]) -> u64
     requires { length globs.now ≤ most_outputs }
     ensures { RoutesTo globs.now tag.now result }

@@ -77,6 +77,7 @@ impl Script {
     }
 
     /// Makes `start` fail from here on. No run can say so, hence the script has an empty trace from here on.
+    /// The program doesn't use it: it is for callers that try an engine whose loop doesn't start.
     pub fn fail_start(&mut self)
         ensures { self.new ≡ record self.old { fails_to_start = true } }
     {
@@ -91,7 +92,8 @@ impl Script {
     }
 
     /// Removes and returns the changes of files before the line that `wait` would return, or all remaining
-    /// ones if it would return the end. `Err` leaves the script unchanged.
+    /// ones if it would return the end. `Err` leaves the script unchanged. The program doesn't use it (a
+    /// replay keeps the lines and asks `place_ahead`): it is for callers that have the script alone.
     pub fn changes(&mut self, alloc: Global, paused: u64) -> Result<FileChanges, Memory>
         ensures changes { IfOk result (λ changes. changes ≡ changes_in paused self.old) }
         ensures ok { OnOk result (self.new ≡ changed paused self.old) }
@@ -112,7 +114,7 @@ impl Script {
     }
 
     /// Returns whether the run has a cut and `wait` would return the event of the cut, which is the last of
-    /// the run.
+    /// the run. The program doesn't use it, for the same reason.
     pub fn before_crash(&self, paused: u64) -> bool
         ensures { result ≡ is_before_crash paused self.now }
     {
