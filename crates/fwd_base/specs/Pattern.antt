@@ -95,12 +95,14 @@ pub record Captured : Type 0 where
 abbrev pub named_capture : List ℕ → Option (List ℕ) → Option (ℕ × ℕ) → List Captured
 named_capture text None span = []
 named_capture text (Some name) None = []
-named_capture text (Some name) (Some span) = record { name = name; bytes = slice_range text span.0 span.1 } ∷ []
+named_capture text (Some name) (Some span) =
+    record { name = name; bytes = slice_range text span.0 span.1 } ∷ []
 
 -- the named groups that took part in a match, from group n on, in order
 abbrev pub captures_from : List ℕ → Match → ℕ → List (Option (List ℕ)) → List Captured
 captures_from text m n [] = []
-captures_from text m n (name ∷ names) = named_capture text name (group_of m n) ++ captures_from text m (n + 1) names
+captures_from text m n (name ∷ names) =
+    named_capture text name (group_of m n) ++ captures_from text m (n + 1) names
 
 -- the named groups that took part; group 0 is the whole match and has no name
 abbrev pub captures_of : List (Option (List ℕ)) → List ℕ → Match → List Captured

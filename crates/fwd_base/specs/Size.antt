@@ -24,4 +24,5 @@ abbrev pub size_of : List ℕ → Option ℕ
 size_of text =
     let digits = take_while is_ascii_digit text in
     if length digits == 0 then None
-    else option_and_then (λ factor. within_64_bits (decimal digits * factor)) (factor_of (drop (length digits) text))
+    else option_and_then (λ factor. within_64_bits (decimal digits * factor))
+    (factor_of (drop (length digits) text))

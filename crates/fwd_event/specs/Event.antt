@@ -14,7 +14,9 @@ Timestamp = ℕ × ℕ
 
 -- ext type 0 of 8 bytes: seconds and nanoseconds, each 32 bits, big-endian
 abbrev pub event_time : List ℕ → Option Timestamp
-event_time bytes = if length bytes == 8 then Some (from_be_bytes w32 (take 4 bytes), from_be_bytes w32 (drop 4 bytes)) else None
+event_time bytes =
+    if length bytes == 8 then Some (from_be_bytes w32 (take 4 bytes), from_be_bytes w32 (drop 4 bytes))
+    else None
 
 -- the time that a value encodes: whole seconds of 32 bits, or an EventTime
 abbrev pub time_of : Val → Option Timestamp
@@ -30,7 +32,8 @@ pairs_of (entry k v es) = (k, v) ∷ pairs_of es
 -- an event, if there is a time
 abbrev pub event_at : Option Timestamp → Entries → Entries → Option Event
 event_at None meta body = None
-event_at (Some moment) meta body = Some (record { sec = moment.0; nsec = moment.1; meta = pairs_of meta; body = pairs_of body })
+event_at (Some moment) meta body =
+    Some (record { sec = moment.0; nsec = moment.1; meta = pairs_of meta; body = pairs_of body })
 
 -- the event of a header and a record; a header is a list of a time and a map of metadata, or a time alone
 abbrev pub event_with_header : Val → Entries → Option Event
@@ -45,7 +48,9 @@ event_of _ = None
 -- the bytes are encodings of these events, one after another, none nested too deep
 abbrev pub AreEvents : List Event → List ℕ → Type 0
 AreEvents [] b = b ≡ []
-AreEvents (e ∷ es) b = (v : Val) × (front back : List ℕ) × (b ≡ front ++ back) × Encodes v front × (nesting v ≤ deepest) × (event_of v ≡ Some e) × AreEvents es back
+AreEvents (e ∷ es) b =
+    (v : Val) × (front back : List ℕ) × (b ≡ front ++ back) × Encodes v front × (nesting v ≤ deepest)
+    × (event_of v ≡ Some e) × AreEvents es back
 
 -- the longest prefix of the bytes that is a list of events has these events and n bytes
 pub record IsWholePrefix (events : List Event) (n : ℕ) (b : List ℕ) : Type 0 where
@@ -58,7 +63,8 @@ pub record IsWholePrefix (events : List Event) (n : ℕ) (b : List ℕ) : Type 0
 abbrev pub event_val : Event → Val
 event_val e =
     let time = ext (pos zero) (to_be_bytes w32 e.sec ++ to_be_bytes w32 e.nsec) in
-    list (val (list (val time (val (mapping (entries_of e.meta)) no_vals))) (val (mapping (entries_of e.body)) no_vals))
+    list (val (list (val time (val (mapping (entries_of e.meta)) no_vals)))
+    (val (mapping (entries_of e.body)) no_vals))
 
 -- the event can be encoded: its record is one level deep in it and its metadata two, and each length is
 -- below 2^32

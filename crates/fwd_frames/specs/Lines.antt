@@ -17,7 +17,8 @@ prepend_to_first byte (part ∷ parts) = (byte ∷ part) ∷ parts
 -- the parts of a stream that end in a line feed, each without it
 abbrev pub ended_parts : List ℕ → List (List ℕ)
 ended_parts [] = []
-ended_parts (byte ∷ bytes) = if byte == 10 then [] ∷ ended_parts bytes else prepend_to_first byte (ended_parts bytes)
+ended_parts (byte ∷ bytes) =
+    if byte == 10 then [] ∷ ended_parts bytes else prepend_to_first byte (ended_parts bytes)
 
 -- the bytes after the last line feed of a stream
 abbrev pub rest : List ℕ → List ℕ

@@ -6,13 +6,13 @@ use Rattle.fwd_log.specs.declared.limiter.Limiter.{Limiter}
 abbrev pub fresh : Limiter
 fresh = record { next = 0; wait = 500; passed_over = 0 }
 
--- how long no line is told after one that is told now: twice as long as the last time, up to a minute; a second
--- after a quiet minute
+-- how long no line is told after one that is told now: twice as long as the last time, up to a minute; a
+-- second after a quiet minute
 abbrev pub next_wait : Limiter → ℕ → ℕ
 next_wait state now = if nat_lt (now - state.next) 60000 then min (2 * state.wait) 60000 else 1000
 
--- how many lines were passed over, if this one is told, and the limiter after it; whether it comes too early is
--- given
+-- how many lines were passed over, if this one is told, and the limiter after it; whether it comes too early
+-- is given
 abbrev pub limit_by : Bool → Limiter → ℕ → Option ℕ × Limiter
 limit_by true state now = (None, record state { passed_over = min (state.passed_over + 1) (2 ^ 64 - 1) })
 limit_by false state now = (

@@ -27,7 +27,9 @@ IsPrefix b = (v : Val) × (more : List ℕ) × AllBytes more × Encodes v (b ++ 
 
 -- the bytes are a proper prefix of an encoding
 abbrev pub IsProperPrefix : List ℕ → Type 0
-IsProperPrefix b = (v : Val) × (c : ℕ) × (more : List ℕ) × AllBytes (c ∷ more) × Encodes v (b ++ c ∷ more) × (nesting v ≤ deepest)
+IsProperPrefix b =
+    (v : Val) × (c : ℕ) × (more : List ℕ) × AllBytes (c ∷ more) × Encodes v (b ++ c ∷ more)
+    × (nesting v ≤ deepest)
 
 -- no prefix of the bytes is an encoding
 abbrev pub BeginsNoValue : List ℕ → Type 0
@@ -81,8 +83,11 @@ IsTooDeepAt (Err _) n = ⊥
 
 -- the answer is that of the recursive decoder
 abbrev pub Decodes : List ℕ → Decoded → Type 0
-Decodes b (Ok x) = (rest : List ℕ) × (value_at deepest b ≡ Ok (val_of x.0, rest)) × (x.1 + length rest ≡ length b)
+Decodes b (Ok x) =
+    (rest : List ℕ) × (value_at deepest b ≡ Ok (val_of x.0, rest)) × (x.1 + length rest ≡ length b)
 Decodes b (Err Short) = value_at deepest b ≡ Err fault.Short
-Decodes b (Err (Unused at)) = (left : ℕ) × (value_at deepest b ≡ Err (fault.Unused left)) × (at + left ≡ length b)
-Decodes b (Err (TooDeep at)) = (left : ℕ) × (value_at deepest b ≡ Err (fault.TooDeep left)) × (at + left ≡ length b)
+Decodes b (Err (Unused at)) =
+    (left : ℕ) × (value_at deepest b ≡ Err (fault.Unused left)) × (at + left ≡ length b)
+Decodes b (Err (TooDeep at)) =
+    (left : ℕ) × (value_at deepest b ≡ Err (fault.TooDeep left)) × (at + left ≡ length b)
 Decodes b (Err Memory) = Unit {0}

@@ -34,7 +34,8 @@ abbrev pub Read : Type 0 → Type 0
 Read A = Result (A × List ℕ) FormatError
 
 unfoldable pub number_at : ByteWidth → List ℕ → Read ℕ
-number_at w b = if nat_lt (length b) (size w) then Err Short else Ok (number w (take (size w) b), drop (size w) b)
+number_at w b =
+    if nat_lt (length b) (size w) then Err Short else Ok (number w (take (size w) b), drop (size w) b)
 
 unfoldable pub bytes_at : ℕ → List ℕ → Read (List ℕ)
 bytes_at n b = if nat_lt (length b) n then Err Short else Ok (take n b, drop n b)
@@ -78,7 +79,9 @@ after deeper form.Float32 b = number_at Four b >>= λ n. Ok (float32 n.0, n.1)
 after deeper form.Float64 b = number_at Eight b >>= λ n. Ok (float64 n.0, n.1)
 after deeper (form.Str k) b = counted_at k b >>= λ s. Ok (text s.0, s.1)
 after deeper (form.Bin k) b = counted_at k b >>= λ s. Ok (bin s.0, s.1)
-after deeper (form.Ext k) b = count_at k b >>= λ n. byte_at n.1 >>= λ t. bytes_at n.0 t.1 >>= λ s. Ok (ext (cast_signed w8 t.0) s.0, s.1)
+after deeper (form.Ext k) b =
+    count_at k b >>= λ n. byte_at n.1 >>= λ t. bytes_at n.0 t.1
+    >>= λ s. Ok (ext (cast_signed w8 t.0) s.0, s.1)
 after None (form.Array k) b = Err (TooDeep (length b + 1))
 after (Some p) (form.Array k) b = list_at p k b
 after None (form.Map k) b = Err (TooDeep (length b + 1))

@@ -44,7 +44,8 @@ Counted k s b = (len : List ℕ) × Counts k (length s) len × (b ≡ len ++ s)
 
 -- a length, the byte of the type, and as many bytes
 abbrev pub CountedExt : Count → ℤ → List ℕ → List ℕ → Type 0
-CountedExt k t s b = (len : List ℕ) × (c : ℕ) × Counts k (length s) len × (t ≡ cast_signed w8 c) × (b ≡ len ++ c ∷ s)
+CountedExt k t s b =
+    (len : List ℕ) × (c : ℕ) × Counts k (length s) len × (t ≡ cast_signed w8 c) × (b ≡ len ++ c ∷ s)
 
 -- the first byte has a form, and P holds of it and the rest
 abbrev pub HasForm : (Form → List ℕ → Type 0) → List ℕ → Type 0
@@ -73,20 +74,25 @@ abbrev mutual
   -- "ext format family"
   EncodesAfter (ext t s) (form.Ext k) b = CountedExt k t s b
   -- "array format family"
-  EncodesAfter (list vs) (form.Array k) b = (len rest : List ℕ) × Counts k (value_count vs) len × (b ≡ len ++ rest) × EncodesAll vs rest
+  EncodesAfter (list vs) (form.Array k) b =
+      (len rest : List ℕ) × Counts k (value_count vs) len × (b ≡ len ++ rest) × EncodesAll vs rest
   -- "map format family"
-  EncodesAfter (mapping es) (form.Map k) b = (len rest : List ℕ) × Counts k (entry_count es) len × (b ≡ len ++ rest) × EncodesEntries es rest
+  EncodesAfter (mapping es) (form.Map k) b =
+      (len rest : List ℕ) × Counts k (entry_count es) len × (b ≡ len ++ rest) × EncodesEntries es rest
   EncodesAfter _ _ b = ⊥
 
   -- encodings of the values, one after another
   pub EncodesAll : Vals → List ℕ → Type 0
   EncodesAll no_vals b = b ≡ []
-  EncodesAll (val v vs) b = (front back : List ℕ) × (b ≡ front ++ back) × HasForm (EncodesAfter v) front × EncodesAll vs back
+  EncodesAll (val v vs) b =
+      (front back : List ℕ) × (b ≡ front ++ back) × HasForm (EncodesAfter v) front × EncodesAll vs back
 
   -- encodings of the keys and values, one after another
   pub EncodesEntries : Entries → List ℕ → Type 0
   EncodesEntries no_entries b = b ≡ []
-  EncodesEntries (entry k v es) b = (first second back : List ℕ) × (b ≡ first ++ (second ++ back)) × HasForm (EncodesAfter k) first × HasForm (EncodesAfter v) second × EncodesEntries es back
+  EncodesEntries (entry k v es) b =
+      (first second back : List ℕ) × (b ≡ first ++ (second ++ back)) × HasForm (EncodesAfter k) first
+      × HasForm (EncodesAfter v) second × EncodesEntries es back
 
 -- the bytes encode the value
 abbrev pub Encodes : Val → List ℕ → Type 0

@@ -13,7 +13,9 @@ use Rattle.fwd_reshape.specs.declared.rules.LiftRule.{LiftRule}
 -- A wildcard that ends in a star (42) matches the keys that begin with what comes before the star; any
 -- other matches its own text only.
 abbrev pub wildcard_matches : List ℕ → List ℕ → Bool
-wildcard_matches s wildcard = if ends_with nat_eq wildcard (42 ∷ []) then starts_with nat_eq s (take (length wildcard - 1) wildcard) else bytes_eq s wildcard
+wildcard_matches s wildcard =
+    if ends_with nat_eq wildcard (42 ∷ [])
+    then starts_with nat_eq s (take (length wildcard - 1) wildcard) else bytes_eq s wildcard
 
 -- whether one of the wildcards matches the key, which must be a text
 abbrev pub is_matched : List (List ℕ) → Val → Bool
@@ -40,11 +42,14 @@ fits body = nat_le (nesting (mapping (entries_of body))) (deepest - 1)
 abbrev pub gathered : NestRule → Record → Record
 gathered rule body =
     let taken = filter (λ p. is_matched rule.wildcards p.0) body in
-    filter (λ p. not (is_matched rule.wildcards p.0)) body ++ (text rule.under, mapping (entries_of (moved rule.remove_prefix rule.add_prefix taken))) ∷ []
+    filter (λ p. not (is_matched rule.wildcards p.0)) body
+    ++ (text rule.under, mapping (entries_of (moved rule.remove_prefix rule.add_prefix taken))) ∷ []
 
 -- nest: if none match, or the record would be nested too deep, it is unchanged
 abbrev pub nested : NestRule → Record → Record
-nested rule body = if list_any (λ p. is_matched rule.wildcards p.0) body && fits (gathered rule body) then gathered rule body else body
+nested rule body =
+    if list_any (λ p. is_matched rule.wildcards p.0) body && fits (gathered rule body)
+    then gathered rule body else body
 
 -- the pairs of a map, in order
 abbrev pub pairs_of : Entries → Record
@@ -58,7 +63,8 @@ without_first test (p ∷ body) = if test p then body else p ∷ without_first t
 
 -- the pair is removed, and the pairs of its map are appended in order
 abbrev pub lifted_out : LiftRule → Entries → Record → Record
-lifted_out rule es body = without_first (has_key rule.under) body ++ moved rule.remove_prefix rule.add_prefix (pairs_of es)
+lifted_out rule es body =
+    without_first (has_key rule.under) body ++ moved rule.remove_prefix rule.add_prefix (pairs_of es)
 
 -- a record that would be nested too deep is unchanged
 abbrev pub lifted_from : LiftRule → Record → Val → Record

@@ -42,7 +42,8 @@ renamed_first body k r = first_changed (has_key k) (λ p. (text r, p.1)) body
 
 -- Set K V: the first pair K gets V in its place; if K is missing, the pair is appended
 abbrev pub set_to : Record → List ℕ → Val → Record
-set_to body k v = if has body k then first_changed (has_key k) (λ p. (p.0, v)) body else body ++ (text k, v) ∷ []
+set_to body k v =
+    if has body k then first_changed (has_key k) (λ p. (p.0, v)) body else body ++ (text k, v) ∷ []
 
 -- Add K V: the pair is appended if K is missing
 abbrev pub added : Record → List ℕ → Val → Record
@@ -84,4 +85,5 @@ apply_change body (HardCopy k r) = hard_copied body k r
 
 -- the changes in order, if all conditions hold of the record
 abbrev pub modified : ModifyRules → Record → Record
-modified rules body = if list_all (holds body) rules.conditions then fold apply_change body rules.rules else body
+modified rules body =
+    if list_all (holds body) rules.conditions then fold apply_change body rules.rules else body

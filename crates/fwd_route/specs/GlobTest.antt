@@ -24,7 +24,8 @@ globs (byte ∷ glob) = if byte == 42 then some_suffix (globs glob) else after_b
 -- the indices, from n on, of the globs that match the tag
 abbrev pub matching_from : ℕ → List (List ℕ) → List ℕ → List ℕ
 matching_from n [] tag = []
-matching_from n (glob ∷ more) tag = if globs glob tag then n ∷ matching_from (n + 1) more tag else matching_from (n + 1) more tag
+matching_from n (glob ∷ more) tag =
+    if globs glob tag then n ∷ matching_from (n + 1) more tag else matching_from (n + 1) more tag
 
 -- the indices of the globs that match the tag
 abbrev pub matching_outputs : List (List ℕ) → List ℕ → List ℕ

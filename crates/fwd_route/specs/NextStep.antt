@@ -9,7 +9,8 @@ use Rattle.fwd_route.specs.declared.Step.TheVariants.{Over, Star, Same, Other}
 abbrev pub IsNextStep : List ℕ → List ℕ → Step → Type 0
 IsNextStep pattern tag Over = (pattern ≡ []) × (tag ≡ [])
 IsNextStep pattern tag (Star behind) = pattern ≡ 42 ∷ behind.now
-IsNextStep pattern tag (Same behind rest) = (byte : ℕ) × (byte ≢ 42) × (pattern ≡ byte ∷ behind.now) × (tag ≡ byte ∷ rest.now)
+IsNextStep pattern tag (Same behind rest) =
+    (byte : ℕ) × (byte ≢ 42) × (pattern ≡ byte ∷ behind.now) × (tag ≡ byte ∷ rest.now)
 IsNextStep pattern tag Other = Glob pattern tag → ⊥
 
 -- the text ends with `end`

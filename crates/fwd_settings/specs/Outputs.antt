@@ -70,7 +70,8 @@ options_of properties = record {
   fields = header_fields properties;
 }
 
--- by default events are written as lines of JSON to a stream, with the tag to a file, and as they are stored in a request
+-- by default events are written as lines of JSON to a stream, with the tag to a file, and as they are stored
+-- in a request
 abbrev pub output_kind : OutputPlugin → List Property → OutputKind
 output_kind plugin.Stdout properties =
     output.Stdout (unwrap_or (form_at key.Format properties) form.JsonLines)

@@ -53,10 +53,13 @@ abbrev mutual
   val_from (gcons (gnum (suc (suc (suc zero)))) g) = bin (bytes_from g)
   val_from (gcons (gnum (suc (suc (suc (suc zero))))) (gnum n)) = float32 n
   val_from (gcons (gnum (suc (suc (suc (suc (suc zero)))))) (gnum n)) = float64 n
-  val_from (gcons (gnum (suc (suc (suc (suc (suc (suc zero))))))) (gcons (gnum t) g)) = ext (pos t) (bytes_from g)
-  val_from (gcons (gnum (suc (suc (suc (suc (suc (suc (suc zero)))))))) (gcons (gnum t) g)) = ext (negsuc t) (bytes_from g)
+  val_from (gcons (gnum (suc (suc (suc (suc (suc (suc zero))))))) (gcons (gnum t) g)) =
+      ext (pos t) (bytes_from g)
+  val_from (gcons (gnum (suc (suc (suc (suc (suc (suc (suc zero)))))))) (gcons (gnum t) g)) =
+      ext (negsuc t) (bytes_from g)
   val_from (gcons (gnum (suc (suc (suc (suc (suc (suc (suc (suc zero))))))))) g) = list (vals_from g)
-  val_from (gcons (gnum (suc (suc (suc (suc (suc (suc (suc (suc (suc zero)))))))))) g) = mapping (entries_from g)
+  val_from (gcons (gnum (suc (suc (suc (suc (suc (suc (suc (suc (suc zero)))))))))) g) =
+      mapping (entries_from g)
   val_from _ = nil
 
   vals_from : Gv → Vals

@@ -26,9 +26,14 @@ pub deep_below_weights : (vs : List Value) → most deep-Value vs ≤ weights (v
 deep_below_weights [] = omega arith
 deep_below_weights (v ∷ vs) = omega (arith, deep_below_weights vs, deep_below_weight v)
 
-pub deep_below_entry_weights : (es : List (Value × Value)) → most (λ p. max (deep-Value p.0) (max (deep-Value p.1) 0)) es ≤ entry_weights (entries_of (map pair_of es))
+pub deep_below_entry_weights : (es : List (Value × Value))
+    → most (λ p. max (deep-Value p.0) (max (deep-Value p.1) 0)) es
+    ≤ entry_weights (entries_of (map pair_of es))
 deep_below_entry_weights [] = omega arith
-deep_below_entry_weights (e ∷ es) = omega (arith, deep_below_entry_weights es, deep_below_weight e.0, deep_below_weight e.1)
+deep_below_entry_weights (e ∷ es) =
+    omega (arith, deep_below_entry_weights es, deep_below_weight e.0, deep_below_weight e.1)
 
-pub pairs_below : (es : List (Value × Value)) → max (most (λ p. max (deep-Value p.0) (max (deep-Value p.1) 0)) es) 0 ≤ entry_weights (entries_of (map pair_of es))
+pub pairs_below : (es : List (Value × Value))
+    → max (most (λ p. max (deep-Value p.0) (max (deep-Value p.1) 0)) es) 0
+    ≤ entry_weights (entries_of (map pair_of es))
 pairs_below es = omega (arith, deep_below_entry_weights es)

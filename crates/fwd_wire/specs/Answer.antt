@@ -27,6 +27,8 @@ FrontSays b n v = (x : Val) × EncodesPrefix x n (front b) × MessageSays x v
 abbrev pub IsAnswer : List ℕ → Answer → Type 0
 IsAnswer b (message s n) = FrontSays b n (says s)
 IsAnswer b short = (length b < longest_message) × IsProperPrefix b
-IsAnswer b (not_a_message at) = ((n : ℕ) × FrontSays b n no_message × (at ≡ 0)) ⊎ (FailsAtForm IsUnused at (front b) ⊎ FailsAtForm IsListOrMap at (front b))
+IsAnswer b (not_a_message at) =
+    ((n : ℕ) × FrontSays b n no_message × (at ≡ 0))
+    ⊎ (FailsAtForm IsUnused at (front b) ⊎ FailsAtForm IsListOrMap at (front b))
 IsAnswer b is_compressed = (n : ℕ) × FrontSays b n compressed
 IsAnswer b too_long = (longest_message ≤ length b) × IsProperPrefix (front b)

@@ -38,7 +38,8 @@ batch_verdict tag chunk None = no_message
 -- what the parts of a value say
 abbrev pub verdict_of : Parts → Verdict
 verdict_of empty = says nothing
-verdict_of (tagged t c o) = if is_plain o then batch_verdict t (option_value o chunk_key) (carried_events c) else compressed
+verdict_of (tagged t c o) =
+    if is_plain o then batch_verdict t (option_value o chunk_key) (carried_events c) else compressed
 verdict_of unfit = no_message
 
 abbrev pub value_answer : ℕ → Verdict → Answer

@@ -42,7 +42,9 @@ option_val n id = mapping (entry (text size_key) (whole (pos n)) (chunk_entry id
 
 -- "PackedForward Mode": the tag, the entries, the option
 abbrev pub forward_val : List ℕ → List Event → Option (List ℕ) → Bool → Val
-forward_val tag es id whole_time = list (val (text tag) (val (bin (entry_bytes whole_time es)) (val (option_val (length es) id) no_vals)))
+forward_val tag es id whole_time =
+    list
+    (val (text tag) (val (bin (entry_bytes whole_time es)) (val (option_val (length es) id) no_vals)))
 
 -- the bytes of the message
 abbrev pub forward_payload : List ℕ → List Event → Option (List ℕ) → Bool → List ℕ
