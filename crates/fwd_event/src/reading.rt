@@ -253,7 +253,10 @@ fn events_unless_memory(events: Events, at: u64, error: EventErr) -> Result<(Eve
 {
     match error {
         EventErr::Memory => Err(Memory),
-        _ => Ok((events, at)),
+        EventErr::Short
+        | EventErr::Unused { .. }
+        | EventErr::TooDeep { .. }
+        | EventErr::NotAnEvent { .. } => Ok((events, at)),
     }
 }
 
