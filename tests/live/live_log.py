@@ -6,6 +6,7 @@ import re
 import shutil
 import signal
 import socket
+import struct
 import subprocess
 import tempfile
 import threading
@@ -130,6 +131,31 @@ def given_up(room):
     refused = told(log, "error", "output http.0", "given up")
     holds(len(refused) == 1 and "400" in refused[0] and len(refused[0]) < 400, f"the refusal isn't told: {log}")
     holds(b"\x1b" not in program.stderr(), "a control byte of a reply is in the log")
+
+
+def refused_beside_a_reset(room):
+    """One request is refused while the connection of another is reset: the log has the status for the chunk that is given up."""
+    port, other = free_port(), free_port()
+    with socket.create_server((HOST, 0)) as server:
+        server.settimeout(20)
+        text = configuration(port, server.getsockname()[1], plugin="http").replace("Grace 20", "Grace 1")
+        text += f"[INPUT]\n    Name tcp\n    Listen 127.0.0.1\n    Port {other}\n"
+        with Program(room, "refused_beside_a_reset", text, blocks=BLOCKED) as program:
+            program.send(port, b'{"a":1}\n')
+            program.send(other, b'{"b":1}\n')
+            links = [server.accept()[0] for _ in range(2)]
+            for link in links:
+                link.recv(4_096)
+            links[0].sendall(b"HTTP/1.1 404 Not Found\r\nContent-Length: 0\r\n\r\n")
+            links[1].setsockopt(socket.SOL_SOCKET, socket.SO_LINGER, struct.pack("ii", 1, 0))
+            links[1].close()
+            until(lambda: b"peer refused them" in program.stderr(), "the chunk is given up", 10)
+            program.process.send_signal(signal.SIGTERM)
+            program.end()
+            log = lines_of(program.stderr())
+        links[0].close()
+    refused = told(log, "error", "output http.0", "given up, as the peer refused them")
+    holds(len(refused) == 1 and "404" in refused[0], f"the refusal isn't told: {log}")
 
 
 REFUSALS = [
@@ -406,4 +432,4 @@ def slow_askers_are_closed(room):
     collector.close()
 
 
-CASES = (logged, quiet, given_up, refused, unread_values, log_file_that_cannot_be_opened, asked, hostile_askers, slow_askers_are_closed)
+CASES = (logged, quiet, given_up, refused_beside_a_reset, refused, unread_values, log_file_that_cannot_be_opened, asked, hostile_askers, slow_askers_are_closed)

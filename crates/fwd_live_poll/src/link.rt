@@ -164,8 +164,8 @@ impl Peer {
         }
     }
 
-    /// Keeps the beginning of an HTTP reply whose status isn't one of success, as the reason why a delivery of
-    /// the output failed.
+    /// Keeps the beginning of an HTTP reply whose status isn't one of success, as the refusal of a delivery of
+    /// the output.
     fn note_refusal(&mut self, journal: &Journal, bytes: &[u8]) {
         let is_first = self.bytes_received == bytes.len() as u64;
         if !(is_first && is_refusal(bytes)) && self.refusal.is_empty() {
@@ -175,7 +175,7 @@ impl Peer {
             .saturating_sub(self.refusal.len())
             .min(bytes.len());
         if room != 0 && self.refusal.extend_from_slice(&bytes[..room]).is_ok() {
-            journal.note_reason(self.output, self.refusal.as_slice());
+            journal.note_refusal(self.output, self.refusal.as_slice());
         }
     }
 

@@ -4,11 +4,11 @@ use crate::board::{Address, Pages};
 use crate::destination::{Destination, open_at_end};
 use crate::series::{AllSeries, Topic};
 use crate::source::{Names, Source};
+use crate::texts::Texts;
 use crate::{Level, limit, line_of};
 use fwd_base::{Bytes, Memory, OutputId};
 use std::alloc::Global;
 use std::cell::{Cell, RefCell};
-use std::collections::HashMap;
 use std::fmt::Display;
 use std::io;
 use std::time::{Duration, Instant, SystemTime, UNIX_EPOCH};
@@ -25,8 +25,10 @@ pub struct Journal {
     destination: RefCell<Destination>,
     names: RefCell<Names>,
     series: RefCell<AllSeries>,
-    /// The last reason for which a delivery failed, by output.
-    reasons: RefCell<HashMap<u32, Bytes>>,
+    /// Why a delivery of an output failed last.
+    reasons: Texts,
+    /// How a peer of an output refused last, which no other reason replaces.
+    refusals: Texts,
     /// The time of creation, if there is a clock.
     begun: Option<Instant>,
     /// Whether somebody waits for pages.
@@ -55,7 +57,8 @@ impl Journal {
             destination: RefCell::new(Destination::Stderr),
             names: RefCell::new(Names::new(alloc)),
             series: RefCell::new(AllSeries::new(alloc)),
-            reasons: RefCell::new(HashMap::new(alloc)),
+            reasons: Texts::new(alloc),
+            refusals: Texts::new(alloc),
             begun: Instant::now(&rt).ok(),
             asked: Cell::new(false),
             pages: RefCell::new(None),
@@ -105,26 +108,30 @@ impl Journal {
 
     /// Notes why a delivery of an output failed. The next line about the output's retries tells it.
     pub fn note_reason(&self, output: OutputId, reason: &[u8]) {
-        if let Ok(mut reasons) = self.reasons.try_borrow_mut() {
-            if let Ok(reason) = Bytes::from_slice(self.rt.alloc(), reason) {
-                let _ = reasons.insert(output.0, reason);
-            }
-        }
+        self.reasons.keep(self.rt.alloc(), output, reason);
+    }
+
+    /// Notes that a delivery of an output failed as the peer refused it, in these words. Reasons that are noted
+    /// later leave them.
+    pub fn note_refusal(&self, output: OutputId, text: &[u8]) {
+        self.note_reason(output, text);
+        self.refusals.keep(self.rt.alloc(), output, text);
     }
 
     /// Returns a copy of the reason that was noted last for an output.
     pub fn reason_of(&self, output: OutputId) -> Option<Bytes> {
-        match self.reasons.try_borrow() {
-            Ok(reasons) => reasons.get(&output.0)?.try_clone(self.rt.alloc()).ok(),
-            Err(_) => None,
-        }
+        self.reasons.of(self.rt.alloc(), output)
     }
 
-    /// Forgets why a delivery of an output failed, as one has succeeded.
+    /// Returns a copy of the refusal that was noted last for an output.
+    pub fn refusal_of(&self, output: OutputId) -> Option<Bytes> {
+        self.refusals.of(self.rt.alloc(), output)
+    }
+
+    /// Forgets why deliveries of an output failed, as one has succeeded.
     pub fn forget_reason(&self, output: OutputId) {
-        if let Ok(mut reasons) = self.reasons.try_borrow_mut() {
-            let _ = reasons.remove(&output.0);
-        }
+        self.reasons.forget(output);
+        self.refusals.forget(output);
     }
 
     /// Returns whether the limiter of a series allows a line now.

@@ -15,6 +15,7 @@ mod limiter;
 mod line;
 mod series;
 mod source;
+mod texts;
 
 pub use board::{Address, Pages};
 pub use journal::Journal;

@@ -84,6 +84,12 @@ fn number_of(index: usize) -> u32 {
     u32::try_from(index).unwrap_or(u32::MAX)
 }
 
+/// Returns a text, or its readable part, after a colon.
+fn after_colon(alloc: Global, text: &[u8]) -> Result<String, Memory> {
+    let text = String::from_utf8_lossy(alloc, text)?;
+    Ok(format!(in alloc; ": {text}")?)
+}
+
 fn bit_of(output: u32) -> u64 {
     1u64.checked_shl(output).unwrap_or(0)
 }
@@ -110,11 +116,17 @@ impl<'j> Watcher<'j> {
     fn reason(&self, output: OutputId) -> Result<String, Memory> {
         let alloc = self.journal.alloc();
         match self.journal.reason_of(output) {
-            Some(reason) => {
-                let reason = String::from_utf8_lossy(alloc, reason.as_slice())?;
-                Ok(format!(in alloc; ": {reason}")?)
-            }
+            Some(reason) => after_colon(alloc, reason.as_slice()),
             None => Ok(String::new(alloc)),
+        }
+    }
+
+    /// Returns how the peer of an output refused last, after a colon. If no device said how, returns why the last
+    /// delivery failed.
+    fn refusal(&self, output: OutputId) -> Result<String, Memory> {
+        match self.journal.refusal_of(output) {
+            Some(refusal) => after_colon(self.journal.alloc(), refusal.as_slice()),
+            None => self.reason(output),
         }
     }
 
@@ -154,15 +166,16 @@ impl<'j> Watcher<'j> {
     /// Tells of chunks that the output gives up.
     fn tell_given_up(&self, output: OutputId, risen: Risen) -> Result<(), Memory> {
         let source = Source::Output(output);
-        let reason = self.reason(output)?;
         let (refused, spent, evicted) = (risen.refused, risen.spent, risen.evicted);
         if 0 < refused {
+            let refusal = self.refusal(output)?;
             let text = format_args!(
-                "{refused} chunks are given up, as the peer refused them{reason}"
+                "{refused} chunks are given up, as the peer refused them{refusal}"
             );
             self.tell(Level::Error, source, Topic::Refusal, &text);
         }
         if 0 < spent {
+            let reason = self.reason(output)?;
             let text = format_args!(
                 "{spent} chunks are given up, as their retries are used up{reason}"
             );
