@@ -251,6 +251,8 @@ def a_disk_is_full_for_a_while(room):
             report = program.stdout().decode()
         collector.close()
         holds(status == 0, f"status {status}: {program.stderr().decode(errors='replace')}")
+        why = rb"inputs are held back, as a write failed: full/chunks/\S+ can't be (created|written): No space left on device"
+        holds(re.search(why, program.stderr()), f"the log doesn't say why inputs are held back: {program.stderr()!r}")
         found = arrived(collector)
         holds(set(acknowledged) <= found["n"], "an acknowledged message is lost")
         refused = sum(int(one) for one in re.findall(r"refused ([0-9]+)", report))
@@ -261,8 +263,32 @@ def a_disk_is_full_for_a_while(room):
         subprocess.run(["umount", "-l", f"{folder}/full"])
 
 
+def a_run_starts_without_room(room):
+    """A run that finds less room than its reserve has says so, and takes messages once there is room."""
+    port = free_port()
+    folder = os.path.join(room.path, "without_room")
+    os.mkdir(folder)
+    if not mounted(f"{folder}/full"):
+        print("live a_run_starts_without_room: skipped, as no file system can be mounted here", flush=True)
+        return
+    try:
+        filler, room_left = f"{folder}/full/filler", os.statvfs(f"{folder}/full")
+        with open(filler, "wb") as file:
+            file.write(bytes(room_left.f_bavail * room_left.f_frsize - 1_000_000))
+        with Program(room, "without_room", stored(port, free_port(), "full/chunks")) as program:
+            why = rb"inputs are held back, as a write failed: full/chunks/\.lock can't be filled with the 4194304 bytes of the reserve: No space left on device"
+            until(lambda: re.search(why, program.stderr()), "the log says why inputs are held back", 10)
+            os.remove(filler)
+            until(lambda: b"inputs go on, as there is room again" in program.stderr(), "inputs go on", 10)
+            with program.connect(port) as link:
+                send_message(link, 1)
+            killed(program)
+    finally:
+        subprocess.run(["umount", "-l", f"{folder}/full"])
+
+
 def chunks_in_full(program):
     return [name for _, _, names in os.walk(program.path("full/chunks")) for name in names if name.endswith(".flb")]
 
 
-CASES = (unwritable_folder, a_folder_has_one_run, a_busy_folder_is_listed, a_listing_makes_nothing, files_are_private, a_disk_is_full_for_a_while)
+CASES = (unwritable_folder, a_folder_has_one_run, a_busy_folder_is_listed, a_listing_makes_nothing, files_are_private, a_disk_is_full_for_a_while, a_run_starts_without_room)

@@ -1,5 +1,6 @@
 //! What the log says of failed calls on files.
 
+use fwd_live_poll::Shared;
 use fwd_log::{Journal, Level, Source, Topic};
 use std::io::{self, ErrorKind};
 
@@ -37,6 +38,23 @@ pub fn tell<T>(journal: &Journal, what: &str, name: &[u8], outcome: &io::Result<
 pub fn told<T>(journal: &Journal, what: &str, name: &[u8], outcome: io::Result<T>) -> Option<T> {
     tell(journal, what, name, &outcome);
     outcome.ok()
+}
+
+/// Returns what a call gave that writes; `None` if it failed. The log says so then, and inputs are held back.
+pub fn told_write<T>(
+    shared: &Shared,
+    what: &str,
+    name: &[u8],
+    outcome: io::Result<T>,
+) -> Option<T> {
+    match outcome {
+        Ok(value) => Some(value),
+        Err(error) => {
+            write_failure(&shared.journal, what, name, &error);
+            shared.note_failure(what, name, &error);
+            None
+        }
+    }
 }
 
 /// Writes a line if a followed file, or a file of the configuration, can't be read.

@@ -16,7 +16,6 @@ use std::alloc::Global;
 #[derive(Drop)]
 pub struct FolderDisk<'a> {
     folders: Folders<'a>,
-    shared: &'a Shared,
     faults: u64,
     calls: DiskCalls,
 }
@@ -29,16 +28,8 @@ impl<'a> FolderDisk<'a> {
     {
         FolderDisk {
             folders: Folders::new(rt, shared, access),
-            shared,
             faults: 0,
             calls: DiskCalls::new(),
-        }
-    }
-
-    /// Notes a write that failed, so that inputs are held back.
-    fn note_write(&self, answer: Option<()>) {
-        if answer.is_none() {
-            self.shared.note_failure();
         }
     }
 
@@ -65,21 +56,18 @@ impl<'a> Disk for FolderDisk<'a> {
 
     fn place(&mut self, name: &[u8], bytes: &[u8]) -> Result<(), DiskErr> {
         let placed = self.folders.place(name, bytes)?;
-        self.note_write(placed);
         self.calls = self.calls.then(&(name, bytes, placed));
         self.result_of(placed)
     }
 
     fn write_at(&mut self, name: &[u8], at: u64, bytes: &[u8]) -> Result<(), DiskErr> {
         let written = self.folders.write_at(name, at, bytes)?;
-        self.note_write(written);
         self.calls = self.calls.then(&(name, at, bytes, written));
         self.result_of(written)
     }
 
     fn sync(&mut self, name: &[u8]) -> Result<(), DiskErr> {
         let synced = self.folders.sync(name)?;
-        self.note_write(synced);
         self.calls = self.calls.then(&(name, synced));
         self.result_of(synced)
     }

@@ -4,7 +4,7 @@ ghost use Rattle.std.specs.Prelude.{◌≤◌, All, IfOk, IfSome, length};
 ghost use Rattle.fwd_outside.specs.Disk.{IsFileName, IsListing};
 
 use crate::answer::answer_of;
-use crate::disk_log::{tell, tell_unlocked, told};
+use crate::disk_log::{tell, tell_unlocked, told, told_write};
 use crate::file_name::{TEMPORARY, complete_name, listing};
 use crate::open_files::OpenFiles;
 use crate::storage_root::{Access, FILE_MODE, FOLDER_MODE, is_full, own_folder};
@@ -269,7 +269,7 @@ impl<'a> Folders<'a> {
     /// Creates a file. If there is no room for it, it gets that of the reserve.
     fn place_with_reserve(&mut self, name: &[u8], part: &[u8], bytes: &[u8]) -> io::Result<File> {
         match self.place_in_folder(name, part, bytes) {
-            Err(error) if is_full(&error) && self.shared.release() => {
+            Err(error) if is_full(&error) && self.shared.release("created", name, &error) => {
                 self.place_in_folder(name, part, bytes)
             }
             outcome => outcome,
@@ -283,21 +283,14 @@ impl<'a> Folders<'a> {
         let name = Bytes::from_slice(self.rt.alloc(), name)?;
         // What is open under this name won't be the file of the name any more.
         self.files.close(name.as_slice());
-        match self.place_with_reserve(name.as_slice(), part.as_slice(), bytes) {
-            Ok(file) => {
+        let placed = self.place_with_reserve(name.as_slice(), part.as_slice(), bytes);
+        match told_write(self.shared, "created", name.as_slice(), placed) {
+            Some(file) => {
                 // If there is no memory to keep it open, the next call on it opens it.
                 let _ = self.files.keep(name, file);
                 Ok(Some(()))
             }
-            Err(error) => {
-                tell::<()>(
-                    &self.shared.journal,
-                    "created",
-                    name.as_slice(),
-                    &Err(error),
-                );
-                Ok(None)
-            }
+            None => Ok(None),
         }
     }
 
@@ -316,7 +309,7 @@ impl<'a> Folders<'a> {
     /// Returns a file to write to. `None` if it can't be opened.
     fn open(&mut self, name: &[u8]) -> Result<Option<&File>, Memory> {
         let opened = self.ensure_open(name)?;
-        match told(&self.shared.journal, "opened", name, opened) {
+        match told_write(self.shared, "opened", name, opened) {
             Some(()) => Ok(self.files.get(name)),
             None => Ok(None),
         }
@@ -330,26 +323,29 @@ impl<'a> Folders<'a> {
             return Ok(None);
         };
         let written = match write_to(file, at, bytes) {
-            Err(error) if is_full(&error) && shared.release() => write_to(file, at, bytes),
+            Err(error) if is_full(&error) && shared.release("written", name, &error) => {
+                write_to(file, at, bytes)
+            }
             outcome => outcome,
         };
-        Ok(told(&shared.journal, "written", name, written))
+        Ok(told_write(shared, "written", name, written))
     }
 
     /// Syncs the bytes of a file and its length by fdatasync. The rest isn't needed to read them, and the file's
     /// name was synced when it was placed or listed. Returns `None` if the system refuses, now or at an earlier
     /// sync of this file.
     pub fn sync(&mut self, name: &[u8]) -> Result<Option<()>, Memory> {
+        let shared = self.shared;
         if has_name(&self.unsynced, name) {
+            shared.note_failure("synced", name, &"an earlier sync of it failed");
             return Ok(None);
         }
-        let shared = self.shared;
         let kept = Bytes::from_slice(self.rt.alloc(), name)?;
         self.unsynced.reserve(1)?;
         let Some(file) = self.open(name)? else {
             return Ok(None);
         };
-        let answer = told(&shared.journal, "synced", name, file.sync_data());
+        let answer = told_write(shared, "synced", name, file.sync_data());
         if answer.is_none() {
             self.unsynced.push(kept)?;
         }

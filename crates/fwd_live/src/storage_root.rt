@@ -21,13 +21,14 @@ pub enum Access {
     Reader,
 }
 
-/// Opens the lock file of a folder, which it creates if it is missing, and locks it. Fails if another run
-/// has locked it.
-fn lock_folder(rt: &HostRuntime, folder: &str) -> io::Result<File> {
-    let path = path_in(rt.alloc(), folder, LOCK)?;
+/// What the lock file can't be if the room for the reserve is missing.
+const FILLED: &str = "filled with the 4194304 bytes of the reserve";
+
+/// Opens a lock file, which it creates if it is missing, and locks it. Fails if another run has locked it.
+fn lock_file(rt: &HostRuntime, path: &str) -> io::Result<File> {
     let mut how = OpenOptions::new();
     how.write(true).create(true).mode(FILE_MODE);
-    let file = how.open(rt, path.as_str())?;
+    let file = how.open(rt, path)?;
     file.try_lock()?;
     Ok(file)
 }
@@ -35,11 +36,13 @@ fn lock_folder(rt: &HostRuntime, folder: &str) -> io::Result<File> {
 /// Locks a folder until the end of the run, and fills its reserve. If only the room for it is missing, the run
 /// begins with its inputs held back, so that it can deliver what is there.
 pub fn own_folder(rt: &HostRuntime, shared: &Shared, folder: &str) -> io::Result<()> {
-    let file = lock_folder(rt, folder)?;
-    match fill_reserve(&file) {
-        Ok(()) => {}
-        Err(error) if is_full(&error) => shared.note_failure(),
-        Err(error) => return Err(error),
+    let path = path_in(rt.alloc(), folder, LOCK)?;
+    let file = lock_file(rt, path.as_str())?;
+    if let Err(error) = fill_reserve(&file) {
+        if !is_full(&error) {
+            return Err(error);
+        }
+        shared.note_failure(FILLED, path.as_bytes(), &error);
     }
     shared.keep_lock(rt.alloc(), file)
 }

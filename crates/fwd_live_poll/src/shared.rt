@@ -3,6 +3,7 @@
 use fwd_log::{Journal, Level, Source, Topic};
 use std::alloc::Global;
 use std::cell::Cell;
+use std::fmt::Display;
 use std::fs::File;
 use std::io::{self, ErrorKind};
 use std::os::unix::fs::FileExt;
@@ -53,16 +54,22 @@ impl Shared {
         Ok(())
     }
 
-    /// Notes a write that failed, so that inputs are held back.
-    pub fn note_failure(&self) {
-        if !self.disk_failed.replace(true) {
-            self.tell(Level::Warn, "inputs are held back, as a write failed");
+    /// Notes what can't be done with a file, and why, so that inputs are held back.
+    pub fn note_failure(&self, what: &str, name: &[u8], reason: &impl Display) {
+        if self.disk_failed.replace(true) {
+            return;
+        }
+        if let Ok(name) = String::from_utf8_lossy(self.journal.alloc(), name) {
+            let text = format_args!(
+                "inputs are held back, as a write failed: {name} can't be {what}: {reason}"
+            );
+            self.tell(Level::Warn, &text);
         }
     }
 
     /// Gives the room of the reserve to a write that failed, which is noted. Returns whether there was any.
-    pub fn release(&self) -> bool {
-        self.note_failure();
+    pub fn release(&self, what: &str, name: &[u8], reason: &impl Display) -> bool {
+        self.note_failure(what, name, reason);
         match self.lock_file.get() {
             Some(file) => matches!(empty_reserve(file), Ok(true)),
             None => false,
@@ -76,14 +83,13 @@ impl Shared {
             None => true,
         };
         if filled && self.disk_failed.replace(false) {
-            self.tell(Level::Info, "inputs go on, as there is room again");
+            self.tell(Level::Info, &"inputs go on, as there is room again");
         }
     }
 
-    fn tell(&self, level: Level, text: &str) {
-        let text = format_args!("{text}");
+    fn tell(&self, level: Level, text: &impl Display) {
         self.journal
-            .write(level, Source::Storage, Topic::Pause, &text);
+            .write(level, Source::Storage, Topic::Pause, text);
     }
 }
 

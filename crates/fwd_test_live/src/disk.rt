@@ -187,9 +187,14 @@ fn a_folder_has_one_owner(rt: HostRuntime) {
     assert!(rt; first && !second && reader && private && !shared.disk_failed.get());
 }
 
+/// Whether a write that finds the disk full gets the room of the reserve.
+fn is_released(shared: &Shared) -> bool {
+    shared.release("written", b"x", &"no room")
+}
+
 fn is_lent(rt: HostRuntime, shared: &Shared) -> bool {
     let full = has_length(rt, RESERVE, 4_194_304);
-    let lent = shared.release() && shared.disk_failed.get() && !shared.release();
+    let lent = is_released(shared) && shared.disk_failed.get() && !is_released(shared);
     let empty = has_length(rt, RESERVE, 0);
     shared.probe();
     full && lent && empty && !shared.disk_failed.get() && has_length(rt, RESERVE, 4_194_304)
