@@ -122,7 +122,7 @@ def given_up(room):
     port = free_port()
     with Program(room, "given_up", configuration(port, server.server_port, plugin="http", limit="5"), blocks=BLOCKED) as program:
         program.send(port, b'{"a":1}\n')
-        until(lambda: b"peer refused them" in program.stderr(), "the chunk is given up", 20)
+        until(lambda: b"as the peer refused it" in program.stderr(), "the chunk is given up", 20)
         program.process.send_signal(signal.SIGTERM)
         program.end()
         log = lines_of(program.stderr())
@@ -149,12 +149,12 @@ def refused_beside_a_reset(room):
             links[0].sendall(b"HTTP/1.1 404 Not Found\r\nContent-Length: 0\r\n\r\n")
             links[1].setsockopt(socket.SOL_SOCKET, socket.SO_LINGER, struct.pack("ii", 1, 0))
             links[1].close()
-            until(lambda: b"peer refused them" in program.stderr(), "the chunk is given up", 10)
+            until(lambda: b"as the peer refused it" in program.stderr(), "the chunk is given up", 10)
             program.process.send_signal(signal.SIGTERM)
             program.end()
             log = lines_of(program.stderr())
         links[0].close()
-    refused = told(log, "error", "output http.0", "given up, as the peer refused them")
+    refused = told(log, "error", "output http.0", "1 chunk is given up, as the peer refused it: HTTP/1.1 404")
     holds(len(refused) == 1 and "404" in refused[0], f"the refusal isn't told: {log}")
 
 

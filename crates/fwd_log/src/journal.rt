@@ -5,7 +5,7 @@ use crate::destination::{Destination, open_at_end};
 use crate::series::{AllSeries, Topic};
 use crate::source::{Names, Source};
 use crate::texts::Texts;
-use crate::{Level, limit, line_of};
+use crate::{Level, limit, line_of, words_for};
 use fwd_base::{Bytes, Memory, OutputId};
 use std::alloc::Global;
 use std::cell::{Cell, RefCell};
@@ -228,8 +228,10 @@ impl Journal {
                 return;
             };
             let (more, topic) = (series.limiter.passed_over, series.topic.word());
+            let lines = words_for(more, "line", "lines");
+            let were = words_for(more, "was", "were");
             if let Ok(text) = format!(in self.rt.alloc();
-                "{more} more lines on {topic} were passed over"
+                "{more} more {lines} on {topic} {were} passed over"
             ) {
                 let _ = self.put(Level::Info, series.source, text.as_bytes());
             }

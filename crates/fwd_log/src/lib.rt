@@ -16,6 +16,7 @@ mod line;
 mod series;
 mod source;
 mod texts;
+mod words;
 
 pub use board::{Address, Pages};
 pub use journal::Journal;
@@ -26,3 +27,4 @@ pub use limiter::{
 pub use line::line_of;
 pub use series::Topic;
 pub use source::{Names as SourceNames, Source};
+pub use words::words_for;

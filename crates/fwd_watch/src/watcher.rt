@@ -8,7 +8,7 @@ use crate::unread::unread_text;
 use crate::{Shown, Watch};
 use fwd_base::{Bytes, ChunkId, InputId, Memory, Names, OutputId, is_set};
 use fwd_config::{ConfigKind, Place, Section, Sections};
-use fwd_log::{Journal, Level, Source, SourceNames, Topic};
+use fwd_log::{Journal, Level, Source, SourceNames, Topic, words_for};
 use fwd_log_settings::{LogSettings, log_settings};
 use fwd_outside::Home;
 use fwd_retry::Timer;
@@ -138,27 +138,32 @@ impl<'j> Watcher<'j> {
         }
         let reason = self.reason(output)?;
         let count = risen.retried;
+        let chunks = words_for(count, "chunk", "chunks");
         let now = self.journal.now();
         match next_try(table, output, now) {
             Some(timer) => {
                 let seconds = timer.due.saturating_sub(now).saturating_add(999) / 1_000;
                 let chunk = timer.chunk.0;
                 let tries = table.tries(timer.chunk, output);
+                let times = words_for(tries, "try", "tries");
                 self.tell(
                     Level::Warn,
                     source,
                     Topic::Retry,
                     &format_args!(
-                        "{count} chunks can't be delivered{reason}; next try in {seconds} s (chunk {chunk}, {tries} tries so far)"
+                        "{count} {chunks} can't be delivered{reason}; next try in {seconds} s (chunk {chunk}, {tries} {times} so far)"
                     ),
                 );
             }
-            None => self.tell(
-                Level::Warn,
-                source,
-                Topic::Retry,
-                &format_args!("{count} chunks can't be delivered{reason}; they are tried again"),
-            ),
+            None => {
+                let again = words_for(count, "it is tried again", "they are tried again");
+                self.tell(
+                    Level::Warn,
+                    source,
+                    Topic::Retry,
+                    &format_args!("{count} {chunks} can't be delivered{reason}; {again}"),
+                );
+            }
         }
         Ok(())
     }
@@ -169,22 +174,27 @@ impl<'j> Watcher<'j> {
         let (refused, spent, evicted) = (risen.refused, risen.spent, risen.evicted);
         if 0 < refused {
             let refusal = self.refusal(output)?;
-            let text = format_args!(
-                "{refused} chunks are given up, as the peer refused them{refusal}"
+            let what = words_for(
+                refused,
+                "chunk is given up, as the peer refused it",
+                "chunks are given up, as the peer refused them",
             );
+            let text = format_args!("{refused} {what}{refusal}");
             self.tell(Level::Error, source, Topic::Refusal, &text);
         }
         if 0 < spent {
             let reason = self.reason(output)?;
-            let text = format_args!(
-                "{spent} chunks are given up, as their retries are used up{reason}"
+            let what = words_for(
+                spent,
+                "chunk is given up, as its retries are used up",
+                "chunks are given up, as their retries are used up",
             );
+            let text = format_args!("{spent} {what}{reason}");
             self.tell(Level::Error, source, Topic::GivenUp, &text);
         }
         if 0 < evicted {
-            let text = format_args!(
-                "{evicted} chunks are given up, as storage.total_limit_size is reached"
-            );
+            let what = words_for(evicted, "chunk is given up", "chunks are given up");
+            let text = format_args!("{evicted} {what}, as storage.total_limit_size is reached");
             self.tell(Level::Error, source, Topic::GivenUp, &text);
         }
         Ok(())
@@ -244,7 +254,12 @@ impl<'j> Watcher<'j> {
         let refused = now.refused.saturating_sub(before.refused);
         if 0 < refused {
             let source = Source::Input(InputId(number_of(index)));
-            let text = format_args!("{refused} batches or messages are refused");
+            let what = words_for(
+                refused,
+                "batch or message is refused",
+                "batches or messages are refused",
+            );
+            let text = format_args!("{refused} {what}");
             self.tell(Level::Warn, source, Topic::Batch, &text);
         }
     }
@@ -278,8 +293,9 @@ impl<'j> Watcher<'j> {
         }
         self.is_stopped = true;
         let left = shown.table.len();
+        let chunks = words_for(left, "chunk is", "chunks are");
         let text = format_args!(
-            "stops: inputs are closed, and {left} chunks are waited for until Grace is over"
+            "stops: inputs are closed, and {left} {chunks} waited for until Grace is over"
         );
         self.tell(Level::Info, Source::Engine, Topic::Stop, &text);
     }
@@ -289,7 +305,8 @@ impl<'j> Watcher<'j> {
         let risen = damaged.saturating_sub(self.damaged);
         self.damaged = damaged;
         if 0 < risen {
-            let text = format_args!("{risen} reads of chunk files found damaged content");
+            let reads = words_for(risen, "read of a chunk file", "reads of chunk files");
+            let text = format_args!("{risen} {reads} found damaged content");
             self.tell(Level::Error, Source::Storage, Topic::File, &text);
         }
     }
@@ -310,8 +327,11 @@ impl<'j> Watcher<'j> {
     fn tell_loaded(&self, shown: Shown<'_>) {
         let (loaded, unrouted, left) = (shown.tally.loaded, shown.tally.unrouted, shown.tally.left);
         if 0 < loaded || 0 < unrouted || 0 < left {
+            let chunks = words_for(loaded, "chunk is", "chunks are");
+            let matches = words_for(unrouted, "matches", "match");
+            let files = words_for(left, "file is left as it is", "files are left as they are");
             let text = format_args!(
-                "{loaded} chunks are loaded; {unrouted} match no output, {left} files are left as they are"
+                "{loaded} {chunks} loaded; {unrouted} {matches} no output, {left} {files}"
             );
             self.tell(Level::Info, Source::Storage, Topic::Run, &text);
         }
@@ -320,21 +340,26 @@ impl<'j> Watcher<'j> {
     fn tell_left(&self, shown: Shown<'_>) {
         let left = left_in(shown.table);
         let (chunks, bytes, files) = (left.in_memory, left.bytes_in_memory, left.in_files);
+        let in_memory = words_for(chunks, "chunk in memory", "chunks in memory");
+        let dropped = words_for(chunks, "is dropped", "are dropped");
+        let in_files = words_for(
+            files,
+            "chunk in a file is left to the next run",
+            "chunks in files are left to the next run",
+        );
         if shown.stopped.is_none() {
             let text = format_args!(
-                "breaks off: {chunks} chunks in memory with {bytes} bytes are dropped, and {files} chunks in files are left to the next run"
+                "breaks off: {chunks} {in_memory} with {bytes} bytes {dropped}, and {files} {in_files}"
             );
             self.tell(Level::Error, Source::Engine, Topic::GivenUp, &text);
             return;
         }
         if 0 < chunks {
-            let text = format_args!(
-                "ends: {chunks} chunks in memory with {bytes} bytes are dropped"
-            );
+            let text = format_args!("ends: {chunks} {in_memory} with {bytes} bytes {dropped}");
             self.tell(Level::Warn, Source::Engine, Topic::GivenUp, &text);
         }
         if 0 < files {
-            let text = format_args!("ends: {files} chunks in files are left to the next run");
+            let text = format_args!("ends: {files} {in_files}");
             self.tell(Level::Warn, Source::Engine, Topic::Retry, &text);
         }
         if chunks == 0 && files == 0 {
@@ -386,8 +411,10 @@ impl<'j> Watcher<'j> {
     }
 
     fn tell_begun(&self, inputs: &Names, outputs: &Names) {
-        let (inputs, outputs) = (inputs.len(), outputs.len());
-        let text = format_args!("fuztreb begins with {inputs} inputs and {outputs} outputs");
+        let (inputs, outputs) = (inputs.len() as u64, outputs.len() as u64);
+        let reads = words_for(inputs, "input", "inputs");
+        let writes = words_for(outputs, "output", "outputs");
+        let text = format_args!("fuztreb begins with {inputs} {reads} and {outputs} {writes}");
         self.tell(Level::Info, Source::Engine, Topic::Run, &text);
     }
 }
