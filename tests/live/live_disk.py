@@ -97,6 +97,24 @@ def files_are_private(room):
         holds(all(modes[path] == "0o700" for path in folders) and all(modes[path] == "0o600" for path in files), f"the modes are {modes}")
 
 
+def an_output_has_another_name(room):
+    """Chunks name an output in their files. A run whose outputs have other names says so once."""
+    port, collector = free_port(), free_port()
+    with Program(room, "renamed", stored(port, collector)) as program:
+        with program.connect(port) as link:
+            send_message(link, 1)
+            send_message(link, 2)
+        killed(program)
+    other = free_port()
+    named = stored(other, collector).replace("Format json_lines", "Format json_lines\n    storage.id another")
+    with Program(room, "renamed", named) as program:
+        program.connect(other).close()
+        strangers = [line for line in program.stderr().decode().splitlines() if "that the configuration doesn't have" in line]
+        killed(program)
+    wanted = "[ warn] [storage] chunk files name outputs that the configuration doesn't have: tcp.0"
+    holds(len(strangers) == 1 and strangers[0].endswith(wanted), f"the log has {strangers}")
+
+
 FULL = """[SERVICE]
     Flush 1
     Grace 20
@@ -291,4 +309,4 @@ def chunks_in_full(program):
     return [name for _, _, names in os.walk(program.path("full/chunks")) for name in names if name.endswith(".flb")]
 
 
-CASES = (unwritable_folder, a_folder_has_one_run, a_busy_folder_is_listed, a_listing_makes_nothing, files_are_private, a_disk_is_full_for_a_while, a_run_starts_without_room)
+CASES = (unwritable_folder, a_folder_has_one_run, a_busy_folder_is_listed, a_listing_makes_nothing, files_are_private, an_output_has_another_name, a_disk_is_full_for_a_while, a_run_starts_without_room)

@@ -25,8 +25,8 @@ ghost use Rattle.fwd_engine.specs.declared.engine.EngineStop.TheVariants as stop
 
 use crate::{is_finished, step};
 use fwd_base::limits::LONGEST_WAIT;
-use fwd_base::{InputId, Memory};
-use fwd_engine_recovery::{LoadErr, load};
+use fwd_base::{InputId, Memory, Names};
+use fwd_engine_recovery::{LoadErr, load, strangers_of};
 use fwd_engine_settings::RunSettings;
 use fwd_engine_state::Parts;
 use fwd_outside::{Disk, Files, Happening, Loop};
@@ -248,6 +248,12 @@ impl Engine {
         ensures { result ≡ self.now.parts.state.damaged }
     {
         self.parts.state.damaged_reads()
+    }
+
+    /// Returns the names in recovered chunk files that stand for no output, at most 16, of an engine that has just
+    /// begun. They are for a watcher, and no clause speaks of them.
+    pub fn strangers(&self) -> Result<Names, Memory> {
+        strangers_of(self.alloc(), &self.run, &self.parts)
     }
 
     /// The number of ticks that were handled.

@@ -17,4 +17,4 @@ mod run_loop;
 pub use dispatch::step;
 pub use engine::{BeginErr, Engine, EngineStop, Turn};
 pub use run_end::{is_clock_tick, is_finished};
-pub use run_loop::{RunEnd, run, shown_of};
+pub use run_loop::{RunEnd, run, show_begun, shown_of};

@@ -16,7 +16,7 @@ ghost use Rattle.fwd_engine.specs.RunOutcome.{RunContinues, RunOutcome, heard_in
 ghost use Rattle.fwd_engine.specs.declared.run_loop.RunEnd.TheVariants as run_end;
 
 use crate::{Engine, EngineStop, Turn, is_clock_tick};
-use fwd_base::Memory;
+use fwd_base::{Memory, Names};
 use fwd_outside::{Begun, Disk, Ends, Files, Happening, Loop};
 use fwd_watch::{Shown, Watch};
 use std::thread::Threads;
@@ -40,6 +40,14 @@ pub fn shown_of(engine: &Engine) -> Shown<'_> {
         paused: engine.paused(),
         stopped: engine.stopped(),
         damaged: engine.damaged_reads(),
+    }
+}
+
+/// Shows an engine that has begun to the watcher. What the watcher does has no effect on the engine.
+pub fn show_begun(engine: &Engine, inputs: &Names, outputs: &Names, watch: &mut impl Watch) {
+    watch.begun(inputs, outputs, shown_of(engine));
+    if let Ok(names) = engine.strangers() {
+        watch.found_strangers(&names);
     }
 }
 

@@ -10,6 +10,8 @@ mod empty_parts;
 mod followed_inputs;
 mod pending_outputs;
 mod recovery;
+mod strangers;
 
 pub use fwd_backlog::LoadErr;
 pub use recovery::load;
+pub use strangers::strangers_of;

@@ -13,7 +13,7 @@ use fwd_chunk::Brief;
 use fwd_engine_settings::RunSettings;
 use fwd_engine_state::State;
 
-fn is_among(names: &Names, name: &[u8]) -> bool
+pub fn is_among(names: &Names, name: &[u8]) -> bool
     ensures { result ≡ list_any (λ other. bytes_eq other name.now) names.now }
 {
     names

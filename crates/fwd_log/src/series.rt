@@ -32,7 +32,7 @@ pub enum Topic {
     Pause,
     /// Files that can't be read or written.
     File,
-    /// Outcomes that no output has.
+    /// Names in chunk files that no output has.
     Stranger,
     /// Requests for pages.
     Request,

@@ -20,7 +20,7 @@ ghost use Rattle.fwd_replay.specs.declared.report.Ending.TheVariants as ending;
 use crate::names::Named;
 use crate::report::{Ending, Reported, Shown, report_text};
 use fwd_base::{Bytes, Memory};
-use fwd_engine::{BeginErr, Engine, RunEnd, run, shown_of};
+use fwd_engine::{BeginErr, Engine, RunEnd, run, show_begun, shown_of};
 use fwd_outside::{Disk, Ends, Files, Loop};
 use fwd_settings::{AllSettings, ends};
 use fwd_watch::Watch;
@@ -98,7 +98,7 @@ fn run_and_drop<L: Loop, D: Disk, F: Files>(
     ensures disk_cause { HasCause (D.faults disk.old) (D.faults disk.new) (ending_of result ≡ ending.DiskFailed) }
     ensures files_later { F.faults files.old ≤ F.faults files.new }
 {
-    watch.begun(&named.inputs, &named.outputs, shown_of(&engine));
+    show_begun(&engine, &named.inputs, &named.outputs, watch);
     let outcome = run_engine(
         rt,
         alloc,

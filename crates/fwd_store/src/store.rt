@@ -184,6 +184,15 @@ impl Store {
         self.chunks.get(chunk.0).is_some()
     }
 
+    /// Returns the outputs that the file of a chunk names. They are for a watcher, and no clause speaks of them.
+    pub fn named_outputs(&self, chunk: ChunkId) -> Option<&Names> {
+        match self.chunks.get(chunk.0) {
+            Some(Kept::InFile(head)) => Some(&head.outputs),
+            Some(Kept::Adopted(head)) => Some(&head.outputs),
+            Some(Kept::InMemory(_)) | None => None,
+        }
+    }
+
     /// Closes a chunk, if it is open.
     pub fn shut(&mut self, chunk: ChunkId)
         ensures { self.new ≡ sealed self.old chunk.0 }

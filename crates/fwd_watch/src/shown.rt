@@ -33,6 +33,9 @@ pub trait Watch {
     /// those of the inputs and the outputs.
     fn begun(&mut self, inputs: &Names, outputs: &Names, shown: Shown<'_>);
 
+    /// Notes names in recovered chunk files that stand for no output, once behind `begun`.
+    fn found_strangers(&mut self, names: &Names);
+
     /// Notes that the engine has read the clock.
     fn read_clock(&mut self, shown: Shown<'_>);
 
@@ -52,6 +55,8 @@ impl Watch for Unwatched {
     fn configured(&mut self, _: &Sections) {}
 
     fn begun(&mut self, _: &Names, _: &Names, _: Shown<'_>) {}
+
+    fn found_strangers(&mut self, _: &Names) {}
 
     fn read_clock(&mut self, _: Shown<'_>) {}
 

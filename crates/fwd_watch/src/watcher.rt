@@ -90,6 +90,19 @@ fn after_colon(alloc: Global, text: &[u8]) -> Result<String, Memory> {
     Ok(format!(in alloc; ": {text}")?)
 }
 
+/// Returns names, or their readable parts, with commas between them.
+fn joined(alloc: Global, names: &Names) -> Result<String, Memory> {
+    let mut text = String::new(alloc);
+    for name in names.as_slice() {
+        if !text.is_empty() {
+            text.push_str(", ")?;
+        }
+        let name = String::from_utf8_lossy(alloc, name.as_slice())?;
+        text.push_str(name.as_str())?;
+    }
+    Ok(text)
+}
+
 fn bit_of(output: u32) -> u64 {
     1u64.checked_shl(output).unwrap_or(0)
 }
@@ -337,6 +350,19 @@ impl<'j> Watcher<'j> {
         }
     }
 
+    /// Warns of names in chunk files that no output has, in one line.
+    fn tell_strangers(&self, names: &Names) -> Result<(), Memory> {
+        if names.is_empty() {
+            return Ok(());
+        }
+        let names = joined(self.journal.alloc(), names)?;
+        let text = format_args!(
+            "chunk files name outputs that the configuration doesn't have: {names}"
+        );
+        self.tell(Level::Warn, Source::Storage, Topic::Stranger, &text);
+        Ok(())
+    }
+
     fn tell_left(&self, shown: Shown<'_>) {
         let left = left_in(shown.table);
         let (chunks, bytes, files) = (left.in_memory, left.bytes_in_memory, left.in_files);
@@ -453,6 +479,10 @@ impl<'j> Watch for Watcher<'j> {
         self.paused = shown.paused;
         self.tell_begun(inputs, outputs);
         self.tell_loaded(shown);
+    }
+
+    fn found_strangers(&mut self, names: &Names) {
+        let _ = self.tell_strangers(names);
     }
 
     fn read_clock(&mut self, shown: Shown<'_>) {
