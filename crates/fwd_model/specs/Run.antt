@@ -16,6 +16,7 @@ use Rattle.fwd_model.specs.Limits.{paused}
 use Rattle.fwd_model.specs.Notes.{is_empty}
 use Rattle.fwd_model.specs.StepActions.{step}
 use Rattle.fwd_model.specs.RecoveryActions.{recovers}
+use Rattle.fwd_model.specs.KeptOffsets.{tracked, gets, puts}
 
 abbrev pub is_tick : Happening → Bool
 is_tick (happening.Tick now) = true
@@ -43,6 +44,7 @@ is_over s happened h = is_over_after s happened (stopped s h) h
 pub data End : Type 0 where
   Over : End
   DiskFailed : End
+  KeeperFailed : End
   LoopFailed : End
   TurnsSpent : End
 
@@ -71,11 +73,16 @@ abbrev pub unless_last : AllSettings → Option ℕ → (History → Action RunR
 unless_last s ticks next happened h =
     if is_last_tick s ticks happened h then steps_on s next happening.Stop h else next h
 
--- at an event of the loop: the step, and then what follows unless the run is over
+-- what follows the step of a turn: offsets are put, and the run goes on unless it is over
+abbrev pub after_step : AllSettings → Option ℕ → (History → Action RunResult) → Happening → History
+    → Action RunResult
+after_step s ticks next happens h = puts s (tracked s) (goes_on s (unless_last s ticks next happens) happens) h
+
+-- at an event of the loop: the step, and then what follows it
 abbrev pub brought : AllSettings → Option ℕ → (History → Action RunResult) → History → Happening
     → Action RunResult
 brought s ticks next h happening.Failed = Return (lived h LoopFailed)
-brought s ticks next h happens = steps_on s (unless_last s ticks next happens) happens h
+brought s ticks next h happens = bind (step s happens h) (after_step s ticks next happens)
 
 -- Run at most so many turns. Each waits for an event, until `longest_wait` milliseconds after the clock.
 unfoldable pub run : AllSettings → Option ℕ → ℕ → History → Action RunResult
@@ -88,10 +95,15 @@ abbrev pub after_start : AllSettings → Option ℕ → ℕ → History → Opti
 after_start s ticks turns h None = Return (lived h LoopFailed)
 after_start s ticks turns h (Some ready) = run s ticks turns h
 
--- what follows recovery
+-- the start of the loop
+abbrev pub starts : AllSettings → Ends → Option ℕ → ℕ → History → Action RunResult
+starts s ends ticks turns h = Ask (OnLoop (Start ends)) (after_start s ticks turns h)
+
+-- what follows recovery: the offsets of followed files are got, and the loop starts
 abbrev pub after_recovery : AllSettings → Ends → Option ℕ → ℕ → Option History → Action RunResult
 after_recovery s ends ticks turns None = Return (lived [] DiskFailed)
-after_recovery s ends ticks turns (Some h) = Ask (OnLoop (Start ends)) (after_start s ticks turns h)
+after_recovery s ends ticks turns (Some h) =
+    gets s (tracked s) (λ now. Return (lived now KeeperFailed)) (starts s ends ticks turns) h
 
 -- A run of at most so many turns. If a number of ticks is given, the run stops after the last of them; that
 -- step isn't a turn.

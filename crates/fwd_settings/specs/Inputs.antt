@@ -108,7 +108,7 @@ input_set plugin name properties kind = record {
   tag = tag_of plugin name (text_at key.Tag properties);
   stored = unwrap_or (truth_at key.StorageType properties) false;
   mem_limit = number_at key.MemBufLimit properties;
-  db = None;
+  db = text_at key.Database properties;
   parser = input_parser plugin properties;
 }
 

@@ -200,6 +200,7 @@ pub fn input_from(
         return refuse(alloc, SettingKind::Missing, place);
     }
     let mem_limit = number_at(properties.as_slice(), Key::MemBufLimit);
+    let db = own_text(alloc, properties.as_slice(), Key::Database)?;
     let parser = input_parser(plugin, properties);
     Ok(InputSet {
         name,
@@ -207,7 +208,7 @@ pub fn input_from(
         tag,
         stored,
         mem_limit,
-        db: None,
+        db,
         parser,
     })
 }

@@ -91,6 +91,7 @@ name_of key.Alias = codes "alias"
 name_of key.Path = codes "path"
 name_of key.Parser = codes "parser"
 name_of key.ReadFromHead = codes "read_from_head"
+name_of key.Database = codes "db"
 name_of key.RefreshInterval = codes "refresh_interval"
 name_of key.RotateWait = codes "rotate_wait"
 name_of key.SkipLongLines = codes "skip_long_lines"
@@ -182,6 +183,7 @@ table =
     (part.TailInput, key.Path, kind.Plain plain.Paths) ∷
     (part.TailInput, key.Parser, kind.Parser) ∷
     (part.TailInput, key.ReadFromHead, kind.Plain plain.Truth) ∷
+    (part.TailInput, key.Database, kind.Plain plain.Text) ∷
     (part.TailInput, key.RefreshInterval, kind.Plain plain.Ignored) ∷
     (part.TailInput, key.RotateWait, kind.Plain plain.Ignored) ∷
     (part.TailInput, key.SkipLongLines, kind.Plain plain.Ignored) ∷

@@ -147,6 +147,7 @@ const TABLE: &[Row] = &[
     (Part::TailInput, Key::Path, PATHS),
     (Part::TailInput, Key::Parser, Kind::Parser),
     (Part::TailInput, Key::ReadFromHead, TRUTH),
+    (Part::TailInput, Key::Database, TEXT),
     (Part::TailInput, Key::RefreshInterval, IGNORED),
     (Part::TailInput, Key::RotateWait, IGNORED),
     (Part::TailInput, Key::SkipLongLines, IGNORED),

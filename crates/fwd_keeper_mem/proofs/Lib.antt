@@ -1,0 +1,2 @@
+pub mod OffsetTable
+pub mod NotesKept

@@ -1,0 +1,4 @@
+pub mod KeeperAnswers
+pub mod KeeperState
+pub mod MemKeeper
+pub mod Offsets
