@@ -1,7 +1,5 @@
 pub mod WaitCalls
 pub mod CrashSafety
-pub mod EventCounts
-pub mod RunTurns
 pub mod GracePeriod
 pub mod EventFacts
 pub mod KeptOffsets

@@ -12,9 +12,7 @@
 mod dispatch;
 mod engine;
 mod run_end;
-mod run_loop;
 
 pub use dispatch::step;
 pub use engine::{BeginErr, Engine, EngineStop, Turn};
 pub use run_end::{is_clock_tick, is_finished};
-pub use run_loop::{RunEnd, run, show_begun, shown_of};

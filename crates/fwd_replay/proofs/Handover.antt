@@ -35,7 +35,7 @@ use Rattle.fwd_engine.specs.declared.engine.EngineStop.{EngineStop}
 use Rattle.fwd_engine.specs.declared.engine.EngineStop.TheVariants as stop
 use Rattle.fwd_engine.specs.declared.engine.Turn.{Turn}
 use Rattle.fwd_engine.specs.declared.engine.Turn.TheVariants as turn
-use Rattle.fwd_engine.proofs.RunTurns.{spent}
+use Rattle.fwd_engine_run.proofs.RunTurns.{spent}
 use Rattle.fwd_theorem_trace.specs.Waits.{waits_in}
 use Rattle.fwd_theorem_trace.proofs.WaitCounts.{ArePlain, step_plain}
 use Rattle.fwd_replay.specs.FileChanges.{FilesAt, course_after, content_after, is_last_next}

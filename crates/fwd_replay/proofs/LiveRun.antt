@@ -16,11 +16,11 @@ use Rattle.fwd_model.specs.Run.{RunResult, DiskFailed, lived, after_recovery, li
 use Rattle.fwd_model.proofs.Actions.{stays, goes_on, leads_inside, begun_bind, begun_trans}
 use Rattle.fwd_engine_state.specs.LoopCounters.{EventsTaken}
 use Rattle.fwd_engine.specs.declared.engine.Engine.{Engine}
-use Rattle.fwd_engine.specs.RunOutcome.{RanToEnd, IsAtEnd, end_of}
-use Rattle.fwd_engine.specs.RunOutcome as runs
-use Rattle.fwd_engine.specs.declared.run_loop.RunEnd.{RunEnd}
-use Rattle.fwd_engine.specs.declared.run_loop.RunEnd.TheVariants as run_end
-use Rattle.fwd_engine.proofs.EventCounts.{events_all}
+use Rattle.fwd_engine_run.specs.RunOutcome.{RanToEnd, IsAtEnd, end_of}
+use Rattle.fwd_engine_run.specs.RunOutcome as runs
+use Rattle.fwd_engine_run.specs.declared.run_loop.RunEnd.{RunEnd}
+use Rattle.fwd_engine_run.specs.declared.run_loop.RunEnd.TheVariants as run_end
+use Rattle.fwd_engine_run.proofs.EventCounts.{events_all}
 use Rattle.fwd_replay.specs.LiveRun.{BeginsRun, RunsToEnd, RunProduces, ActionProduces, heard_in, ending_of}
 use Rattle.fwd_replay.specs.Names.{IsNamed, IsNamedUnlessFailed}
 use Rattle.fwd_replay.specs.Text.{report, reported_by}

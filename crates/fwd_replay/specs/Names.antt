@@ -5,8 +5,8 @@ use Rattle.fwd_settings.specs.declared.settings_types.OutputSet.{OutputSet}
 use Rattle.fwd_model.specs.Fact.{History}
 use Rattle.fwd_engine.specs.EngineSteps.{IsAt}
 use Rattle.fwd_engine.specs.declared.engine.Engine.{Engine}
-use Rattle.fwd_engine.specs.declared.run_loop.RunEnd.{RunEnd}
-use Rattle.fwd_engine.specs.declared.run_loop.RunEnd.TheVariants as run_end
+use Rattle.fwd_engine_run.specs.declared.run_loop.RunEnd.{RunEnd}
+use Rattle.fwd_engine_run.specs.declared.run_loop.RunEnd.TheVariants as run_end
 use Rattle.fwd_replay.specs.Text.{input_names, output_names, stdout_mask}
 use Rattle.fwd_replay.specs.declared.names.Named.{Named}
 use Rattle.fwd_replay.specs.declared.report.Shown.{Shown}

@@ -11,7 +11,7 @@ ghost use Rattle.fwd_model.specs.Run.{after_recovery};
 ghost use Rattle.fwd_engine_state.specs.RefinesAction.{with_all};
 ghost use Rattle.fwd_engine_state.specs.LoopCounters.{EventsTaken};
 ghost use Rattle.fwd_engine.specs.EngineSteps.{IsAt};
-ghost use Rattle.fwd_engine.specs.RunOutcome.{IsAtEnd, end_of};
+ghost use Rattle.fwd_engine_run.specs.RunOutcome.{IsAtEnd, end_of};
 ghost use Rattle.fwd_replay.specs.LiveRun.{RunProduces, IsRunLive, ActionProduces, ending_of, heard_in};
 ghost use Rattle.fwd_replay.specs.Names.{IsNamed, IsNamedOf, IsNamedUnlessFailed};
 ghost use Rattle.fwd_replay.specs.Text.{report, reported_by};

@@ -2,8 +2,8 @@ use Rattle.std.proofs.Common.{suc}
 use Rattle.fwd_model.specs.CallLogs.{CallLogs}
 use Rattle.fwd_model.specs.Run.{run, brought}
 use Rattle.fwd_engine_state.specs.RefinesAction.{with_all}
-use Rattle.fwd_engine.proofs.RunTurns.{waited_on, unwaited, goes_after}
-use Rattle.fwd_engine.proofs.run_loop.turn.Goals as goal
+use Rattle.fwd_engine_run.proofs.RunTurns.{waited_on, unwaited, goes_after}
+use Rattle.fwd_engine_run.proofs.run_loop.turn.Goals as goal
 
 pub returns-in-Ok-clause-goes : goal.returns-in-Ok-clause-goes
 returns-in-Ok-clause-goes g c others s h more at =

@@ -16,8 +16,8 @@ use Rattle.fwd_engine.specs.declared.engine.EngineStop.{EngineStop}
 use Rattle.fwd_engine.specs.declared.engine.EngineStop.TheVariants as stop
 use Rattle.fwd_engine.specs.declared.engine.Turn.{Turn}
 use Rattle.fwd_engine.specs.declared.engine.Turn.TheVariants as turn
-use Rattle.fwd_engine.specs.RunOutcome.{RunContinues, RunOutcome}
-use Rattle.fwd_engine.specs.declared.run_loop.RunEnd.{RunEnd}
+use Rattle.fwd_engine_run.specs.RunOutcome.{RunContinues, RunOutcome}
+use Rattle.fwd_engine_run.specs.declared.run_loop.RunEnd.{RunEnd}
 
 brought_is : (s : AllSettings) (ticks : Option ℕ) (next : History → Action RunResult) (h : History) (x : Happening) → is_failed x ≡ false → brought s ticks next h x ≡ bind (step s x h) (goes_on s (unless_last s ticks next x) x)
 brought_is s ticks next h happening.Failed is = absurd (cc is)

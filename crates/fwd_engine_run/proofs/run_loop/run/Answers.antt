@@ -4,8 +4,8 @@ use Rattle.fwd_model.specs.CallLogs.{CallLogs}
 use Rattle.fwd_model.specs.Run.{after_start, after_recovery, run}
 use Rattle.fwd_model.proofs.Refinement.{loop_called, loop_uncalled}
 use Rattle.fwd_engine_state.specs.RefinesAction.{with_all}
-use Rattle.fwd_engine.proofs.RunTurns.{runs_after}
-use Rattle.fwd_engine.proofs.run_loop.run.Goals as goal
+use Rattle.fwd_engine_run.proofs.RunTurns.{runs_after}
+use Rattle.fwd_engine_run.proofs.run_loop.run.Goals as goal
 
 pub returns-in-Ready-clause-runs : goal.returns-in-Ready-clause-runs
 returns-in-Ready-clause-runs g c others s h at =

@@ -6,7 +6,7 @@ use Rattle.fwd_model.specs.Run.{run}
 use Rattle.fwd_engine_state.specs.LoopCounters.{EventsTaken}
 use Rattle.fwd_engine_state.specs.RefinesAction.{with_all}
 use Rattle.fwd_engine.specs.EngineSteps.{IsAt}
-use Rattle.fwd_engine.proofs.run_loop.turns.Given as goal
+use Rattle.fwd_engine_run.proofs.run_loop.turns.Given as goal
 
 -- This many events came, and the engine is at a point of the run with the remaining turns left.
 abbrev pub invariant-loop : goal.invariant-loop

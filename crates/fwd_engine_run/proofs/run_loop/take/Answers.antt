@@ -4,8 +4,8 @@ use Rattle.fwd_model.specs.Run.{brought, unless_last}
 use Rattle.fwd_engine_state.specs.RefinesAction.{with_all}
 use Rattle.fwd_engine.specs.EngineSteps.{Steps}
 use Rattle.fwd_engine.specs.declared.engine.Turn.TheVariants as turn
-use Rattle.fwd_engine.proofs.RunTurns.{took_more, took_over, took_so, goes_after}
-use Rattle.fwd_engine.proofs.run_loop.take.Goals as goal
+use Rattle.fwd_engine_run.proofs.RunTurns.{took_more, took_over, took_so, goes_after}
+use Rattle.fwd_engine_run.proofs.run_loop.take.Goals as goal
 
 pub returns-in-Ok-More-clause-goes : goal.returns-in-Ok-More-clause-goes
 returns-in-Ok-More-clause-goes g c others s h next at =

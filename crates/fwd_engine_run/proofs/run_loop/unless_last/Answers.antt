@@ -1,7 +1,7 @@
 use Rattle.std.proofs.Common.{sym, ◌∙◌}
 use Rattle.fwd_engine_state.specs.RefinesAction.{with_all}
-use Rattle.fwd_engine.proofs.RunTurns.{stops_last, goes_unstopped}
-use Rattle.fwd_engine.proofs.run_loop.unless_last.Goals as goal
+use Rattle.fwd_engine_run.proofs.RunTurns.{stops_last, goes_unstopped}
+use Rattle.fwd_engine_run.proofs.run_loop.unless_last.Goals as goal
 
 pub returns-then-is_last_reading-clause-goes : goal.returns-then-is_last_reading-clause-goes
 returns-then-is_last_reading-clause-goes g c others s h next brought reads at =

@@ -7,10 +7,10 @@ use Rattle.fwd_model.specs.Run.{run}
 use Rattle.fwd_engine_state.specs.RefinesAction.{with_all}
 use Rattle.fwd_engine.specs.declared.engine.EngineStop.TheVariants as stop
 use Rattle.fwd_engine.specs.declared.engine.Turn.TheVariants as turn
-use Rattle.fwd_engine.specs.RunOutcome.{RunContinues}
-use Rattle.fwd_engine.proofs.EventCounts.{events_first, events_more}
-use Rattle.fwd_engine.proofs.RunTurns.{left, none_left, spent}
-use Rattle.fwd_engine.proofs.run_loop.turns.Goals as goal
+use Rattle.fwd_engine_run.specs.RunOutcome.{RunContinues}
+use Rattle.fwd_engine_run.proofs.EventCounts.{events_first, events_more}
+use Rattle.fwd_engine_run.proofs.RunTurns.{left, none_left, spent}
+use Rattle.fwd_engine_run.proofs.run_loop.turns.Goals as goal
 
 -- one turn of those that are left
 next : (a b : CallLogs) (s : AllSettings) (ticks : Option ℕ) (most counter : ℕ) (h now : History) → Leads a b (run s ticks most h) (run s ticks (most - counter) now) → most - counter ≡ suc (most - (counter + 1))

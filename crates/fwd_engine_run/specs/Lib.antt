@@ -1,0 +1,2 @@
+pub mod OffsetRows
+pub mod RunOutcome
