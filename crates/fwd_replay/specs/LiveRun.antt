@@ -32,6 +32,7 @@ abbrev pub heard_in : ℕ → Ending → ℕ
 heard_in most ending.TurnsSpent = most
 heard_in most ending.Over = 0
 heard_in most ending.DiskFailed = 0
+heard_in most ending.KeeperFailed = 0
 heard_in most ending.LoopFailed = 0
 heard_in most ending.Memory = 0
 
