@@ -12,7 +12,7 @@ use Rattle.fwd_model.specs.RecoveryActions.{recovers}
 use Rattle.fwd_theorem_trace.specs.Past.{Past, logged}
 use Rattle.fwd_theorem_trace.specs.Allowed.{IsLoading, IsStart, Allowed}
 use Rattle.fwd_theorem_trace.proofs.Traversal.{traverses_rest}
-use Rattle.fwd_theorem_trace.proofs.Run.{Loaded, loads_root, due_onward, started}
+use Rattle.fwd_theorem_trace.proofs.Run.{Loaded, loads_root, due_onward, loading_is_start}
 use Rattle.fwd_theorem_crash.specs.CrashPoint.{CrashPoint, crash_point, LeadsTo}
 use Rattle.fwd_theorem_crash.specs.StepBoundaries.{HasReached, IsLoaded, HasKept}
 use Rattle.fwd_theorem_crash.proofs.Completion.{past_is}
@@ -53,7 +53,7 @@ module _ (s : AllSettings) (first : Files) where
     gets_reach =
         let is = loaded_is m loading h way led in
         subst (λ (x : History). HoldsThroughout LeadsTo (HasReached s first) Reached m (gets s (tracked s) Return Return x)) (sym is.0)
-        (gets_on s (HasReached s first) (HasReached s first) can_reach Reached (tracked s) Return Return (λ end start then. (then, (then, refl))) (λ end start then. (then, (then, refl))) m (started (logged m.past) is.1)
+        (gets_on s (HasReached s first) (HasReached s first) can_reach Reached (tracked s) Return Return (λ end start then. (then, (then, refl))) (λ end start then. (then, (then, refl))) m (loading_is_start (logged m.past) is.1)
         (IsLoaded loading h m way led))
 
     reached_from : (es : List TraceEntry) (left : Action History) → Execution (gets s (tracked s) Return Return h) es left → AtCrashPoints LeadsTo (HasReached s first) m es

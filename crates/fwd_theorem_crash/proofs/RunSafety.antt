@@ -22,7 +22,7 @@ use Rattle.fwd_model.specs.KeptOffsets.{tracked}
 use Rattle.fwd_model.specs.Run.{RunResult, lived, Over, KeeperFailed, is_over, goes_on, steps_on, is_last_tick, unless_last, after_step, brought, run, after_start, starts, after_recovery, life}
 use Rattle.fwd_theorem_trace.specs.Past.{Past, logged, past_after}
 use Rattle.fwd_theorem_trace.specs.Allowed.{IsStart, IsAllowed, Allowed}
-use Rattle.fwd_theorem_trace.proofs.Run.{due_since, started}
+use Rattle.fwd_theorem_trace.proofs.Run.{loading_is_start, due_since}
 use Rattle.fwd_theorem_crash.specs.CrashPoint.{CrashPoint, crash_point, LeadsTo}
 use Rattle.fwd_theorem_crash.specs.Safety.{IsSafe}
 use Rattle.fwd_theorem_crash.specs.FlushEvents.{FlushesSendTheirChunks}
@@ -143,7 +143,7 @@ module _ (s : AllSettings) (settings : MeetsRequirements s) (full : s.service.fu
       let kept : Kept s first m = loaded_kept h m loaded in
       subst (λ (x : History). Lives m (after_recovery s ends ticks turns (Some x))) (sym is.0)
       (gets_on s (Safe s first) (Kept s first) can_keep Any (tracked s) (λ (now : History). Return (lived now KeeperFailed)) (starts s ends ticks turns)
-      (λ end start then. (safe_now s first end then, hands_now end then)) (λ end start then. lives_starts ends ticks turns end then) m (subst IsStart is.0 (started h is.3)) kept)
+      (λ end start then. (safe_now s first end then, hands_now end then)) (λ end start then. lives_starts ends ticks turns end then) m (subst IsStart is.0 (loading_is_start h is.3)) kept)
 
   -- what holds at each point holds at the end too
   at_end : {R : Type 0} (P : CrashPoint → Type 0) (Q : R → CrashPoint → Type 0) (m : CrashPoint) (p : Action R) → HoldsThroughout LeadsTo P Q m p → HoldsThroughout LeadsTo P (λ x end. P end × Q x end) m p
