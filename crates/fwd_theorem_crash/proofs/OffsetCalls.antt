@@ -1,5 +1,5 @@
 -- A run reaches each point at which it gets or puts an offset.
-use Rattle.std.proofs.Common.{◌≡◌, List, [], Some, refl, sym, ◌∙◌, subst}
+use Rattle.std.proofs.Common.{◌≡◌, List, [], Some, refl, sym, subst}
 use Rattle.fwd_outside.specs.Program.{Return, Execution}
 use Rattle.fwd_outside.specs.AtCrashPoints.{HoldsThroughout, AtCrashPoints, Ends}
 use Rattle.fwd_outside.proofs.CrashPointLemmas.{holds_moments, holds_end}
@@ -10,7 +10,7 @@ use Rattle.fwd_model.specs.Trace.{Action, TraceEntry}
 use Rattle.fwd_model.specs.KeptOffsets.{tracked, gets, puts}
 use Rattle.fwd_model.specs.RecoveryActions.{recovers}
 use Rattle.fwd_theorem_trace.specs.Past.{Past, logged}
-use Rattle.fwd_theorem_trace.specs.Allowed.{IsLoading, IsStart, Allowed}
+use Rattle.fwd_theorem_trace.specs.Allowed.{IsLoading, Allowed}
 use Rattle.fwd_theorem_trace.proofs.Traversal.{traverses_rest}
 use Rattle.fwd_theorem_trace.proofs.Run.{Loaded, loads_root, due_onward, loading_is_start}
 use Rattle.fwd_theorem_crash.specs.CrashPoint.{CrashPoint, crash_point, LeadsTo}
