@@ -1,9 +1,9 @@
 -- The gets before a run's loop starts, and the puts after a turn: which calls they are, whatever follows them.
-use Rattle.std.proofs.Common.{◌≡◌, ℕ, Bool, true, false, List, [], ◌∷◌, ◌++◌, Option, Some, None, refl, sym, ap, subst}
+use Rattle.std.proofs.Common.{◌≡◌, ℕ, List, [], ◌∷◌, Option, Some, None, refl, sym, ap, subst}
 use Rattle.fwd_outside.specs.Program.{entry, Return, Ask, Execution}
 use Rattle.fwd_settings.specs.declared.settings_types.AllSettings.{AllSettings}
 use Rattle.fwd_keeper.specs.Keeper.{Get, Put}
-use Rattle.fwd_model.specs.Fact.{Fact, History, Resumed, Saved}
+use Rattle.fwd_model.specs.Fact.{History, Resumed, Saved}
 use Rattle.fwd_model.specs.Trace.{Call, Answer, Action, TraceEntry, OnLoop, OnDisk, OnFiles, OnKeeper, Note, loop_part, disk_part, files_part}
 use Rattle.fwd_model.specs.Settings.{paths_at}
 use Rattle.fwd_model.specs.FollowedFiles.{settled}

@@ -1,5 +1,5 @@
 -- The history of a recovery.
-use Rattle.std.proofs.Common.{[], List, Option, Some, sym, subst}
+use Rattle.std.proofs.Common.{[], List, Some, sym, subst}
 use Rattle.fwd_outside.specs.Program.{Return, Execution}
 use Rattle.fwd_settings.specs.declared.settings_types.AllSettings.{AllSettings}
 use Rattle.fwd_model.specs.Fact.{History}
