@@ -19,7 +19,7 @@ use Rattle.fwd_model.specs.Clock.{clock, clock_after, stopped, ticked}
 use Rattle.fwd_model.specs.Limits.{paused}
 use Rattle.fwd_model.specs.StepActions.{step}
 use Rattle.fwd_model.specs.RecoveryActions.{notes_files, loaded, loads_from, recovers}
-use Rattle.fwd_model.specs.KeptOffsets.{tracked, gets, puts}
+use Rattle.fwd_model.specs.KeptOffsets.{tracked, puts}
 use Rattle.fwd_model.specs.Run.{RunResult, Over, KeeperFailed, lived, is_tick, is_over, is_over_after, goes_on, steps_on, is_last_tick, unless_last, after_step, brought, run, after_start, starts, after_recovery, life}
 use Rattle.fwd_theorem_trace.specs.Past.{Past, logged, past_after}
 use Rattle.fwd_theorem_trace.specs.Allowed.{EventAllowed, IsLoading, IsAllowed, Allowed}
