@@ -30,6 +30,7 @@ pub record IsNamedOf (named : Named) (engine : Engine) : Type 0 where
   pub is : IsNamed named settings
 
 abbrev pub IsNamedUnlessFailed : Named → Engine → RunEnd → Type 0
+IsNamedUnlessFailed named engine run_end.KeeperFailed = Unit {0}
 IsNamedUnlessFailed named engine run_end.LoopFailed = Unit {0}
 IsNamedUnlessFailed named engine run_end.Over = IsNamedOf named engine
 IsNamedUnlessFailed named engine run_end.TurnsSpent = IsNamedOf named engine

@@ -5,11 +5,17 @@ use Rattle.fwd_outside.specs.File.{content}
 use Rattle.fwd_outside.specs.Files.{found}
 use Rattle.fwd_outside.specs.Loop.{LoopLog, Start as Starting}
 use Rattle.fwd_outside.specs.declared.ends.Ends.{Ends}
+use Rattle.fwd_outside.specs.declared.happening.Happening.{Happening}
 use Rattle.fwd_disk_mem.specs.declared.told.Told.{Told}
 use Rattle.fwd_disk_mem.specs.Images.{picked, file_settings, prefix_after_mark}
 use Rattle.fwd_disk_mem.specs.DiskState.{Seen}
 use Rattle.fwd_disk_mem.specs.FileTable.{MemFile}
 use Rattle.fwd_disk_mem.specs.Told as disk
+use Rattle.fwd_keeper_mem.specs.KeeperAnswers as keeper
+use Rattle.fwd_keeper_mem.specs.KeeperState.{KeeperState}
+use Rattle.fwd_keeper_mem.specs.MemKeeper as offsets
+use Rattle.fwd_keeper_mem.specs.MemKeeper.{offsets_now}
+use Rattle.fwd_keeper_mem.specs.Offsets.{SameOffsets}
 use Rattle.fwd_settings.specs.Endpoints.{ends_of}
 use Rattle.fwd_settings.specs.declared.settings_types.AllSettings.{AllSettings}
 use Rattle.fwd_script.specs.FilesState.{FilesState}
@@ -24,21 +30,24 @@ use Rattle.fwd_script_loop.specs.Place as place
 use Rattle.fwd_script_loop.specs.ScriptState.{ScriptState}
 use Rattle.fwd_script_loop.specs.Told.{entries_of}
 use Rattle.fwd_model.specs.Fact.{History}
-use Rattle.fwd_model.specs.Trace.{Action, TraceEntry, loop_part, disk_part}
+use Rattle.fwd_model.specs.Trace.{Action, TraceEntry, loop_part, disk_part, files_part, keeper_part}
 use Rattle.fwd_model.specs.CallLogs.{CallLogs}
 use Rattle.fwd_model.specs.Limits.{paused}
-use Rattle.fwd_model.specs.Run.{Over, DiskFailed, LoopFailed, RunResult, lived, run, life}
+use Rattle.fwd_model.specs.RecoveryActions.{recovers}
+use Rattle.fwd_model.specs.Run.{Over, DiskFailed, KeeperFailed, LoopFailed, RunResult, lived, is_over, after_step, run, life}
 use Rattle.fwd_engine_state.specs.RefinesAction.{with_all}
-use Rattle.fwd_engine.specs.EngineSteps.{IsAt}
+use Rattle.fwd_engine.specs.EngineSteps.{IsAt, as_turn}
 use Rattle.fwd_engine.specs.declared.engine.Engine.{Engine}
 use Rattle.fwd_engine.specs.declared.engine.EngineStop.{EngineStop}
 use Rattle.fwd_engine.specs.declared.engine.EngineStop.TheVariants as stop
 use Rattle.fwd_engine.specs.declared.engine.Turn.{Turn}
 use Rattle.fwd_engine.specs.declared.engine.Turn.TheVariants as turn
+use Rattle.fwd_engine_run.specs.OffsetRows.{Keeps}
 use Rattle.fwd_theorem_trace.specs.Waits.{waits_in}
 use Rattle.fwd_replay.specs.FileChanges.{FilesAt, content_after, course_after, after_wait, FilesAnswered, is_last_next}
 use Rattle.fwd_replay.specs.Runs.{Start, CutRun, IsLife, EndsIn, IsCut, course_of, disk_of, first, has_cut}
 use Rattle.fwd_replay.specs.Text.{life_text, after_crash}
+use Rattle.fwd_engine_run.specs.declared.kept_offsets.KeptOffsets.{KeptOffsets}
 use Rattle.fwd_replay.specs.declared.progress.Going.{Going}
 use Rattle.fwd_replay.specs.declared.start.StartErr.{StartErr}
 use Rattle.fwd_replay.specs.declared.start.StartErr.TheVariants as start_err
@@ -63,10 +72,10 @@ pub record FilesRepresent (held : FilesState) (files : FilesAt) : Type 0 where
   pub fails : fails_of (entries_from held.given held.notes) ≡ files.fails
 
 -- A run has taken that many turns, with these calls, and `left` is left of it, whatever number of turns
--- it has left. Loop, disk and files have these calls in their logs; the files are in this state.
+-- it has left. Loop, disk, files and keeper have these calls in their logs; the files are in this state.
 pub record RunRepresents (s : AllSettings) (start : Start) (planned : Life) (call_log : LoopLog) (taken : ℕ)
-    (seen : Seen) (held : FilesState) (trace : List TraceEntry) (left : ℕ → Action RunResult)
-    (files_at : FilesAt) : Type 0 where
+    (seen : Seen) (held : FilesState) (kept : KeeperState) (trace : List TraceEntry)
+    (left : ℕ → Action RunResult) (files_at : FilesAt) : Type 0 where
   pub way : (more : ℕ) → Execution (life s (ends_of s) None (taken + more)) trace (left more)
   pub waits : waits_in trace ≡ taken
   pub uncut : has_cut start planned trace ≡ false
@@ -76,24 +85,27 @@ pub record RunRepresents (s : AllSettings) (start : Start) (planned : Life) (cal
   pub are : disk.entries_of asked ≡ disk_part trace
   pub answered : FilesAnswered (course_of start planned) trace
   pub files_stand : FilesRepresent held files_at
+  pub kept_given : kept.given ≡ start.offsets
+  pub kept_calls : offsets.entries_of kept.notes ≡ keeper_part trace
 
 -- the run is to take its next turn
 pub record IsInProgress (s : AllSettings) (start : Start) (planned : Life) (going : Going) (seen : Seen)
-    (held : FilesState) : Type 0 where
+    (held : FilesState) (kept : KeeperState) : Type 0 where
   pub history : History
   pub at : IsAt going.engine s history
   pub trace : List TraceEntry
-  pub stands : RunRepresents s start planned (told_of going.script) going.taken seen held trace
+  pub stands : RunRepresents s start planned (told_of going.script) going.taken seen held kept trace
       (λ more. run s None more history) (course_after (course_of start planned) trace).files
   pub changed : going.changed ≡ (course_after (course_of start planned) trace).changed
+  pub keeps : Keeps s going.offsets history
 
 -- the changes before its wait are made, and this crash, if there is one, cuts the run in it
 pub record IsReady (s : AllSettings) (start : Start) (planned : Life) (going : Going) (seen : Seen)
-    (held : FilesState) (cut : Option Cut) : Type 0 where
+    (held : FilesState) (kept : KeeperState) (cut : Option Cut) : Type 0 where
   pub history : History
   pub at : IsAt going.engine s history
   pub trace : List TraceEntry
-  pub stands : RunRepresents s start planned (told_of going.script) going.taken seen held trace
+  pub stands : RunRepresents s start planned (told_of going.script) going.taken seen held kept trace
       (λ more. run s None more history)
       (after_wait (paused s history) (course_after (course_of start planned) trace)).files
   pub changed : going.changed
@@ -101,22 +113,37 @@ pub record IsReady (s : AllSettings) (start : Start) (planned : Life) (going : G
   pub cut_is : cut
       ≡ (if is_last_next (paused s history) (course_after (course_of start planned) trace) then planned.cut
       else None)
+  pub keeps : Keeps s going.offsets history
 
--- the run is over
-pub record IsOver (s : AllSettings) (start : Start) (planned : Life) (going : Going) (seen : Seen)
-    (held : FilesState) : Type 0 where
+-- the step of a turn is made, and after the puts the run is over or takes its next turn
+pub record IsStepped (s : AllSettings) (start : Start) (planned : Life) (going : Going) (seen : Seen)
+    (held : FilesState) (kept : KeeperState) (which : Turn) : Type 0 where
   pub history : History
   pub at : IsAt going.engine s history
   pub trace : List TraceEntry
-  pub stands : RunRepresents s start planned (told_of going.script) going.taken seen held trace
+  pub brought : Happening
+  pub stands : RunRepresents s start planned (told_of going.script) going.taken seen held kept trace
+      (λ more. after_step s None (run s None more) brought history)
+      (course_after (course_of start planned) trace).files
+  pub changed : going.changed ≡ (course_after (course_of start planned) trace).changed
+  pub keeps : Keeps s going.offsets history
+  pub over : which ≡ as_turn (is_over s brought history)
+
+-- the run is over
+pub record IsOver (s : AllSettings) (start : Start) (planned : Life) (going : Going) (seen : Seen)
+    (held : FilesState) (kept : KeeperState) : Type 0 where
+  pub history : History
+  pub at : IsAt going.engine s history
+  pub trace : List TraceEntry
+  pub stands : RunRepresents s start planned (told_of going.script) going.taken seen held kept trace
       (λ more. Return (lived history Over)) (course_after (course_of start planned) trace).files
 
 -- its loop failed
 pub record LoopHasFailed (s : AllSettings) (start : Start) (planned : Life) (going : Going) (seen : Seen)
-    (held : FilesState) : Type 0 where
+    (held : FilesState) (kept : KeeperState) : Type 0 where
   pub history : History
   pub trace : List TraceEntry
-  pub stands : RunRepresents s start planned (told_of going.script) going.taken seen held trace
+  pub stands : RunRepresents s start planned (told_of going.script) going.taken seen held kept trace
       (λ more. Return (lived history LoopFailed)) (course_after (course_of start planned) trace).files
 
 -- the calls logged by loop, disk and files in memory, and no others
@@ -126,10 +153,11 @@ nowhere = record { loop = None; disk = None; files = None; keeper = None }
 abbrev pub memory : ScriptState → Seen → FilesState → CallLogs
 memory script seen held = with_all (told_of script) (disk.told_of seen.calls) (files.told_of held) nowhere
 
--- loop and disk in memory answered as the schedule says
-pub record HaveAnswered (script : ScriptState) (seen : Seen) : Type 0 where
+-- loop, disk and keeper in memory answered as the schedule says
+pub record HaveAnswered (script : ScriptState) (seen : Seen) (kept : KeeperState) : Type 0 where
   pub loop : place.IsPlayed (given_in script.lines script.answers) (entries_of script.notes)
   pub disk : disk.IsPlayed [] seen.calls
+  pub keeper : keeper.IsPlayed kept.given [] (offsets.entries_of kept.notes)
 
 -- memory ran out in a turn
 abbrev pub is_out_of_memory : Result Turn EngineStop → Bool
@@ -138,21 +166,29 @@ is_out_of_memory (Err stop.LoopFault) = false
 is_out_of_memory (Err stop.Memory) = true
 
 -- the result of a turn in which the run isn't cut; nothing is claimed if memory ran out
-abbrev pub Turned : AllSettings → Start → Life → Going → Seen → FilesState → Result Turn EngineStop → Type 0
-Turned s start planned going seen held (Ok turn.More) = IsInProgress s start planned going seen held
-Turned s start planned going seen held (Ok turn.Over) = IsOver s start planned going seen held
-Turned s start planned going seen held (Err stop.LoopFault) = LoopHasFailed s start planned going seen held
-Turned s start planned going seen held (Err stop.Memory) = Unit {0}
+abbrev pub Turned : AllSettings → Start → Life → Going → Seen → FilesState → KeeperState
+    → Result Turn EngineStop → Type 0
+Turned s start planned going seen held kept (Ok which) = IsStepped s start planned going seen held kept which
+Turned s start planned going seen held kept (Err stop.LoopFault) =
+    LoopHasFailed s start planned going seen held kept
+Turned s start planned going seen held kept (Err stop.Memory) = Unit {0}
+
+-- after the puts of a turn
+abbrev pub HasPut : AllSettings → Start → Life → Going → Seen → FilesState → KeeperState → Turn → Type 0
+HasPut s start planned going seen held kept turn.More = IsInProgress s start planned going seen held kept
+HasPut s start planned going seen held kept turn.Over = IsOver s start planned going seen held kept
 
 -- the result of at most that many of its turns
-abbrev pub Ended : AllSettings → Start → Life → ℕ → Going → Seen → FilesState → TurnsEnd → Type 0
-Ended s start planned most going seen held turns_end.Over = IsOver s start planned going seen held
-Ended s start planned most going seen held (turns_end.Cut cut) =
-    IsReady s start planned going seen held (Some cut) × (going.taken < most)
-Ended s start planned most going seen held turns_end.LoopFailed =
-    LoopHasFailed s start planned going seen held
-Ended s start planned most going seen held turns_end.TurnsSpent =
-    IsInProgress s start planned going seen held × (going.taken ≡ most)
+abbrev pub Ended : AllSettings → Start → Life → ℕ → Going → Seen → FilesState → KeeperState → TurnsEnd
+    → Type 0
+Ended s start planned most going seen held kept turns_end.Over =
+    IsOver s start planned going seen held kept
+Ended s start planned most going seen held kept (turns_end.Cut cut) =
+    IsReady s start planned going seen held kept (Some cut) × (going.taken < most)
+Ended s start planned most going seen held kept turns_end.LoopFailed =
+    LoopHasFailed s start planned going seen held kept
+Ended s start planned most going seen held kept turns_end.TurnsSpent =
+    IsInProgress s start planned going seen held kept × (going.taken ≡ most)
 
 -- a run that ended this way, with any number of turns
 pub record EndedAs (s : AllSettings) (start : Start) (planned : Life) (comes : RunResult) : Type 0 where
@@ -165,36 +201,60 @@ abbrev pub LoopStarts : Life → Ends → Result ScriptState StartErr → Type 0
 LoopStarts planned ends (Ok script) =
     told_of script ≡ Some (given_of planned, entry (Starting ends) (Some tt) ∷ [])
 LoopStarts planned ends (Err start_err.DiskFailed) = ⊥
+LoopStarts planned ends (Err start_err.KeeperFailed) = ⊥
 LoopStarts planned ends (Err start_err.LoopFailed) =
     place.IsPlayed (given_of planned) (entry (Starting ends) None ∷ [])
 LoopStarts planned ends (Err start_err.Memory) = Unit {0}
 
--- the same for a run whose engine has begun
-abbrev pub EngineStarts : Life → Ends → Engine → Result Going StartErr → Type 0
-EngineStarts planned ends engine (Ok going) =
-    (going.engine ≡ engine) × LoopStarts planned ends (Ok going.script) × (going.changed ≡ 0)
-    × (going.taken ≡ 0)
-EngineStarts planned ends engine (Err why) = LoopStarts planned ends (Err why)
+-- the same for a run whose engine has begun, and whose offsets are got
+abbrev pub EngineStarts : Life → Ends → Engine → KeptOffsets → Result Going StartErr → Type 0
+EngineStarts planned ends engine rows (Ok going) =
+    (going.engine ≡ engine) × (going.offsets ≡ rows) × LoopStarts planned ends (Ok going.script)
+    × (going.changed ≡ 0) × (going.taken ≡ 0)
+EngineStarts planned ends engine rows (Err why) = LoopStarts planned ends (Err why)
+
+-- the disk of a run was recovered with this history, by calls on the disk alone
+pub record IsRecovered (s : AllSettings) (start : Start) (planned : Life) (seen : Seen)
+    (h : History) : Type 0 where
+  pub trace : List TraceEntry
+  pub way : Execution (recovers s) trace (Return (Some h))
+  pub no_loop : loop_part trace ≡ []
+  pub no_files : files_part trace ≡ []
+  pub no_keeper : keeper_part trace ≡ []
+  pub asked : List Told
+  pub disk_is : seen.calls ≡ disk_of start planned ++ asked
+  pub are : disk.entries_of asked ≡ disk_part trace
+  pub played : disk.IsPlayed [] seen.calls
 
 -- how a run starts; nothing is claimed if memory ran out
-abbrev pub Starts : AllSettings → Start → Life → Seen → FilesState → Result Going StartErr → Type 0
-Starts s start planned seen held (Ok going) = IsInProgress s start planned going seen held × (going.taken ≡ 0)
-Starts s start planned seen held (Err start_err.DiskFailed) = EndedAs s start planned (lived [] DiskFailed)
-Starts s start planned seen held (Err start_err.LoopFailed) =
+abbrev pub Starts : AllSettings → Start → Life → Seen → FilesState → KeeperState → Result Going StartErr
+    → Type 0
+Starts s start planned seen held kept (Ok going) =
+    IsInProgress s start planned going seen held kept × (going.taken ≡ 0)
+Starts s start planned seen held kept (Err start_err.DiskFailed) =
+    EndedAs s start planned (lived [] DiskFailed)
+Starts s start planned seen held kept (Err start_err.KeeperFailed) =
+    (history : History) × EndedAs s start planned (lived history KeeperFailed)
+Starts s start planned seen held kept (Err start_err.LoopFailed) =
     (history : History) × EndedAs s start planned (lived history LoopFailed)
-Starts s start planned seen held (Err start_err.Memory) = Unit {0}
+Starts s start planned seen held kept (Err start_err.Memory) = Unit {0}
 
--- disk and files are in the state in which a run finds them
-pub record DevicesAreReady (start : Start) (seen : Seen) (held : FilesState) : Type 0 where
+-- disk, files and keeper are in the state in which a run finds them
+pub record DevicesAreReady (start : Start) (seen : Seen) (held : FilesState) (kept : KeeperState) : Type 0 where
   pub disk : seen.calls ≡ start.disk
   pub has : (path : List ℕ)
       → found (files_now held.given held.notes) path ≡ content_after None start.changes path
   pub unasked : held.notes ≡ []
+  pub kept_given : kept.given ≡ start.offsets
+  pub kept_unasked : kept.notes ≡ []
 
--- disk and files are set up for the run
-pub record IsSetUp (start : Start) (planned : Life) (seen : Seen) (held : FilesState) : Type 0 where
+-- they are set up for the run
+pub record IsSetUp (start : Start) (planned : Life) (seen : Seen) (held : FilesState)
+    (kept : KeeperState) : Type 0 where
   pub disk : seen.calls ≡ disk_of start planned
   pub files : FilesRepresent held (course_of start planned).files
+  pub kept_given : kept.given ≡ start.offsets
+  pub kept_unasked : kept.notes ≡ []
 
 -- the disk after a crash has one post-crash state of the disk after that many calls, chosen by the pick
 pub record IsCrashed (since : ℕ) (cut : Cut) (now image : Seen) : Type 0 where
@@ -209,48 +269,57 @@ pub record AreRenewed (held renewed : FilesState) : Type 0 where
   pub same : SameFiles (files_now held.given held.notes) (files_now renewed.given renewed.notes)
   pub unasked : renewed.notes ≡ []
 
+-- the same offsets, with an empty call log
+pub record OffsetsAreRenewed (kept renewed : KeeperState) : Type 0 where
+  pub same : SameOffsets (offsets_now kept.given kept.notes) renewed.given
+  pub unasked : renewed.notes ≡ []
+
 -- The crash of a run with this history and these calls before the turn in which it was cut: what it
 -- leaves to the next run, and the state of its engine.
 pub record HandsOver (s : AllSettings) (most : ℕ) (start : Start) (planned : Life) (cut : Cut) (going : Going)
-    (history : History) (before : List TraceEntry) (seen : Seen) (held : FilesState) : Type 0 where
+    (history : History) (before : List TraceEntry) (seen : Seen) (held : FilesState)
+    (kept : KeeperState) : Type 0 where
   pub cuts : CutRun
   pub is : IsCut s most start planned cuts
   pub cut_is : cuts.cut ≡ cut
   pub history_is : cuts.history ≡ history
   pub before_is : cuts.before ≡ before
-  pub finds : DevicesAreReady cuts.next seen held
+  pub finds : DevicesAreReady cuts.next seen held kept
   pub waits : waits_in (cuts.before ++ cuts.turn) ≡ going.taken
   pub now : History
   pub at : IsAt going.engine s now
 
 -- The outcome of a run in progress, with at most `most` turns, by its text and its end: the replay ends
 -- with it, or it was cut and leaves this.
-abbrev pub EndsBy : Shown → AllSettings → ℕ → Start → Life → Going → Seen → FilesState → List ℕ → LifeEnd
-    → Type 0
-EndsBy shown s most start planned going seen held text (life_end.Ends ending) =
+abbrev pub EndsBy : Shown → AllSettings → ℕ → Start → Life → Going → Seen → FilesState → KeeperState → List ℕ
+    → LifeEnd → Type 0
+EndsBy shown s most start planned going seen held kept text (life_end.Ends ending) =
     EndsIn shown s most start planned (record { text = text; ending = ending })
-EndsBy shown s most start planned going seen held text (life_end.Cut cut) =
+EndsBy shown s most start planned going seen held kept text (life_end.Cut cut) =
     (history : History) × (before : List TraceEntry)
-    × HandsOver s most start planned cut going history before seen held
+    × HandsOver s most start planned cut going history before seen held kept
     × (text ≡ life_text shown s before history)
 
-abbrev pub EndsAs : Shown → AllSettings → ℕ → Start → Life → Going → Seen → FilesState → Came → Type 0
-EndsAs shown s most start planned going seen held came =
-    EndsBy shown s most start planned going seen held came.text came.end
+abbrev pub EndsAs : Shown → AllSettings → ℕ → Start → Life → Going → Seen → FilesState → KeeperState → Came
+    → Type 0
+EndsAs shown s most start planned going seen held kept came =
+    EndsBy shown s most start planned going seen held kept came.text came.end
 
 -- The outcome of a run with at most `most` turns, by its text and what follows: nothing, or it was cut
 -- and leaves this to the next one.
-abbrev pub ProducesText : Shown → AllSettings → ℕ → Start → Life → Seen → FilesState → List ℕ → Next → Type 0
-ProducesText shown s most start planned seen held text (follow.Ends ending) =
+abbrev pub ProducesText : Shown → AllSettings → ℕ → Start → Life → Seen → FilesState → KeeperState → List ℕ → Next
+    → Type 0
+ProducesText shown s most start planned seen held kept text (follow.Ends ending) =
     EndsIn shown s most start planned (record { text = text; ending = ending })
-ProducesText shown s most start planned seen held text (follow.Life left) =
+ProducesText shown s most start planned seen held kept text (follow.Life left) =
     (c : CutRun) × IsCut s most start planned c × (text ≡ life_text shown s c.before c.history)
     × (left.cut ≡ c.cut) × (left.settings ≡ s)
-    × DevicesAreReady c.next seen held × (left.taken ≡ waits_in (c.before ++ c.turn))
+    × DevicesAreReady c.next seen held kept × (left.taken ≡ waits_in (c.before ++ c.turn))
 
-abbrev pub ProducesOutcome : Shown → AllSettings → ℕ → Start → Life → Seen → FilesState → Outcome → Type 0
-ProducesOutcome shown s most start planned seen held outcome =
-    ProducesText shown s most start planned seen held outcome.text outcome.next
+abbrev pub ProducesOutcome : Shown → AllSettings → ℕ → Start → Life → Seen → FilesState → KeeperState → Outcome
+    → Type 0
+ProducesOutcome shown s most start planned seen held kept outcome =
+    ProducesText shown s most start planned seen held kept outcome.text outcome.next
 
 -- a text after a crash, if there was one
 abbrev pub after_cut : Option Cut → List ℕ → List ℕ
@@ -261,7 +330,7 @@ after_cut (Some cut) text = after_crash cut text
 
 -- there was no run yet
 pub record IsFirst (between : Between) : Type 0 where
-  pub finds : DevicesAreReady first between.disk between.files
+  pub finds : DevicesAreReady first between.disk between.files between.keeper
   pub cut : between.cut ≡ None
 
 -- what a run leaves was handed to what follows
@@ -281,5 +350,5 @@ AppendsRun shown s start planned old new text all (afterwards.Ends ending) =
 AppendsRun shown s start planned old new text all (afterwards.Life settings) =
     (c : CutRun) × IsCut s old.left start planned c
     × (all ≡ text ++ after_cut old.cut (life_text shown s c.before c.history)) × (settings ≡ s)
-    × DevicesAreReady c.next new.disk new.files × (new.cut ≡ Some c.cut)
+    × DevicesAreReady c.next new.disk new.files new.keeper × (new.cut ≡ Some c.cut)
     × (new.left ≡ old.left - waits_in (c.before ++ c.turn))

@@ -7,6 +7,10 @@ use Rattle.fwd_disk_mem.specs.declared.told.Told.TheVariants.{Preset, FailAt}
 use Rattle.fwd_disk_mem.specs.Told as disk
 use Rattle.fwd_disk_mem.specs.FileTable.{MemFile}
 use Rattle.fwd_disk_mem.specs.Images.{picked, file_settings, reach}
+use Rattle.fwd_keeper.specs.Keeper.{KeeperGiven}
+use Rattle.fwd_keeper_mem.specs.KeeperAnswers as keeper
+use Rattle.fwd_keeper_mem.specs.KeeperAnswers.{offsets_after_all}
+use Rattle.fwd_keeper_mem.specs.Offsets.{SameOffsets}
 use Rattle.fwd_settings.specs.Endpoints.{ends_of}
 use Rattle.fwd_settings.specs.declared.settings_types.AllSettings.{AllSettings}
 use Rattle.fwd_script.specs.declared.schedule.Cut.{Cut}
@@ -16,25 +20,27 @@ use Rattle.fwd_script.specs.declared.schedule.Stored.{Stored}
 use Rattle.fwd_script_loop.specs.Lines.{coming, given_of}
 use Rattle.fwd_script_loop.specs.Place as place
 use Rattle.fwd_model.specs.Fact.{History}
-use Rattle.fwd_model.specs.Trace.{TraceEntry, loop_part, disk_part}
+use Rattle.fwd_model.specs.Trace.{TraceEntry, loop_part, disk_part, keeper_part}
 use Rattle.fwd_model.specs.Limits.{paused}
-use Rattle.fwd_model.specs.Run.{Over, TurnsSpent, RunResult, lived, run, life}
+use Rattle.fwd_model.specs.Run.{Over, TurnsSpent, RunResult, lived, life}
 use Rattle.fwd_theorem_trace.specs.Waits.{waits_in}
+use Rattle.fwd_theorem_crash.specs.StepBoundaries.{turn}
 use Rattle.fwd_replay.specs.FileChanges.{Course, course_after, FilesAnswered, is_last_next, has_last}
 use Rattle.fwd_replay.specs.Text.{life_text, reported_by, out_of_memory, joined}
 use Rattle.fwd_replay.specs.declared.report.Reported.{Reported}
 use Rattle.fwd_replay.specs.declared.report.Ending.TheVariants as ending
 use Rattle.fwd_replay.specs.declared.report.Shown.{Shown}
 
--- the state of the platform when a run begins: the calls on the disk, which has no unsynced state, and
--- the changes of files so far
+-- the state of the platform when a run begins: the calls on the disk, which has no unsynced state, the
+-- changes of files so far, and the offsets that the keeper has
 pub record Start : Type 0 where
   pub disk : List Told
   pub changes : List FileChange
+  pub offsets : KeeperGiven
 
--- an empty disk and no files
+-- an empty disk, no files and no offsets
 abbrev pub first : Start
-first = record { disk = []; changes = [] }
+first = record { disk = []; changes = []; offsets = [] }
 
 -- the calls of the setup are added to those of the disk: the files put on it, and the calls that are to
 -- fail
@@ -51,14 +57,15 @@ course_of start planned = record {
   files = record { changes = start.changes; fails = planned.file_fails; calls = 0 };
 }
 
--- The answers to these calls are those of the run: of its loop, of the disk after these calls, and of the
--- files.
+-- The answers to these calls are those of the run: of its loop, of the disk after these calls, of the files,
+-- and of the keeper, which fails no call.
 pub record IsAnswered (start : Start) (planned : Life) (trace : List TraceEntry)
     (asked : List Told) : Type 0 where
   pub loop : place.IsPlayed (given_of planned) (loop_part trace)
   pub are : disk.entries_of asked ≡ disk_part trace
   pub disk : disk.IsPlayed (disk_of start planned) asked
   pub files : FilesAnswered (course_of start planned) trace
+  pub keeper : keeper.IsPlayed start.offsets [] (keeper_part trace)
 
 -- one of these calls is a wait that returns the event in which the run is cut
 abbrev pub has_cut : Start → Life → List TraceEntry → Bool
@@ -85,15 +92,16 @@ pub record EndsIn (shown : Shown) (s : AllSettings) (turns : ℕ) (start : Start
 
 -- ---- a run that is cut
 
--- The turn in which it is cut: the run has that many turns left, and the turn's wait returns the event. If
--- the run is over before, the turn makes no call. In this turn a `failed` line is no failure of the loop.
+-- The turn in which it is cut: the run has that many turns left, and the turn's wait returns the event. No
+-- offset is put after it. If the run is over before, the turn makes no call. In this turn a `failed` line is
+-- no failure of the loop.
 abbrev pub IsCutIn : AllSettings → ℕ → Start → Life → List TraceEntry → History → List TraceEntry → Type 0
-IsCutIn s turns start planned before h turn =
+IsCutIn s turns start planned before h calls =
     ((waits_in before < turns)
     × Execution (life s (ends_of s) None (waits_in before)) before (Return (lived h TurnsSpent))
     × (is_last_next (paused s h) (course_after (course_of start planned) before) ≡ true)
-    × ((last : RunResult) × Execution (run s None 1 h) turn (Return last)))
-    ⊎ (Execution (life s (ends_of s) None turns) before (Return (lived h Over)) × (turn ≡ []))
+    × ((last : History) × Execution (turn s h) calls (Return last)))
+    ⊎ (Execution (life s (ends_of s) None turns) before (Return (lived h Over)) × (calls ≡ []))
 
 -- the first of these calls, that many
 abbrev pub first_calls : ℕ → List Told → List Told
@@ -111,7 +119,7 @@ pub record CutRun : Type 0 where
   pub next : Start
 
 -- The disk is then in a post-crash state of the disk after that many calls of the turn, chosen by the
--- pick; the files are unchanged.
+-- pick; the files and the offsets are unchanged.
 pub record IsCut (s : AllSettings) (turns : ℕ) (start : Start) (planned : Life) (c : CutRun) : Type 0 where
   pub is : planned.cut ≡ Some c.cut
   pub cut_in : IsCutIn s turns start planned c.before c.history c.turn
@@ -125,6 +133,7 @@ pub record IsCut (s : AllSettings) (turns : ℕ) (start : Start) (planned : Life
       ≡ picked (c.cut.pick % 4)
       ((disk_of start planned ++ c.asked) ++ first_calls c.cut.calls c.asked_in) name
   pub changes : c.next.changes ≡ (course_after (course_of start planned) (c.before ++ c.turn)).files.changes
+  pub offsets : SameOffsets (offsets_after_all start.offsets (keeper_part (c.before ++ c.turn))) c.next.offsets
 
 -- Each run in turn, with at most `turns` turns in all: the replay ends with it, or it is cut and the next
 -- one follows; or memory ran out in it, and nothing of it is in the text.

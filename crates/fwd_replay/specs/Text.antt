@@ -11,7 +11,7 @@ use Rattle.fwd_model.specs.Fact.{History}
 use Rattle.fwd_model.specs.Trace.{TraceEntry, loop_part}
 use Rattle.fwd_model.specs.Routes.{rows_of}
 use Rattle.fwd_model.specs.Counters.{tally_of}
-use Rattle.fwd_model.specs.Run.{End, Over, DiskFailed, LoopFailed, TurnsSpent}
+use Rattle.fwd_model.specs.Run.{End, Over, DiskFailed, KeeperFailed, LoopFailed, TurnsSpent}
 use Rattle.fwd_report.specs.Report.{report_of}
 use Rattle.fwd_replay.specs.declared.report.Reported.{Reported}
 use Rattle.fwd_replay.specs.declared.report.Ending.TheVariants as ending
@@ -56,6 +56,7 @@ life_text Report s trace h = report s h
 abbrev pub reported_by : List ℕ → End → Reported
 reported_by text Over = record { text = text; ending = ending.Over }
 reported_by text DiskFailed = record { text = []; ending = ending.DiskFailed }
+reported_by text KeeperFailed = record { text = []; ending = ending.KeeperFailed }
 reported_by text LoopFailed = record { text = []; ending = ending.LoopFailed }
 reported_by text TurnsSpent = record { text = text; ending = ending.TurnsSpent }
 

@@ -2,6 +2,8 @@
 
 ghost use Rattle.std.specs.Prelude.{◌≡◌, ◌<◌, ◌≤◌, ◌++◌, ℕ, List, [], Some, None, OnOk, IfOk};
 ghost use Rattle.fwd_disk_mem.specs.DiskState.{Seen};
+ghost use Rattle.fwd_keeper_mem.specs.KeeperState.{KeeperState};
+ghost use Rattle.fwd_engine_run.specs.OffsetRows.{Keeps};
 ghost use Rattle.fwd_settings.specs.Endpoints.{ends_of};
 ghost use Rattle.fwd_settings.specs.Requirements.{MeetsRequirements};
 ghost use Rattle.fwd_settings.specs.declared.settings_types.AllSettings.{AllSettings};
@@ -13,7 +15,7 @@ ghost use Rattle.fwd_model.specs.Fact.{History};
 ghost use Rattle.fwd_engine.specs.EngineSteps.{IsAt};
 ghost use Rattle.fwd_replay.specs.Runs.{Start};
 ghost use Rattle.fwd_replay.specs.Names.{IsNamed, IsNamedOf, printed_mask};
-ghost use Rattle.fwd_replay.specs.RunState.{AreRenewed, EndsBy, EndsAs, ProducesText, ProducesOutcome, DevicesAreReady, LoopHasFailed, HaveAnswered, IsCrashed, IsOver, IsReady, IsSetUp, IsInProgress, HandsOver};
+ghost use Rattle.fwd_replay.specs.RunState.{AreRenewed, OffsetsAreRenewed, EndsBy, EndsAs, ProducesText, ProducesOutcome, DevicesAreReady, LoopHasFailed, HaveAnswered, IsCrashed, IsOver, IsReady, IsSetUp, IsInProgress, HandsOver};
 ghost use Rattle.fwd_replay.specs.Text.{report, with_line_end};
 ghost use Rattle.fwd_replay.specs.declared.progress.Going.{Going};
 ghost use Rattle.fwd_replay.specs.declared.life.Next.TheVariants as follow;
@@ -26,6 +28,8 @@ use crate::start::{StartErr, set_up, start};
 use crate::turns::{TurnsEnd, is_out_of_memory, take, take_turns};
 use fwd_base::{Bytes, Memory};
 use fwd_disk_mem::MemDisk;
+use fwd_engine_run::KeptOffsets;
+use fwd_keeper_mem::MemKeeper;
 use fwd_outside::Ends;
 use fwd_script::{Cut, Life, MemFiles};
 use fwd_settings::{AllSettings, ends};
@@ -98,12 +102,13 @@ fn text_of(alloc: Global, named: &Named, going: &Going) -> Result<Bytes, Memory>
     Ok(text)
 }
 
-/// States that the loop and the disk in memory answered as the schedule says.
-fn lemma_have_answered(going: &Going, disk: &MemDisk)
-    ensures { HaveAnswered going.now.script disk.now }
+/// States that loop, disk and keeper in memory answered as the schedule says.
+fn lemma_have_answered(going: &Going, disk: &MemDisk, keeper: &MemKeeper)
+    ensures { HaveAnswered going.now.script disk.now keeper.now }
 {
     going.script.is_played();
     disk.is_played();
+    keeper.is_played();
 }
 
 /// Puts the disk in its state after a crash, which comes `cut`'s number of calls after the call number
@@ -125,18 +130,29 @@ fn renew_files(alloc: Global, files: &mut MemFiles) -> Result<(), Memory>
     Ok(())
 }
 
-/// Puts disk and files in their states after a crash, for the next run.
+/// Replaces the keeper by one with the same offsets and an empty call log.
+fn renew_keeper(alloc: Global, keeper: &mut MemKeeper) -> Result<(), Memory>
+    ensures { OnOk result (OffsetsAreRenewed keeper.old keeper.new) }
+{
+    let renewed = keeper.renewed(alloc)?;
+    *keeper = renewed;
+    Ok(())
+}
+
+/// Puts disk, files and keeper in their states after a crash, for the next run.
 fn crash(
     alloc: Global,
     disk: &mut MemDisk,
     files: &mut MemFiles,
+    keeper: &mut MemKeeper,
     since: usize,
     cut: Cut,
 ) -> Result<(), Memory>
-    ensures { OnOk result (IsCrashed since cut disk.old disk.new × AreRenewed files.old files.new) }
+    ensures { OnOk result (IsCrashed since cut disk.old disk.new × AreRenewed files.old files.new × OffsetsAreRenewed keeper.old keeper.new) }
 {
     crash_disk(alloc, disk, since, cut)?;
-    renew_files(alloc, files)
+    renew_files(alloc, files)?;
+    renew_keeper(alloc, keeper)
 }
 
 /// Makes the turn in which the run is cut, and the crash.
@@ -146,18 +162,19 @@ fn cut_turn(
     going: &mut Going,
     disk: &mut MemDisk,
     files: &mut MemFiles,
+    keeper: &mut MemKeeper,
     cut: Cut,
     most: u64,
 ) -> Result<(), Memory>
     requires { going.old.taken < most }
-    ensures { (s : AllSettings) (begins : Start) (planned : Life) (ready : IsReady s begins planned going.old disk.old files.old (Some cut))
-        → OnOk result (HandsOver s most begins planned cut going.new ready.history ready.trace disk.new files.new) }
+    ensures { (s : AllSettings) (begins : Start) (planned : Life) (ready : IsReady s begins planned going.old disk.old files.old keeper.old (Some cut))
+        → OnOk result (HandsOver s most begins planned cut going.new ready.history ready.trace disk.new files.new keeper.new) }
 {
     let since = disk.told_len();
-    if is_out_of_memory(take(rt, going, disk, files)) {
+    if is_out_of_memory(take(rt, going, disk, files, keeper)) {
         return Err(Memory);
     }
-    crash(alloc, disk, files, since, cut)
+    crash(alloc, disk, files, keeper, since, cut)
 }
 
 /// Returns the outcome of a run that is cut in its next turn.
@@ -168,16 +185,17 @@ fn leave_in_turn(
     going: &mut Going,
     disk: &mut MemDisk,
     files: &mut MemFiles,
+    keeper: &mut MemKeeper,
     cut: Cut,
     most: u64,
 ) -> Result<Came, Memory>
     requires named { IsNamedOf named.now going.old.engine }
     requires left { going.old.taken < most }
-    ensures { (s : AllSettings) (begins : Start) (planned : Life) → IsNamed named.now s → IsReady s begins planned going.old disk.old files.old (Some cut)
-        → IfOk result (EndsAs named.now.shown s most begins planned going.new disk.new files.new) }
+    ensures { (s : AllSettings) (begins : Start) (planned : Life) → IsNamed named.now s → IsReady s begins planned going.old disk.old files.old keeper.old (Some cut)
+        → IfOk result (EndsAs named.now.shown s most begins planned going.new disk.new files.new keeper.new) }
 {
     let text = text_of(alloc, named, going)?;
-    cut_turn(rt, alloc, going, disk, files, cut, most)?;
+    cut_turn(rt, alloc, going, disk, files, keeper, cut, most)?;
     Ok(Came {
         text,
         end: LifeEnd::Cut(cut),
@@ -191,16 +209,17 @@ fn leave_over(
     going: &Going,
     disk: &mut MemDisk,
     files: &mut MemFiles,
+    keeper: &mut MemKeeper,
     cut: Cut,
 ) -> Result<Came, Memory>
     requires { IsNamedOf named.now going.now.engine }
-    ensures { (s : AllSettings) (begins : Start) (planned : Life) (most : ℕ) → IsNamed named.now s → IsOver s begins planned going.now disk.old files.old → planned.cut ≡ Some cut → going.now.taken ≤ most
-        → IfOk result (EndsAs named.now.shown s most begins planned going.now disk.new files.new) }
+    ensures { (s : AllSettings) (begins : Start) (planned : Life) (most : ℕ) → IsNamed named.now s → IsOver s begins planned going.now disk.old files.old keeper.old → planned.cut ≡ Some cut → going.now.taken ≤ most
+        → IfOk result (EndsAs named.now.shown s most begins planned going.now disk.new files.new keeper.new) }
 {
     let text = text_of(alloc, named, going)?;
-    lemma_have_answered(going, disk);
+    lemma_have_answered(going, disk, keeper);
     let since = disk.told_len();
-    crash(alloc, disk, files, since, cut)?;
+    crash(alloc, disk, files, keeper, since, cut)?;
     Ok(Came {
         text,
         end: LifeEnd::Cut(cut),
@@ -208,12 +227,18 @@ fn leave_over(
 }
 
 /// Ends the replay with a run that is over and isn't to be cut.
-fn end_over(alloc: Global, named: &Named, going: &Going, disk: &MemDisk) -> Result<Came, Memory>
+fn end_over(
+    alloc: Global,
+    named: &Named,
+    going: &Going,
+    disk: &MemDisk,
+    keeper: &MemKeeper,
+) -> Result<Came, Memory>
     requires { IsNamedOf named.now going.now.engine }
-    ensures { (s : AllSettings) (begins : Start) (planned : Life) (most : ℕ) (held : FilesState) → IsNamed named.now s → IsOver s begins planned going.now disk.now held → planned.cut ≡ None → going.now.taken ≤ most
-        → IfOk result (EndsAs named.now.shown s most begins planned going.now disk.now held) }
+    ensures { (s : AllSettings) (begins : Start) (planned : Life) (most : ℕ) (held : FilesState) → IsNamed named.now s → IsOver s begins planned going.now disk.now held keeper.now → planned.cut ≡ None → going.now.taken ≤ most
+        → IfOk result (EndsAs named.now.shown s most begins planned going.now disk.now held keeper.now) }
 {
-    lemma_have_answered(going, disk);
+    lemma_have_answered(going, disk, keeper);
     let text = text_of(alloc, named, going)?;
     Ok(Came {
         text,
@@ -222,12 +247,18 @@ fn end_over(alloc: Global, named: &Named, going: &Going, disk: &MemDisk) -> Resu
 }
 
 /// Ends the replay with a run that has taken all turns.
-fn end_spent(alloc: Global, named: &Named, going: &Going, disk: &MemDisk) -> Result<Came, Memory>
+fn end_spent(
+    alloc: Global,
+    named: &Named,
+    going: &Going,
+    disk: &MemDisk,
+    keeper: &MemKeeper,
+) -> Result<Came, Memory>
     requires { IsNamedOf named.now going.now.engine }
-    ensures { (s : AllSettings) (begins : Start) (planned : Life) (held : FilesState) → IsNamed named.now s → IsInProgress s begins planned going.now disk.now held
-        → IfOk result (EndsAs named.now.shown s going.now.taken begins planned going.now disk.now held) }
+    ensures { (s : AllSettings) (begins : Start) (planned : Life) (held : FilesState) → IsNamed named.now s → IsInProgress s begins planned going.now disk.now held keeper.now
+        → IfOk result (EndsAs named.now.shown s going.now.taken begins planned going.now disk.now held keeper.now) }
 {
-    lemma_have_answered(going, disk);
+    lemma_have_answered(going, disk, keeper);
     let text = text_of(alloc, named, going)?;
     Ok(Came {
         text,
@@ -236,11 +267,11 @@ fn end_spent(alloc: Global, named: &Named, going: &Going, disk: &MemDisk) -> Res
 }
 
 /// Ends the replay with a run whose loop failed.
-fn end_failed(alloc: Global, going: &Going, disk: &MemDisk) -> Came
-    ensures { (shown : Shown) (s : AllSettings) (begins : Start) (planned : Life) (most : ℕ) (held : FilesState) → LoopHasFailed s begins planned going.now disk.now held → going.now.taken ≤ most
-        → EndsAs shown s most begins planned going.now disk.now held result }
+fn end_failed(alloc: Global, going: &Going, disk: &MemDisk, keeper: &MemKeeper) -> Came
+    ensures { (shown : Shown) (s : AllSettings) (begins : Start) (planned : Life) (most : ℕ) (held : FilesState) → LoopHasFailed s begins planned going.now disk.now held keeper.now → going.now.taken ≤ most
+        → EndsAs shown s most begins planned going.now disk.now held keeper.now result }
 {
-    lemma_have_answered(going, disk);
+    lemma_have_answered(going, disk, keeper);
     Came {
         text: Bytes::new(alloc),
         end: LifeEnd::Ends(Ending::LoopFailed),
@@ -256,29 +287,32 @@ fn live(
     life: &Life,
     disk: &mut MemDisk,
     files: &mut MemFiles,
+    keeper: &mut MemKeeper,
     most: u64,
 ) -> Result<Came, Memory>
     requires new { going.old.taken ≡ 0 }
-    requires stands { (s : AllSettings) × (begins : Start) × IsNamed named.now s × IsInProgress s begins life.now going.old disk.old files.old }
-    ensures { (s : AllSettings) (begins : Start) → IsNamed named.now s → IsInProgress s begins life.now going.old disk.old files.old
-        → IfOk result (EndsAs named.now.shown s most begins life.now going.new disk.new files.new) }
+    requires stands { (s : AllSettings) × (begins : Start) × IsNamed named.now s × IsInProgress s begins life.now going.old disk.old files.old keeper.old }
+    ensures { (s : AllSettings) (begins : Start) → IsNamed named.now s → IsInProgress s begins life.now going.old disk.old files.old keeper.old
+        → IfOk result (EndsAs named.now.shown s most begins life.now going.new disk.new files.new keeper.new) }
 {
-    let end = take_turns(rt, going, life, disk, files, most)?;
+    let end = take_turns(rt, going, life, disk, files, keeper, most)?;
     match end {
         TurnsEnd::Over => match life.cut {
-            Some(cut) => leave_over(alloc, named, going, disk, files, cut),
-            None => end_over(alloc, named, going, disk),
+            Some(cut) => leave_over(alloc, named, going, disk, files, keeper, cut),
+            None => end_over(alloc, named, going, disk, keeper),
         },
-        TurnsEnd::Cut(cut) => leave_in_turn(rt, alloc, named, going, disk, files, cut, most),
-        TurnsEnd::LoopFailed => Ok(end_failed(alloc, going, disk)),
-        TurnsEnd::TurnsSpent => end_spent(alloc, named, going, disk),
+        TurnsEnd::Cut(cut) => leave_in_turn(
+            rt, alloc, named, going, disk, files, keeper, cut, most,
+        ),
+        TurnsEnd::LoopFailed => Ok(end_failed(alloc, going, disk, keeper)),
+        TurnsEnd::TurnsSpent => end_spent(alloc, named, going, disk, keeper),
     }
 }
 
 /// Returns what follows a run that ended this way and gave its settings back.
 fn next_of(end: LifeEnd, settings: AllSettings, taken: u64) -> Next
-    ensures { (shown : Shown) (s : AllSettings) (most : ℕ) (begins : Start) (planned : Life) (going : Going) (seen : Seen) (held : FilesState) (text : List ℕ) → EndsBy shown s most begins planned going seen held text end
-        → ((now : History) → IsAt going.engine s now → settings ≡ s) → taken ≡ going.taken → ProducesText shown s most begins planned seen held text result }
+    ensures { (shown : Shown) (s : AllSettings) (most : ℕ) (begins : Start) (planned : Life) (going : Going) (seen : Seen) (held : FilesState) (kept : KeeperState) (text : List ℕ) → EndsBy shown s most begins planned going seen held kept text end
+        → ((now : History) → IsAt going.engine s now → settings ≡ s) → taken ≡ going.taken → ProducesText shown s most begins planned seen held kept text result }
 {
     match end {
         LifeEnd::Ends(ending) => Next::Ends(ending),
@@ -296,8 +330,8 @@ fn outcome_of(
     settings: AllSettings,
     taken: u64,
 ) -> Result<Outcome, Memory>
-    ensures { (shown : Shown) (s : AllSettings) (most : ℕ) (begins : Start) (planned : Life) (going : Going) (seen : Seen) (held : FilesState) → IfOk came (EndsAs shown s most begins planned going seen held)
-        → ((now : History) → IsAt going.engine s now → settings ≡ s) → taken ≡ going.taken → IfOk result (ProducesOutcome shown s most begins planned seen held) }
+    ensures { (shown : Shown) (s : AllSettings) (most : ℕ) (begins : Start) (planned : Life) (going : Going) (seen : Seen) (held : FilesState) (kept : KeeperState) → IfOk came (EndsAs shown s most begins planned going seen held kept)
+        → ((now : History) → IsAt going.engine s now → settings ≡ s) → taken ≡ going.taken → IfOk result (ProducesOutcome shown s most begins planned seen held kept) }
 {
     match came {
         Ok(came) => Ok(Outcome {
@@ -317,14 +351,17 @@ fn run_started(
     life: &Life,
     disk: &mut MemDisk,
     files: &mut MemFiles,
+    keeper: &mut MemKeeper,
     most: u64,
 ) -> Result<Outcome, Memory>
     requires new { going.taken ≡ 0 }
-    requires stands { (s : AllSettings) × (begins : Start) × IsNamed named.now s × IsInProgress s begins life.now going disk.old files.old }
-    ensures { (s : AllSettings) (begins : Start) → IsNamed named.now s → IsInProgress s begins life.now going disk.old files.old
-        → IfOk result (ProducesOutcome named.now.shown s most begins life.now disk.new files.new) }
+    requires stands { (s : AllSettings) × (begins : Start) × IsNamed named.now s × IsInProgress s begins life.now going disk.old files.old keeper.old }
+    ensures { (s : AllSettings) (begins : Start) → IsNamed named.now s → IsInProgress s begins life.now going disk.old files.old keeper.old
+        → IfOk result (ProducesOutcome named.now.shown s most begins life.now disk.new files.new keeper.new) }
 {
-    let came = live(rt, alloc, named, &mut going, life, disk, files, most);
+    let came = live(
+        rt, alloc, named, &mut going, life, disk, files, keeper, most,
+    );
     let taken = going.taken;
     outcome_of(came, going.engine.finish(), taken)
 }
@@ -345,21 +382,27 @@ fn run_prepared(
     alloc: Global,
     named: &Named,
     settings: AllSettings,
+    offsets: KeptOffsets,
     ends: &Ends,
     life: &Life,
     disk: &mut MemDisk,
     files: &mut MemFiles,
+    keeper: &mut MemKeeper,
     most: u64,
 ) -> Result<Outcome, Memory>
     requires sound { MeetsRequirements settings }
     requires named { IsNamed named.now settings }
+    requires offsets { Keeps settings offsets [] }
     requires ends { ends.now ≡ ends_of settings }
-    requires devices { (begins : Start) × IsSetUp begins life.now disk.old files.old }
-    ensures { (begins : Start) → IsSetUp begins life.now disk.old files.old → IfOk result (ProducesOutcome named.now.shown settings most begins life.now disk.new files.new) }
+    requires devices { (begins : Start) × IsSetUp begins life.now disk.old files.old keeper.old }
+    ensures { (begins : Start) → IsSetUp begins life.now disk.old files.old keeper.old → IfOk result (ProducesOutcome named.now.shown settings most begins life.now disk.new files.new keeper.new) }
 {
-    match start(rt, alloc, settings, ends, life, disk) {
-        Ok(going) => run_started(rt, alloc, named, going, life, disk, files, most),
+    match start(rt, alloc, settings, offsets, ends, life, disk, keeper) {
+        Ok(going) => run_started(
+            rt, alloc, named, going, life, disk, files, keeper, most,
+        ),
         Err(StartErr::DiskFailed) => Ok(failed_start(alloc, Ending::DiskFailed)),
+        Err(StartErr::KeeperFailed) => Ok(failed_start(alloc, Ending::KeeperFailed)),
         Err(StartErr::LoopFailed) => Ok(failed_start(alloc, Ending::LoopFailed)),
         Err(StartErr::Memory) => Err(Memory),
     }
@@ -374,14 +417,18 @@ pub fn run_life(
     life: &Life,
     disk: &mut MemDisk,
     files: &mut MemFiles,
+    keeper: &mut MemKeeper,
     most: u64,
 ) -> Result<Outcome, Memory>
     requires sound { MeetsRequirements settings }
     requires named { IsNamed named.now settings }
-    requires finds { (begins : Start) × DevicesAreReady begins disk.old files.old }
-    ensures { (begins : Start) → DevicesAreReady begins disk.old files.old → IfOk result (ProducesOutcome named.now.shown settings most begins life.now disk.new files.new) }
+    requires finds { (begins : Start) × DevicesAreReady begins disk.old files.old keeper.old }
+    ensures { (begins : Start) → DevicesAreReady begins disk.old files.old keeper.old → IfOk result (ProducesOutcome named.now.shown settings most begins life.now disk.new files.new keeper.new) }
 {
     set_up(disk, files, life)?;
     let ends = ends(alloc, &settings)?;
-    run_prepared(rt, alloc, named, settings, &ends, life, disk, files, most)
+    let offsets = KeptOffsets::of(alloc, &settings)?;
+    run_prepared(
+        rt, alloc, named, settings, offsets, &ends, life, disk, files, keeper, most,
+    )
 }

@@ -11,16 +11,20 @@ ghost use Rattle.fwd_model.specs.Run.{after_recovery};
 ghost use Rattle.fwd_engine_state.specs.RefinesAction.{with_all};
 ghost use Rattle.fwd_engine_state.specs.LoopCounters.{EventsTaken};
 ghost use Rattle.fwd_engine.specs.EngineSteps.{IsAt};
+ghost use Rattle.fwd_engine_run.specs.OffsetRows.{Keeps, with_keeper};
 ghost use Rattle.fwd_engine_run.specs.RunOutcome.{IsAtEnd, end_of};
-ghost use Rattle.fwd_replay.specs.LiveRun.{RunProduces, IsRunLive, ActionProduces, ending_of, heard_in};
-ghost use Rattle.fwd_replay.specs.Names.{IsNamed, IsNamedOf, IsNamedUnlessFailed};
+ghost use Rattle.fwd_theorem_trace.specs.Allowed.{IsLoading};
+ghost use Rattle.fwd_replay.specs.LiveRun.{IsToRun, RunProduces, IsRunLive, ActionProduces, ending_of, heard_in};
+ghost use Rattle.fwd_replay.specs.Names.{IsNamed, IsNamedUnlessFailed};
 ghost use Rattle.fwd_replay.specs.Text.{report, reported_by};
 ghost use Rattle.fwd_replay.specs.declared.report.Ending.TheVariants as ending;
 
 use crate::names::Named;
 use crate::report::{Ending, Reported, Shown, report_text};
 use fwd_base::{Bytes, Memory};
-use fwd_engine::{BeginErr, Engine, RunEnd, run, show_begun, shown_of};
+use fwd_engine::{BeginErr, Engine};
+use fwd_engine_run::{KeptOffsets, RunEnd, run, show_begun, shown_of};
+use fwd_keeper::Keeper;
 use fwd_outside::{Disk, Ends, Files, Loop};
 use fwd_settings::{AllSettings, ends};
 use fwd_watch::Watch;
@@ -35,6 +39,7 @@ fn reported(alloc: Global, named: &Named, engine: &Engine, end: RunEnd) -> Resul
     let (text, ending) = match end {
         RunEnd::Over => (report_text(alloc, named, engine)?, Ending::Over),
         RunEnd::TurnsSpent => (report_text(alloc, named, engine)?, Ending::TurnsSpent),
+        RunEnd::KeeperFailed => (Bytes::new(alloc), Ending::KeeperFailed),
         RunEnd::LoopFailed => (Bytes::new(alloc), Ending::LoopFailed),
     };
     Ok(Reported { text, ending })
@@ -51,49 +56,57 @@ fn without_text(alloc: Global, ending: Ending) -> Reported
 }
 
 /// Runs an engine that has begun.
-fn run_engine<L: Loop, D: Disk, F: Files>(
+fn run_engine<L: Loop, D: Disk, F: Files, K: Keeper>(
     rt: &(impl Threads + Sync),
     alloc: Global,
     named: &Named,
     engine: &mut Engine,
+    offsets: &mut KeptOffsets,
     ends: &Ends,
     ticks: Option<u64>,
     disk: &mut D,
     files: &mut F,
     outside: &mut L,
+    keeper: &mut K,
     most: u64,
     watch: &mut impl Watch,
 ) -> Result<Reported, Memory>
-    requires { IsNamedOf named.now engine.old }
-    ensures run { (others : CallLogs) (s : AllSettings) (h : History) → IsAt engine.old s h → IsNamed named.now s → ActionProduces s (after_recovery s ends.now ticks most (Some h)) (with_all (L.call_log outside.old) (D.call_log disk.old) (F.call_log files.old) others) (with_all (L.call_log outside.new) (D.call_log disk.new) (F.call_log files.new) others) result }
+    requires { IsToRun named.now engine.old offsets.old }
+    ensures run { (others : CallLogs) (s : AllSettings) (h : History) → IsAt engine.old s h → IsLoading h → Keeps s offsets.old [] → IsNamed named.now s → ActionProduces s (after_recovery s ends.now ticks most (Some h)) (with_all (L.call_log outside.old) (D.call_log disk.old) (F.call_log files.old) (with_keeper (K.call_log keeper.old) others)) (with_all (L.call_log outside.new) (D.call_log disk.new) (F.call_log files.new) (with_keeper (K.call_log keeper.new) others)) result }
     ensures heard { EventsTaken (heard_in most (ending_of result)) (L.counts outside.old) (L.counts outside.new) }
+    ensures keeper_cause { HasCause (K.faults keeper.old) (K.faults keeper.new) (ending_of result ≡ ending.KeeperFailed) }
     ensures loop_cause { HasCause (L.faults outside.old) (L.faults outside.new) (ending_of result ≡ ending.LoopFailed) }
     ensures disk_cause { HasCause (D.faults disk.old) (D.faults disk.new) (ending_of result ≡ ending.DiskFailed) }
     ensures files_later { F.faults files.old ≤ F.faults files.new }
 {
-    match run(rt, engine, ends, ticks, disk, files, outside, most, watch) {
+    match run(
+        rt, engine, offsets, ends, ticks, disk, files, outside, keeper, most, watch,
+    ) {
         Ok(end) => reported(alloc, named, engine, end),
         Err(Memory) => Err(Memory),
     }
 }
 
 /// Runs an engine that has begun, and drops the settings that it gives back.
-fn run_and_drop<L: Loop, D: Disk, F: Files>(
+fn run_and_drop<L: Loop, D: Disk, F: Files, K: Keeper>(
     rt: &(impl Threads + Sync),
     alloc: Global,
     named: &Named,
     mut engine: Engine,
+    mut offsets: KeptOffsets,
     ends: &Ends,
     ticks: Option<u64>,
     disk: &mut D,
     files: &mut F,
     outside: &mut L,
+    keeper: &mut K,
     most: u64,
     watch: &mut impl Watch,
 ) -> Result<Reported, Memory>
-    requires { IsNamedOf named.now engine }
-    ensures run { (others : CallLogs) (s : AllSettings) (h : History) → IsAt engine s h → IsNamed named.now s → ActionProduces s (after_recovery s ends.now ticks most (Some h)) (with_all (L.call_log outside.old) (D.call_log disk.old) (F.call_log files.old) others) (with_all (L.call_log outside.new) (D.call_log disk.new) (F.call_log files.new) others) result }
+    requires { IsToRun named.now engine offsets }
+    ensures run { (others : CallLogs) (s : AllSettings) (h : History) → IsAt engine s h → IsLoading h → Keeps s offsets [] → IsNamed named.now s → ActionProduces s (after_recovery s ends.now ticks most (Some h)) (with_all (L.call_log outside.old) (D.call_log disk.old) (F.call_log files.old) (with_keeper (K.call_log keeper.old) others)) (with_all (L.call_log outside.new) (D.call_log disk.new) (F.call_log files.new) (with_keeper (K.call_log keeper.new) others)) result }
     ensures heard { EventsTaken (heard_in most (ending_of result)) (L.counts outside.old) (L.counts outside.new) }
+    ensures keeper_cause { HasCause (K.faults keeper.old) (K.faults keeper.new) (ending_of result ≡ ending.KeeperFailed) }
     ensures loop_cause { HasCause (L.faults outside.old) (L.faults outside.new) (ending_of result ≡ ending.LoopFailed) }
     ensures disk_cause { HasCause (D.faults disk.old) (D.faults disk.new) (ending_of result ≡ ending.DiskFailed) }
     ensures files_later { F.faults files.old ≤ F.faults files.new }
@@ -104,11 +117,13 @@ fn run_and_drop<L: Loop, D: Disk, F: Files>(
         alloc,
         named,
         &mut engine,
+        &mut offsets,
         ends,
         ticks,
         disk,
         files,
         outside,
+        keeper,
         most,
         watch,
     );
@@ -118,31 +133,35 @@ fn run_and_drop<L: Loop, D: Disk, F: Files>(
 }
 
 /// Begins an engine with the names and endpoints of its settings, and runs it.
-fn begin_and_run<L: Loop, D: Disk, F: Files>(
+fn begin_and_run<L: Loop, D: Disk, F: Files, K: Keeper>(
     rt: &(impl Threads + Sync),
     alloc: Global,
     named: &Named,
     settings: AllSettings,
+    offsets: KeptOffsets,
     ends: &Ends,
     ticks: Option<u64>,
     disk: &mut D,
     files: &mut F,
     outside: &mut L,
+    keeper: &mut K,
     most: u64,
     watch: &mut impl Watch,
 ) -> Result<Reported, Memory>
     requires sound { MeetsRequirements settings }
     requires named { IsNamed named.now settings }
+    requires offsets { Keeps settings offsets [] }
     requires ends { ends.now ≡ ends_of settings }
-    ensures life { (others : CallLogs) → RunProduces settings ticks most (with_all (L.call_log outside.old) (D.call_log disk.old) (F.call_log files.old) others) (with_all (L.call_log outside.new) (D.call_log disk.new) (F.call_log files.new) others) result }
+    ensures life { (others : CallLogs) → RunProduces settings ticks most (with_all (L.call_log outside.old) (D.call_log disk.old) (F.call_log files.old) (with_keeper (K.call_log keeper.old) others)) (with_all (L.call_log outside.new) (D.call_log disk.new) (F.call_log files.new) (with_keeper (K.call_log keeper.new) others)) result }
     ensures heard { EventsTaken (heard_in most (ending_of result)) (L.counts outside.old) (L.counts outside.new) }
+    ensures keeper_cause { HasCause (K.faults keeper.old) (K.faults keeper.new) (ending_of result ≡ ending.KeeperFailed) }
     ensures loop_cause { HasCause (L.faults outside.old) (L.faults outside.new) (ending_of result ≡ ending.LoopFailed) }
     ensures disk_cause { HasCause (D.faults disk.old) (D.faults disk.new) (ending_of result ≡ ending.DiskFailed) }
     ensures files_later { F.faults files.old ≤ F.faults files.new }
 {
     match Engine::begin(rt, alloc, settings, disk) {
         Ok(engine) => run_and_drop(
-            rt, alloc, named, engine, ends, ticks, disk, files, outside, most, watch,
+            rt, alloc, named, engine, offsets, ends, ticks, disk, files, outside, keeper, most, watch,
         ),
         Err(BeginErr::DiskFault) => Ok(without_text(alloc, Ending::DiskFailed)),
         Err(BeginErr::Memory) => Err(Memory),
@@ -150,7 +169,7 @@ fn begin_and_run<L: Loop, D: Disk, F: Files>(
 }
 
 /// Makes the run.
-fn lived<L: Loop, D: Disk, F: Files>(
+fn lived<L: Loop, D: Disk, F: Files, K: Keeper>(
     rt: &(impl Threads + Sync),
     alloc: Global,
     settings: AllSettings,
@@ -158,29 +177,32 @@ fn lived<L: Loop, D: Disk, F: Files>(
     disk: &mut D,
     files: &mut F,
     outside: &mut L,
+    keeper: &mut K,
     most: u64,
     watch: &mut impl Watch,
 ) -> Result<Reported, Memory>
     requires { MeetsRequirements settings }
-    ensures life { (others : CallLogs) → RunProduces settings ticks most (with_all (L.call_log outside.old) (D.call_log disk.old) (F.call_log files.old) others) (with_all (L.call_log outside.new) (D.call_log disk.new) (F.call_log files.new) others) result }
+    ensures life { (others : CallLogs) → RunProduces settings ticks most (with_all (L.call_log outside.old) (D.call_log disk.old) (F.call_log files.old) (with_keeper (K.call_log keeper.old) others)) (with_all (L.call_log outside.new) (D.call_log disk.new) (F.call_log files.new) (with_keeper (K.call_log keeper.new) others)) result }
     ensures heard { EventsTaken (heard_in most (ending_of result)) (L.counts outside.old) (L.counts outside.new) }
+    ensures keeper_cause { HasCause (K.faults keeper.old) (K.faults keeper.new) (ending_of result ≡ ending.KeeperFailed) }
     ensures loop_cause { HasCause (L.faults outside.old) (L.faults outside.new) (ending_of result ≡ ending.LoopFailed) }
     ensures disk_cause { HasCause (D.faults disk.old) (D.faults disk.new) (ending_of result ≡ ending.DiskFailed) }
     ensures files_later { F.faults files.old ≤ F.faults files.new }
 {
     let named = Named::of(alloc, &settings, Shown::Report)?;
     let ends = ends(alloc, &settings)?;
+    let offsets = KeptOffsets::of(alloc, &settings)?;
     begin_and_run(
-        rt, alloc, &named, settings, &ends, ticks, disk, files, outside, most, watch,
+        rt, alloc, &named, settings, offsets, &ends, ticks, disk, files, outside, keeper, most, watch,
     )
 }
 
 /// Runs the engine over devices with the settings of a configuration, for at most the given number of
-/// events: it loads the disk, and then takes the events of the loop. If a number of clock ticks is given,
-/// the run is stopped after the last of them. The text is the report. The ending is `DiskFailed` or
-/// `LoopFailed` only if a failure of the disk or the loop was counted, and `TurnsSpent` only if the loop
+/// events: it loads the disk, gets the kept offsets, and then takes the events of the loop. If a number of clock ticks is given,
+/// the run is stopped after the last of them. The text is the report. The ending is `DiskFailed`,
+/// `KeeperFailed` or `LoopFailed` only if a failure of the disk, the keeper or the loop was counted, and `TurnsSpent` only if the loop
 /// returned that many events. The watcher is told how the run goes, and has no effect on it.
-pub fn run_live<L: Loop, D: Disk, F: Files>(
+pub fn run_live<L: Loop, D: Disk, F: Files, K: Keeper>(
     rt: &(impl Threads + Sync),
     alloc: Global,
     settings: AllSettings,
@@ -188,18 +210,20 @@ pub fn run_live<L: Loop, D: Disk, F: Files>(
     disk: &mut D,
     files: &mut F,
     outside: &mut L,
+    keeper: &mut K,
     most: u64,
     watch: &mut impl Watch,
 ) -> Reported
     requires { MeetsRequirements settings }
-    ensures life { (others : CallLogs) → IsRunLive settings ticks most (with_all (L.call_log outside.old) (D.call_log disk.old) (F.call_log files.old) others) (with_all (L.call_log outside.new) (D.call_log disk.new) (F.call_log files.new) others) result }
+    ensures life { (others : CallLogs) → IsRunLive settings ticks most (with_all (L.call_log outside.old) (D.call_log disk.old) (F.call_log files.old) (with_keeper (K.call_log keeper.old) others)) (with_all (L.call_log outside.new) (D.call_log disk.new) (F.call_log files.new) (with_keeper (K.call_log keeper.new) others)) result }
     ensures heard { EventsTaken (heard_in most result.ending) (L.counts outside.old) (L.counts outside.new) }
+    ensures keeper_cause { HasCause (K.faults keeper.old) (K.faults keeper.new) (result.ending ≡ ending.KeeperFailed) }
     ensures loop_cause { HasCause (L.faults outside.old) (L.faults outside.new) (result.ending ≡ ending.LoopFailed) }
     ensures disk_cause { HasCause (D.faults disk.old) (D.faults disk.new) (result.ending ≡ ending.DiskFailed) }
     ensures files_later { F.faults files.old ≤ F.faults files.new }
 {
     match lived(
-        rt, alloc, settings, ticks, disk, files, outside, most, watch,
+        rt, alloc, settings, ticks, disk, files, outside, keeper, most, watch,
     ) {
         Ok(reported) => reported,
         Err(Memory) => without_text(alloc, Ending::Memory),

@@ -1,6 +1,7 @@
 ghost use Rattle.std.specs.Prelude.{◌≡◌, ◌++◌, [], if◌then◌else◌, Option, None, OnOk, IfOk};
 ghost use Rattle.std.specs.List.{cons_option};
 ghost use Rattle.fwd_disk_mem.specs.DiskState.{Seen};
+ghost use Rattle.fwd_keeper_mem.specs.KeeperState.{KeeperState};
 ghost use Rattle.fwd_settings.specs.declared.settings_types.AllSettings.{AllSettings};
 ghost use Rattle.fwd_script_loop.specs.declared.queue.Coming.{Coming};
 ghost use Rattle.fwd_script_loop.specs.ScriptRun.{change_in, changes_between};
@@ -11,14 +12,16 @@ ghost use Rattle.fwd_replay.specs.RunState.{FilesRepresent, IsReady, IsInProgres
 
 use fwd_base::Memory;
 use fwd_engine::Engine;
+use fwd_engine_run::KeptOffsets;
 use fwd_script::{Cut, Life, MemFiles, Plan, Planned};
 use fwd_script_loop::{Script, is_last};
 
-/// A run in progress: its engine and its loop, how many of its first lines have had their changes made,
-/// and how many turns it has taken.
+/// A run in progress: its engine, the offsets that it keeps, and its loop, how many of its first lines have
+/// had their changes made, and how many turns it has taken.
 #[derive(Drop)]
 pub struct Going {
     pub engine: Engine,
+    pub offsets: KeptOffsets,
     pub script: Script,
     pub changed: usize,
     pub taken: u64,
@@ -82,7 +85,7 @@ fn cut_at(life: &Life, place: Option<(usize, u64)>) -> Option<Cut>
 /// Makes the changes before the event that the next wait returns. Returns the crash that cuts the run in
 /// this event, if there is one.
 pub fn prepare(going: &mut Going, life: &Life, files: &mut MemFiles) -> Result<Option<Cut>, Memory>
-    ensures ready { (s : AllSettings) (start : Start) (seen : Seen) → IsInProgress s start life.now going.old seen files.old → IfOk result (λ cut. IsReady s start life.now going.new seen files.new cut) }
+    ensures ready { (s : AllSettings) (start : Start) (seen : Seen) (kept : KeeperState) → IsInProgress s start life.now going.old seen files.old kept → IfOk result (λ cut. IsReady s start life.now going.new seen files.new kept cut) }
     ensures taken { going.new.taken ≡ going.old.taken }
 {
     let place = going.script.place_ahead(going.engine.paused());

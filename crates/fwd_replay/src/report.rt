@@ -22,6 +22,8 @@ pub enum Ending {
     TurnsSpent,
     /// A call on the disk failed while a run began.
     DiskFailed,
+    /// An offset couldn't be got from the keeper when a run began.
+    KeeperFailed,
     /// The platform failed.
     LoopFailed,
     /// Memory ran out.
@@ -38,7 +40,7 @@ pub enum Shown {
 }
 
 /// The text of a run or of the runs of a replay, and how it ended. A run that ended because the disk, the
-/// loop or an allocation failed has no text.
+/// keeper, the loop or an allocation failed has no text.
 #[derive(Debug, Drop, PartialEq, Eq)]
 pub struct Reported {
     pub text: Bytes,

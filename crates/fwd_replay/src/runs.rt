@@ -13,6 +13,7 @@ use crate::names::Named;
 use crate::report::{Ending, Reported, Shown};
 use fwd_base::{Bytes, Memory};
 use fwd_disk_mem::MemDisk;
+use fwd_keeper_mem::MemKeeper;
 use fwd_script::{Cut, Life, Lives, MemFiles};
 use fwd_settings::AllSettings;
 use std::alloc::Global;
@@ -49,12 +50,13 @@ fn add(alloc: Global, text: &mut Bytes, cut: Option<Cut>, more: &Bytes) -> Resul
     }
 }
 
-/// A replay between two runs: the disk and the files, the crash that cut the run before, and how many
-/// turns are left.
+/// A replay between two runs: the disk, the files and the keeper, the crash that cut the run before, and how
+/// many turns are left.
 #[derive(Drop)]
 pub struct Between {
     pub disk: MemDisk,
     pub files: MemFiles,
+    pub keeper: MemKeeper,
     pub cut: Option<Cut>,
     pub left: u64,
 }
@@ -68,16 +70,18 @@ pub enum After {
     Life(AllSettings),
 }
 
-/// Returns the state before the first run, with an empty disk and no files.
+/// Returns the state before the first run, with an empty disk, no files and no offsets.
 fn initial_state(alloc: Global, most: u64) -> Between
     ensures first { IsFirst result }
     ensures left { result.left ≡ most }
 {
     let disk = MemDisk::new(alloc);
     let files = MemFiles::new(alloc);
+    let keeper = MemKeeper::new(alloc);
     Between {
         disk,
         files,
+        keeper,
         cut: None,
         left: most,
     }
@@ -109,8 +113,8 @@ fn next_life(
 ) -> Result<After, Memory>
     requires sound { MeetsRequirements settings }
     requires named { IsNamed named.now settings }
-    requires finds { (begins : Start) × DevicesAreReady begins between.old.disk between.old.files }
-    ensures ok { (begins : Start) → DevicesAreReady begins between.old.disk between.old.files → IfOk result (AppendsRun named.now.shown settings begins life.now between.old between.new text.old text.new) }
+    requires finds { (begins : Start) × DevicesAreReady begins between.old.disk between.old.files between.old.keeper }
+    ensures ok { (begins : Start) → DevicesAreReady begins between.old.disk between.old.files between.old.keeper → IfOk result (AppendsRun named.now.shown settings begins life.now between.old between.new text.old text.new) }
     ensures err { OnErr result (text.new ≡ text.old) }
 {
     let outcome = run_life(
@@ -121,6 +125,7 @@ fn next_life(
         life,
         &mut between.disk,
         &mut between.files,
+        &mut between.keeper,
         between.left,
     )?;
     add(alloc, text, between.cut, &outcome.text)?;

@@ -1,19 +1,27 @@
 //! The start of a run.
 
-ghost use Rattle.std.specs.Prelude.{◌≡◌, ◌++◌, map, ℕ, OnOk};
+ghost use Rattle.std.specs.Prelude.{◌≡◌, ◌++◌, [], map, ℕ, OnOk};
 ghost use Rattle.fwd_disk_mem.specs.declared.told.Told.TheVariants as call_log;
+ghost use Rattle.fwd_disk_mem.specs.DiskState.{Seen};
+ghost use Rattle.fwd_engine.specs.EngineSteps.{IsAt};
+ghost use Rattle.fwd_settings.specs.declared.settings_types.AllSettings.{AllSettings};
 ghost use Rattle.fwd_settings.specs.Endpoints.{ends_of};
 ghost use Rattle.fwd_settings.specs.Requirements.{MeetsRequirements};
 ghost use Rattle.fwd_script.specs.FilesState.{FilesState};
 ghost use Rattle.fwd_script.specs.declared.files.FilesNote.TheVariants as note;
 ghost use Rattle.fwd_script.specs.declared.schedule.Stored.{Stored};
-ghost use Rattle.fwd_replay.specs.Runs.{Start};
-ghost use Rattle.fwd_replay.specs.RunState.{EngineStarts, DevicesAreReady, IsSetUp, LoopStarts, Starts};
+ghost use Rattle.fwd_replay.specs.Runs.{Start, course_of};
+ghost use Rattle.fwd_model.specs.Fact.{History};
+ghost use Rattle.fwd_keeper_mem.specs.KeeperState.{KeeperState};
+ghost use Rattle.fwd_engine_run.specs.OffsetRows.{Keeps};
+ghost use Rattle.fwd_replay.specs.RunState.{EngineStarts, DevicesAreReady, FilesRepresent, IsRecovered, IsSetUp, LoopStarts, Starts};
 
 use crate::progress::Going;
 use fwd_base::Memory;
 use fwd_disk_mem::MemDisk;
 use fwd_engine::{BeginErr, Engine};
+use fwd_engine_run::{Got, KeptOffsets};
+use fwd_keeper_mem::MemKeeper;
 use fwd_outside::{Begun, Ends, Loop};
 use fwd_script::{Calls, Life, MemFiles, StoredList};
 use fwd_script_loop::Script;
@@ -26,6 +34,8 @@ use std::thread::Threads;
 pub enum StartErr {
     /// A call on the disk failed while it was loaded.
     DiskFailed,
+    /// An offset couldn't be got from the keeper.
+    KeeperFailed,
     /// The loop couldn't start.
     LoopFailed,
     Memory,
@@ -63,7 +73,7 @@ fn set_failing_file_calls(files: &mut MemFiles, numbers: &Calls) -> Result<(), M
 
 /// Sets up disk and files for the run.
 pub fn set_up(disk: &mut MemDisk, files: &mut MemFiles, life: &Life) -> Result<(), Memory>
-    ensures { (start : Start) → DevicesAreReady start disk.old files.old → OnOk result (IsSetUp start life.now disk.new files.new) }
+    ensures { (start : Start) (kept : KeeperState) → DevicesAreReady start disk.old files.old kept → OnOk result (IsSetUp start life.now disk.new files.new kept) }
 {
     store(disk, &life.store)?;
     set_failing_disk_calls(disk, &life.disk_fails)?;
@@ -86,14 +96,21 @@ fn started_script(alloc: Global, ends: &Ends, life: &Life) -> Result<Script, Sta
     }
 }
 
-/// Starts the loop of a run whose engine has begun. If it can't start, drops the settings that the engine
-/// gives back.
-fn start_loop(alloc: Global, engine: Engine, ends: &Ends, life: &Life) -> Result<Going, StartErr>
-    ensures { EngineStarts life.now ends.now engine result }
+/// Starts the loop of a run whose engine has begun and whose offsets are got. If it can't start, drops the
+/// settings that the engine gives back.
+fn start_loop(
+    alloc: Global,
+    engine: Engine,
+    offsets: KeptOffsets,
+    ends: &Ends,
+    life: &Life,
+) -> Result<Going, StartErr>
+    ensures { EngineStarts life.now ends.now engine offsets result }
 {
     match started_script(alloc, ends, life) {
         Ok(script) => Ok(Going {
             engine,
+            offsets,
             script,
             changed: 0,
             taken: 0,
@@ -105,22 +122,52 @@ fn start_loop(alloc: Global, engine: Engine, ends: &Ends, life: &Life) -> Result
     }
 }
 
-/// Loads the disk, and starts the loop of the run with these endpoints.
+/// Gets the offsets for an engine that has begun, and starts the loop of its run.
+fn resume(
+    alloc: Global,
+    mut engine: Engine,
+    mut offsets: KeptOffsets,
+    ends: &Ends,
+    life: &Life,
+    keeper: &mut MemKeeper,
+) -> Result<Going, StartErr>
+    ensures { (settings : AllSettings) (begins : Start) (h : History) (seen : Seen) (held : FilesState) → IsRecovered settings begins life.now seen h → IsAt engine settings h → Keeps settings offsets [] → FilesRepresent held (course_of begins life.now).files
+        → keeper.old.given ≡ begins.offsets → keeper.old.notes ≡ [] → ends.now ≡ ends_of settings → Starts settings begins life.now seen held keeper.new result }
+{
+    let got = offsets.get(&mut engine, keeper);
+    keeper.is_played();
+    match got {
+        Ok(Got::All) => start_loop(alloc, engine, offsets, ends, life),
+        Ok(Got::Failed) => {
+            let _given_back = engine.finish();
+            Err(StartErr::KeeperFailed)
+        }
+        Err(Memory) => {
+            let _given_back = engine.finish();
+            Err(StartErr::Memory)
+        }
+    }
+}
+
+/// Loads the disk, gets the offsets, and starts the loop of the run with these endpoints.
 pub fn start(
     rt: &(impl Threads + Sync),
     alloc: Global,
     settings: AllSettings,
+    offsets: KeptOffsets,
     ends: &Ends,
     life: &Life,
     disk: &mut MemDisk,
+    keeper: &mut MemKeeper,
 ) -> Result<Going, StartErr>
-    requires { MeetsRequirements settings }
-    ensures { (begins : Start) (held : FilesState) → IsSetUp begins life.now disk.old held → ends.now ≡ ends_of settings → Starts settings begins life.now disk.new held result }
+    requires sound { MeetsRequirements settings }
+    requires offsets { Keeps settings offsets [] }
+    ensures { (begins : Start) (held : FilesState) → IsSetUp begins life.now disk.old held keeper.old → ends.now ≡ ends_of settings → Starts settings begins life.now disk.new held keeper.new result }
 {
     match Engine::begin(rt, alloc, settings, disk) {
         Ok(engine) => {
             disk.is_played();
-            start_loop(alloc, engine, ends, life)
+            resume(alloc, engine, offsets, ends, life, keeper)
         }
         Err(BeginErr::DiskFault) => {
             disk.is_played();

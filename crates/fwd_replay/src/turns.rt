@@ -1,19 +1,24 @@
 //! The turns of a run.
 
-ghost use Rattle.std.specs.Prelude.{◌≡◌, ◌<◌, ◌≤◌, ◌+◌, ◌-◌, ◌^◌, [], None, IfOk};
+ghost use Rattle.std.specs.Prelude.{◌≡◌, ◌<◌, ◌≤◌, ◌+◌, ◌-◌, ◌^◌, [], None, IfOk, OnOk};
+ghost use Rattle.fwd_keeper_mem.specs.KeeperState.{KeeperState};
 ghost use Rattle.fwd_settings.specs.declared.settings_types.AllSettings.{AllSettings};
+ghost use Rattle.fwd_disk_mem.specs.DiskState.{Seen};
+ghost use Rattle.fwd_script.specs.FilesState.{FilesState};
 ghost use Rattle.fwd_script.specs.FilesAnswers.{IsPlayed};
 ghost use Rattle.fwd_script.specs.MemFiles.{entries_from};
 ghost use Rattle.fwd_script.specs.declared.schedule.Life.{Life};
 ghost use Rattle.fwd_model.specs.Fact.{History};
-ghost use Rattle.fwd_engine.specs.EngineSteps.{IsAt, TurnOutcome};
+ghost use Rattle.fwd_engine.specs.EngineSteps.{IsAt, TurnOutcome, as_turn};
+ghost use Rattle.fwd_engine.specs.declared.engine.Turn.{Turn};
 ghost use Rattle.fwd_replay.specs.Runs.{Start};
-ghost use Rattle.fwd_replay.specs.RunState.{Ended, HaveAnswered, IsReady, IsInProgress, Turned, is_out_of_memory, memory};
+ghost use Rattle.fwd_replay.specs.RunState.{Ended, HasPut, HaveAnswered, IsReady, IsInProgress, IsStepped, Turned, is_out_of_memory, memory};
 
 use crate::progress::{Going, prepare};
 use fwd_base::Memory;
 use fwd_disk_mem::MemDisk;
 use fwd_engine::{EngineStop, Turn};
+use fwd_keeper_mem::MemKeeper;
 use fwd_script::{Cut, Life, MemFiles};
 use std::thread::Threads;
 
@@ -36,20 +41,33 @@ pub fn take(
     going: &mut Going,
     disk: &mut MemDisk,
     files: &mut MemFiles,
+    keeper: &MemKeeper,
 ) -> Result<Turn, EngineStop>
     requires { going.old.taken < 2 ^ 64 - 1 }
-    ensures turned { (s : AllSettings) (start : Start) (planned : Life) → IsReady s start planned going.old disk.old files.old None → Turned s start planned going.new disk.new files.new result }
+    ensures turned { (s : AllSettings) (start : Start) (planned : Life) → IsReady s start planned going.old disk.old files.old keeper.now None → Turned s start planned going.new disk.new files.new keeper.now result }
     ensures turns { (s : AllSettings) (h : History) → IsAt going.old.engine s h → TurnOutcome (memory going.old.script disk.old files.old) (memory going.new.script disk.new files.new) s h going.new.engine result }
-    ensures played { HaveAnswered going.new.script disk.new }
+    ensures played { HaveAnswered going.new.script disk.new keeper.now }
     ensures files { IsPlayed files.new.given [] (entries_from files.new.given files.new.notes) }
     ensures taken { going.new.taken ≡ going.old.taken + 1 }
+    ensures offsets { going.new.offsets ≡ going.old.offsets }
 {
     going.taken += 1;
     let turn = going.engine.turn(rt, disk, files, &mut going.script);
     going.script.is_played();
     disk.is_played();
     files.is_played();
+    keeper.is_played();
     turn
+}
+
+/// Returns whether the run is over after a turn.
+fn is_over(turn: Turn) -> bool
+    ensures { turn ≡ as_turn result }
+{
+    match turn {
+        Turn::More => false,
+        Turn::Over => true,
+    }
 }
 
 /// Returns whether memory ran out in a turn.
@@ -62,6 +80,14 @@ pub fn is_out_of_memory(turn: Result<Turn, EngineStop>) -> bool
     }
 }
 
+/// Puts the settled offsets after a turn.
+fn put_offsets(going: &mut Going, keeper: &mut MemKeeper) -> Result<(), Memory>
+    ensures put { (s : AllSettings) (start : Start) (planned : Life) (seen : Seen) (held : FilesState) (which : Turn) → IsStepped s start planned going.old seen held keeper.old which → OnOk result (HasPut s start planned going.new seen held keeper.new which) }
+    ensures taken { going.new.taken ≡ going.old.taken }
+{
+    going.offsets.put(&going.engine, keeper)
+}
+
 /// Takes at most `most` turns, until the run is over or is to be cut.
 pub fn take_turns(
     rt: &(impl Threads + Sync),
@@ -69,19 +95,24 @@ pub fn take_turns(
     life: &Life,
     disk: &mut MemDisk,
     files: &mut MemFiles,
+    keeper: &mut MemKeeper,
     most: u64,
 ) -> Result<TurnsEnd, Memory>
     requires { going.old.taken ≡ 0 }
-    ensures ended { (s : AllSettings) (start : Start) → IsInProgress s start life.now going.old disk.old files.old → IfOk result (Ended s start life.now most going.new disk.new files.new) }
+    ensures ended { (s : AllSettings) (start : Start) → IsInProgress s start life.now going.old disk.old files.old keeper.old → IfOk result (Ended s start life.now most going.new disk.new files.new keeper.new) }
     ensures taken { going.new.taken ≤ most }
 {
     for _ in 0..most {
         if let Some(cut) = prepare(going, life, files)? {
             return Ok(TurnsEnd::Cut(cut));
         }
-        match take(rt, going, disk, files) {
-            Ok(Turn::More) => {}
-            Ok(Turn::Over) => return Ok(TurnsEnd::Over),
+        match take(rt, going, disk, files, keeper) {
+            Ok(turn) => {
+                put_offsets(going, keeper)?;
+                if is_over(turn) {
+                    return Ok(TurnsEnd::Over);
+                }
+            }
             Err(EngineStop::LoopFault) => return Ok(TurnsEnd::LoopFailed),
             Err(EngineStop::Memory) => return Err(Memory),
         }
