@@ -69,6 +69,7 @@ def passes(room, unmade):
         "storage_full": (ENOSPC, stored),
         "followed_file": (EIO, run_of(failing_files.tried_followed)),
         "offsets": (EIO, run_of(failing_files.tried_offsets)),
+        "offsets_made": (Failure(made=True), run_of(failing_files.tried_offsets)),
         "offsets_full": (ENOSPC, run_of(failing_files.tried_offsets)),
         "configuration": (EIO, run_of(failing_files.tried_read)),
         "replay_to_stdout": (EIO, run_of(failing_files.tried_output, failing_files.REPLAY)),

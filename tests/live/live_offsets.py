@@ -35,7 +35,8 @@ def append(room, program, data, name="app.log"):
 
 
 def offset_in(program, database="offsets", path="app.log"):
-    """The offset that a database has for a path, if it has one. sqlite3 gets a copy, as it changes the files."""
+    """The offset that a database has for a path; None if it has none, or is only half made. sqlite3 gets a copy, as it changes the
+    files."""
     with tempfile.TemporaryDirectory() as folder:
         for end in ("", "-wal"):
             if os.path.exists(program.path(database + end)):
@@ -43,8 +44,7 @@ def offset_in(program, database="offsets", path="app.log"):
         connection = sqlite3.connect(f"{folder}/{database}")
         try:
             row = connection.execute("SELECT place FROM place WHERE path = ?", (path,)).fetchone()
-        except sqlite3.OperationalError as error:
-            holds("no such table" in str(error), f"the database can't be read: {error}")
+        except sqlite3.DatabaseError:
             row = None
         finally:
             connection.close()
@@ -79,18 +79,21 @@ class Writer:
 
 
 def killed_again_and_again(room, text):
-    """The program is killed at random moments while its file grows. Returns the number of lines, and the offset after each kill."""
-    chance, offsets = random.Random(7), []
+    """The program is killed at random moments while its file grows, of which every third one is after a put. Returns the number of
+    lines, and the offset after each kill."""
+    chance, offsets = random.Random(7), [None]
     folder = os.path.join(room.path, "follower")
     os.makedirs(folder)
     writer = Writer(os.path.join(folder, "app.log"))
-    for _ in range(KILLS):
+    for turn in range(KILLS):
         with Program(room, "follower", text) as program:
-            time.sleep(0.1 + 0.6 * chance.random())
+            if turn % 3 == 2:
+                until(lambda: (offset_in(program) or 0) > (offsets[-1] or 0), "an offset is put", 20)
+            time.sleep(0.6 * chance.random())
             holds(program.process.poll() is None, f"the program ended early: {program.stderr().decode(errors='replace')}")
             killed(program)
         offsets.append(offset_in(program))
-    return writer.stop(), offsets
+    return writer.stop(), offsets[1:]
 
 
 def look_at_offsets(offsets):

@@ -83,7 +83,7 @@ def names_in(lines):
     """What these lines are: each a word and a number. Each has to be one that was sent or written."""
     found = [LINE.fullmatch(line) for line in lines]
     holds(all(found), "a line came that nobody sent")
-    return {(one[1] or one[3], int(one[2] or one[4])) for one in found}
+    return {((one[1] or one[3]).decode(), int(one[2] or one[4])) for one in found}
 
 
 @dataclasses.dataclass
