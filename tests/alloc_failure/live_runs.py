@@ -18,12 +18,14 @@ MEMORY, LINE_OF_MEMORY = 8, b"out of memory\n"
 THREADS = 16
 
 
-# A followed file, a server that is busy first, and a forward peer that acknowledges.
+# A followed file whose offset is kept, a server that is busy first, and a forward peer that acknowledges.
 MORE = """[INPUT]
     Name tail
     Path app.log
+    DB offsets
     Read_from_Head On
     Tag followed
+    storage.type filesystem
 [OUTPUT]
     Name http
     Match followed
@@ -130,6 +132,17 @@ class Run(failing_storage.Stored):
             holds(status == 0, f"it ended with status {status}: {complaint.decode(errors='replace')}")
             holds(count_in(report, "owed") == 0, f"something is pending: {report.decode()}")
             holds(bool(after) == (self.failure.at > 0), "the calls after the failed allocation aren't written down")
+
+    def lines(self):
+        """The lines of the followed file that came."""
+        return set(re.findall(rb'"log":"([0-9]+)"', content(f"{self.folder}/written")))
+
+    def before_stop(self, program):
+        failing_storage.wait_for(lambda: len(self.lines()) == 2 or program.process.poll() is not None)
+
+    def check_lost(self):
+        super().check_lost()
+        holds(self.lines() == {b"1", b"2"}, f"of the followed file came {self.lines()}")
 
 
 def tried_one(room, library, found, at):

@@ -149,6 +149,16 @@ int flock(int fd, int how) {
   ANSWER(fails("lock", fd), next(fd, how), 0);
 }
 
+int fcntl(int fd, int command, ...) {
+  NEXT(fcntl);
+  va_list more;
+  va_start(more, command);
+  void *argument = va_arg(more, void *);
+  va_end(more);
+  int locks = command == F_SETLK || command == F_SETLKW || command == F_OFD_SETLK || command == F_OFD_SETLKW;
+  ANSWER(locks && fails("lock", fd), next(fd, command, argument), 0);
+}
+
 int mkdir(const char *name, mode_t mode) {
   NEXT(mkdir);
   ANSWER(fails_on("mkdir", AT_FDCWD, name), next(name, mode), 0);

@@ -13,7 +13,7 @@ FIRST_PORT, PORTS = 20_000, 10_000
 _places = itertools.count(os.getpid() * 97)
 
 # The statuses of a run, and the line that each puts on standard error.
-LINES = {3: b"file fault\n", 4: b"disk fault\n", 6: b"output fault\n"}
+LINES = {3: b"file fault\n", 4: b"disk fault\n", 6: b"output fault\n", 11: b"keeper fault\n"}
 
 
 def free_port():

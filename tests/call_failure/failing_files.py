@@ -1,4 +1,4 @@
-"""Runs whose calls on a followed file, on files of the configuration, or on standard output fail."""
+"""Runs whose calls on a followed file, on a database of offsets, on files of the configuration, or on standard output fail."""
 import os
 import re
 import subprocess
@@ -27,7 +27,7 @@ FOLLOWED = """[SERVICE]
 """
 
 LINE = re.compile(rb'\{"date":[0-9]+\.[0-9]{9},"log":"line ([0-9]+)"\}')
-DONE, FILE_FAULT, OUTPUT_FAULT = 0, 3, 6
+DONE, FILE_FAULT, OUTPUT_FAULT, KEEPER_FAULT = 0, 3, 6, 11
 
 
 def numbers_in(collector):
@@ -64,6 +64,46 @@ def tried_followed(room, name, failure):
     is_counted = call and call.kind != "stat"
     holds(not is_counted or count_in(report, "faults") >= 1, f"no fault is counted: {report.decode()}")
     return status, calls
+
+
+NOT_KEPT, KEPT_AGAIN = (f"offsets of followed files {told} in kept/offsets".encode() for told in ("aren't kept", "are kept"))
+
+
+def with_offsets(room, name, collector, before=""):
+    """A run that keeps the offset of the followed file."""
+    configuration = FOLLOWED.replace("Read_from_Head On\n", "Read_from_Head On\n    DB kept/offsets\n").format(collector=collector.port)
+    return Program(room, name, configuration, before=before)
+
+
+def tried_offsets(room, name, failure):
+    """Two runs that keep an offset. If the database fails at the start, the first one ends. If it fails later, the first one puts the
+    offset again. So each line comes once, over both runs together."""
+    collector = Collector(free_port())
+    collector.open()
+    folder = os.path.join(room.path, name)
+    os.makedirs(f"{folder}/kept")
+    append(f"{folder}/app.log", (0, 1))
+    before = failure.before(room, f"{folder}/kept", f"{folder}/calls")
+    with with_offsets(room, name, collector, before) as program:
+        ended = lambda: program.process.poll() is not None
+        for first in (2, 4):
+            until(lambda: len(numbers_in(collector)) >= first or ended(), f"{first} lines come", 20)
+            append(program.path("app.log"), (first, first + 1))
+        until(lambda: len(numbers_in(collector)) >= 6 or ended(), "all lines come", 20)
+        until(lambda: NOT_KEPT not in program.stderr() or KEPT_AGAIN in program.stderr() or ended(), "the offset is put again", 20)
+        status, report, told = program.stop(), program.stdout(), program.stderr()
+    if status == KEEPER_FAULT:
+        holds(failed_of(calls_in(f"{folder}/calls")) and not report and NOT_KEPT in told and told.endswith(LINES[status]), f"it ended with {told!r} and {report!r}")
+    else:
+        holds(status == DONE and count_in(report, "faults") == 0, f"it ended with status {status}: {told!r} {report!r}")
+    append(f"{folder}/app.log", (6, 7))
+    with with_offsets(room, name, collector) as program:
+        until(lambda: 7 in numbers_in(collector), "the lines of the second run come", 20)
+        last = program.stop()
+    collector.close()
+    holds(last == DONE, f"the second run ended with status {last}: {program.stderr()!r}")
+    holds(numbers_in(collector) == [*range(8)], f"the lines that came are {numbers_in(collector)}")
+    return status, calls_in(f"{folder}/calls")
 
 
 # A configuration of three files, and a schedule.

@@ -163,11 +163,15 @@ class Stored:
         setting.collector.close()
         self.taken |= came_to(setting.collector)
 
+    def before_stop(self, program):
+        """Waits for what the second run reads."""
+
     def second(self):
         """A run without failures, which delivers what is pending and ends."""
         setting = self.setting()
         setting.collector.open()
         with Program(self.room, self.name, setting.configuration()) as program:
+            self.before_stop(program)
             status, report = program.stop(), program.stdout()
             complaint = program.stderr().decode(errors="replace")
         self.end(setting)

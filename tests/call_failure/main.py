@@ -1,5 +1,5 @@
-"""Lets single calls of the built program fail, one in each run: on its storage folder, on a file that it follows, on the files of
-its configuration, and on standard output.
+"""Lets single calls of the built program fail, one in each run: on its storage folder, on a file that it follows, on a database of
+offsets, on the files of its configuration, and on standard output.
 
 On the storage folder: a run is killed and leaves chunks in files. Over these a run takes lines over tcp and forward messages,
 each of which is sent until it is acknowledged, into files; there is a file output, and later a collector. One call of this run
@@ -8,7 +8,9 @@ status 0. A write that finds the disk full must be made again in the room of the
 refused. A second run without failures then ends with nothing pending. Each message that was acknowledged must have reached the
 collector and the output file, over the runs together, and no line may come that wasn't sent.
 
-On a followed file: the failure is counted, and each line comes once. On a file of the configuration or a schedule: the status is
+On a followed file: the failure is counted, and each line comes once. On a database of offsets: a run ends at its start with the
+status of a keeper fault, or tells the failure and puts the offset again; a second run goes on from it, so each line comes once
+over both. On a file of the configuration or a schedule: the status is
 that of a file fault. On standard output: what is written is a prefix, and the status that of an output fault; an event that isn't
 taken is printed again.
 
@@ -66,6 +68,9 @@ def passes(room, unmade):
         "storage_made": (Failure(made=True), stored),
         "storage_full": (ENOSPC, stored),
         "followed_file": (EIO, run_of(failing_files.tried_followed)),
+        "offsets": (EIO, run_of(failing_files.tried_offsets)),
+        "offsets_made": (Failure(made=True), run_of(failing_files.tried_offsets)),
+        "offsets_full": (ENOSPC, run_of(failing_files.tried_offsets)),
         "configuration": (EIO, run_of(failing_files.tried_read)),
         "replay_to_stdout": (EIO, run_of(failing_files.tried_output, failing_files.REPLAY)),
         "list_to_stdout": (EIO, run_of(failing_files.tried_output, lists)),

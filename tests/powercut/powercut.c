@@ -123,6 +123,15 @@ int fdatasync(int fd) {
   return outcome;
 }
 
+int ftruncate(int fd, off_t length) {
+  NEXT(ftruncate);
+  char path[PATH_MAX], number[32];
+  int outcome = next(fd, length);
+  snprintf(number, sizeof number, "%lld", (long long)length);
+  if (outcome == 0 && is_open_below(fd, path)) told("truncate", path, number);
+  return outcome;
+}
+
 int rename(const char *from, const char *to) {
   NEXT(rename);
   char first[PATH_MAX], second[PATH_MAX];

@@ -21,9 +21,9 @@ class File:
 
 
 def changed(old, at, data):
-    """Bytes after a write; without data they are cut off to none."""
+    """Bytes after a write; without data they get this length."""
     if data is None:
-        return b""
+        return old[:at].ljust(at, b"\0")
     return old[:at].ljust(at, b"\0") + data + old[at + len(data) :]
 
 
@@ -47,11 +47,11 @@ class Pick:
 
 
 class Disk:
-    """The files below a folder, which are there for sure at first. `without` leaves out the syncs of files, or of folders."""
+    """The files below a folder, which are there for sure at first, as the folder is. `without` leaves out the syncs of files, or of folders."""
 
     def __init__(self, root, files, without=""):
         self.root, self.without = root, without
-        self.kept, self.doubted = {}, {}
+        self.kept, self.doubted = {root: Folder()}, {}
         for name, data in files.items():
             path = f"{root}/{name}"
             self.kept[path] = File(data)
@@ -77,7 +77,7 @@ class Disk:
         elif call == "rename":
             self.note(path, "rename", path, second)
         elif call == "truncate" and path in self.now:
-            self.now[path].change(0, None)
+            self.now[path].change(int(second or 0), None)
         elif call == "write" and path in self.now:
             self.now[path].change(second, data)
         elif call == "sync" or call == "datasync" and isinstance(self.now.get(path), File):
