@@ -4,7 +4,7 @@ ghost use Rattle.std.specs.Prelude.{◌≡◌, ◌<◌, ◌^◌, false, IsSome, 
 
 use crate::errors::{DatabaseErr, Failure};
 use crate::messages::{tell_failure, tell_recovery};
-use crate::table::{Opened, open, select_place, text, upsert_place};
+use crate::table::{Kept, Opened, find_kept, open, text, upsert_kept};
 use fwd_log::Journal;
 use std::time::{Duration, Instant};
 
@@ -65,20 +65,20 @@ impl Database {
         Ok(())
     }
 
-    fn try_get(&mut self, rt: &HostRuntime, path: &[u8]) -> Result<Option<u64>, DatabaseErr> {
+    fn try_get(&mut self, rt: &HostRuntime, path: &[u8]) -> Result<Option<Kept>, DatabaseErr> {
         self.ensure_open(rt)?;
         match &mut self.opened {
-            Some(opened) => select_place(opened, text(path, Failure::Path)?),
+            Some(opened) => find_kept(rt, opened, text(path, Failure::Path)?),
             None => unreachable!(),
         }
     }
 
-    fn try_put(&mut self, rt: &HostRuntime, path: &[u8], place: u64) -> Result<(), DatabaseErr>
-        ensures { OnOk result (place < 2 ^ 63) }
+    fn try_put(&mut self, rt: &HostRuntime, path: &[u8], kept: Kept) -> Result<(), DatabaseErr>
+        ensures { OnOk result (kept.place < 2 ^ 63) }
     {
         self.ensure_open(rt)?;
         match &mut self.opened {
-            Some(opened) => upsert_place(opened, text(path, Failure::Path)?, place),
+            Some(opened) => upsert_kept(opened, text(path, Failure::Path)?, kept),
             None => unreachable!(),
         }
     }
@@ -116,29 +116,29 @@ impl Database {
         }
     }
 
-    /// Returns the offset of a path; `None` if there is none.
+    /// Returns what is kept for a path; `None` if nothing is.
     pub fn get(
         &mut self,
         rt: &HostRuntime,
         journal: &Journal,
         path: &[u8],
-    ) -> Result<Option<u64>, DatabaseErr> {
+    ) -> Result<Option<Kept>, DatabaseErr> {
         let outcome = self.try_get(rt, path);
         self.note(journal, &outcome);
         outcome
     }
 
-    /// Puts the offset of a path.
+    /// Puts what is kept for a path.
     pub fn put(
         &mut self,
         rt: &HostRuntime,
         journal: &Journal,
         path: &[u8],
-        place: u64,
+        kept: Kept,
     ) -> Result<(), DatabaseErr>
-        ensures { OnOk result (place < 2 ^ 63) }
+        ensures { OnOk result (kept.place < 2 ^ 63) }
     {
-        let outcome = self.try_put(rt, path, place);
+        let outcome = self.try_put(rt, path, kept);
         self.note(journal, &outcome);
         outcome
     }

@@ -5,7 +5,9 @@ ghost use Rattle.fwd_positions.specs.Failures.{IsAnswer};
 
 use crate::database::Database;
 use crate::errors::DatabaseErr;
+use crate::table::Kept;
 use fwd_base::Memory;
+use fwd_live_files::{Identities, KeptFile};
 use fwd_log::Journal;
 
 /// The databases, each opened at its first call.
@@ -13,6 +15,7 @@ use fwd_log::Journal;
 pub struct Databases<'a> {
     rt: HostRuntime,
     journal: &'a Journal,
+    identities: &'a Identities,
     all: Vec<Database>,
 }
 
@@ -31,10 +34,11 @@ impl<'a> Databases<'a> {
     ghost use Rattle.fwd_positions.specs.Databases.{HasNameAt};
 
     /// Returns no databases.
-    pub fn new(rt: HostRuntime, journal: &'a Journal) -> Self {
+    pub fn new(rt: HostRuntime, journal: &'a Journal, identities: &'a Identities) -> Self {
         Databases {
             rt,
             journal,
+            identities,
             all: Vec::new(rt.alloc()),
         }
     }
@@ -64,17 +68,45 @@ impl<'a> Databases<'a> {
         Ok(index)
     }
 
-    /// Returns the offset of a path in a database; no value if the database failed.
-    pub fn get(&mut self, db: &[u8], path: &[u8]) -> Result<Option<Option<u64>>, Memory> {
-        let index = self.index_of(db)?;
-        value_of(self.all[index].get(&self.rt, self.journal, path))
+    /// Wants the reading of a path to go on in the file of an offset, if that is known.
+    fn want_file(&self, path: &[u8], kept: Kept) -> Result<(), Memory> {
+        match kept.identity {
+            Some(identity) => self.identities.want(
+                self.rt.alloc(),
+                path,
+                KeptFile {
+                    identity,
+                    offset: kept.place,
+                },
+            ),
+            None => Ok(()),
+        }
     }
 
-    /// Puts the offset of a path into a database; no value if the database failed.
+    /// Returns the offset of a path in a database; no value if the database failed. The reading of the path goes on
+    /// in the file of that offset.
+    pub fn get(&mut self, db: &[u8], path: &[u8]) -> Result<Option<Option<u64>>, Memory> {
+        let index = self.index_of(db)?;
+        match value_of(self.all[index].get(&self.rt, self.journal, path))? {
+            Some(Some(kept)) => {
+                self.want_file(path, kept)?;
+                Ok(Some(Some(kept.place)))
+            }
+            Some(None) => Ok(Some(None)),
+            None => Ok(None),
+        }
+    }
+
+    /// Puts the offset of a path into a database, with the file that stands for the path; no value if the database
+    /// failed.
     pub fn put(&mut self, db: &[u8], path: &[u8], place: u64) -> Result<Option<()>, Memory>
         ensures { IfOk result (λ put. OnSome put (place < 2 ^ 63)) }
     {
         let index = self.index_of(db)?;
-        value_of(self.all[index].put(&self.rt, self.journal, path, place))
+        let kept = Kept {
+            place,
+            identity: self.identities.current(path),
+        };
+        value_of(self.all[index].put(&self.rt, self.journal, path, kept))
     }
 }

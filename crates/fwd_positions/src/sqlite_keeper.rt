@@ -8,6 +8,7 @@ ghost use Rattle.fwd_keeper.specs.declared.errors.KeepErr.TheVariants.{Failed};
 use crate::databases::Databases;
 use crate::keeper_log::KeeperCalls;
 use fwd_keeper::{KeepErr, Keeper};
+use fwd_live_files::Identities;
 use fwd_log::Journal;
 
 /// Offsets in databases, one file for each. A file is opened at its first call and held until the end, or until
@@ -20,14 +21,15 @@ pub struct SqliteKeeper<'a> {
 }
 
 impl<'a> SqliteKeeper<'a> {
-    /// Returns a keeper on which no call was made. It tells failures of databases in the journal. The caller
-    /// picks the first offsets.
-    pub fn new(rt: HostRuntime, journal: &'a Journal) -> Self
+    /// Returns a keeper on which no call was made. It tells failures of databases in the journal, puts each offset
+    /// with the file that stands for its path, and wants the reading of a path to go on in the file of the offset
+    /// that it gets. The caller picks the first offsets.
+    pub fn new(rt: HostRuntime, journal: &'a Journal, identities: &'a Identities) -> Self
         ghost given: { KeeperGiven }
         ensures { (result.calls.given ≡ given) × (result.calls.entries ≡ []) }
     {
         SqliteKeeper {
-            databases: Databases::new(rt, journal),
+            databases: Databases::new(rt, journal, identities),
             faults: 0,
             calls: KeeperCalls::new(),
         }
