@@ -10,7 +10,7 @@ ghost use Rattle.fwd_outside.specs.Loop.{LoopGiven};
 
 use arguments::{environment, words};
 use fwd_base::{Bytes, Memory};
-use fwd_live::{Access, FolderDisk, FolderFiles, LiveLoop, Shared, StdSink};
+use fwd_live::{Access, FolderDisk, FolderFiles, Identities, LiveLoop, Shared, StdSink};
 use fwd_log::{Journal, Level};
 use fwd_top::{Status, status_line, watched_forwarder};
 use fwd_watch::Watcher;
@@ -65,12 +65,13 @@ fn run(
         Access::Owner
     };
     let shared = Shared::new(Journal::new(*rt, first_level(&words)));
+    let identities = Identities::new(rt.alloc());
     let mut outside = match LiveLoop::new(*rt, &shared) {
         Ok(outside) => outside,
         Err(error) => return status_without_loop(&error),
     };
     let mut disk = FolderDisk::new(*rt, &shared, access);
-    let mut files = FolderFiles::new(*rt, &shared);
+    let mut files = FolderFiles::new(*rt, &shared, &identities);
     let mut out = StdSink::new(*rt);
     let mut watcher = Watcher::new(rt.alloc(), &shared.journal);
     watched_forwarder(

@@ -9,7 +9,7 @@ use crate::answer::answer_of;
 use crate::disk_log::tell_unread;
 use crate::files_calls::FilesCalls;
 use fwd_base::limits::LONGEST_READ;
-use fwd_live_files::FollowedFiles;
+use fwd_live_files::{FollowedFiles, Identities};
 use fwd_live_poll::{Shared, most_files};
 use fwd_outside::{Bytes, FileErr, Files};
 use std::alloc::Global;
@@ -25,20 +25,22 @@ const WRITTEN: u64 = 50;
 /// Followed files and configuration files. What a path stands for is what `FollowedFiles` says.
 #[derive(Drop)]
 pub struct FolderFiles<'a> {
-    files: FollowedFiles,
+    files: FollowedFiles<'a>,
     shared: &'a Shared,
     faults: u64,
     calls: FilesCalls,
 }
 
 impl<'a> FolderFiles<'a> {
-    /// Returns the files with an empty log. The caller picks the initial files.
-    pub fn new(rt: HostRuntime, shared: &'a Shared) -> Self
+    /// Returns the files with an empty log. A followed path goes on in the file that `identities` want for it. The
+    /// caller picks the initial files.
+    pub fn new(rt: HostRuntime, shared: &'a Shared, identities: &'a Identities) -> Self
         ghost given: { FilesGiven }
         ensures { (result.calls.given ≡ given) × (result.calls.entries ≡ []) }
     {
+        let linger = Duration::from_millis(LINGER);
         FolderFiles {
-            files: FollowedFiles::new(rt, Duration::from_millis(LINGER), most_files(&rt)),
+            files: FollowedFiles::new(rt, identities, linger, most_files(&rt)),
             shared,
             faults: 0,
             calls: FilesCalls::new(),

@@ -25,6 +25,7 @@ pub use disk_calls::{DiskCalls, DiskRecord, DiskStart};
 pub use files_calls::{FilesCalls, FilesRecord, FilesStart};
 pub use folder_disk::FolderDisk;
 pub use folder_files::FolderFiles;
+pub use fwd_live_files::Identities;
 pub use fwd_live_poll::Shared;
 pub use live_loop::LiveLoop;
 pub use loop_calls::{LoopCalls, LoopRecord, LoopScript};

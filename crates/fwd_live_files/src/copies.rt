@@ -6,7 +6,7 @@ use std::fs::{self, DirEntry, File};
 use std::io;
 
 /// Returns the folder of a path, and the name in it.
-fn folder_and_name(path: &str) -> (&str, &str) {
+pub fn folder_and_name(path: &str) -> (&str, &str) {
     match path.rsplit_once('/') {
         Some((folder, name)) if !folder.is_empty() => (folder, name),
         Some((_, name)) => ("/", name),

@@ -3,6 +3,7 @@
 ghost use Rattle.std.specs.Prelude.{◌≤◌, IfOk, length};
 
 use crate::followed_path::FollowedPath;
+use crate::identities::{Identities, KeptFile};
 use fwd_base::Bytes;
 use std::alloc::Global;
 use std::collections::HashMap;
@@ -12,8 +13,9 @@ use std::time::Duration;
 /// Files that are read by their paths, through rotations. A path gives a stream: the bytes of one file after
 /// another, where the length is given as 0 once when the next one begins.
 #[derive(Drop)]
-pub struct FollowedFiles {
+pub struct FollowedFiles<'a> {
     rt: HostRuntime,
+    identities: &'a Identities,
     paths: HashMap<Vec<u8>, FollowedPath>,
     linger: Duration,
     most: usize,
@@ -21,20 +23,22 @@ pub struct FollowedFiles {
 }
 
 /// Returns a path without a file; an error if it isn't UTF-8.
-fn followed_path(alloc: Global, path: &[u8]) -> io::Result<FollowedPath> {
+fn followed_path(alloc: Global, path: &[u8], kept: Option<KeptFile>) -> io::Result<FollowedPath> {
     match str::from_utf8(path) {
-        Ok(path) => Ok(FollowedPath::new(alloc, String::from_str(alloc, path)?)),
+        Ok(path) => Ok(FollowedPath::new(alloc, String::from_str(alloc, path)?, kept)),
         Err(_) => Err(io::Error::from(ErrorKind::InvalidInput)),
     }
 }
 
-impl FollowedFiles {
+impl<'a> FollowedFiles<'a> {
     /// Returns the files with none open. A file that was read to its end is left when another one with bytes
     /// has had its path for `linger`. Paths get a handle while fewer than `most` are held; others are read by
-    /// name, in the file that has the path at each call.
-    pub fn new(rt: HostRuntime, linger: Duration, most: usize) -> Self {
+    /// name, in the file that has the path at each call. A path for which `identities` want a file goes on in
+    /// that one, and those that are held are told there.
+    pub fn new(rt: HostRuntime, identities: &'a Identities, linger: Duration, most: usize) -> Self {
         FollowedFiles {
             rt,
+            identities,
             paths: HashMap::new(rt.alloc()),
             linger,
             most,
@@ -53,7 +57,7 @@ impl FollowedFiles {
             return Ok(());
         }
         let alloc = self.rt.alloc();
-        let followed = followed_path(alloc, path)?;
+        let followed = followed_path(alloc, path, self.identities.take_wanted(path))?;
         self.paths.insert(Vec::from_slice(alloc, path)?, followed)?;
         Ok(())
     }
@@ -72,6 +76,7 @@ impl FollowedFiles {
         let before = followed.handles();
         let length = followed.length(&self.rt, self.linger, self.held < self.most);
         let now = followed.handles();
+        followed.note_identity(self.rt.alloc(), path, self.identities);
         self.note_held(before, now);
         length
     }
@@ -87,6 +92,7 @@ impl FollowedFiles {
         let before = followed.handles();
         let read = followed.read_at(&self.rt, alloc, at, max);
         let now = followed.handles();
+        followed.note_identity(self.rt.alloc(), path, self.identities);
         self.note_held(before, now);
         read
     }

@@ -3,7 +3,9 @@
 ghost use Rattle.std.specs.Prelude.{◌≤◌, IfOk, length};
 
 use crate::copies::find_copy;
-use crate::identity::identity_of;
+use crate::identities::{Identities, KeptFile};
+use crate::identity::{identity_at, identity_of};
+use crate::kept_file::find_kept;
 use crate::reading::read_named;
 use crate::stream_file::{Finding, Progress, StreamFile};
 use fwd_base::Bytes;
@@ -33,12 +35,24 @@ struct Newer {
     since: Instant,
 }
 
+/// The file in which the reading of a path is to go on.
+#[derive(Clone, Copy)]
+enum Wanted {
+    /// Any file.
+    Any,
+    /// This one. It wasn't looked for yet.
+    Kept(KeptFile),
+    /// This one, which wasn't in the folder when the path had no file.
+    Missing(KeptFile),
+}
+
 /// A path, with the file that stands for it.
 #[derive(Drop)]
 pub struct FollowedPath {
     path: String,
     hold: Hold,
     newer: VecDeque<Newer>,
+    wanted: Wanted,
 }
 
 /// Adds the file that has the path now, if it has bytes and is none that is known. If the path names the file
@@ -78,12 +92,25 @@ fn is_superseded(rt: &HostRuntime, newer: &VecDeque<Newer>, linger: Duration) ->
 }
 
 impl FollowedPath {
-    /// Returns the path, with no file open.
-    pub fn new(alloc: Global, path: String) -> Self {
+    /// Returns the path, with no file open. If there is a kept file, its reading goes on in that one.
+    pub fn new(alloc: Global, path: String, kept: Option<KeptFile>) -> Self {
         FollowedPath {
             path,
             hold: Hold::Closed(Progress::Unread),
             newer: VecDeque::new(alloc),
+            wanted: match kept {
+                Some(kept) => Wanted::Kept(kept),
+                None => Wanted::Any,
+            },
+        }
+    }
+
+    /// Notes which file stands for the path. While none is open, the last one does.
+    pub fn note_identity(&self, alloc: Global, path: &[u8], identities: &Identities) {
+        match &self.hold {
+            Hold::Open(file) => identities.note(alloc, path, file.identity()),
+            Hold::Named => identities.forget(path),
+            Hold::Closed(_) => {}
         }
     }
 
@@ -116,6 +143,40 @@ impl FollowedPath {
         } else {
             self.use_name();
         }
+        Ok(())
+    }
+
+    /// Looks for the kept file in the folder, unless it wasn't there before. Returns whether it is open now.
+    fn open_kept(&mut self, rt: &HostRuntime, kept: KeptFile) -> bool {
+        if let Wanted::Missing(_) = self.wanted {
+            return false;
+        }
+        match find_kept(rt, self.path.as_str(), kept) {
+            Ok(Some(file)) => {
+                self.hold = Hold::Open(file);
+                true
+            }
+            Ok(None) | Err(_) => false,
+        }
+    }
+
+    /// Decides, before the first read, where it goes on: in the kept file, if the path names it or it is in the
+    /// folder, else at the beginning of the file that has the path. A path without a handle is read by name.
+    fn settle_wanted(&mut self, rt: &HostRuntime, may_hold: bool) -> io::Result<()> {
+        let (Wanted::Kept(kept) | Wanted::Missing(kept)) = self.wanted else {
+            return Ok(());
+        };
+        let own = identity_at(rt, self.path.as_str());
+        let is_own = match &own {
+            Ok(identity) => *identity == kept.identity,
+            Err(_) => false,
+        };
+        if may_hold && !is_own && !self.open_kept(rt, kept) {
+            self.wanted = Wanted::Missing(kept);
+            let _ = own?;
+            self.hold = Hold::Closed(Progress::Restarted);
+        }
+        self.wanted = Wanted::Any;
         Ok(())
     }
 
@@ -187,6 +248,7 @@ impl FollowedPath {
         linger: Duration,
         may_hold: bool,
     ) -> io::Result<u64> {
+        self.settle_wanted(rt, may_hold)?;
         self.ensure_open(rt, may_hold)?;
         match self.find(rt)? {
             Finding::Length(length) => Ok(length),

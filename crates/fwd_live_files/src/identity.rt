@@ -1,13 +1,14 @@
 //! Which file it is.
 
-use std::fs::Metadata;
+use std::fs::{self, Metadata};
+use std::io;
 use std::os::unix::fs::MetadataExt;
 
 /// The device and the inode of a file, which a rename doesn't change.
 #[derive(Clone, Copy, Debug, PartialEq, Eq)]
 pub struct Identity {
-    device: u64,
-    inode: u64,
+    pub device: u64,
+    pub inode: u64,
 }
 
 /// Returns the identity that the metadata has.
@@ -16,6 +17,11 @@ pub fn identity_of(about: &Metadata) -> Identity {
         device: about.dev(),
         inode: about.ino(),
     }
+}
+
+/// Returns the identity of the file that has a path now.
+pub fn identity_at(rt: &HostRuntime, path: &str) -> io::Result<Identity> {
+    Ok(identity_of(&fs::metadata(rt, path)?))
 }
 
 /// The time of a file's last change, in seconds and nanoseconds.

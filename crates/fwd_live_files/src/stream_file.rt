@@ -1,6 +1,6 @@
 //! A file that stands for a path: how far it was read, and whether it was truncated.
 
-ghost use Rattle.std.specs.Prelude.{◌≤◌, IfOk, length};
+ghost use Rattle.std.specs.Prelude.{◌+◌, ◌≤◌, ◌↔◌, IfOk, IsTrue, length};
 
 use crate::identity::{ChangeTime, Identity, identity_of};
 use crate::reading::{read_part, read_to};
@@ -112,6 +112,15 @@ impl StreamFile {
     /// Returns whether a read at this position of the stream follows the last one.
     pub fn is_expected(&self, at: u64) -> bool {
         self.progress == Progress::Unread || at == self.offset.saturating_add(self.added)
+    }
+
+    /// Goes on at an offset that was kept, in a file that has this length. An offset that is one greater than the
+    /// length counts a line feed that the stream had and the file hasn't. Returns false if it is greater than that.
+    pub fn resume_at(&mut self, offset: u64, length: u64) -> bool
+        ensures { IsTrue result ↔ (offset ≤ length + 1) }
+    {
+        self.added = offset.saturating_sub(length);
+        self.added <= 1
     }
 
     /// Begins anew, at the beginning of the file.

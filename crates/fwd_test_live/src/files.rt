@@ -1,7 +1,7 @@
 //! Files of the machine that are read, and standard output.
 
 use crate::stage::quiet;
-use fwd_live::{FolderFiles, Shared, StdSink};
+use fwd_live::{FolderFiles, Identities, Shared, StdSink};
 use fwd_outside::{Bytes, FileErr, Files, Memory, Sink, SinkErr, read_whole};
 use std::alloc::Global;
 use std::fs;
@@ -12,8 +12,12 @@ const PATH: &str = "fwd_test_live.lines";
 /// The number of bytes of the file: lines of 10.
 const LENGTH: usize = 3_000_000;
 
-fn new_files(rt: HostRuntime, shared: &Shared) -> FolderFiles<'_> {
-    FolderFiles::new(rt, shared)
+fn new_files<'a>(
+    rt: HostRuntime,
+    shared: &'a Shared,
+    identities: &'a Identities,
+) -> FolderFiles<'a> {
+    FolderFiles::new(rt, shared, identities)
 }
 
 fn lines(alloc: Global) -> Result<Bytes, Memory> {
@@ -56,7 +60,8 @@ fn is_read(files: &mut FolderFiles<'_>, rt: HostRuntime, lines: &Bytes) -> Resul
 fn a_large_file_is_read(rt: HostRuntime) -> Result<(), Fail> {
     let lines = lines(rt.alloc())?;
     let shared = quiet(rt);
-    let read = is_read(&mut new_files(rt, &shared), rt, &lines)?;
+    let identities = Identities::new(rt.alloc());
+    let read = is_read(&mut new_files(rt, &shared, &identities), rt, &lines)?;
     assert!(rt; read && shared.read_within.get() == 0);
     Ok(())
 }
@@ -80,9 +85,10 @@ fn are_refused(files: &mut FolderFiles<'_>, alloc: Global) -> bool {
 #[test]
 fn nothing_is_read_while_the_disk_fails(rt: HostRuntime) -> Result<(), Fail> {
     let shared = quiet(rt);
+    let identities = Identities::new(rt.alloc());
     shared.disk_failed.set(true);
     fs::write(&rt, HELD, b"line\n")?;
-    let held = is_held(&mut new_files(rt, &shared), rt.alloc());
+    let held = is_held(&mut new_files(rt, &shared, &identities), rt.alloc());
     fs::remove_file(&rt, HELD)?;
     assert!(rt; matches!(held, Ok(true)));
     Ok(())
@@ -91,7 +97,8 @@ fn nothing_is_read_while_the_disk_fails(rt: HostRuntime) -> Result<(), Fail> {
 #[test]
 fn what_is_not_there_fails(rt: HostRuntime) {
     let shared = quiet(rt);
-    let refused = are_refused(&mut new_files(rt, &shared), rt.alloc());
+    let identities = Identities::new(rt.alloc());
+    let refused = are_refused(&mut new_files(rt, &shared, &identities), rt.alloc());
     assert!(rt; refused);
 }
 

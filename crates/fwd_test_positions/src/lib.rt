@@ -5,3 +5,5 @@
 
 #[cfg(test)]
 mod keepers;
+#[cfg(test)]
+mod steps;
