@@ -6,6 +6,7 @@ use Rattle.fwd_outside.specs.Disk.{DiskLog}
 use Rattle.fwd_outside.specs.Files.{FilesLog, FilesGiven, FilesEntry, IsConsistentLog, found, files_after_all}
 use Rattle.fwd_outside.specs.Loop.{LoopLog}
 use Rattle.fwd_outside.specs.Sink.{SinkLog, Write, Wrote as WroteAll, log_of_stopped}
+use Rattle.fwd_keeper.specs.Keeper.{KeeperLog}
 use Rattle.fwd_config.specs.Variables.{Values}
 use Rattle.fwd_config.specs.Sections.{reads_files, given}
 use Rattle.fwd_config.specs.declared.section.Section.{Section}
@@ -39,6 +40,7 @@ abbrev pub status_of : Ending → Status
 status_of ending.Over = status.Done
 status_of ending.TurnsSpent = status.TurnsSpent
 status_of ending.DiskFailed = status.DiskFault
+status_of ending.KeeperFailed = status.KeeperFault
 status_of ending.LoopFailed = status.LoopFault
 status_of ending.Memory = status.Memory
 
@@ -51,19 +53,20 @@ pub record Platform : Type 0 where
   pub disk : DiskLog
   pub files : FilesLog
   pub loop : LoopLog
+  pub keeper : KeeperLog
 
-abbrev pub platform_of : DiskLog → FilesLog → LoopLog → Platform
-platform_of disk files loop = record { disk = disk; files = files; loop = loop }
+abbrev pub platform_of : DiskLog → FilesLog → LoopLog → KeeperLog → Platform
+platform_of disk files loop keeper = record { disk = disk; files = files; loop = loop; keeper = keeper }
 
--- with a keeper of positions, which logs calls but is never called
 abbrev pub world : Platform → CallLogs
-world o = record { loop = o.loop; disk = o.disk; files = o.files; keeper = Some ([], []) }
+world o = record { loop = o.loop; disk = o.disk; files = o.files; keeper = o.keeper }
 
 -- none of them was called
 pub record AreNotCalled (old new : Platform) : Type 0 where
   pub disk : LogGrew old.disk new.disk []
   pub files : LogGrew old.files new.files []
   pub loop : LogGrew old.loop new.loop []
+  pub keeper : LogGrew old.keeper new.keeper []
 
 -- The outcome of a listing, by its ending: the calls of loading, and the lines of what was recovered.
 -- Without a text, the calls up to one that failed, or, if memory ran out, the first ones, of which none
@@ -75,6 +78,7 @@ IsListed root old new text ending.Over =
 IsListed root old new text ending.DiskFailed = Completes old new (load_program root) None × (text ≡ [])
 IsListed root old new text ending.Memory = IsBegunUnfailed old new (load_program root) × (text ≡ [])
 IsListed root old new text ending.TurnsSpent = ⊥
+IsListed root old new text ending.KeeperFailed = ⊥
 IsListed root old new text ending.LoopFailed = ⊥
 
 -- The outcome of a case, and the calls on the devices for it. A schedule and a generated load are
@@ -87,7 +91,7 @@ Produces turns (Generates s lives) old new reported =
 Produces turns (Runs s ticks) old new reported = IsRunLive s ticks turns (world old) (world new) reported
 Produces turns (Lists root) old new reported =
     IsListed root old.disk new.disk reported.text reported.ending
-    × (LogGrew old.files new.files [] × LogGrew old.loop new.loop [])
+    × (LogGrew old.files new.files [] × LogGrew old.loop new.loop [] × LogGrew old.keeper new.keeper [])
 Produces turns (Refuses other) old new reported = ⊥
 
 -- the verdict of a case is that of its outcome
@@ -101,10 +105,12 @@ pub record Devices : Type 0 where
   pub disk : DiskLog
   pub files : FilesLog
   pub loop : LoopLog
+  pub keeper : KeeperLog
   pub sink : SinkLog
 
-abbrev pub devices : DiskLog → FilesLog → LoopLog → SinkLog → Devices
-devices disk files loop sink = record { disk = disk; files = files; loop = loop; sink = sink }
+abbrev pub devices : DiskLog → FilesLog → LoopLog → KeeperLog → SinkLog → Devices
+devices disk files loop keeper sink =
+    record { disk = disk; files = files; loop = loop; keeper = keeper; sink = sink }
 
 -- The calls on the files are those of the program's asking, to its end with this case; without a case,
 -- because memory ran out, they are its first ones.
@@ -122,14 +128,15 @@ pub record Comes {Y : Type 0} (words : List (String Y)) (env : Values) (turns : 
   pub case : Case
   pub read : FilesLog
   pub asks : Asks words env old.files read (Some case)
-  pub is : IsVerdict turns case (platform_of old.disk read old.loop)
-      (platform_of new.disk new.files new.loop) verdict
+  pub is : IsVerdict turns case (platform_of old.disk read old.loop old.keeper)
+      (platform_of new.disk new.files new.loop new.keeper) verdict
 
 -- the asking was begun, and there was no other call
 pub record Begins {Y : Type 0} (words : List (String Y)) (env : Values) (old new : Devices) : Type 0 where
   pub asks : Asks words env old.files new.files None
   pub disk : LogGrew old.disk new.disk []
   pub loop : LogGrew old.loop new.loop []
+  pub keeper : LogGrew old.keeper new.keeper []
 
 -- a text was written to its end, or a prefix of it
 abbrev pub WroteIt : SinkLog → SinkLog → List ℕ → Type 0
@@ -171,8 +178,8 @@ pub record IsVerdictOf {Y : Type 0} (words : List (String Y)) (env : Values) (tu
   pub case : Case
   pub given : given (found standing) (asks checked words env) ≡ asked loaded case
   pub read : FilesLog
-  pub is : IsVerdict turns case (platform_of old.disk read old.loop)
-      (platform_of new.disk new.files new.loop) verdict
+  pub is : IsVerdict turns case (platform_of old.disk read old.loop old.keeper)
+      (platform_of new.disk new.files new.loop new.keeper) verdict
 
 -- If the files log their calls, return the existing bytes, and don't fail, the verdict is that of these
 -- bytes.
@@ -192,6 +199,11 @@ is_run other = false
 -- a run's loop failed
 abbrev pub IsLoopFault : {Y : Type 0} → List (String Y) → Status → Type 0
 IsLoopFault words result = (is_run (command_of (map string_bytes words)) ≡ true) × (result ≡ status.LoopFault)
+
+-- a run's keeper failed
+abbrev pub IsKeeperFault : {Y : Type 0} → List (String Y) → Status → Type 0
+IsKeeperFault words result =
+    (is_run (command_of (map string_bytes words)) ≡ true) × (result ≡ status.KeeperFault)
 
 -- the words ask for a run or a listing, which use the disk
 abbrev pub is_over_disk : Option Command → Bool
