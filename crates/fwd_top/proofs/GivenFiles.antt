@@ -111,7 +111,7 @@ module _ (old read new : FilesLog) (standing : FilesGiven) (before made first se
       (honest_parts (files_after_all standing before) first second (subst (λ (l : List FilesEntry). IsConsistentLog (files_after_all standing before) l) is honest)).0
 
 module _ {Y : Type 0} (words : List (String Y)) (env : Values) (turns : ℕ) (old new : Devices) where
-  verdict_of : (case : Case) (read : FilesLog) (verdict : Verdict) → Asks words env old.files read (Some case) → IsVerdict turns case (platform_of old.disk read old.loop) (platform_of new.disk new.files new.loop) verdict
+  verdict_of : (case : Case) (read : FilesLog) (verdict : Verdict) → Asks words env old.files read (Some case) → IsVerdict turns case (platform_of old.disk read old.loop old.keeper) (platform_of new.disk new.files new.loop new.keeper) verdict
       → case ≢ Refuses status.FileFault
       → (standing : FilesGiven) (before made : List FilesEntry) → old.files ≡ Some (standing, before) → new.files ≡ Some (standing, before ++ made) → IsConsistentLog (files_after_all standing before) made
       → IsVerdictOf words env turns (files_after_all standing before) old new verdict
@@ -122,7 +122,7 @@ module _ {Y : Type 0} (words : List (String Y)) (env : Values) (turns : ℕ) (ol
     case = case;
     given =
         let did = asks.makes in
-        let more = asked_for turns case (platform_of old.disk read old.loop) (platform_of new.disk new.files new.loop) verdict is in
+        let more = asked_for turns case (platform_of old.disk read old.loop old.keeper) (platform_of new.disk new.files new.loop new.keeper) verdict is in
         gives (files_after_all standing before) (of_command asks.checked (command_of (map string_bytes words)) env) (ends_there asks.checked (command_of (map string_bytes words)) env) did.entries (asked asks.loaded case) other
         (first_honest old.files read new.files standing before made did.entries more.0 did.grew more.1 was now_is honest) did.way;
     read = read;
@@ -131,24 +131,25 @@ module _ {Y : Type 0} (words : List (String Y)) (env : Values) (turns : ℕ) (ol
 
   -- a job was done, and its outcome written
   pub done_files : (case : Case) (read : FilesLog) (r : Reported) (result : Status) → case ≢ Refuses status.FileFault → Asks words env old.files read (Some case)
-      → Produces turns case (platform_of old.disk read old.loop) (platform_of new.disk new.files new.loop) r → WritesVerdict old.sink new.sink (of_reported r) result → IsOfTheFiles words env turns old new result
+      → Produces turns case (platform_of old.disk read old.loop old.keeper) (platform_of new.disk new.files new.loop new.keeper) r → WritesVerdict old.sink new.sink (of_reported r) result → IsOfTheFiles words env turns old new result
   done_files case read r result other asks is tells standing before made was now_is honest known =
-      let verdict = in_case turns case (platform_of old.disk read old.loop) (platform_of new.disk new.files new.loop) r is in
+      let verdict = in_case turns case (platform_of old.disk read old.loop old.keeper) (platform_of new.disk new.files new.loop new.keeper) r is in
       written (IsVerdictOf words env turns (files_after_all standing before) old new) old.sink new.sink r.text r.ending result
       (verdict_of case read (of_reported r) asks verdict other standing before made was now_is honest) tells
 
   -- there was nothing to do
-  pub refused_files : (result : Status) → IsRefusal result → Asks words env old.files new.files (unless_memory result) → LogGrew old.disk new.disk [] → LogGrew old.loop new.loop [] → LogGrew old.sink new.sink []
+  pub refused_files : (result : Status) → IsRefusal result → Asks words env old.files new.files (unless_memory result) → LogGrew old.disk new.disk [] → LogGrew old.loop new.loop [] → LogGrew old.keeper new.keeper [] → LogGrew old.sink new.sink []
       → IsOfTheFiles words env turns old new result
-  refused_files status.Done is asks disk loop sink standing before made was now_is honest known = absurd is
-  refused_files status.TurnsSpent is asks disk loop sink standing before made was now_is honest known = absurd is
-  refused_files status.OutFault is asks disk loop sink standing before made was now_is honest known = absurd is
-  refused_files status.LoopFault is asks disk loop sink standing before made was now_is honest known = absurd is
-  refused_files status.DiskFault is asks disk loop sink standing before made was now_is honest known = absurd is
-  refused_files status.FileFault is asks disk loop sink standing before made was now_is honest known = absurd (known refl)
-  refused_files status.Memory is asks disk loop sink standing before made was now_is honest known = tt
-  refused_files other is asks disk loop sink standing before made was now_is honest known =
-      ([], verdict_of (Refuses other) new.files (says [] other) asks (refl, record { disk = disk; files = grew_none new.files; loop = loop }) (λ same. cc same) standing before made was now_is honest, sink)
+  refused_files status.Done is asks disk loop keeper sink standing before made was now_is honest known = absurd is
+  refused_files status.TurnsSpent is asks disk loop keeper sink standing before made was now_is honest known = absurd is
+  refused_files status.OutFault is asks disk loop keeper sink standing before made was now_is honest known = absurd is
+  refused_files status.LoopFault is asks disk loop keeper sink standing before made was now_is honest known = absurd is
+  refused_files status.KeeperFault is asks disk loop keeper sink standing before made was now_is honest known = absurd is
+  refused_files status.DiskFault is asks disk loop keeper sink standing before made was now_is honest known = absurd is
+  refused_files status.FileFault is asks disk loop keeper sink standing before made was now_is honest known = absurd (known refl)
+  refused_files status.Memory is asks disk loop keeper sink standing before made was now_is honest known = tt
+  refused_files other is asks disk loop keeper sink standing before made was now_is honest known =
+      ([], verdict_of (Refuses other) new.files (says [] other) asks (refl, record { disk = disk; files = grew_none new.files; loop = loop; keeper = keeper }) (λ same. cc same) standing before made was now_is honest, sink)
 
 -- a job refuses nothing
 pub no_refusal : (j : Job) → of_job j ≢ Refuses status.FileFault
