@@ -11,6 +11,12 @@ use Rattle.fwd_disk_mem.specs.Images.{picked, reach, prefix_after_mark}
 use Rattle.fwd_disk_mem.specs.DiskState.{Seen}
 use Rattle.fwd_disk_mem.specs.Told as disk
 use Rattle.fwd_disk_mem.proofs.CallTrace.{split_told, played_second}
+use Rattle.fwd_keeper.specs.Keeper.{KeeperEntry, KeeperGiven}
+use Rattle.fwd_keeper_mem.specs.KeeperAnswers as keeper
+use Rattle.fwd_keeper_mem.specs.KeeperAnswers.{offsets_after_all}
+use Rattle.fwd_keeper_mem.specs.KeeperState.{KeeperState}
+use Rattle.fwd_keeper_mem.specs.MemKeeper as kept_log
+use Rattle.fwd_keeper_mem.specs.Offsets.{SameOffsets}
 use Rattle.fwd_settings.specs.Endpoints.{ends_of}
 use Rattle.fwd_settings.specs.declared.settings_types.AllSettings.{AllSettings}
 use Rattle.fwd_script.specs.declared.schedule.Cut.{Cut}
@@ -24,12 +30,13 @@ use Rattle.fwd_script_loop.specs.Place as place
 use Rattle.fwd_script_loop.specs.ScriptState.{ScriptState}
 use Rattle.fwd_script_loop.specs.Told.{entries_of}
 use Rattle.fwd_model.specs.Fact.{History}
-use Rattle.fwd_model.specs.Trace.{Action, TraceEntry, loop_part, disk_part}
+use Rattle.fwd_model.specs.Trace.{Action, TraceEntry, loop_part, disk_part, keeper_part}
 use Rattle.fwd_model.specs.CallLogs.{CallLogs, LogsGrew}
 use Rattle.fwd_model.specs.Limits.{paused}
-use Rattle.fwd_model.specs.Run.{Over, DiskFailed, LoopFailed, TurnsSpent, RunResult, lived, life, run, is_over}
+use Rattle.fwd_model.specs.Run.{Over, DiskFailed, KeeperFailed, LoopFailed, TurnsSpent, RunResult, lived, life, run, after_step}
+use Rattle.fwd_model.specs.StepActions.{step}
 use Rattle.fwd_model.proofs.CallLogs.{disk_append}
-use Rattle.fwd_engine.specs.EngineSteps.{IsAt, Turned, TurnOutcome}
+use Rattle.fwd_engine.specs.EngineSteps.{IsAt, Turned, TurnOutcome, is_failed}
 use Rattle.fwd_engine.specs.declared.engine.Engine.{Engine}
 use Rattle.fwd_engine.specs.declared.engine.EngineStop.{EngineStop}
 use Rattle.fwd_engine.specs.declared.engine.EngineStop.TheVariants as stop
@@ -42,7 +49,7 @@ use Rattle.fwd_replay.specs.FileChanges.{FilesAt, course_after, content_after, i
 use Rattle.fwd_replay.specs.Runs.{EndsIn, IsAnswered, IsCutIn, IsLife, Start, course_of, disk_of, first_calls, has_cut}
 use Rattle.fwd_replay.specs.Names.{IsNamed, IsNamedOf}
 use Rattle.fwd_replay.proofs.CallLog.{told_is}
-use Rattle.fwd_replay.specs.RunState.{AreRenewed, EndsBy, ProducesText, EndedAs, DevicesAreReady, LoopHasFailed, HaveAnswered, IsCrashed, IsOver, IsReady, IsInProgress, RunRepresents, HandsOver, is_out_of_memory, memory}
+use Rattle.fwd_replay.specs.RunState.{AreRenewed, OffsetsAreRenewed, EndsBy, ProducesText, EndedAs, DevicesAreReady, LoopHasFailed, HaveAnswered, IsCrashed, IsOver, IsReady, IsInProgress, RunRepresents, HandsOver, is_out_of_memory, memory}
 use Rattle.fwd_replay.specs.Text.{life_text}
 use Rattle.fwd_replay.specs.declared.progress.Going.{Going}
 use Rattle.fwd_replay.specs.declared.names.Named.{Named}
@@ -53,7 +60,10 @@ use Rattle.fwd_replay.specs.declared.report.Ending.TheVariants as ending
 use Rattle.fwd_replay.specs.declared.report.Reported.{Reported}
 use Rattle.fwd_replay.specs.declared.report.Shown.{Shown}
 use Rattle.fwd_replay.proofs.ShownText.{text_behind, text_is}
-use Rattle.fwd_replay.proofs.TurnCalls.{asked_turn, asked_wait, more_is, over_is, turn_failed, turn_more, turn_over, turn_stands, wait_of}
+use Rattle.fwd_replay.proofs.StillCalls.{keeper_append}
+use Rattle.fwd_replay.proofs.TurnCalls.{asked_turn, asked_wait, turn_failed, turn_stands, turn_stepped, wait_of}
+use Rattle.fwd_theorem_crash.specs.StepBoundaries.{takes_event, turn as taken_turn}
+use Rattle.fwd_outside.specs.declared.happening.Happening.TheVariants as happening
 
 -- ---- what a run returned
 
@@ -65,6 +75,11 @@ loop_played script given entries is played =
     let call_log = told_is script given entries is in
     subst (λ (es : List LoopEntry). place.IsPlayed given es) call_log.1 (subst (λ (g : LoopGiven). place.IsPlayed g (entries_of script.notes)) call_log.0 played)
 
+keeper_played : (start : Start) (kept : KeeperState) (trace : List TraceEntry) → kept.given ≡ start.offsets → kept_log.entries_of kept.notes ≡ keeper_part trace → keeper.IsPlayed kept.given [] (kept_log.entries_of kept.notes)
+    → keeper.IsPlayed start.offsets [] (keeper_part trace)
+keeper_played start kept trace given calls played =
+    subst (λ (g : KeeperGiven). keeper.IsPlayed g [] (keeper_part trace)) given (subst (λ (l : List KeeperEntry). keeper.IsPlayed kept.given [] l) calls played)
+
 abbrev pub reported : List ℕ → Ending → Reported
 reported text end = record { text = text; ending = end }
 
@@ -72,26 +87,27 @@ rest_is : (taken most : ℕ) → taken ≤ most → taken + (most - taken) ≡ m
 rest_is taken most fits = omega (arith, fits)
 
 module _ (s : AllSettings) (start : Start) (planned : Life) where
-  answered : (script : ScriptState) (taken : ℕ) (seen : Seen) (held : FilesState) (trace : List TraceEntry) (left : ℕ → Action RunResult) (at : FilesAt)
-      → (stands : RunRepresents s start planned (told_of script) taken seen held trace left at) → HaveAnswered script seen → IsAnswered start planned trace stands.asked
-  answered script taken seen held trace left at stands plays = record {
+  answered : (script : ScriptState) (taken : ℕ) (seen : Seen) (held : FilesState) (kept : KeeperState) (trace : List TraceEntry) (left : ℕ → Action RunResult) (at : FilesAt)
+      → (stands : RunRepresents s start planned (told_of script) taken seen held kept trace left at) → HaveAnswered script seen kept → IsAnswered start planned trace stands.asked
+  answered script taken seen held kept trace left at stands plays = record {
     loop = loop_played script (given_of planned) (loop_part trace) stands.loop plays.loop;
     are = stands.are;
     disk = played_second [] (disk_of start planned) stands.asked (subst (λ (l : List Told). disk.IsPlayed [] l) stands.disk_is plays.disk);
     files = stands.answered;
+    keeper = keeper_played start kept trace stands.kept_given stands.kept_calls plays.keeper;
   }
 
-  module _ (going : Going) (seen : Seen) (held : FilesState) (most : ℕ) (fits : going.taken ≤ most) (plays : HaveAnswered going.script seen) where
+  module _ (going : Going) (seen : Seen) (held : FilesState) (kept : KeeperState) (most : ℕ) (fits : going.taken ≤ most) (plays : HaveAnswered going.script seen kept) where
     -- a run that came to its end, with at most `most` turns
-    is_life : (trace : List TraceEntry) (comes : RunResult) (at : FilesAt) → RunRepresents s start planned (told_of going.script) going.taken seen held trace (λ more. Return comes) at → IsLife s most start planned trace comes
+    is_life : (trace : List TraceEntry) (comes : RunResult) (at : FilesAt) → RunRepresents s start planned (told_of going.script) going.taken seen held kept trace (λ more. Return comes) at → IsLife s most start planned trace comes
     is_life trace comes at stands = record {
       way = subst (λ (n : ℕ). Execution (life s (ends_of s) None n) trace (Return comes)) (rest_is going.taken most fits) (stands.way (most - going.taken));
       asked = stands.asked;
-      answered = answered going.script going.taken seen held trace (λ more. Return comes) at stands plays;
+      answered = answered going.script going.taken seen held kept trace (λ more. Return comes) at stands plays;
       uncut = stands.uncut;
     }
 
-    pub over_ends : (shown : Shown) (over : IsOver s start planned going seen held) (text : List ℕ) → planned.cut ≡ None → text ≡ text_behind shown s going.script over.history
+    pub over_ends : (shown : Shown) (over : IsOver s start planned going seen held kept) (text : List ℕ) → planned.cut ≡ None → text ≡ text_behind shown s going.script over.history
         → EndsIn shown s most start planned (reported text ending.Over)
     over_ends shown over text uncut is = record {
       trace = over.trace;
@@ -101,7 +117,7 @@ module _ (s : AllSettings) (start : Start) (planned : Life) where
       reports = ap (λ (t : List ℕ). reported t ending.Over) (is ∙ text_is shown s planned going.script over.trace over.history over.stands.loop);
     }
 
-    pub failed_ends : (shown : Shown) → LoopHasFailed s start planned going seen held → EndsIn shown s most start planned (reported [] ending.LoopFailed)
+    pub failed_ends : (shown : Shown) → LoopHasFailed s start planned going seen held kept → EndsIn shown s most start planned (reported [] ending.LoopFailed)
     failed_ends shown failed = record {
       trace = failed.trace;
       comes = lived failed.history LoopFailed;
@@ -111,9 +127,9 @@ module _ (s : AllSettings) (start : Start) (planned : Life) where
     }
 
   -- a run that has taken all turns
-  pub spent_ends : (shown : Shown) (going : Going) (seen : Seen) (held : FilesState) → HaveAnswered going.script seen → (under : IsInProgress s start planned going seen held) (text : List ℕ)
+  pub spent_ends : (shown : Shown) (going : Going) (seen : Seen) (held : FilesState) (kept : KeeperState) → HaveAnswered going.script seen kept → (under : IsInProgress s start planned going seen held kept) (text : List ℕ)
       → text ≡ text_behind shown s going.script under.history → EndsIn shown s going.taken start planned (reported text ending.TurnsSpent)
-  spent_ends shown going seen held plays under text is =
+  spent_ends shown going seen held kept plays under text is =
       let h = under.history in
       let comes = lived h TurnsSpent in
       let none : going.taken + 0 ≡ going.taken = omega arith in
@@ -125,7 +141,7 @@ module _ (s : AllSettings) (start : Start) (planned : Life) where
               subst (λ (p : Action RunResult). Execution (life s (ends_of s) None going.taken) under.trace p) (spent s None h)
               (subst (λ (n : ℕ). Execution (life s (ends_of s) None n) under.trace (run s None 0 h)) none (under.stands.way 0));
           asked = under.stands.asked;
-          answered = answered going.script going.taken seen held under.trace (λ more. run s None more h) (course_after (course_of start planned) under.trace).files under.stands plays;
+          answered = answered going.script going.taken seen held kept under.trace (λ more. run s None more h) (course_after (course_of start planned) under.trace).files under.stands plays;
           uncut = under.stands.uncut;
         };
         last = λ over. absurd (cc over);
@@ -135,6 +151,9 @@ module _ (s : AllSettings) (start : Start) (planned : Life) where
   -- one that ended before a turn
   pub load_ends : (shown : Shown) (most : ℕ) → EndedAs s start planned (lived [] DiskFailed) → EndsIn shown s most start planned (reported [] ending.DiskFailed)
   load_ends shown most ended = record { trace = ended.trace; comes = lived [] DiskFailed; is = ended.is most; last = λ over. absurd (cc over); reports = refl }
+
+  pub get_ends : (shown : Shown) (most : ℕ) (h : History) → EndedAs s start planned (lived h KeeperFailed) → EndsIn shown s most start planned (reported [] ending.KeeperFailed)
+  get_ends shown most h ended = record { trace = ended.trace; comes = lived h KeeperFailed; is = ended.is most; last = λ over. absurd (cc over); reports = refl }
 
   pub start_ends : (shown : Shown) (most : ℕ) (h : History) → EndedAs s start planned (lived h LoopFailed) → EndsIn shown s most start planned (reported [] ending.LoopFailed)
   start_ends shown most h ended = record { trace = ended.trace; comes = lived h LoopFailed; is = ended.is most; last = λ over. absurd (cc over); reports = refl }
@@ -150,18 +169,26 @@ until_is n (call ∷ before) more =
     let later : suc len + far ≡ suc (len + far) = omega arith in
     ap (λ (k : ℕ). take k (call ∷ before ++ more)) later ∙ ap (λ (l : List Told). call ∷ l) (until_is n before more)
 
--- the same files, with an empty call log
-finds_next : (next : Start) (image : Seen) (held renewed : FilesState) → image.calls ≡ next.disk → ((path : List ℕ) → found (files_now held.given held.notes) path ≡ content_after None next.changes path) → AreRenewed held renewed
-    → DevicesAreReady next image renewed
-finds_next next image held renewed disk_is has again = record { disk = disk_is; has = λ path. sym (again.same path) ∙ has path; unasked = again.unasked }
+-- the same files and offsets, with empty call logs
+finds_next : (next : Start) (image : Seen) (held renewed : FilesState) (kept renewed_kept : KeeperState) → image.calls ≡ next.disk → ((path : List ℕ) → found (files_now held.given held.notes) path ≡ content_after None next.changes path) → AreRenewed held renewed
+    → OffsetsAreRenewed kept renewed_kept → renewed_kept.given ≡ next.offsets → DevicesAreReady next image renewed renewed_kept
+finds_next next image held renewed kept renewed_kept disk_is has again kept_again offsets =
+    record { disk = disk_is; has = λ path. sym (again.same path) ∙ has path; unasked = again.unasked; kept_given = offsets; kept_unasked = kept_again.unasked }
+
+same_offsets : (start : Start) (kept renewed : KeeperState) (trace : List TraceEntry) → kept.given ≡ start.offsets → kept_log.entries_of kept.notes ≡ keeper_part trace → OffsetsAreRenewed kept renewed
+    → SameOffsets (offsets_after_all start.offsets (keeper_part trace)) renewed.given
+same_offsets start kept renewed trace given calls again =
+    subst (λ (g : KeeperGiven). SameOffsets (offsets_after_all g (keeper_part trace)) renewed.given) given
+    (subst (λ (l : List KeeperEntry). SameOffsets (offsets_after_all kept.given l) renewed.given) calls again.same)
 
 module _ (s : AllSettings) (start : Start) (planned : Life) where
-  made_cut : (most since : ℕ) (cut : Cut) (going : Going) (history last : History) (before turn : List TraceEntry) (asked asked_in : List Told) (old now image : Seen) (held renewed : FilesState)
+  made_cut : (most since : ℕ) (cut : Cut) (going : Going) (history last : History) (before turn : List TraceEntry) (asked asked_in : List Told) (old now image : Seen) (held renewed : FilesState) (kept renewed_kept : KeeperState)
       → planned.cut ≡ Some cut → IsCutIn s most start planned before history turn → has_cut start planned before ≡ false → IsAnswered start planned (before ++ turn) (asked ++ asked_in) → disk.entries_of asked ≡ disk_part before
-      → old.calls ≡ disk_of start planned ++ asked → now.calls ≡ old.calls ++ asked_in → since ≡ length old.calls → IsCrashed since cut now image → AreRenewed held renewed
+      → old.calls ≡ disk_of start planned ++ asked → now.calls ≡ old.calls ++ asked_in → since ≡ length old.calls → IsCrashed since cut now image → AreRenewed held renewed → OffsetsAreRenewed kept renewed_kept
       → ((path : List ℕ) → found (files_now held.given held.notes) path ≡ content_after None (course_after (course_of start planned) (before ++ turn)).files.changes path)
-      → waits_in (before ++ turn) ≡ going.taken → IsAt going.engine s last → HandsOver s most start planned cut going history before image renewed
-  made_cut most since cut going history last before turn asked asked_in old now image held renewed is cut_in uncut answers are old_is now_is since_is crashed again has waits at_last =
+      → kept.given ≡ start.offsets → kept_log.entries_of kept.notes ≡ keeper_part (before ++ turn)
+      → waits_in (before ++ turn) ≡ going.taken → IsAt going.engine s last → HandsOver s most start planned cut going history before image renewed renewed_kept
+  made_cut most since cut going history last before turn asked asked_in old now image held renewed kept renewed_kept is cut_in uncut answers are old_is now_is since_is crashed again kept_again has given calls waits at_last =
       let first : List Told = disk_of start planned ++ asked in
       let all : now.calls ≡ first ++ asked_in = now_is ∙ ap (λ (l : List Told). l ++ asked_in) old_is in
       let at : since ≡ length first = since_is ∙ ap (λ (l : List Told). length l) old_is in
@@ -169,8 +196,9 @@ module _ (s : AllSettings) (start : Start) (planned : Life) where
       ap (λ (k : ℕ). prefix_after_mark k cut.calls now.calls) at ∙ ap (λ (l : List Told). prefix_after_mark (length first) cut.calls l) all ∙ until_is cut.calls first asked_in
       in
       let course = course_after (course_of start planned) (before ++ turn) in
+      let next : Start = record { disk = image.calls; changes = course.files.changes; offsets = renewed_kept.given } in
       record {
-        cuts = record { cut = cut; before = before; history = history; turn = turn; asked = asked; asked_in = asked_in; next = record { disk = image.calls; changes = course.files.changes } };
+        cuts = record { cut = cut; before = before; history = history; turn = turn; asked = asked; asked_in = asked_in; next = next };
         is = record {
           is = is;
           cut_in = cut_in;
@@ -181,32 +209,34 @@ module _ (s : AllSettings) (start : Start) (planned : Life) where
           disk_is = crashed.is;
           image = λ name. crashed.picks name ∙ ap (λ (l : List Told). picked (cut.pick % 4) l name) upto;
           changes = refl;
+          offsets = same_offsets start kept renewed_kept (before ++ turn) given calls kept_again;
         };
         cut_is = refl;
         history_is = refl;
         before_is = refl;
-        finds = finds_next (record { disk = image.calls; changes = course.files.changes }) image held renewed refl has again;
+        finds = finds_next next image held renewed kept renewed_kept refl has again kept_again refl;
         waits = waits;
         now = last;
         at = at_last;
       }
 
   -- a run that was over before
-  pub over_cut : (going : Going) (seen image : Seen) (held renewed : FilesState) (most since : ℕ) (cut : Cut) (over : IsOver s start planned going seen held) → going.taken ≤ most → HaveAnswered going.script seen
-      → planned.cut ≡ Some cut → since ≡ length seen.calls → IsCrashed since cut seen image → AreRenewed held renewed → HandsOver s most start planned cut going over.history over.trace image renewed
-  over_cut going seen image held renewed most since cut over fits plays is since_is crashed again =
+  pub over_cut : (going : Going) (seen image : Seen) (held renewed : FilesState) (kept renewed_kept : KeeperState) (most since : ℕ) (cut : Cut) (over : IsOver s start planned going seen held kept) → going.taken ≤ most → HaveAnswered going.script seen kept
+      → planned.cut ≡ Some cut → since ≡ length seen.calls → IsCrashed since cut seen image → AreRenewed held renewed → OffsetsAreRenewed kept renewed_kept
+      → HandsOver s most start planned cut going over.history over.trace image renewed renewed_kept
+  over_cut going seen image held renewed kept renewed_kept most since cut over fits plays is since_is crashed again kept_again =
       let trace = over.trace in
       let course = course_of start planned in
       let ended : IsLife s most start planned trace (lived over.history Over) =
-      is_life s start planned going seen held most fits plays trace (lived over.history Over) (course_after course trace).files over.stands
+      is_life s start planned going seen held kept most fits plays trace (lived over.history Over) (course_after course trace).files over.stands
       in
       let same : trace ++ [] ≡ trace = append-nil trace in
-      made_cut most since cut going over.history over.history trace [] over.stands.asked [] seen seen image held renewed is (inr (ended.way, refl)) over.stands.uncut
+      made_cut most since cut going over.history over.history trace [] over.stands.asked [] seen seen image held renewed kept renewed_kept is (inr (ended.way, refl)) over.stands.uncut
       (subst (λ (es : List TraceEntry). IsAnswered start planned es (over.stands.asked ++ [])) (sym same)
-      (subst (λ (l : List Told). IsAnswered start planned trace l) (sym (append-nil over.stands.asked)) (answered s start planned going.script going.taken seen held trace (λ more. Return (lived over.history Over)) (course_after course trace).files over.stands plays)))
-      over.stands.are over.stands.disk_is (sym (append-nil seen.calls)) since_is crashed again
+      (subst (λ (l : List Told). IsAnswered start planned trace l) (sym (append-nil over.stands.asked)) (answered s start planned going.script going.taken seen held kept trace (λ more. Return (lived over.history Over)) (course_after course trace).files over.stands plays)))
+      over.stands.are over.stands.disk_is (sym (append-nil seen.calls)) since_is crashed again kept_again
       (λ path. over.stands.files_stand.has path ∙ ap (λ (es : List TraceEntry). content_after None (course_after course es).files.changes path) (sym same))
-      (ap waits_in same ∙ over.stands.waits) over.at
+      over.stands.kept_given (over.stands.kept_calls ∙ ap keeper_part (sym same)) (ap waits_in same ∙ over.stands.waits) over.at
 
 -- ---- the turn in which a run is cut
 
@@ -217,14 +247,21 @@ pub record Taken (a b : CallLogs) (s : AllSettings) (h : History) (after : Engin
   pub plain : ArePlain entries
   pub left : ℕ → Action RunResult
   pub ways : (more : ℕ) → Execution (run s None (suc more) h) (wait_of s h brought ∷ entries) (left more)
-  pub last : RunResult
-  pub ends : left 0 ≡ Return last
   pub asked : LogsGrew a b (wait_of s h brought ∷ entries)
   pub now : History
   pub at : IsAt after s now
+  pub cut_way : Execution (taken_turn s h) (wait_of s h brought ∷ entries) (Return now)
+
+takes_is : (s : AllSettings) (h : History) (x : Happening) → is_failed x ≡ false → takes_event s h x ≡ step s x h
+takes_is s h happening.Failed is = absurd (cc is)
+takes_is s h happens is = refl
+
+takes_none : (s : AllSettings) (h : History) (x : Happening) → is_failed x ≡ true → takes_event s h x ≡ Return h
+takes_none s h happening.Failed is = refl
+takes_none s h happens is = absurd (cc is)
 
 turn_taken : (a b : CallLogs) (s : AllSettings) (h : History) (after : Engine) (which : Turn) → Turned a b s h after (Ok which) → Taken a b s h after
-turn_taken a b s h after turn.More t =
+turn_taken a b s h after which t =
     let x = t.brought in
     let stepped = t.steps.1 in
     let es = stepped.did.entries in
@@ -232,29 +269,12 @@ turn_taken a b s h after turn.More t =
       brought = x;
       entries = es;
       plain = step_plain s x h es (Return stepped.history) stepped.did.way;
-      left = λ more. run s None more stepped.history;
-      ways = λ more. turn_more s h x es stepped.history t.steps.0 stepped.did.way more (more_is (is_over s x stepped.history) stepped.over);
-      last = lived stepped.history TurnsSpent;
-      ends = spent s None stepped.history;
+      left = λ more. after_step s None (run s None more) x stepped.history;
+      ways = turn_stepped s h x es stepped.history t.steps.0 stepped.did.way;
       asked = asked_turn a t.between b s h x es t.waited stepped.did.asked;
       now = stepped.history;
       at = stepped.at;
-    }
-turn_taken a b s h after turn.Over t =
-    let x = t.brought in
-    let stepped = t.steps.1 in
-    let es = stepped.did.entries in
-    record {
-      brought = x;
-      entries = es;
-      plain = step_plain s x h es (Return stepped.history) stepped.did.way;
-      left = λ more. Return (lived stepped.history Over);
-      ways = λ more. turn_over s h x es stepped.history t.steps.0 stepped.did.way more (over_is (is_over s x stepped.history) stepped.over);
-      last = lived stepped.history Over;
-      ends = refl;
-      asked = asked_turn a t.between b s h x es t.waited stepped.did.asked;
-      now = stepped.history;
-      at = stepped.at;
+      cut_way = (x, refl, subst (λ (p : Action History). Execution p es (Return stepped.history)) (sym (takes_is s h x t.steps.0)) stepped.did.way);
     }
 
 turn_broken : (a b : CallLogs) (s : AllSettings) (h : History) (after : Engine) → Turned a b s h after (Err stop.LoopFault) → Taken a b s h after
@@ -264,11 +284,10 @@ turn_broken a b s h after t = record {
   plain = tt;
   left = λ more. Return (lived h LoopFailed);
   ways = turn_failed s h t.brought t.steps.0;
-  last = lived h LoopFailed;
-  ends = refl;
   asked = asked_wait a t.between b s h t.brought t.waited t.steps.1;
   now = h;
   at = t.steps.2;
+  cut_way = (t.brought, refl, sym (takes_none s h t.brought t.steps.0));
 }
 
 pub taken_of : (a b : CallLogs) (s : AllSettings) (h : History) (after : Engine) (result : Result Turn EngineStop) → is_out_of_memory result ≡ false → TurnOutcome a b s h after result → Taken a b s h after
@@ -289,7 +308,7 @@ uncut_always : (planned : Life) (b : Bool) → None ≡ (if b then (whole planne
 uncut_always planned true = refl
 uncut_always planned false = refl
 
-module _ (s : AllSettings) (start : Start) (planned : Life) (going : Going) (seen : Seen) (held : FilesState) (cut : Cut) (ready : IsReady s start planned going seen held (Some cut))
+module _ (s : AllSettings) (start : Start) (planned : Life) (going : Going) (seen : Seen) (held : FilesState) (kept : KeeperState) (cut : Cut) (ready : IsReady s start planned going seen held kept (Some cut))
     (going2 : Going) (seen2 : Seen) (held2 : FilesState) (taken : Taken (memory going.script seen held) (memory going2.script seen2 held2) s ready.history going2.engine)
     (plays : files_played.IsPlayed held2.given [] (entries_from held2.given held2.notes)) where
   abbrev turn_is : List TraceEntry
@@ -298,10 +317,10 @@ module _ (s : AllSettings) (start : Start) (planned : Life) (going : Going) (see
   abbrev whole_trace : List TraceEntry
   whole_trace = ready.trace ++ turn_is
 
-  stands_behind : RunRepresents s start (whole planned) (told_of going2.script) (going.taken + 1) seen2 held2 whole_trace taken.left (course_after (course_of start planned) whole_trace).files
+  stands_behind : RunRepresents s start (whole planned) (told_of going2.script) (going.taken + 1) seen2 held2 kept whole_trace taken.left (course_after (course_of start planned) whole_trace).files
   stands_behind =
       let place = course_after (course_of start planned) ready.trace in
-      turn_stands s start (whole planned) ready.history ready.trace (told_of going.script) going.taken seen held (told_of going2.script) seen2 held2 taken.brought taken.entries taken.left
+      turn_stands s start (whole planned) ready.history ready.trace (told_of going.script) going.taken seen held kept (told_of going2.script) seen2 held2 taken.brought taken.entries taken.left
       (record {
         way = ready.stands.way;
         waits = ready.stands.waits;
@@ -312,6 +331,8 @@ module _ (s : AllSettings) (start : Start) (planned : Life) (going : Going) (see
         are = ready.stands.are;
         answered = ready.stands.answered;
         files_stand = ready.stands.files_stand;
+        kept_given = ready.stands.kept_given;
+        kept_calls = ready.stands.kept_calls;
       })
       (uncut_always planned (is_last_next (paused s ready.history) place)) taken.plain taken.ways taken.asked.loop taken.asked.disk taken.asked.files plays
 
@@ -319,7 +340,7 @@ module _ (s : AllSettings) (start : Start) (planned : Life) (going : Going) (see
   turn_asked : (made : List Told) × (seen2.calls ≡ seen.calls ++ made) × (disk.entries_of made ≡ disk_part turn_is)
   turn_asked = split_told seen.calls seen2.calls (disk_part turn_is) taken.asked.disk.1
 
-  turn_answered : HaveAnswered going2.script seen2 → IsAnswered start planned whole_trace (ready.stands.asked ++ turn_asked.0)
+  turn_answered : HaveAnswered going2.script seen2 kept → IsAnswered start planned whole_trace (ready.stands.asked ++ turn_asked.0)
   turn_answered played =
       let asked = ready.stands.asked in
       let made = turn_asked.0 in
@@ -331,6 +352,7 @@ module _ (s : AllSettings) (start : Start) (planned : Life) (going : Going) (see
             ∙ sym (disk_append ready.trace turn_is);
         disk = played_second [] (disk_of start planned) (asked ++ made) (subst (λ (l : List Told). disk.IsPlayed [] l) all played.disk);
         files = stands_behind.answered;
+        keeper = keeper_played start kept whole_trace stands_behind.kept_given stands_behind.kept_calls played.keeper;
       }
 
   turn_cut_in : (most : ℕ) → going.taken < most → is_last_next (paused s ready.history) (course_after (course_of start planned) ready.trace) ≡ true → IsCutIn s most start planned ready.trace ready.history turn_is
@@ -342,22 +364,22 @@ module _ (s : AllSettings) (start : Start) (planned : Life) (going : Going) (see
         subst (λ (p : Action RunResult). Execution (life s (ends_of s) None (waits_in ready.trace)) ready.trace p) (spent s None h)
             (subst (λ (n : ℕ). Execution (life s (ends_of s) None n) ready.trace (run s None 0 h)) count (ready.stands.way 0)),
         last,
-        (taken.last, subst (λ (p : Action RunResult). Execution (run s None 1 h) turn_is p) taken.ends (taken.ways 0)),
+        (taken.now, taken.cut_way),
       )
 
-  pub turn_cut : (most since : ℕ) (image : Seen) (renewed : FilesState) → going.taken < most → going2.taken ≡ going.taken + 1 → HaveAnswered going2.script seen2 → since ≡ length seen.calls → IsCrashed since cut seen2 image
-      → AreRenewed held2 renewed → HandsOver s most start planned cut going2 ready.history ready.trace image renewed
-  turn_cut most since image renewed more counted played since_is crashed again =
+  pub turn_cut : (most since : ℕ) (image : Seen) (renewed : FilesState) (renewed_kept : KeeperState) → going.taken < most → going2.taken ≡ going.taken + 1 → HaveAnswered going2.script seen2 kept → since ≡ length seen.calls → IsCrashed since cut seen2 image
+      → AreRenewed held2 renewed → OffsetsAreRenewed kept renewed_kept → HandsOver s most start planned cut going2 ready.history ready.trace image renewed renewed_kept
+  turn_cut most since image renewed renewed_kept more counted played since_is crashed again kept_again =
       let last = last_cut (is_last_next (paused s ready.history) (course_after (course_of start planned) ready.trace)) cut planned.cut ready.cut_is in
-      made_cut s start planned most since cut going2 ready.history taken.now ready.trace turn_is ready.stands.asked turn_asked.0 seen seen2 image held2 renewed last.1 (turn_cut_in most more last.0) ready.stands.uncut
-      (turn_answered played) ready.stands.are ready.stands.disk_is turn_asked.1 since_is crashed again stands_behind.files_stand.has (stands_behind.waits ∙ sym counted) taken.at
+      made_cut s start planned most since cut going2 ready.history taken.now ready.trace turn_is ready.stands.asked turn_asked.0 seen seen2 image held2 renewed kept renewed_kept last.1 (turn_cut_in most more last.0) ready.stands.uncut
+      (turn_answered played) ready.stands.are ready.stands.disk_is turn_asked.1 since_is crashed again kept_again stands_behind.files_stand.has stands_behind.kept_given stands_behind.kept_calls (stands_behind.waits ∙ sym counted) taken.at
 
 -- ---- what is left to the next run
 
-pub leaves : (shown : Shown) (s : AllSettings) (most : ℕ) (start : Start) (planned : Life) (cut : Cut) (going : Going) (seen : Seen) (held : FilesState) (text : List ℕ) (settings : AllSettings) (taken : ℕ)
-    → EndsBy shown s most start planned going seen held text (life_end.Cut cut) → ((now : History) → IsAt going.engine s now → settings ≡ s) → taken ≡ going.taken
-    → ProducesText shown s most start planned seen held text (follow.Life (record { cut = cut; settings = settings; taken = taken }))
-leaves shown s most start planned cut going seen held text settings taken came given counted =
+pub leaves : (shown : Shown) (s : AllSettings) (most : ℕ) (start : Start) (planned : Life) (cut : Cut) (going : Going) (seen : Seen) (held : FilesState) (kept : KeeperState) (text : List ℕ) (settings : AllSettings) (taken : ℕ)
+    → EndsBy shown s most start planned going seen held kept text (life_end.Cut cut) → ((now : History) → IsAt going.engine s now → settings ≡ s) → taken ≡ going.taken
+    → ProducesText shown s most start planned seen held kept text (follow.Life (record { cut = cut; settings = settings; taken = taken }))
+leaves shown s most start planned cut going seen held kept text settings taken came given counted =
     let was = came.2 in
     let c = was.cuts in (
       c,

@@ -5,6 +5,7 @@ pub mod NameCounts
 pub mod ShownText
 pub mod LinkNumbers
 pub mod Course
+pub mod StillCalls
 pub mod TurnCalls
 pub mod RunStart
 pub mod LiveRun

@@ -15,13 +15,17 @@ use Rattle.fwd_model.specs.RecoveryActions.{recovers}
 use Rattle.fwd_model.specs.Run.{RunResult, DiskFailed, lived, after_recovery, life}
 use Rattle.fwd_model.proofs.Actions.{stays, goes_on, leads_inside, begun_bind, begun_trans}
 use Rattle.fwd_engine_state.specs.LoopCounters.{EventsTaken}
+use Rattle.fwd_theorem_trace.specs.Allowed.{IsLoading}
+use Rattle.fwd_engine.specs.EngineSteps.{IsAt}
 use Rattle.fwd_engine.specs.declared.engine.Engine.{Engine}
+use Rattle.fwd_engine_run.specs.OffsetRows.{Keeps}
+use Rattle.fwd_engine_run.specs.declared.kept_offsets.KeptOffsets.{KeptOffsets}
 use Rattle.fwd_engine_run.specs.RunOutcome.{RanToEnd, IsAtEnd, end_of}
 use Rattle.fwd_engine_run.specs.RunOutcome as runs
 use Rattle.fwd_engine_run.specs.declared.run_loop.RunEnd.{RunEnd}
 use Rattle.fwd_engine_run.specs.declared.run_loop.RunEnd.TheVariants as run_end
 use Rattle.fwd_engine_run.proofs.EventCounts.{events_all}
-use Rattle.fwd_replay.specs.LiveRun.{BeginsRun, RunsToEnd, RunProduces, ActionProduces, heard_in, ending_of}
+use Rattle.fwd_replay.specs.LiveRun.{BeginsRun, IsToRun, RunsToEnd, RunProduces, ActionProduces, heard_in, ending_of}
 use Rattle.fwd_replay.specs.Names.{IsNamed, IsNamedUnlessFailed}
 use Rattle.fwd_replay.specs.Text.{report, reported_by}
 use Rattle.fwd_replay.specs.declared.names.Named.{Named}
@@ -30,9 +34,13 @@ use Rattle.fwd_replay.specs.declared.report.Ending.TheVariants as ending
 
 -- an engine in the state in which its run ended, with settings of these names
 pub named_unless : (named : Named) (engine : Engine) (s : AllSettings) (h : History) (end : RunEnd) → IsNamed named s → IsAtEnd engine s h end → IsNamedUnlessFailed named engine end
+named_unless named engine s h run_end.KeeperFailed is at = tt
 named_unless named engine s h run_end.LoopFailed is at = tt
 named_unless named engine s h run_end.Over is at = record { settings = s; history = h; at = at; is = is }
 named_unless named engine s h run_end.TurnsSpent is at = record { settings = s; history = h; at = at; is = is }
+
+pub to_run : (named : Named) (engine : Engine) (offsets : KeptOffsets) (s : AllSettings) (h : History) → IsNamed named s → IsAt engine s h → IsLoading h → Keeps s offsets [] → IsToRun named engine offsets
+to_run named engine offsets s h is at loading keeps = record { settings = s; history = h; at = at; loading = loading; keeps = keeps; is = is }
 
 module _ (s : AllSettings) (ticks : Option ℕ) (turns : ℕ) where
   pub wanting_memory : {E : Type 0} (a b : CallLogs) (r : Result Reported E) → IsErr r → BeginsRun s ticks turns a b → RunProduces s ticks turns a b r
@@ -80,6 +88,7 @@ whole end = Ok end
 pub heard_live : {E : Type 0} (a b : LoopCounts) (most : ℕ) (end : RunEnd) (text : List ℕ) (r : Result Reported E) → IfOk r (λ x. x ≡ reported_by text (end_of end)) → EventsTaken (runs.heard_in most (whole end)) a b
     → EventsTaken (heard_in most (ending_of r)) a b
 heard_live a b most run_end.Over text (Ok x) is heard = rw is heard
+heard_live a b most run_end.KeeperFailed text (Ok x) is heard = rw is heard
 heard_live a b most run_end.LoopFailed text (Ok x) is heard = rw is heard
 heard_live a b most run_end.TurnsSpent text (Ok x) is heard = rw is heard
 heard_live a b most end text (Err e) is heard = events_all (runs.heard_in most (whole end)) 0 (omega arith) heard
@@ -88,13 +97,24 @@ heard_live a b most end text (Err e) is heard = events_all (runs.heard_in most (
 pub loop_cause_live : {E : Type 0} (before now : ℕ) (end : RunEnd) (text : List ℕ) (r : Result Reported E) → IfOk r (λ x. x ≡ reported_by text (end_of end)) → HasCause before now (whole end ≡ whole run_end.LoopFailed)
     → HasCause before now (ending_of r ≡ ending.LoopFailed)
 loop_cause_live before now run_end.Over text (Ok x) is cause = record { later = cause.later; cause = λ failed. let no : ending.Over ≡ ending.LoopFailed = rw is at failed in absurd (cc no) }
+loop_cause_live before now run_end.KeeperFailed text (Ok x) is cause = record { later = cause.later; cause = λ failed. let no : ending.KeeperFailed ≡ ending.LoopFailed = rw is at failed in absurd (cc no) }
 loop_cause_live before now run_end.LoopFailed text (Ok x) is cause = record { later = cause.later; cause = λ failed. cause.cause refl }
 loop_cause_live before now run_end.TurnsSpent text (Ok x) is cause = record { later = cause.later; cause = λ failed. let no : ending.TurnsSpent ≡ ending.LoopFailed = rw is at failed in absurd (cc no) }
 loop_cause_live before now end text (Err e) is cause = record { later = cause.later; cause = λ failed. absurd (cc failed) }
 
+-- and because the keeper failed only if one of its failures was counted
+pub keeper_cause_live : {E : Type 0} (before now : ℕ) (end : RunEnd) (text : List ℕ) (r : Result Reported E) → IfOk r (λ x. x ≡ reported_by text (end_of end)) → HasCause before now (whole end ≡ whole run_end.KeeperFailed)
+    → HasCause before now (ending_of r ≡ ending.KeeperFailed)
+keeper_cause_live before now run_end.Over text (Ok x) is cause = record { later = cause.later; cause = λ failed. let no : ending.Over ≡ ending.KeeperFailed = rw is at failed in absurd (cc no) }
+keeper_cause_live before now run_end.KeeperFailed text (Ok x) is cause = record { later = cause.later; cause = λ failed. cause.cause refl }
+keeper_cause_live before now run_end.LoopFailed text (Ok x) is cause = record { later = cause.later; cause = λ failed. let no : ending.LoopFailed ≡ ending.KeeperFailed = rw is at failed in absurd (cc no) }
+keeper_cause_live before now run_end.TurnsSpent text (Ok x) is cause = record { later = cause.later; cause = λ failed. let no : ending.TurnsSpent ≡ ending.KeeperFailed = rw is at failed in absurd (cc no) }
+keeper_cause_live before now end text (Err e) is cause = record { later = cause.later; cause = λ failed. absurd (cc failed) }
+
 -- and never because the disk failed
 pub disk_cause_live : {E : Type 0} (before now : ℕ) (end : RunEnd) (text : List ℕ) (r : Result Reported E) → IfOk r (λ x. x ≡ reported_by text (end_of end)) → before ≤ now → HasCause before now (ending_of r ≡ ending.DiskFailed)
 disk_cause_live before now run_end.Over text (Ok x) is later = record { later = later; cause = λ failed. let no : ending.Over ≡ ending.DiskFailed = rw is at failed in absurd (cc no) }
+disk_cause_live before now run_end.KeeperFailed text (Ok x) is later = record { later = later; cause = λ failed. let no : ending.KeeperFailed ≡ ending.DiskFailed = rw is at failed in absurd (cc no) }
 disk_cause_live before now run_end.LoopFailed text (Ok x) is later = record { later = later; cause = λ failed. let no : ending.LoopFailed ≡ ending.DiskFailed = rw is at failed in absurd (cc no) }
 disk_cause_live before now run_end.TurnsSpent text (Ok x) is later = record { later = later; cause = λ failed. let no : ending.TurnsSpent ≡ ending.DiskFailed = rw is at failed in absurd (cc no) }
 disk_cause_live before now end text (Err e) is later = record { later = later; cause = λ failed. absurd (cc failed) }

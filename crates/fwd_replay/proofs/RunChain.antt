@@ -3,6 +3,7 @@ use Rattle.std.proofs.Common.{◌≡◌, ℕ, ◌+◌, ◌-◌, ◌<◌, ◌≤�
 use Rattle.std.proofs.lemmas.List.{append-nil, drop_all, drop_more}
 use Rattle.fwd_settings.specs.declared.settings_types.AllSettings.{AllSettings}
 use Rattle.fwd_disk_mem.specs.DiskState.{Seen}
+use Rattle.fwd_keeper_mem.specs.KeeperState.{KeeperState}
 use Rattle.fwd_script.specs.FilesState.{FilesState}
 use Rattle.fwd_script.specs.declared.schedule.Cut.{Cut}
 use Rattle.fwd_script.specs.declared.schedule.Life.{Life}
@@ -135,16 +136,16 @@ wants_first shown s most [] some = absurd (some refl)
 wants_first shown s most (planned ∷ lives) some = inr (inr refl)
 
 -- the outcome of a run, which is handed to what follows it
-pub follows : (shown : Shown) (s : AllSettings) (start : Start) (planned : Life) (old new : Between) (seen : Seen) (held : FilesState) (text all own : List ℕ) (next : Next) (after : After)
-    → ProducesText shown s old.left start planned seen held own next → all ≡ text ++ after_cut old.cut own → PassesOn next (record old { disk = seen; files = held }) new after → AppendsRun shown s start planned old new text all after
-follows shown s start planned old new seen held text all own (follow.Ends ending) after comes is passed = subst (λ (a : After). AppendsRun shown s start planned old new text all a) (sym passed) (own, comes, is)
-follows shown s start planned old new seen held text all own (follow.Life left) after comes is passed =
+pub follows : (shown : Shown) (s : AllSettings) (start : Start) (planned : Life) (old new : Between) (seen : Seen) (held : FilesState) (kept : KeeperState) (text all own : List ℕ) (next : Next) (after : After)
+    → ProducesText shown s old.left start planned seen held kept own next → all ≡ text ++ after_cut old.cut own → PassesOn next (record old { disk = seen; files = held; keeper = kept }) new after → AppendsRun shown s start planned old new text all after
+follows shown s start planned old new seen held kept text all own (follow.Ends ending) after comes is passed = subst (λ (a : After). AppendsRun shown s start planned old new text all a) (sym passed) (own, comes, is)
+follows shown s start planned old new seen held kept text all own (follow.Life left) after comes is passed =
     subst (λ (a : After). AppendsRun shown s start planned old new text all a) (sym passed.0) (
       comes.0,
       comes.1,
       is ∙ ap (λ (l : List ℕ). text ++ after_cut old.cut l) comes.2,
       comes.4,
-      subst (λ (b : Between). DevicesAreReady comes.0.next b.disk b.files) (sym passed.1) comes.5,
+      subst (λ (b : Between). DevicesAreReady comes.0.next b.disk b.files b.keeper) (sym passed.1) comes.5,
       ap (λ (b : Between). b.cut) passed.1 ∙ ap (λ (k : Cut). Some k) comes.3,
       ap (λ (b : Between). b.left) passed.1 ∙ ap (λ (n : ℕ). old.left - n) comes.6,
     )

@@ -4,8 +4,9 @@ use Rattle.std.proofs.lemmas.List.{append-nil}
 use Rattle.fwd_outside.specs.Program.{entry, Return, Execution}
 use Rattle.fwd_outside.specs.Log.{LogGrew}
 use Rattle.fwd_outside.proofs.Executions.{way_bind, way_trans}
-use Rattle.fwd_outside.specs.Files.{FilesEntry, FilesGiven, found}
-use Rattle.fwd_outside.specs.Loop.{LoopEntry, LoopGiven, Start as Starting, Wait}
+use Rattle.fwd_outside.specs.Disk.{DiskEntry}
+use Rattle.fwd_outside.specs.Files.{FilesGiven, found}
+use Rattle.fwd_outside.specs.Loop.{LoopEntry, LoopGiven, Start as Starting}
 use Rattle.fwd_outside.specs.declared.ends.Ends.{Ends}
 use Rattle.fwd_disk_mem.specs.declared.told.Told.{Told}
 use Rattle.fwd_disk_mem.specs.declared.told.Told.TheVariants as call_log
@@ -27,19 +28,28 @@ use Rattle.fwd_script_loop.specs.Place as place
 use Rattle.fwd_script_loop.specs.ScriptState.{ScriptState}
 use Rattle.fwd_script_loop.specs.Told.{entries_of}
 use Rattle.fwd_model.specs.Fact.{History}
-use Rattle.fwd_model.specs.Trace.{Call, Answer, TraceEntry, OnLoop, OnDisk, OnFiles, OnKeeper, Note, loop_entry, files_entry, loop_part, disk_part, files_part}
+use Rattle.fwd_model.specs.Trace.{Action, TraceEntry, OnLoop, loop_part, disk_part, files_part, keeper_part}
 use Rattle.fwd_model.specs.CallLogs.{CallLogs, Completes}
 use Rattle.fwd_model.specs.RecoveryActions.{recovers}
-use Rattle.fwd_model.specs.Run.{DiskFailed, LoopFailed, lived, run, after_start, after_recovery, life}
+use Rattle.fwd_model.specs.KeptOffsets.{tracked, gets}
+use Rattle.fwd_model.specs.Run.{RunResult, Over, DiskFailed, KeeperFailed, LoopFailed, lived, run, after_start, after_recovery, starts, life}
 use Rattle.fwd_model.proofs.CallLogs.{loop_append, disk_append}
 use Rattle.fwd_engine_state.specs.RefinesAction.{with_disk}
-use Rattle.fwd_engine.specs.EngineSteps.{BeginsAt, IsAt}
+use Rattle.fwd_engine.specs.EngineSteps.{IsAt}
 use Rattle.fwd_engine.specs.declared.engine.Engine.{Engine}
-use Rattle.fwd_theorem_trace.specs.Waits.{is_wait, waits_in}
-use Rattle.fwd_replay.specs.FileChanges.{Course, after_call, course_after, IsCourseAnswer, FilesAnswered, brings_last, has_last}
-use Rattle.fwd_replay.specs.Runs.{Start, disk_of, course_of, has_cut}
+use Rattle.fwd_engine_run.specs.OffsetRows.{Keeps}
+use Rattle.fwd_engine_run.specs.declared.kept_offsets.KeptOffsets.{KeptOffsets}
+use Rattle.fwd_engine_run.proofs.OffsetActions.{Leave, aside_disk, aside_loop, has_failed, left_of}
+use Rattle.fwd_keeper.specs.Keeper.{KeeperEntry, KeeperGiven}
+use Rattle.fwd_keeper_mem.specs.KeeperAnswers as keeper
+use Rattle.fwd_keeper_mem.specs.KeeperState.{KeeperState}
+use Rattle.fwd_keeper_mem.specs.MemKeeper as kept_log
+use Rattle.fwd_keeper_mem.specs.declared.mem_keeper.KeeperNote.{KeeperNote}
+use Rattle.fwd_replay.specs.FileChanges.{Course, course_after}
+use Rattle.fwd_replay.specs.Runs.{Start, disk_of, course_of}
 use Rattle.fwd_replay.proofs.CallLog.{told_grown, told_is}
-use Rattle.fwd_replay.specs.RunState.{FilesRepresent, DevicesAreReady, IsSetUp, IsInProgress, EndedAs, EngineStarts, LoopStarts, Starts}
+use Rattle.fwd_replay.specs.RunState.{FilesRepresent, DevicesAreReady, IsRecovered, IsSetUp, IsInProgress, EndedAs, EngineStarts, LoopStarts, Starts}
+use Rattle.fwd_replay.proofs.StillCalls.{AreStill, answers_of, aside_still, keeper_append, no_cut, no_waits, stays_behind, still_both, still_of}
 use Rattle.fwd_replay.specs.declared.progress.Going.{Going}
 use Rattle.fwd_replay.specs.declared.start.StartErr.{StartErr}
 use Rattle.fwd_replay.specs.declared.start.StartErr.TheVariants as why
@@ -69,9 +79,9 @@ fails_so given [] = refl
 fails_so given (number ∷ numbers) = ap (λ (l : List ℕ). number ∷ l) (fails_so given numbers)
 
 -- files without calls, after the setup of the calls that are to fail
-pub files_begin : (start : Start) (planned : Life) (seen : Seen) (old new : FilesState) → DevicesAreReady start seen old → new ≡ record old { notes = old.notes ++ fails_told planned.file_fails }
+pub files_begin : (start : Start) (planned : Life) (seen : Seen) (old new : FilesState) (kept : KeeperState) → DevicesAreReady start seen old kept → new ≡ record old { notes = old.notes ++ fails_told planned.file_fails }
     → FilesRepresent new (course_of start planned).files
-files_begin start planned seen old new finds is =
+files_begin start planned seen old new kept finds is =
     let notes : new.notes ≡ fails_told planned.file_fails = ap (λ (held : FilesState). held.notes) is ∙ ap (λ (l : List FilesNote). l ++ fails_told planned.file_fails) finds.unasked in
     let given : new.given ≡ old.given = ap (λ (held : FilesState). held.given) is in
     let now : files_now new.given new.notes ≡ files_now old.given old.notes =
@@ -90,94 +100,6 @@ pub if_ok : {T E : Type 0} {P Q : T → Type 0} (r : Result T E) → ((x : T) �
 if_ok (Ok x) f p = f x p
 if_ok (Err e) f p = tt
 
--- ---- calls that don't advance a run
-
--- neither a wait nor on the files
-abbrev IsStill : Call → Type 0
-IsStill (OnLoop (Wait until paused)) = ⊥
-IsStill (OnLoop call) = Unit {0}
-IsStill (OnDisk call) = Unit {0}
-IsStill (OnFiles call) = ⊥
-IsStill (OnKeeper call) = Unit {0}
-IsStill (Note fact) = Unit {0}
-
-abbrev AreStill : List TraceEntry → Type 0
-AreStill [] = Unit {0}
-AreStill (e ∷ es) = IsStill e.call × AreStill es
-
-still_call : (call : Call) (answer : Answer call) (loop : List LoopEntry) (asked : List FilesEntry) → loop_entry call answer ++ loop ≡ [] → files_entry call answer ++ asked ≡ []
-    → IsStill call × (loop ≡ []) × (asked ≡ [])
-still_call (OnLoop call) answer loop asked none no_file = absurd (cc none)
-still_call (OnDisk call) answer loop asked none no_file = (tt, none, no_file)
-still_call (OnFiles call) answer loop asked none no_file = absurd (cc no_file)
-still_call (OnKeeper call) answer loop asked none no_file = (tt, none, no_file)
-still_call (Note fact) answer loop asked none no_file = (tt, none, no_file)
-
--- calls of which none is on the loop or the files
-still_of : (es : List TraceEntry) → loop_part es ≡ [] → files_part es ≡ [] → AreStill es
-still_of [] none no_file = tt
-still_of (e ∷ es) none no_file =
-    let first = still_call e.call e.answer (loop_part es) (files_part es) none no_file in
-    (first.0, still_of es first.1 first.2)
-
-still_both : (es more : List TraceEntry) → AreStill es → AreStill more → AreStill (es ++ more)
-still_both [] more first second = second
-still_both (e ∷ es) more first second = (first.0, still_both es more first.1 second)
-
-no_wait : (call : Call) → IsStill call → is_wait call ≡ false
-no_wait (OnLoop (Wait until paused)) still = absurd still
-no_wait (OnLoop call) still = refl
-no_wait (OnDisk call) still = refl
-no_wait (OnFiles call) still = refl
-no_wait (OnKeeper call) still = refl
-no_wait (Note fact) still = refl
-
-no_waits : (es : List TraceEntry) → AreStill es → waits_in es ≡ 0
-no_waits [] still = refl
-no_waits (e ∷ es) still = rw (no_wait e.call still.0) (no_waits es still.1)
-
-stays_behind_call : (course : Course) (call : Call) → IsStill call → after_call call course ≡ course
-stays_behind_call course (OnLoop (Wait until paused)) still = absurd still
-stays_behind_call course (OnLoop call) still = refl
-stays_behind_call course (OnDisk call) still = refl
-stays_behind_call course (OnFiles call) still = absurd still
-stays_behind_call course (OnKeeper call) still = refl
-stays_behind_call course (Note fact) still = refl
-
-stays_behind : (course : Course) (es : List TraceEntry) → AreStill es → course_after course es ≡ course
-stays_behind course [] still = refl
-stays_behind course (e ∷ es) still = ap (λ (c : Course). course_after c es) (stays_behind_call course e.call still.0) ∙ stays_behind course es still.1
-
-answer_of : (course : Course) (call : Call) (answer : Answer call) → IsStill call → IsCourseAnswer course call answer
-answer_of course (OnLoop call) answer still = tt
-answer_of course (OnDisk call) answer still = tt
-answer_of course (OnFiles call) answer still = absurd still
-answer_of course (OnKeeper call) answer still = tt
-answer_of course (Note fact) answer still = tt
-
-answers_of : (course : Course) (es : List TraceEntry) → AreStill es → FilesAnswered course es
-answers_of course [] still = tt
-answers_of course (e ∷ es) still = (answer_of course e.call e.answer still.0, answers_of (after_call e.call course) es still.1)
-
-not_last : (course : Course) (call : Call) → IsStill call → brings_last call course ≡ false
-not_last course (OnLoop (Wait until paused)) still = absurd still
-not_last course (OnLoop call) still = refl
-not_last course (OnDisk call) still = refl
-not_last course (OnFiles call) still = refl
-not_last course (OnKeeper call) still = refl
-not_last course (Note fact) still = refl
-
-none_last : (course : Course) (es : List TraceEntry) → AreStill es → has_last course es ≡ false
-none_last course [] still = refl
-none_last course (e ∷ es) still = rw (not_last course e.call still.0) (none_last (after_call e.call course) es still.1)
-
-and_false : (b : Bool) → (b && false) ≡ false
-and_false true = refl
-and_false false = refl
-
-no_cut : (start : Start) (planned : Life) (es : List TraceEntry) → AreStill es → has_cut start planned es ≡ false
-no_cut start planned es still = ap (λ (b : Bool). is_some planned.cut && b) (none_last (course_of start planned) es still) ∙ and_false (is_some planned.cut)
-
 -- ---- the calls of a start
 
 -- a world without calls, except on its disk
@@ -187,12 +109,13 @@ quiet planned = record { loop = Some (given_of planned, []); disk = None; files 
 abbrev pub seen_in : Life → List Told → CallLogs
 seen_in planned calls = with_disk (disk.told_of calls) (quiet planned)
 
--- the loaded history, and the calls on the disk that loaded it
+-- the calls on the disk that loaded it
 pub record Loaded (s : AllSettings) (start : Start) (planned : Life) (calls : List Told) (result : Option History) : Type 0 where
   trace : List TraceEntry
   way : Execution (recovers s) trace (Return result)
-  unasked : loop_part trace ≡ []
-  still : AreStill trace
+  no_loop : loop_part trace ≡ []
+  no_files : files_part trace ≡ []
+  no_keeper : keeper_part trace ≡ []
   asked : List Told
   disk_is : calls ≡ disk_of start planned ++ asked
   are : disk.entries_of asked ≡ disk_part trace
@@ -204,25 +127,37 @@ loaded_so s start planned old new result call_log did =
     record {
       trace = did.entries;
       way = did.way;
-      unasked = sym did.asked.loop.1;
-      still = still_of did.entries (sym did.asked.loop.1) (sym did.asked.files.1);
+      no_loop = sym did.asked.loop.1;
+      no_files = sym did.asked.files.1;
+      no_keeper = sym did.asked.keeper.1;
       asked = made.0;
       disk_is = made.1 ∙ ap (λ (calls : List Told). calls ++ made.0) call_log;
       are = made.2;
     }
 
+-- the engine has begun
+pub recovered_so : (s : AllSettings) (start : Start) (planned : Life) (old new : Seen) (h : History) → old.calls ≡ disk_of start planned → Completes (seen_in planned old.calls) (seen_in planned new.calls) (recovers s) (Some h)
+    → disk.IsPlayed [] new.calls → IsRecovered s start planned new h
+recovered_so s start planned old new h call_log did played =
+    let loaded = loaded_so s start planned old.calls new.calls (Some h) call_log did in
+    record {
+      trace = loaded.trace;
+      way = loaded.way;
+      no_loop = loaded.no_loop;
+      no_files = loaded.no_files;
+      no_keeper = loaded.no_keeper;
+      asked = loaded.asked;
+      disk_is = loaded.disk_is;
+      are = loaded.are;
+      played = played;
+    }
+
 all_left : (more : ℕ) → more ≡ 0 + more
 all_left more = omega arith
 
-module _ (s : AllSettings) (turns : ℕ) where
-  loads_on : (result : Option History) (trace : List TraceEntry) → Execution (recovers s) trace (Return result) → Execution (life s (ends_of s) None turns) trace (after_recovery s (ends_of s) None turns result)
-  unfolding life
-  loads_on result trace way = way_bind (recovers s) (Return result) trace (after_recovery s (ends_of s) None turns) way
-
-  starts_on : (h : History) (trace : List TraceEntry) (answer : Option (Unit {0})) → Execution (recovers s) trace (Return (Some h))
-      → Execution (life s (ends_of s) None turns) (trace ++ entry (OnLoop (Starting (ends_of s))) answer ∷ []) (after_start s None turns h answer)
-  starts_on h trace answer way =
-      way_trans (life s (ends_of s) None turns) (after_recovery s (ends_of s) None turns (Some h)) (after_start s None turns h answer) trace (entry (OnLoop (Starting (ends_of s))) answer ∷ []) (loads_on (Some h) trace way) (answer, refl, refl)
+loads_on : (s : AllSettings) (turns : ℕ) (result : Option History) (trace : List TraceEntry) → Execution (recovers s) trace (Return result) → Execution (life s (ends_of s) None turns) trace (after_recovery s (ends_of s) None turns result)
+unfolding life
+loads_on s turns result trace way = way_bind (recovers s) (Return result) trace (after_recovery s (ends_of s) None turns) way
 
 -- the call log of a loop in memory that was started
 pub told_start : (planned : Life) (old new : ScriptState) (ends : Ends) (answer : Option (Unit {0})) → old ≡ new_script planned → LogGrew (told_of old) (told_of new) (entry (Starting ends) answer ∷ [])
@@ -238,98 +173,164 @@ failed_start planned old new ends is grew played =
     let call_log = told_is new (given_of planned) (entry (Starting ends) None ∷ []) (told_start planned old new ends None is grew) in
     subst (λ (es : List LoopEntry). place.IsPlayed (given_of planned) es) call_log.1 (subst (λ (g : LoopGiven). place.IsPlayed g (entries_of new.notes)) call_log.0 played)
 
-module _ (s : AllSettings) (start : Start) (planned : Life) (calls : List Told) where
-  -- a call on the disk failed
-  disk_failed : Loaded s start planned calls None → disk.IsPlayed [] calls → EndedAs s start planned (lived [] DiskFailed)
-  disk_failed loaded played = record {
-    trace = loaded.trace;
-    is = λ turns. record {
-      way = loads_on s turns None loaded.trace loaded.way;
-      asked = loaded.asked;
-      answered = record {
-        loop = subst (λ (es : List LoopEntry). place.IsPlayed (given_of planned) es) (sym loaded.unasked) tt;
-        disk = played_behind (disk_of start planned) loaded.asked (subst (λ (call_log : List Told). disk.IsPlayed [] call_log) loaded.disk_is played);
-        are = loaded.are;
-        files = answers_of (course_of start planned) loaded.trace loaded.still;
+-- a call on the disk failed while it was loaded
+pub load_fails : (s : AllSettings) (start : Start) (planned : Life) (old new : Seen) (held : FilesState) (kept : KeeperState) → IsSetUp start planned old held kept
+    → Completes (seen_in planned old.calls) (seen_in planned new.calls) (recovers s) None → disk.IsPlayed [] new.calls → EndedAs s start planned (lived [] DiskFailed)
+load_fails s start planned old new held kept ready did played =
+    let loaded = loaded_so s start planned old.calls new.calls None ready.disk did in
+    let still = still_of loaded.trace loaded.no_loop loaded.no_files in
+    record {
+      trace = loaded.trace;
+      is = λ turns. record {
+        way = loads_on s turns None loaded.trace loaded.way;
+        asked = loaded.asked;
+        answered = record {
+          loop = subst (λ (es : List LoopEntry). place.IsPlayed (given_of planned) es) (sym loaded.no_loop) tt;
+          disk = played_behind (disk_of start planned) loaded.asked (subst (λ (call_log : List Told). disk.IsPlayed [] call_log) loaded.disk_is played);
+          are = loaded.are;
+          files = answers_of (course_of start planned) loaded.trace still;
+          keeper = subst (λ (es : List KeeperEntry). keeper.IsPlayed start.offsets [] es) (sym loaded.no_keeper) tt;
+        };
+        uncut = no_cut start planned loaded.trace still;
       };
-      uncut = no_cut start planned loaded.trace loaded.still;
-    };
-  }
+    }
 
-  module _ (h : History) (loaded : Loaded s start planned calls (Some h)) (answer : Option (Unit {0})) where
+-- ---- the gets of a start
+
+module _ (s : AllSettings) (start : Start) (planned : Life) (seen : Seen) (h : History) (recovered : IsRecovered s start planned seen h) (kept kept2 : KeeperState) (given : kept.given ≡ start.offsets) (unasked : kept.notes ≡ [])
+    (played : keeper.IsPlayed kept2.given [] (kept_log.entries_of kept2.notes)) (r : RunResult) (es : List TraceEntry) (leave : Leave (λ (next : History → Action RunResult). gets s (tracked s) has_failed next h) es r)
+    (grew : LogGrew (kept_log.log_of kept) (kept_log.log_of kept2) (keeper_part es)) where
+  got_way : (turns : ℕ) → Execution (life s (ends_of s) None turns) (recovered.trace ++ es) (left_of (starts s (ends_of s) None turns) r)
+  got_way turns =
+      way_trans (life s (ends_of s) None turns) (after_recovery s (ends_of s) None turns (Some h)) (left_of (starts s (ends_of s) None turns) r) recovered.trace es (loads_on s turns (Some h) recovered.trace recovered.way)
+      (leave.ways (starts s (ends_of s) None turns))
+
+  got_still : AreStill (recovered.trace ++ es)
+  got_still = still_both recovered.trace es (still_of recovered.trace recovered.no_loop recovered.no_files) (aside_still es leave.aside)
+
+  got_loop : loop_part (recovered.trace ++ es) ≡ []
+  got_loop = loop_append recovered.trace es ∙ ap (λ (l : List LoopEntry). l ++ loop_part es) recovered.no_loop ∙ aside_loop es leave.aside
+
+  got_disk : disk.entries_of recovered.asked ≡ disk_part (recovered.trace ++ es)
+  got_disk =
+      recovered.are ∙ sym (append-nil (disk_part recovered.trace)) ∙ ap (λ (l : List DiskEntry). disk_part recovered.trace ++ l) (sym (aside_disk es leave.aside)) ∙ sym (disk_append recovered.trace es)
+
+  got_keeper : kept_log.entries_of kept2.notes ≡ keeper_part (recovered.trace ++ es)
+  got_keeper =
+      grew.1
+      ∙ ap (λ (l : List KeeperNote). kept_log.entries_of l ++ keeper_part es) unasked
+      ∙ ap (λ (l : List KeeperEntry). l ++ keeper_part es) (sym recovered.no_keeper)
+      ∙ sym (keeper_append recovered.trace es)
+
+  got_given : kept2.given ≡ start.offsets
+  got_given = grew.0 ∙ given
+
+  keeper_played : (trace : List TraceEntry) → kept_log.entries_of kept2.notes ≡ keeper_part trace → keeper.IsPlayed start.offsets [] (keeper_part trace)
+  keeper_played trace is = subst (λ (g : KeeperGiven). keeper.IsPlayed g [] (keeper_part trace)) got_given (subst (λ (l : List KeeperEntry). keeper.IsPlayed kept2.given [] l) is played)
+
+  disk_played : disk.IsPlayed (disk_of start planned) recovered.asked
+  disk_played = played_behind (disk_of start planned) recovered.asked (subst (λ (call_log : List Told). disk.IsPlayed [] call_log) recovered.disk_is recovered.played)
+
+  -- a get failed
+  pub get_fails : (now : History) → r ≡ lived now KeeperFailed → EndedAs s start planned (lived now KeeperFailed)
+  get_fails now is =
+      record {
+        trace = recovered.trace ++ es;
+        is = λ turns. record {
+          way = subst (λ (x : RunResult). Execution (life s (ends_of s) None turns) (recovered.trace ++ es) (left_of (starts s (ends_of s) None turns) x)) is (got_way turns);
+          asked = recovered.asked;
+          answered = record {
+            loop = subst (λ (l : List LoopEntry). place.IsPlayed (given_of planned) l) (sym got_loop) tt;
+            disk = disk_played;
+            are = got_disk;
+            files = answers_of (course_of start planned) (recovered.trace ++ es) got_still;
+            keeper = keeper_played (recovered.trace ++ es) got_keeper;
+          };
+          uncut = no_cut start planned (recovered.trace ++ es) got_still;
+        };
+      }
+
+  module _ (now : History) (done : r ≡ lived now Over) (answer : Option (Unit {0})) where
+    abbrev start_entry : List TraceEntry
+    start_entry = entry (OnLoop (Starting (ends_of s))) answer ∷ []
+
     abbrev whole : List TraceEntry
-    whole = loaded.trace ++ entry (OnLoop (Starting (ends_of s))) answer ∷ []
+    whole = (recovered.trace ++ es) ++ start_entry
+
+    whole_way : (turns : ℕ) → Execution (life s (ends_of s) None turns) whole (after_start s None turns now answer)
+    whole_way turns =
+        way_trans (life s (ends_of s) None turns) (starts s (ends_of s) None turns now) (after_start s None turns now answer) (recovered.trace ++ es) start_entry
+        (subst (λ (x : RunResult). Execution (life s (ends_of s) None turns) (recovered.trace ++ es) (left_of (starts s (ends_of s) None turns) x)) done (got_way turns)) (answer, refl, refl)
 
     whole_still : AreStill whole
-    whole_still = still_both loaded.trace (entry (OnLoop (Starting (ends_of s))) answer ∷ []) loaded.still (tt, tt)
+    whole_still = still_both (recovered.trace ++ es) start_entry got_still (tt, tt)
 
     whole_loop : loop_part whole ≡ entry (Starting (ends_of s)) answer ∷ []
-    whole_loop =
-        loop_append loaded.trace (entry (OnLoop (Starting (ends_of s))) answer ∷ []) ∙ ap (λ (es : List LoopEntry). es ++ entry (Starting (ends_of s)) answer ∷ []) loaded.unasked
+    whole_loop = loop_append (recovered.trace ++ es) start_entry ∙ ap (λ (l : List LoopEntry). l ++ entry (Starting (ends_of s)) answer ∷ []) got_loop
 
-    whole_disk : disk.entries_of loaded.asked ≡ disk_part whole
-    whole_disk = loaded.are ∙ sym (append-nil (disk_part loaded.trace)) ∙ sym (disk_append loaded.trace (entry (OnLoop (Starting (ends_of s))) answer ∷ []))
+    whole_disk : disk.entries_of recovered.asked ≡ disk_part whole
+    whole_disk = got_disk ∙ sym (append-nil (disk_part (recovered.trace ++ es))) ∙ sym (disk_append (recovered.trace ++ es) start_entry)
+
+    whole_keeper : kept_log.entries_of kept2.notes ≡ keeper_part whole
+    whole_keeper = got_keeper ∙ sym (append-nil (keeper_part (recovered.trace ++ es))) ∙ sym (keeper_append (recovered.trace ++ es) start_entry)
 
   -- the loop couldn't start
-  loop_failed : (h : History) → Loaded s start planned calls (Some h) → disk.IsPlayed [] calls → place.IsPlayed (given_of planned) (entry (Starting (ends_of s)) None ∷ []) → EndedAs s start planned (lived h LoopFailed)
-  loop_failed h loaded played given =
+  loop_failed : (now : History) → r ≡ lived now Over → place.IsPlayed (given_of planned) (entry (Starting (ends_of s)) None ∷ []) → EndedAs s start planned (lived now LoopFailed)
+  loop_failed now done plays =
       record {
-        trace = whole h loaded None;
+        trace = whole now done None;
         is = λ turns. record {
-          way = starts_on s turns h loaded.trace None loaded.way;
-          asked = loaded.asked;
+          way = whole_way now done None turns;
+          asked = recovered.asked;
           answered = record {
-            loop = subst (λ (es : List LoopEntry). place.IsPlayed (given_of planned) es) (sym (whole_loop h loaded None)) given;
-            disk = played_behind (disk_of start planned) loaded.asked (subst (λ (all : List Told). disk.IsPlayed [] all) loaded.disk_is played);
-            are = whole_disk h loaded None;
-            files = answers_of (course_of start planned) (whole h loaded None) (whole_still h loaded None);
+            loop = subst (λ (l : List LoopEntry). place.IsPlayed (given_of planned) l) (sym (whole_loop now done None)) plays;
+            disk = disk_played;
+            are = whole_disk now done None;
+            files = answers_of (course_of start planned) (whole now done None) (whole_still now done None);
+            keeper = keeper_played (whole now done None) (whole_keeper now done None);
           };
-          uncut = no_cut start planned (whole h loaded None) (whole_still h loaded None);
+          uncut = no_cut start planned (whole now done None) (whole_still now done None);
         };
       }
 
   -- it has started
-  under_way : (h : History) → Loaded s start planned calls (Some h) → (seen : Seen) (held : FilesState) (going : Going) → seen.calls ≡ calls
-      → FilesRepresent held (course_of start planned).files → IsAt going.engine s h → LoopStarts planned (ends_of s) (Ok going.script) → going.changed ≡ 0 → going.taken ≡ 0 → IsInProgress s start planned going seen held
-  under_way h loaded seen held going seen_is stand at call_log unchanged untaken =
-      let new = going.script in
-      let trace = whole h loaded (Some tt) in
-      let stays : course_after (course_of start planned) trace ≡ course_of start planned = stays_behind (course_of start planned) trace (whole_still h loaded (Some tt)) in
+  under_way : (now : History) → r ≡ lived now Over → (held : FilesState) (going : Going) → FilesRepresent held (course_of start planned).files → IsAt going.engine s now → Keeps s going.offsets now
+      → LoopStarts planned (ends_of s) (Ok going.script) → going.changed ≡ 0 → going.taken ≡ 0 → IsInProgress s start planned going seen held kept2
+  under_way now done held going stand at keeps call_log unchanged untaken =
+      let trace = whole now done (Some tt) in
+      let still = whole_still now done (Some tt) in
+      let stays : course_after (course_of start planned) trace ≡ course_of start planned = stays_behind (course_of start planned) trace still in
       record {
-        history = h;
+        history = now;
         at = at;
         trace = trace;
         stands = record {
-          way = λ more. rw untaken (subst (λ (n : ℕ). Execution (life s (ends_of s) None n) trace (run s None more h)) (all_left more) (starts_on s more h loaded.trace (Some tt) loaded.way));
-          waits = no_waits trace (whole_still h loaded (Some tt)) ∙ sym untaken;
-          uncut = no_cut start planned trace (whole_still h loaded (Some tt));
-          loop =
-              call_log ∙ ap (λ (es : List LoopEntry). Some (given_of planned, es)) (sym (whole_loop h loaded (Some tt)));
-          asked = loaded.asked;
-          disk_is = seen_is ∙ loaded.disk_is;
-          are = whole_disk h loaded (Some tt);
-          answered = answers_of (course_of start planned) trace (whole_still h loaded (Some tt));
+          way = λ more. rw untaken (subst (λ (n : ℕ). Execution (life s (ends_of s) None n) trace (run s None more now)) (all_left more) (whole_way now done (Some tt) more));
+          waits = no_waits trace still ∙ sym untaken;
+          uncut = no_cut start planned trace still;
+          loop = call_log ∙ ap (λ (l : List LoopEntry). Some (given_of planned, l)) (sym (whole_loop now done (Some tt)));
+          asked = recovered.asked;
+          disk_is = recovered.disk_is;
+          are = whole_disk now done (Some tt);
+          answered = answers_of (course_of start planned) trace still;
           files_stand = subst (λ (c : Course). FilesRepresent held c.files) (sym stays) stand;
+          kept_given = got_given;
+          kept_calls = whole_keeper now done (Some tt);
         };
         changed = unchanged ∙ sym (ap (λ (c : Course). c.changed) stays);
+        keeps = keeps;
       }
 
--- a call on the disk failed while it was loaded
-pub load_fails : (s : AllSettings) (start : Start) (planned : Life) (old new : Seen) (held : FilesState) → IsSetUp start planned old held → Completes (seen_in planned old.calls) (seen_in planned new.calls) (recovers s) None
-    → disk.IsPlayed [] new.calls → EndedAs s start planned (lived [] DiskFailed)
-load_fails s start planned old new held call_log did played = disk_failed s start planned new.calls (loaded_so s start planned old.calls new.calls None call_log.disk did) played
-
--- the engine has begun, and the loop has started or not
-pub loop_starts : (s : AllSettings) (start : Start) (planned : Life) (old new : Seen) (held : FilesState) (ends : Ends) (engine : Engine) → IsSetUp start planned old held → ends ≡ ends_of s
-    → BeginsAt (seen_in planned old.calls) (seen_in planned new.calls) s engine → disk.IsPlayed [] new.calls → (result : Result Going StartErr) → EngineStarts planned ends engine result → Starts s start planned new held result
-loop_starts s start planned old new held ends engine call_log are after_recovery played (Ok going) starts =
-    let h = after_recovery.history in
-    let at : IsAt going.engine s h = subst (λ (e : Engine). IsAt e s h) (sym starts.0) after_recovery.at in
-    let so : LoopStarts planned (ends_of s) (Ok going.script) = subst (λ (x : Ends). LoopStarts planned x (Ok going.script)) are starts.1 in
-    (under_way s start planned new.calls h (loaded_so s start planned old.calls new.calls (Some h) call_log.disk after_recovery.did) new held going refl call_log.files at so starts.2 starts.3, starts.3)
-loop_starts s start planned old new held ends engine call_log are after_recovery played (Err why.DiskFailed) starts = absurd starts
-loop_starts s start planned old new held ends engine call_log are after_recovery played (Err why.LoopFailed) starts =
-    let h = after_recovery.history in
-    let so : LoopStarts planned (ends_of s) (Err why.LoopFailed) = subst (λ (x : Ends). LoopStarts planned x (Err why.LoopFailed)) are starts in
-    (h, loop_failed s start planned new.calls h (loaded_so s start planned old.calls new.calls (Some h) call_log.disk after_recovery.did) played so)
-loop_starts s start planned old new held ends engine call_log are after_recovery played (Err why.Memory) starts = tt
+  -- the offsets are got, and the loop has started or not
+  pub loop_starts : (now : History) → r ≡ lived now Over → (held : FilesState) (ends : Ends) (engine : Engine) (offsets : KeptOffsets) → FilesRepresent held (course_of start planned).files → ends ≡ ends_of s → IsAt engine s now → Keeps s offsets now
+      → (result : Result Going StartErr) → EngineStarts planned ends engine offsets result → Starts s start planned seen held kept2 result
+  loop_starts now done held ends engine offsets stand are at keeps (Ok going) begun =
+      let here : IsAt going.engine s now = subst (λ (e : Engine). IsAt e s now) (sym begun.0) at in
+      let rows : Keeps s going.offsets now = subst (λ (o : KeptOffsets). Keeps s o now) (sym begun.1) keeps in
+      let so : LoopStarts planned (ends_of s) (Ok going.script) = subst (λ (x : Ends). LoopStarts planned x (Ok going.script)) are begun.2 in
+      (under_way now done held going stand here rows so begun.3 begun.4, begun.4)
+  loop_starts now done held ends engine offsets stand are at keeps (Err why.DiskFailed) begun = absurd begun
+  loop_starts now done held ends engine offsets stand are at keeps (Err why.KeeperFailed) begun = absurd begun
+  loop_starts now done held ends engine offsets stand are at keeps (Err why.LoopFailed) begun =
+      (now, loop_failed now done (subst (λ (x : Ends). LoopStarts planned x (Err why.LoopFailed)) are begun))
+  loop_starts now done held ends engine offsets stand are at keeps (Err why.Memory) begun = tt

@@ -1,6 +1,6 @@
 -- The turns of a run.
-use Rattle.std.proofs.Common.{◌≡◌, ℕ, suc, ◌+◌, Bool, true, false, if◌then◌else◌, List, [], ◌∷◌, ◌++◌, find, max, Option, Some, None, Result, Ok, Err, refl, sym, ◌∙◌, ap, subst, append_assoc, arith}
-use Rattle.std.proofs.lemmas.List.{map-append}
+use Rattle.std.proofs.Common.{◌≡◌, ℕ, suc, ◌+◌, Bool, true, false, if◌then◌else◌, ◌&&◌, List, [], ◌∷◌, ◌++◌, find, max, Option, Some, None, is_some, Result, Ok, Err, OnOk, refl, sym, ◌∙◌, ap, subst, append_assoc, arith}
+use Rattle.std.proofs.lemmas.List.{append-nil, map-append}
 use Rattle.fwd_outside.specs.Program.{entry, Return, bind, Execution}
 use Rattle.fwd_outside.specs.Log.{LogGrew}
 use Rattle.fwd_outside.proofs.Executions.{way_trans, way_bind}
@@ -31,13 +31,14 @@ use Rattle.fwd_script_loop.specs.ScriptState.{ScriptState}
 use Rattle.fwd_script_loop.specs.Told.{entries_of}
 use Rattle.fwd_script_loop.proofs.EventPlaces.{coming_is}
 use Rattle.fwd_model.specs.Fact.{History}
-use Rattle.fwd_model.specs.Trace.{Action, TraceEntry, OnLoop, loop_part, disk_part, files_part}
+use Rattle.fwd_model.specs.Trace.{Call, Answer, Action, TraceEntry, OnLoop, OnDisk, OnFiles, OnKeeper, Note, loop_part, disk_part, files_part, keeper_part}
+use Rattle.fwd_model.specs.KeptOffsets.{tracked, kept_at, puts}
 use Rattle.fwd_model.specs.CallLogs.{CallLogs, LogsGrew, Completes}
 use Rattle.fwd_model.specs.Settings.{saturating_plus}
 use Rattle.fwd_model.specs.Clock.{clock}
 use Rattle.fwd_model.specs.Limits.{paused}
 use Rattle.fwd_model.specs.StepActions.{step}
-use Rattle.fwd_model.specs.Run.{Over, LoopFailed, RunResult, lived, goes_on, unless_last, brought, run, life, is_over}
+use Rattle.fwd_model.specs.Run.{Over, LoopFailed, RunResult, lived, goes_on, unless_last, after_step, brought, run, life, is_over}
 use Rattle.fwd_model.proofs.CallLogs.{logs_grew_both, disk_append, loop_append}
 use Rattle.fwd_engine_state.specs.RefinesAction.{with_all}
 use Rattle.fwd_engine.specs.EngineSteps.{TurnOutcome, as_turn, is_failed, waits}
@@ -46,13 +47,21 @@ use Rattle.fwd_engine.specs.declared.engine.EngineStop.{EngineStop}
 use Rattle.fwd_engine.specs.declared.engine.EngineStop.TheVariants as stop
 use Rattle.fwd_engine.specs.declared.engine.Turn.{Turn}
 use Rattle.fwd_engine.specs.declared.engine.Turn.TheVariants as turn
-use Rattle.fwd_theorem_trace.proofs.WaitCounts.{ArePlain, plain_waitless, step_plain, waits_append}
-use Rattle.fwd_replay.specs.FileChanges.{Course, FilesAt, course_after, after_wait, is_last_next, next_in}
+use Rattle.fwd_theorem_trace.proofs.WaitCounts.{ArePlain, is_plain, kept_same, plain_waitless, step_plain, waits_append}
+use Rattle.fwd_replay.specs.FileChanges.{Course, FilesAt, course_after, after_wait, has_last, is_last_next, next_in}
 use Rattle.fwd_replay.specs.Runs.{Start, course_of, disk_of}
 use Rattle.fwd_replay.proofs.CallLog.{told_is}
-use Rattle.fwd_replay.specs.RunState.{FilesRepresent, IsReady, IsInProgress, RunRepresents}
+use Rattle.fwd_keeper.specs.Keeper.{KeeperEntry}
+use Rattle.fwd_keeper_mem.specs.KeeperState.{KeeperState}
+use Rattle.fwd_keeper_mem.specs.MemKeeper as kept_log
+use Rattle.fwd_engine_run.specs.OffsetRows.{IsOverAlike, IsRow, Keeps, PutsOutcome, with_keeper}
+use Rattle.fwd_engine_run.specs.declared.kept_offsets.KeptOffset.{KeptOffset}
+use Rattle.fwd_engine_run.specs.declared.kept_offsets.KeptOffsets.{KeptOffsets}
+use Rattle.fwd_replay.specs.RunState.{FilesRepresent, HasPut, IsOver, IsReady, IsInProgress, IsStepped, RunRepresents}
 use Rattle.fwd_replay.specs.RunState as stage
 use Rattle.fwd_replay.specs.declared.progress.Going.{Going}
+use Rattle.fwd_engine_run.proofs.OffsetActions.{AreAside, aside_disk, aside_loop, is_done, puts_leave}
+use Rattle.fwd_replay.proofs.StillCalls.{AreStill, answers_of, aside_still, keeper_append, no_waits, none_last, stays_behind}
 use Rattle.fwd_replay.proofs.Course.{Alike, ahead_is, alike_held, answered_append, behind_append, held_alike, lines_stay, plain_alike, plain_answered, plain_changed, played_second, turn_uncut, uncut_append}
 
 -- ---- the calls of a turn
@@ -66,7 +75,7 @@ wait_is s h x [] way = absurd (cc way)
 wait_is s h x (e ∷ []) way = ap (λ (one : TraceEntry). one ∷ []) (way.1 ∙ ap (λ (y : Happening). wait_of s h y) (cc way.2))
 wait_is s h x (e ∷ more ∷ es) way = absurd way.2
 
-brought_is : (s : AllSettings) (next : History → Action RunResult) (h : History) (x : Happening) → is_failed x ≡ false → brought s None next h x ≡ bind (step s x h) (goes_on s (unless_last s None next x) x)
+brought_is : (s : AllSettings) (next : History → Action RunResult) (h : History) (x : Happening) → is_failed x ≡ false → brought s None next h x ≡ bind (step s x h) (after_step s None next x)
 brought_is s next h happening.Failed is = absurd (cc is)
 brought_is s next h happens is = refl
 
@@ -74,36 +83,31 @@ failed_is : (s : AllSettings) (next : History → Action RunResult) (h : History
 failed_is s next h happening.Failed is = refl
 failed_is s next h happens is = absurd (cc is)
 
--- a turn that takes the event of its wait, whatever number of turns is left after it
-module _ (s : AllSettings) (h : History) (x : Happening) (es : List TraceEntry) (now : History) (taken : is_failed x ≡ false) (way : Execution (step s x h) es (Return now)) (more : ℕ) where
-  turn_on : Execution (run s None (suc more) h) (wait_of s h x ∷ es) (goes_on s (unless_last s None (run s None more) x) x now)
-  unfolding run
-  turn_on =
-      let next : History → Action RunResult = goes_on s (unless_last s None (run s None more) x) x in
-      (x, refl, subst (λ (p : Action RunResult). Execution p es (next now)) (sym (brought_is s (run s None more) h x taken)) (way_bind (step s x h) (Return now) es next way))
-
-  pub turn_more : is_over s x now ≡ false → Execution (run s None (suc more) h) (wait_of s h x ∷ es) (run s None more now)
-  turn_more is =
-      subst (λ (over : Bool). Execution (run s None (suc more) h) (wait_of s h x ∷ es) (if over then Return (lived now Over) else unless_last s None (run s None more) x now)) is turn_on
-
-  pub turn_over : is_over s x now ≡ true → Execution (run s None (suc more) h) (wait_of s h x ∷ es) (Return (lived now Over))
-  turn_over is =
-      subst (λ (over : Bool). Execution (run s None (suc more) h) (wait_of s h x ∷ es) (if over then Return (lived now Over) else unless_last s None (run s None more) x now)) is turn_on
+-- a turn that takes the event of its wait, up to the puts, whatever number of turns is left after it
+pub turn_stepped : (s : AllSettings) (h : History) (x : Happening) (es : List TraceEntry) (now : History) → is_failed x ≡ false → Execution (step s x h) es (Return now) → (more : ℕ)
+    → Execution (run s None (suc more) h) (wait_of s h x ∷ es) (after_step s None (run s None more) x now)
+unfolding run
+turn_stepped s h x es now taken way more =
+    let next : History → Action RunResult = after_step s None (run s None more) x in
+    (x, refl, subst (λ (p : Action RunResult). Execution p es (next now)) (sym (brought_is s (run s None more) h x taken)) (way_bind (step s x h) (Return now) es next way))
 
 -- one whose loop failed
 pub turn_failed : (s : AllSettings) (h : History) (x : Happening) → is_failed x ≡ true → (more : ℕ) → Execution (run s None (suc more) h) (wait_of s h x ∷ []) (Return (lived h LoopFailed))
 unfolding run
 turn_failed s h x is more = (x, refl, sym (failed_is s (run s None more) h x is))
 
-pub over_is : (b : Bool) → turn.Over ≡ as_turn b → b ≡ true
-over_is true is = refl
-over_is false is = absurd (cc is)
-
-pub more_is : (b : Bool) → turn.More ≡ as_turn b → b ≡ false
-more_is true is = absurd (cc is)
-more_is false is = refl
-
 -- ---- the state of a run after a turn
+
+plain_no_keeper : (call : Call) (answer : Answer call) (es : List TraceEntry) → is_plain call ≡ true → keeper_part es ≡ [] → keeper_part (entry call answer ∷ es) ≡ []
+plain_no_keeper (OnLoop call) answer es plain none = none
+plain_no_keeper (OnDisk call) answer es plain none = none
+plain_no_keeper (OnFiles call) answer es plain none = none
+plain_no_keeper (OnKeeper call) answer es plain none = absurd (cc plain)
+plain_no_keeper (Note fact) answer es plain none = none
+
+pub no_keeper : (es : List TraceEntry) → ArePlain es → keeper_part es ≡ []
+no_keeper [] plain = refl
+no_keeper (e ∷ es) plain = plain_no_keeper e.call e.answer es plain.0 (no_keeper es plain.1)
 
 grew_told : {G X : Type 0} (old new : Option (G × List X)) (given : G) (xs more : List X) → old ≡ Some (given, xs) → LogGrew old new more → new ≡ Some (given, xs ++ more)
 grew_told {G = G} {X = X} old new given xs more is grew = by new (subst (λ (o : Option (G × List X)). LogGrew o new more) is grew)
@@ -129,14 +133,14 @@ played_behind_turn held held2 es grew played =
     let two : IsPlayed held.given [] (call_log ++ es) = subst (λ (g : FilesGiven). IsPlayed g [] (call_log ++ es)) grew.0 one in
     played_second held.given [] call_log es two
 
-module _ (s : AllSettings) (start : Start) (planned : Life) (h : History) (trace : List TraceEntry) (call_log : LoopLog) (taken : ℕ) (seen : Seen) (held : FilesState) where
+module _ (s : AllSettings) (start : Start) (planned : Life) (h : History) (trace : List TraceEntry) (call_log : LoopLog) (taken : ℕ) (seen : Seen) (held : FilesState) (kept : KeeperState) where
   pub turn_stands : (told2 : LoopLog) (seen2 : Seen) (held2 : FilesState) (x : Happening) (es : List TraceEntry) (left : ℕ → Action RunResult)
-      → RunRepresents s start planned call_log taken seen held trace (λ more. run s None more h) (after_wait (paused s h) (course_after (course_of start planned) trace)).files
+      → RunRepresents s start planned call_log taken seen held kept trace (λ more. run s None more h) (after_wait (paused s h) (course_after (course_of start planned) trace)).files
       → None ≡ (if is_last_next (paused s h) (course_after (course_of start planned) trace) then planned.cut else None)
       → ArePlain es → ((more : ℕ) → Execution (run s None (suc more) h) (wait_of s h x ∷ es) (left more))
       → LogGrew call_log told2 (loop_part (wait_of s h x ∷ es)) → LogGrew (disk.told_of seen.calls) (disk.told_of seen2.calls) (disk_part es) → LogGrew (files.told_of held) (files.told_of held2) (files_part es)
       → IsPlayed held2.given [] (entries_from held2.given held2.notes)
-      → RunRepresents s start planned told2 (taken + 1) seen2 held2 (trace ++ wait_of s h x ∷ es) left (course_after (course_of start planned) (trace ++ wait_of s h x ∷ es)).files
+      → RunRepresents s start planned told2 (taken + 1) seen2 held2 kept (trace ++ wait_of s h x ∷ es) left (course_after (course_of start planned) (trace ++ wait_of s h x ∷ es)).files
   turn_stands told2 seen2 held2 x es left stands uncut plain ways grew_loop grew_disk grew_files played =
       let turn : List TraceEntry = wait_of s h x ∷ es in
       let course = course_of start planned in
@@ -168,7 +172,23 @@ module _ (s : AllSettings) (start : Start) (planned : Life) (h : History) (trace
             (tt, plain_answered held.given (entries_from held.given held.notes) waited es plain (alike_held held waited.files stands.files_stand) (played_behind_turn held held2 (files_part es) grew_files played));
         files_stand =
             subst (λ (c : Course). FilesRepresent held2 c.files) (sym (behind_append course trace turn)) (files_behind_turn held held2 waited es plain stands.files_stand grew_files);
+        kept_given = stands.kept_given;
+        kept_calls =
+            stands.kept_calls
+            ∙ sym (append-nil (keeper_part trace))
+            ∙ ap (λ (l : List KeeperEntry). keeper_part trace ++ l) (sym (no_keeper es plain))
+            ∙ sym (keeper_append trace turn);
       }
+
+-- a step notes no offset
+pub step_keeps : (s : AllSettings) (x : Happening) (h : History) (es : List TraceEntry) (now : History) → Execution (step s x h) es (Return now) → (input index : ℕ) → kept_at now input index ≡ kept_at h input index
+step_keeps s x h es now way input index =
+    ap (λ (at : History). kept_at at input index) (step_history s x h es now way) ∙ kept_same es h input index (step_plain s x h es (Return now) way)
+
+-- calls that don't advance a run don't cut it
+no_cut_after : (cut : Option Cut) (course : Course) (es : List TraceEntry) → AreStill es → (is_some cut && has_last course es) ≡ false
+no_cut_after None course es still = refl
+no_cut_after (Some cut) course es still = none_last course es still
 
 -- ---- a turn is prepared
 
@@ -181,12 +201,12 @@ next_is start planned script trace mask call_log =
     ∙ ap (λ (es : List LoopEntry). find (hears mask) (ahead_after_calls (coming 0 planned.lines) es)) same.1
     ∙ ap (λ (l : List Coming). find (hears mask) l) (ahead_is (course_of start planned) trace)
 
-module _ (s : AllSettings) (start : Start) (planned : Life) (going : Going) (seen : Seen) (held held2 : FilesState) (under : IsInProgress s start planned going seen held) where
+module _ (s : AllSettings) (start : Start) (planned : Life) (going : Going) (seen : Seen) (held held2 : FilesState) (kept : KeeperState) (under : IsInProgress s start planned going seen held kept) where
   pub prepared : (place : Option (ℕ × ℕ)) (mask upto changes : ℕ) (cut : Option Cut) → mask ≡ paused s under.history → place ≡ place_in (script_next mask going.script)
       → ((next : Option Coming) → place ≡ place_in next → upto ≡ line_ahead planned.lines next)
       → ((at : FilesAt) → FilesRepresent held at → FilesRepresent held2 (record at { changes = at.changes ++ changes_between planned.lines going.changed upto }))
       → changes ≡ max going.changed upto → ((next : Option Coming) → place ≡ place_in next → cut ≡ (if ends_life planned.lines next then planned.cut else None))
-      → IsReady s start planned (record going { changed = changes }) seen held2 cut
+      → IsReady s start planned (record going { changed = changes }) seen held2 kept cut
   prepared place mask upto changes cut masked placed line makes most cutting =
       let h = under.history in
       let course = course_after (course_of start planned) under.trace in
@@ -213,9 +233,12 @@ module _ (s : AllSettings) (start : Start) (planned : Life) (going : Going) (see
           are = under.stands.are;
           answered = under.stands.answered;
           files_stand = subst (λ (l : List FileChange). FilesRepresent held2 (record course.files { changes = course.files.changes ++ l })) before (makes course.files under.stands.files_stand);
+          kept_given = under.stands.kept_given;
+          kept_calls = under.stands.kept_calls;
         };
         changed = most ∙ ap (λ (n : ℕ). max n upto) under.changed ∙ ap (λ (n : ℕ). max course.changed n) there;
         cut_is = cutting next here ∙ ap (λ (l : List Planned). if ends_life l next then planned.cut else None) lines;
+        keeps = under.keeps;
       }
 
 -- ---- a turn is taken
@@ -228,10 +251,17 @@ pub asked_wait : (a between b : CallLogs) (s : AllSettings) (h : History) (x : H
 asked_wait a between b s h x waited is =
     subst (λ (w : CallLogs). LogsGrew a w (wait_of s h x ∷ [])) (sym is) (subst (λ (l : List TraceEntry). LogsGrew a between l) (wait_is s h x waited.entries waited.way) waited.asked)
 
-abbrev Nowhere : CallLogs
+abbrev pub Nowhere : CallLogs
 Nowhere = record { loop = None; disk = None; files = None; keeper = None }
 
-module _ (s : AllSettings) (start : Start) (planned : Life) (going : Going) (seen : Seen) (held : FilesState) (ready : IsReady s start planned going seen held None) (engine2 : Engine) (script2 : ScriptState) (seen2 : Seen) (held2 : FilesState)
+-- the rows keep the same offsets after calls that note none
+pub keeps_same : (s : AllSettings) (offsets : KeptOffsets) (h now : History) → ((input index : ℕ) → kept_at now input index ≡ kept_at h input index) → Keeps s offsets h → Keeps s offsets now
+keeps_same s offsets h now same keeps = record {
+  count = keeps.count;
+  each = λ k row t here there. let is : IsRow h row t = keeps.each k row t here there in record { input = is.input; index = is.index; db = is.db; path = is.path; kept = is.kept ∙ sym (same t.input t.index) };
+}
+
+module _ (s : AllSettings) (start : Start) (planned : Life) (going : Going) (seen : Seen) (held : FilesState) (kept : KeeperState) (ready : IsReady s start planned going seen held kept None) (engine2 : Engine) (script2 : ScriptState) (seen2 : Seen) (held2 : FilesState)
     (played : IsPlayed held2.given [] (entries_from held2.given held2.notes)) where
   abbrev old : CallLogs
   old = with_all (told_of going.script) (disk.told_of seen.calls) (files.told_of held) Nowhere
@@ -241,13 +271,15 @@ module _ (s : AllSettings) (start : Start) (planned : Life) (going : Going) (see
 
   stands_then : (x : Happening) (es : List TraceEntry) (left : ℕ → Action RunResult) → ArePlain es → ((more : ℕ) → Execution (run s None (suc more) ready.history) (wait_of s ready.history x ∷ es) (left more))
       → LogsGrew old new (wait_of s ready.history x ∷ es)
-      → RunRepresents s start planned (told_of script2) (going.taken + 1) seen2 held2 (ready.trace ++ wait_of s ready.history x ∷ es) left (course_after (course_of start planned) (ready.trace ++ wait_of s ready.history x ∷ es)).files
+      → RunRepresents s start planned (told_of script2) (going.taken + 1) seen2 held2 kept (ready.trace ++ wait_of s ready.history x ∷ es) left (course_after (course_of start planned) (ready.trace ++ wait_of s ready.history x ∷ es)).files
   stands_then x es left plain ways asked =
-      turn_stands s start planned ready.history ready.trace (told_of going.script) going.taken seen held (told_of script2) seen2 held2 x es left ready.stands ready.cut_is plain ways asked.loop asked.disk asked.files played
+      turn_stands s start planned ready.history ready.trace (told_of going.script) going.taken seen held kept (told_of script2) seen2 held2 x es left ready.stands ready.cut_is plain ways asked.loop asked.disk asked.files played
 
-  pub took : (result : Result Turn EngineStop) → TurnOutcome old new s ready.history engine2 result
-      → stage.Turned s start planned (record { engine = engine2; script = script2; changed = going.changed; taken = going.taken + 1 }) seen2 held2 result
-  took (Ok turn.More) turns =
+  abbrev after : Going
+  after = record { engine = engine2; offsets = going.offsets; script = script2; changed = going.changed; taken = going.taken + 1 }
+
+  pub took : (result : Result Turn EngineStop) → TurnOutcome old new s ready.history engine2 result → stage.Turned s start planned after seen2 held2 kept result
+  took (Ok which) turns =
       let h = ready.history in
       let x = turns.brought in
       let stepped = turns.steps.1 in
@@ -257,28 +289,17 @@ module _ (s : AllSettings) (start : Start) (planned : Life) (going : Going) (see
         history = stepped.history;
         at = stepped.at;
         trace = ready.trace ++ wait_of s h x ∷ es;
+        brought = x;
         stands =
-            stands_then x es (λ more. run s None more stepped.history) plain
-            (λ more. turn_more s h x es stepped.history turns.steps.0 stepped.did.way more (more_is (is_over s x stepped.history) stepped.over))
+            stands_then x es (λ more. after_step s None (run s None more) x stepped.history) plain
+            (turn_stepped s h x es stepped.history turns.steps.0 stepped.did.way)
             (asked_turn old turns.between new s h x es turns.waited stepped.did.asked);
         changed =
             ready.changed
             ∙ sym (plain_changed (after_wait (paused s h) (course_after (course_of start planned) ready.trace)) es plain)
             ∙ ap (λ (c : Course). c.changed) (sym (behind_append (course_of start planned) ready.trace (wait_of s h x ∷ es)));
-      }
-  took (Ok turn.Over) turns =
-      let h = ready.history in
-      let x = turns.brought in
-      let stepped = turns.steps.1 in
-      let es = stepped.did.entries in
-      record {
-        history = stepped.history;
-        at = stepped.at;
-        trace = ready.trace ++ wait_of s h x ∷ es;
-        stands =
-            stands_then x es (λ more. Return (lived stepped.history Over)) (step_plain s x h es (Return stepped.history) stepped.did.way)
-            (λ more. turn_over s h x es stepped.history turns.steps.0 stepped.did.way more (over_is (is_over s x stepped.history) stepped.over))
-            (asked_turn old turns.between new s h x es turns.waited stepped.did.asked);
+        keeps = keeps_same s going.offsets h stepped.history (step_keeps s x h es stepped.history stepped.did.way) ready.keeps;
+        over = stepped.over;
       }
   took (Err stop.LoopFault) turns =
       let h = ready.history in
@@ -289,3 +310,97 @@ module _ (s : AllSettings) (start : Start) (planned : Life) (going : Going) (see
         stands = stands_then x [] (λ more. Return (lived h LoopFailed)) tt (turn_failed s h x turns.steps.0) (asked_wait old turns.between new s h x turns.waited turns.steps.1);
       }
   took (Err stop.Memory) turns = tt
+
+-- ---- the puts after a turn
+
+module _ (s : AllSettings) (start : Start) (planned : Life) (call_log : LoopLog) (taken : ℕ) (seen : Seen) (held : FilesState) (kept kept2 : KeeperState) (trace es : List TraceEntry) (left left2 : ℕ → Action RunResult) where
+  -- the state of a run after calls on the keeper alone
+  pub aside_stands : RunRepresents s start planned call_log taken seen held kept trace left (course_after (course_of start planned) trace).files
+      → AreAside es → ((more : ℕ) → Execution (left more) es (left2 more)) → LogGrew (kept_log.log_of kept) (kept_log.log_of kept2) (keeper_part es)
+      → RunRepresents s start planned call_log taken seen held kept2 (trace ++ es) left2 (course_after (course_of start planned) (trace ++ es)).files
+  aside_stands stands aside ways grew =
+      let course = course_of start planned in
+      let still = aside_still es aside in
+      let stays : course_after course (trace ++ es) ≡ course_after course trace = behind_append course trace es ∙ stays_behind (course_after course trace) es still in
+      record {
+        way = λ more. way_trans (life s (ends_of s) None (taken + more)) (left more) (left2 more) trace es (stands.way more) (ways more);
+        waits = let here = stands.waits in let none = no_waits es still in waits_append trace es ∙ omega (arith, here, none);
+        uncut = uncut_append planned.cut course trace es stands.uncut (no_cut_after planned.cut (course_after course trace) es still);
+        loop =
+            stands.loop
+            ∙ ap (λ (l : List LoopEntry). Some (given_of planned, l))
+            (sym (append-nil (loop_part trace)) ∙ ap (λ (l : List LoopEntry). loop_part trace ++ l) (sym (aside_loop es aside)) ∙ sym (loop_append trace es));
+        asked = stands.asked;
+        disk_is = stands.disk_is;
+        are = stands.are ∙ sym (append-nil (disk_part trace)) ∙ ap (λ (l : List DiskEntry). disk_part trace ++ l) (sym (aside_disk es aside)) ∙ sym (disk_append trace es);
+        answered = answered_append course trace es stands.answered (answers_of (course_after course trace) es still);
+        files_stand = subst (λ (c : Course). FilesRepresent held c.files) (sym stays) stands.files_stand;
+        kept_given = grew.0 ∙ stands.kept_given;
+        kept_calls = grew.1 ∙ ap (λ (l : List KeeperEntry). l ++ keeper_part es) stands.kept_calls ∙ sym (keeper_append trace es);
+      }
+
+-- which end of a turn it is
+over_so : (b : Bool) (which : Turn) → which ≡ as_turn b → which ≡ turn.Over → b ≡ true
+over_so true which is so = refl
+over_so false which is so = absurd (cc (is, so))
+
+more_so : (b : Bool) (which : Turn) → which ≡ as_turn b → which ≡ turn.More → b ≡ false
+more_so true which is so = absurd (cc (is, so))
+more_so false which is so = refl
+
+module _ (s : AllSettings) (start : Start) (planned : Life) (going : Going) (seen : Seen) (held : FilesState) (kept kept2 : KeeperState) (rows2 : KeptOffsets) where
+  abbrev before : CallLogs
+  before = with_keeper (kept_log.log_of kept) Nowhere
+
+  abbrev behind : CallLogs
+  behind = with_keeper (kept_log.log_of kept2) Nowhere
+
+  abbrev has_put : Going
+  has_put = record going { offsets = rows2 }
+
+  put_so : (which : Turn) (stepped : IsStepped s start planned going seen held kept which)
+      → PutsOutcome before behind s stepped.history is_done (puts s (tracked s) is_done stepped.history) going.engine rows2 all_put → HasPut s start planned has_put seen held kept2 which
+  put_so turn.More stepped put =
+      let h = stepped.history in
+      let x = stepped.brought in
+      let now = put.0 in
+      let es = put.4.entries in
+      let leave = puts_leave s (tracked s) h (lived now Over) es put.4.way in
+      let over : is_over s x now ≡ false = put.3 x ∙ more_so (is_over s x h) turn.More stepped.over refl in
+      let course = course_of start planned in
+      record {
+        history = now;
+        at = put.1;
+        trace = stepped.trace ++ es;
+        stands =
+            aside_stands s start planned (told_of going.script) going.taken seen held kept kept2 stepped.trace es (λ more. after_step s None (run s None more) x h) (λ more. run s None more now) stepped.stands leave.aside
+            (λ more.
+            subst (λ (b : Bool). Execution (after_step s None (run s None more) x h) es (if b then Return (lived now Over) else unless_last s None (run s None more) x now)) over
+            (leave.ways (goes_on s (unless_last s None (run s None more) x) x)))
+            put.4.asked.keeper;
+        changed = stepped.changed ∙ ap (λ (c : Course). c.changed) (sym (behind_append course stepped.trace es ∙ stays_behind (course_after course stepped.trace) es (aside_still es leave.aside)));
+        keeps = put.2;
+      }
+  put_so turn.Over stepped put =
+      let h = stepped.history in
+      let x = stepped.brought in
+      let now = put.0 in
+      let es = put.4.entries in
+      let leave = puts_leave s (tracked s) h (lived now Over) es put.4.way in
+      let over : is_over s x now ≡ true = put.3 x ∙ over_so (is_over s x h) turn.Over stepped.over refl in
+      record {
+        history = now;
+        at = put.1;
+        trace = stepped.trace ++ es;
+        stands =
+            aside_stands s start planned (told_of going.script) going.taken seen held kept kept2 stepped.trace es (λ more. after_step s None (run s None more) x h) (λ more. Return (lived now Over)) stepped.stands leave.aside
+            (λ more.
+            subst (λ (b : Bool). Execution (after_step s None (run s None more) x h) es (if b then Return (lived now Over) else unless_last s None (run s None more) x now)) over
+            (leave.ways (goes_on s (unless_last s None (run s None more) x) x)))
+            put.4.asked.keeper;
+      }
+
+  pub puts_so : {E : Type 0} (which : Turn) (stepped : IsStepped s start planned going seen held kept which) (result : Result (Unit {0}) E)
+      → PutsOutcome before behind s stepped.history is_done (puts s (tracked s) is_done stepped.history) going.engine rows2 result → OnOk result (HasPut s start planned has_put seen held kept2 which)
+  puts_so which stepped (Ok done) put = put_so which stepped put
+  puts_so which stepped (Err e) put = tt

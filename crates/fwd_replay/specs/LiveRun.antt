@@ -1,10 +1,18 @@
 -- The outcome of a live run over devices.
-use Rattle.std.specs.Prelude.{◌≡◌, ◌⊎◌, ℕ, Option, Result, Ok, Err, MatchResult}
+use Rattle.std.specs.Prelude.{◌≡◌, ◌⊎◌, ℕ, [], Option, Result, Ok, Err, MatchResult}
 use Rattle.fwd_settings.specs.Endpoints.{ends_of}
 use Rattle.fwd_settings.specs.declared.settings_types.AllSettings.{AllSettings}
+use Rattle.fwd_model.specs.Fact.{History}
 use Rattle.fwd_model.specs.Trace.{Action}
 use Rattle.fwd_model.specs.CallLogs.{CallLogs, Completes, IsBegun}
 use Rattle.fwd_model.specs.Run.{RunResult, life}
+use Rattle.fwd_theorem_trace.specs.Allowed.{IsLoading}
+use Rattle.fwd_engine.specs.EngineSteps.{IsAt}
+use Rattle.fwd_engine.specs.declared.engine.Engine.{Engine}
+use Rattle.fwd_engine_run.specs.OffsetRows.{Keeps}
+use Rattle.fwd_engine_run.specs.declared.kept_offsets.KeptOffsets.{KeptOffsets}
+use Rattle.fwd_replay.specs.Names.{IsNamed}
+use Rattle.fwd_replay.specs.declared.names.Named.{Named}
 use Rattle.fwd_replay.specs.Text.{report, reported_by, out_of_memory}
 use Rattle.fwd_replay.specs.declared.report.Reported.{Reported}
 use Rattle.fwd_replay.specs.declared.report.Ending.{Ending}
@@ -35,6 +43,15 @@ heard_in most ending.DiskFailed = 0
 heard_in most ending.KeeperFailed = 0
 heard_in most ending.LoopFailed = 0
 heard_in most ending.Memory = 0
+
+-- an engine that has begun, with the settings of these names and of these rows
+pub record IsToRun (named : Named) (engine : Engine) (offsets : KeptOffsets) : Type 0 where
+  pub settings : AllSettings
+  pub history : History
+  pub at : IsAt engine settings history
+  pub loading : IsLoading history
+  pub keeps : Keeps settings offsets []
+  pub is : IsNamed named settings
 
 -- the calls were those of a run to its end, and the text is the report of its history
 pub record HasRun (s : AllSettings) (run : Action RunResult) (old new : CallLogs)

@@ -14,8 +14,8 @@ ghost use Rattle.fwd_engine.specs.EngineSteps.{IsAt};
 ghost use Rattle.fwd_engine_run.specs.OffsetRows.{Keeps, with_keeper};
 ghost use Rattle.fwd_engine_run.specs.RunOutcome.{IsAtEnd, end_of};
 ghost use Rattle.fwd_theorem_trace.specs.Allowed.{IsLoading};
-ghost use Rattle.fwd_replay.specs.LiveRun.{RunProduces, IsRunLive, ActionProduces, ending_of, heard_in};
-ghost use Rattle.fwd_replay.specs.Names.{IsNamed, IsNamedOf, IsNamedUnlessFailed};
+ghost use Rattle.fwd_replay.specs.LiveRun.{IsToRun, RunProduces, IsRunLive, ActionProduces, ending_of, heard_in};
+ghost use Rattle.fwd_replay.specs.Names.{IsNamed, IsNamedUnlessFailed};
 ghost use Rattle.fwd_replay.specs.Text.{report, reported_by};
 ghost use Rattle.fwd_replay.specs.declared.report.Ending.TheVariants as ending;
 
@@ -71,7 +71,7 @@ fn run_engine<L: Loop, D: Disk, F: Files, K: Keeper>(
     most: u64,
     watch: &mut impl Watch,
 ) -> Result<Reported, Memory>
-    requires { IsNamedOf named.now engine.old }
+    requires { IsToRun named.now engine.old offsets.old }
     ensures run { (others : CallLogs) (s : AllSettings) (h : History) → IsAt engine.old s h → IsLoading h → Keeps s offsets.old [] → IsNamed named.now s → ActionProduces s (after_recovery s ends.now ticks most (Some h)) (with_all (L.call_log outside.old) (D.call_log disk.old) (F.call_log files.old) (with_keeper (K.call_log keeper.old) others)) (with_all (L.call_log outside.new) (D.call_log disk.new) (F.call_log files.new) (with_keeper (K.call_log keeper.new) others)) result }
     ensures heard { EventsTaken (heard_in most (ending_of result)) (L.counts outside.old) (L.counts outside.new) }
     ensures keeper_cause { HasCause (K.faults keeper.old) (K.faults keeper.new) (ending_of result ≡ ending.KeeperFailed) }
@@ -103,7 +103,7 @@ fn run_and_drop<L: Loop, D: Disk, F: Files, K: Keeper>(
     most: u64,
     watch: &mut impl Watch,
 ) -> Result<Reported, Memory>
-    requires { IsNamedOf named.now engine }
+    requires { IsToRun named.now engine offsets }
     ensures run { (others : CallLogs) (s : AllSettings) (h : History) → IsAt engine s h → IsLoading h → Keeps s offsets [] → IsNamed named.now s → ActionProduces s (after_recovery s ends.now ticks most (Some h)) (with_all (L.call_log outside.old) (D.call_log disk.old) (F.call_log files.old) (with_keeper (K.call_log keeper.old) others)) (with_all (L.call_log outside.new) (D.call_log disk.new) (F.call_log files.new) (with_keeper (K.call_log keeper.new) others)) result }
     ensures heard { EventsTaken (heard_in most (ending_of result)) (L.counts outside.old) (L.counts outside.new) }
     ensures keeper_cause { HasCause (K.faults keeper.old) (K.faults keeper.new) (ending_of result ≡ ending.KeeperFailed) }

@@ -3,7 +3,7 @@ use Rattle.std.proofs.Common.{◌≡◌, ◌∷◌, refl, sym, ◌∙◌, ap, su
 use Rattle.fwd_outside.specs.Program.{Return, Ask}
 use Rattle.fwd_outside.specs.AtCrashPoints.{HoldsThroughout}
 use Rattle.fwd_outside.specs.Disk.{DiskProgram}
-use Rattle.fwd_outside.specs.DiskStates.{Files, NoFileChanges}
+use Rattle.fwd_outside.specs.DiskStates.{Files}
 use Rattle.fwd_outside.specs.DiskStates as disk
 use Rattle.fwd_outside.proofs.Invariant.{AllInvariant, invariant_step}
 use Rattle.fwd_settings.specs.declared.settings_types.AllSettings.{AllSettings}

@@ -23,6 +23,7 @@ pub mod AppendOrder
 pub mod Room
 pub mod RunTraversal
 pub mod FlushTraversal
+pub mod OffsetTraversal
 pub mod Input
 pub mod DiskPoints
 pub mod FlushReads
@@ -45,3 +46,4 @@ pub mod FlushFacts
 pub mod RunFacts
 pub mod MoreTurns
 pub mod StepBoundaries
+pub mod OffsetCalls

@@ -13,13 +13,13 @@ use Rattle.fwd_store.specs.Store.{begins_as, append_to_program}
 use Rattle.fwd_backlog.specs.declared.file_read.FileRead.{FileRead}
 use Rattle.fwd_backlog.specs.LoadProgram.{load_program}
 use Rattle.fwd_settings.specs.declared.settings_types.AllSettings.{AllSettings}
-use Rattle.fwd_model.specs.Fact.{History, Route, Stream, LineStream, MessageStream, Standard, Batch, NoChunk, NewChunk, AppendedTo, Reason, TooLarge, NoNumber, NotStored, Happened, Polled, Disconnected, Malformed, Found, Offered, Accepted, Refused, Marked, IoFailed}
+use Rattle.fwd_model.specs.Fact.{History, Route, Stream, LineStream, MessageStream, Standard, Batch, NoChunk, NewChunk, AppendedTo, Reason, TooLarge, NoNumber, NotStored, Happened, Resumed, Saved, Polled, Disconnected, Malformed, Found, Offered, Accepted, Refused, Marked, IoFailed}
 use Rattle.fwd_model.specs.Trace.{Action, TraceEntry, history_after}
 use Rattle.fwd_model.specs.DeviceActions.{on_disk}
 use Rattle.fwd_model.specs.Settings.{outputs_for, home_at, names_for, paths_at, from_head_at, reads_stdin_at}
 use Rattle.fwd_model.specs.Clock.{stopped, is_close_due}
 use Rattle.fwd_model.specs.Streams.{stream_of, said}
-use Rattle.fwd_model.specs.FollowedFiles.{file_at}
+use Rattle.fwd_model.specs.FollowedFiles.{file_at, settled}
 use Rattle.fwd_model.specs.Batches.{piece_batch, end_batch, poll_batch}
 use Rattle.fwd_model.specs.Messages.{completed_messages, becomes_malformed, message_batch, reply_of}
 use Rattle.fwd_model.specs.Chunks.{ChunkInfo, open_chunk, next, encoded, is_storable}
@@ -33,7 +33,8 @@ use Rattle.fwd_model.specs.FlushActions.{walk}
 use Rattle.fwd_model.specs.InputActions.{hangs_up, after_reply, replies, acknowledges, accepts_messages, accepts_stream, pieces, polled, polls_file, polls_files, polls_input, polls_inputs, polls_all}
 use Rattle.fwd_model.specs.StepActions.{closes_and_dispatches, ticks, stops, at_input_end, handles, step}
 use Rattle.fwd_model.specs.RecoveryActions.{notes_files, loaded, loads_from, recovers}
-use Rattle.fwd_model.specs.Run.{RunResult, Over, lived, is_over, goes_on, steps_on, is_last_tick, unless_last, brought, run, after_start, after_recovery, life}
+use Rattle.fwd_model.specs.KeptOffsets.{Tracked, tracked, kept_at, to_put, indexes_from, resumes, got, gets, after_put, puts_by, puts}
+use Rattle.fwd_model.specs.Run.{RunResult, Over, KeeperFailed, lived, is_over, goes_on, steps_on, is_last_tick, unless_last, after_step, brought, run, after_start, starts, after_recovery, life}
 use Rattle.fwd_theorem_trace.specs.Past.{logged, past_after}
 use Rattle.fwd_theorem_trace.specs.Resolution.{WasRecoveredDone}
 use Rattle.fwd_theorem_trace.proofs.Traversal.{noted_since}
@@ -233,18 +234,52 @@ module _ (s : AllSettings) where
   abbrev Lives : History → Action RunResult → Type 0
   Lives h p = Runs s Any h p
 
-  lives_step : (next : History → Action RunResult) (brings : Happening) (h : History) → ((now : History) → RecordedLasts s now → Lives now (next now)) → RecordedLasts s h → Lives h (steps_on s next brings h)
-  lives_step next brings h more lasts =
-      runs_then s Any h (step s brings h) (goes_on s next brings) (tells_step brings h lasts)
-      (λ now then. runs_if s Any (is_over s brings now) now (Return (lived now Over)) (next now) (λ over. (then, tt)) (λ on. more now then))
+  abbrev Goes : (History → Action RunResult) → Type 0
+  Goes next = (now : History) → RecordedLasts s now → Lives now (next now)
 
-  lives_unless_last : (ticks : Option ℕ) (next : History → Action RunResult) (brings : Happening) (h : History) → ((now : History) → RecordedLasts s now → Lives now (next now)) → RecordedLasts s h → Lives h (unless_last s ticks next brings h)
+  -- offsets are got and put
+  put_on : (t : Tracked) (place : ℕ) (next : History → Action RunResult) (answer : Option (Unit {0})) → Goes next → Goes (λ (h : History). after_put t place next h answer)
+  put_on t place next None more h lasts = more h lasts
+  put_on t place next (Some done) more h lasts = notes s Any (Saved t.input t.index place) h next tt lasts (λ sound then. more (Saved t.input t.index place ∷ h) then)
+
+  puts_on : (ts : List Tracked) (next : History → Action RunResult) → Goes next → Goes (puts s ts next)
+  puts_on [] next more h lasts = more h lasts
+  puts_on (t ∷ ts) next more h lasts = by (to_put (settled s h t.input t.index) (kept_at h t.input t.index)) (puts_on ts next more)
+    where
+      by : (place : Option ℕ) → Goes (puts s ts next) → Lives h (puts_by t place (puts s ts next) h)
+      by None rest = rest h lasts
+      by (Some place) rest = (lasts, λ answer sound. put_on t place (puts s ts next) answer rest h lasts)
+
+  resumes_on : (input place : ℕ) (indexes : List ℕ) (next : History → Action RunResult) → Goes next → Goes (resumes input place indexes next)
+  resumes_on input place [] next more h lasts = more h lasts
+  resumes_on input place (index ∷ indexes) next more h lasts =
+      notes s Any (Resumed input index place) h (resumes input place indexes next) tt lasts (λ sound then. resumes_on input place indexes next more (Resumed input index place ∷ h) then)
+
+  got_on : (t : Tracked) (failed next : History → Action RunResult) (answer : Option (Option ℕ)) → Goes failed → Goes next → Goes (λ (h : History). got s t failed next h answer)
+  got_on t failed next None ends more h lasts = ends h lasts
+  got_on t failed next (Some None) ends more h lasts = more h lasts
+  got_on t failed next (Some (Some place)) ends more h lasts = resumes_on t.input place (indexes_from 0 t.path (paths_at s t.input)) next more h lasts
+
+  gets_on : (ts : List Tracked) (failed next : History → Action RunResult) → Goes failed → Goes next → Goes (gets s ts failed next)
+  gets_on [] failed next ends more h lasts = more h lasts
+  gets_on (t ∷ ts) failed next ends more h lasts = (lasts, λ answer sound. got_on t failed (gets s ts failed next) answer ends (gets_on ts failed next ends more) h lasts)
+
+  lives_on : (next : History → Action RunResult) (brings : Happening) → Goes next → Goes (goes_on s next brings)
+  lives_on next brings more h lasts = runs_if s Any (is_over s brings h) h (Return (lived h Over)) (next h) (λ over. (lasts, tt)) (λ on. more h lasts)
+
+  lives_step : (next : History → Action RunResult) (brings : Happening) (h : History) → Goes next → RecordedLasts s h → Lives h (steps_on s next brings h)
+  lives_step next brings h more lasts = runs_then s Any h (step s brings h) (goes_on s next brings) (tells_step brings h lasts) (lives_on next brings more)
+
+  lives_unless_last : (ticks : Option ℕ) (next : History → Action RunResult) (brings : Happening) (h : History) → Goes next → RecordedLasts s h → Lives h (unless_last s ticks next brings h)
   lives_unless_last ticks next brings h more lasts =
       runs_if s Any (is_last_tick s ticks brings h) h (steps_on s next happening.Stop h) (next h) (λ last. lives_step next happening.Stop h more lasts) (λ no. more h lasts)
 
-  lives_brought : (ticks : Option ℕ) (next : History → Action RunResult) (h : History) (brings : Happening) → ((now : History) → RecordedLasts s now → Lives now (next now)) → RecordedLasts s h → Lives h (brought s ticks next h brings)
+  lives_brought : (ticks : Option ℕ) (next : History → Action RunResult) (h : History) (brings : Happening) → Goes next → RecordedLasts s h → Lives h (brought s ticks next h brings)
   lives_brought ticks next h happening.Failed more lasts = (lasts, tt)
-  lives_brought ticks next h brings more lasts = lives_step (unless_last s ticks next brings) brings h (λ now then. lives_unless_last ticks next brings now more then) lasts
+  lives_brought ticks next h brings more lasts =
+      let rest : History → Action RunResult = unless_last s ticks next brings in
+      runs_then s Any h (step s brings h) (after_step s ticks next brings) (tells_step brings h lasts)
+      (puts_on (tracked s) (goes_on s rest brings) (lives_on rest brings (λ now then. lives_unless_last ticks next brings now more then)))
 
   lives_run : (ticks : Option ℕ) (turns : ℕ) (h : History) → RecordedLasts s h → Lives h (run s ticks turns h)
   unfolding run
@@ -280,7 +315,8 @@ module _ (s : AllSettings) where
   lives_begun : (ends : Ends) (ticks : Option ℕ) (turns : ℕ) (found : Option History) (h : History) → RecordedLasts s h → Loaded found h → Lives h (after_recovery s ends ticks turns found)
   lives_begun ends ticks turns None h lasts is = (lasts, tt)
   lives_begun ends ticks turns (Some found) h lasts is =
-      subst (λ (x : History). Lives h (after_recovery s ends ticks turns (Some x))) (sym is) (lasts, λ ready sound. lives_started ticks turns h ready lasts)
+      subst (λ (x : History). Lives h (after_recovery s ends ticks turns (Some x))) (sym is)
+      (gets_on (tracked s) (λ (now : History). Return (lived now KeeperFailed)) (starts s ends ticks turns) (λ now then. (then, tt)) (λ now then. (then, λ ready sound. lives_started ticks turns now ready then)) h lasts)
 
   lives : (ends : Ends) (ticks : Option ℕ) (turns : ℕ) → Lives [] (life s ends ticks turns)
   unfolding life recovers

@@ -18,18 +18,21 @@ use Rattle.fwd_model.specs.Clock.{clock}
 use Rattle.fwd_model.specs.Limits.{paused}
 use Rattle.fwd_model.specs.StepActions.{handles, step}
 use Rattle.fwd_model.specs.RecoveryActions.{recovers}
-use Rattle.fwd_model.specs.Run.{RunResult, lived, Over, is_over, goes_on, steps_on, is_last_tick, unless_last, brought, run, after_start, after_recovery, life}
+use Rattle.fwd_model.specs.KeptOffsets.{tracked}
+use Rattle.fwd_model.specs.Run.{RunResult, lived, Over, KeeperFailed, is_over, goes_on, steps_on, is_last_tick, unless_last, after_step, brought, run, after_start, starts, after_recovery, life}
 use Rattle.fwd_theorem_trace.specs.Past.{Past, logged, past_after}
-use Rattle.fwd_theorem_trace.specs.Allowed.{Allowed}
-use Rattle.fwd_theorem_trace.proofs.Run.{due_since}
+use Rattle.fwd_theorem_trace.specs.Allowed.{IsStart, IsAllowed, Allowed}
+use Rattle.fwd_theorem_trace.proofs.Run.{loading_is_start, due_since}
 use Rattle.fwd_theorem_crash.specs.CrashPoint.{CrashPoint, crash_point, LeadsTo}
 use Rattle.fwd_theorem_crash.specs.Safety.{IsSafe}
 use Rattle.fwd_theorem_crash.specs.FlushEvents.{FlushesSendTheirChunks}
+use Rattle.fwd_theorem_crash.specs.StepBoundaries.{IsOffsetCall}
 use Rattle.fwd_theorem_crash.proofs.RunTraversal.{after, IsLoopOrFiles, ReturnsHistoryBy, CanTraverse, holds_if, deed, ask, tells_then}
+use Rattle.fwd_theorem_crash.proofs.OffsetTraversal.{CanKeep, puts_on, gets_on}
 use Rattle.fwd_theorem_crash.proofs.Input.{tells_happens}
 use Rattle.fwd_theorem_crash.proofs.LoadingSafety.{LoadedAs, loading_holds}
 use Rattle.fwd_theorem_crash.proofs.DiskPoints.{Ordered, Safe, Kept, safe_now, plain_kept}
-use Rattle.fwd_theorem_crash.proofs.SimpleFacts.{hands_at_first}
+use Rattle.fwd_theorem_crash.proofs.SimpleFacts.{offset_simple, hands_at_first}
 use Rattle.fwd_theorem_crash.proofs.FlushReads.{memory_begins, file_begins, found_begins}
 use Rattle.fwd_theorem_crash.proofs.Removal.{drops_well}
 use Rattle.fwd_theorem_crash.proofs.RecordOutcome.{records_well}
@@ -58,6 +61,16 @@ module _ (s : AllSettings) (settings : MeetsRequirements s) (full : s.service.fu
     begins = λ b m store writable none left kept fills_on. begins_well s settings first b m store writable none left kept fills_on;
   }
 
+  still_offset : (call : Call) (answer : Answer call) (m : CrashPoint) → IsOffsetCall call → IsAllowed s call m.past → Kept s first m → Kept s first (after m call answer)
+  still_offset (OnLoop call) answer m of allowed kept due = absurd of
+  still_offset (OnDisk call) answer m of allowed kept due = absurd of
+  still_offset (OnFiles call) answer m of allowed kept due = absurd of
+  still_offset (OnKeeper call) answer m of allowed kept due = kept due.1
+  still_offset (Note fact) answer m of allowed kept due = plain_kept s first fact answer m (offset_simple fact of) kept due
+
+  pub can_keep : CanKeep s (Safe s first) (Kept s first)
+  can_keep = record { now = safe_now s first; still = still_offset }
+
   -- at the end, each flush began with the events of its chunk
   abbrev Any : RunResult → CrashPoint → Type 0
   Any l end = Allowed s end.past → FlushesSendTheirChunks s (logged end.past)
@@ -77,11 +90,14 @@ module _ (s : AllSettings) (settings : MeetsRequirements s) (full : s.service.fu
   abbrev Goes : (History → Action RunResult) → Type 0
   Goes next = (end : CrashPoint) → Kept s first end → Lives end (next (logged end.past))
 
+  lives_on : (next : History → Action RunResult) (brings : Happening) → Goes next → Goes (goes_on s next brings)
+  lives_on next brings more end kept =
+      holds_if (Safe s first) Any (is_over s brings (logged end.past)) end (Return (lived (logged end.past) Over)) (next (logged end.past))
+      (λ over. (safe_now s first end kept, hands_now end kept)) (λ on. more end kept)
+
   lives_step : (next : History → Action RunResult) (brings : Happening) (m : CrashPoint) → Goes next → Kept s first m → Lives m (steps_on s next brings (logged m.past))
   lives_step next brings m more kept =
-      tells_then s (Safe s first) (Kept s first) can_walk Any m (step s brings (logged m.past)) (goes_on s next brings) (tells_step brings m kept)
-      (λ end then. holds_if (Safe s first) Any (is_over s brings (logged end.past)) end (Return (lived (logged end.past) Over)) (next (logged end.past))
-      (λ over. (safe_now s first end then, hands_now end then)) (λ on. more end then))
+      tells_then s (Safe s first) (Kept s first) can_walk Any m (step s brings (logged m.past)) (goes_on s next brings) (tells_step brings m kept) (lives_on next brings more)
 
   lives_unless_last : (ticks : Option ℕ) (next : History → Action RunResult) (brings : Happening) (m : CrashPoint) → Goes next → Kept s first m → Lives m (unless_last s ticks next brings (logged m.past))
   lives_unless_last ticks next brings m more kept =
@@ -90,7 +106,10 @@ module _ (s : AllSettings) (settings : MeetsRequirements s) (full : s.service.fu
 
   lives_brought : (ticks : Option ℕ) (next : History → Action RunResult) (m : CrashPoint) (brings : Happening) → Goes next → Kept s first m → Lives m (brought s ticks next (logged m.past) brings)
   lives_brought ticks next m happening.Failed more kept = (safe_now s first m kept, hands_now m kept)
-  lives_brought ticks next m brings more kept = lives_step (unless_last s ticks next brings) brings m (λ end then. lives_unless_last ticks next brings end more then) kept
+  lives_brought ticks next m brings more kept =
+      let rest : History → Action RunResult = unless_last s ticks next brings in
+      tells_then s (Safe s first) (Kept s first) can_walk Any m (step s brings (logged m.past)) (after_step s ticks next brings) (tells_step brings m kept)
+      (puts_on s (Safe s first) (Kept s first) can_keep Any (tracked s) (goes_on s rest brings) (λ t has. has) (lives_on rest brings (λ end then. lives_unless_last ticks next brings end more then)))
 
   lives_run : (ticks : Option ℕ) (turns : ℕ) (m : CrashPoint) → Kept s first m → Lives m (run s ticks turns (logged m.past))
   unfolding run
@@ -103,6 +122,11 @@ module _ (s : AllSettings) (settings : MeetsRequirements s) (full : s.service.fu
   lives_started : (ticks : Option ℕ) (turns : ℕ) (m : CrashPoint) (ready : Option (Unit {0})) → Kept s first m → Lives m (after_start s ticks turns (logged m.past) ready)
   lives_started ticks turns m None kept = (safe_now s first m kept, hands_now m kept)
   lives_started ticks turns m (Some ready) kept = lives_run ticks turns m kept
+
+  lives_starts : (ends : Ends) (ticks : Option ℕ) (turns : ℕ) → Goes (starts s ends ticks turns)
+  lives_starts ends ticks turns m kept =
+      ask s (Safe s first) (Kept s first) can_walk Any m (OnLoop (Start ends)) (after_start s ticks turns (logged m.past)) tt tt kept
+      (λ ready then. lives_started ticks turns (after m (OnLoop (Start ends)) ready) ready then)
 
   abbrev pub Found : Option History → CrashPoint → Type 0
   Found found m = (m.files ≡ first) × LoadedAs s first found m
@@ -118,8 +142,8 @@ module _ (s : AllSettings) (settings : MeetsRequirements s) (full : s.service.fu
       let is = loaded.1 in
       let kept : Kept s first m = loaded_kept h m loaded in
       subst (λ (x : History). Lives m (after_recovery s ends ticks turns (Some x))) (sym is.0)
-      (ask s (Safe s first) (Kept s first) can_walk Any m (OnLoop (Start ends)) (after_start s ticks turns (logged m.past)) tt tt kept
-      (λ ready then. lives_started ticks turns (after m (OnLoop (Start ends)) ready) ready then))
+      (gets_on s (Safe s first) (Kept s first) can_keep Any (tracked s) (λ (now : History). Return (lived now KeeperFailed)) (starts s ends ticks turns)
+      (λ end start then. (safe_now s first end then, hands_now end then)) (λ end start then. lives_starts ends ticks turns end then) m (subst IsStart is.0 (loading_is_start h is.3)) kept)
 
   -- what holds at each point holds at the end too
   at_end : {R : Type 0} (P : CrashPoint → Type 0) (Q : R → CrashPoint → Type 0) (m : CrashPoint) (p : Action R) → HoldsThroughout LeadsTo P Q m p → HoldsThroughout LeadsTo P (λ x end. P end × Q x end) m p

@@ -4,6 +4,7 @@ use Rattle.fwd_settings.specs.declared.settings_types.AllSettings.{AllSettings}
 use Rattle.fwd_model.specs.Fact.{Fact, History, Outcome, FlushStarted, InFlight, Retries, Delivered, Failed, Exhausted, Evicted, Happened, Resumed, Saved, Polled, Disconnected, Malformed, Found, Offered, Accepted, Refused, ChunkClosed, Sent, OnRoute, MarkStarted, Marked, Removed, FileLeft, IoFailed}
 use Rattle.fwd_theorem_trace.specs.Allowed.{IsLoading}
 use Rattle.fwd_theorem_crash.specs.FlushEvents.{FlushesSendTheirChunks}
+use Rattle.fwd_theorem_crash.specs.StepBoundaries.{IsOffsetFact}
 use Rattle.fwd_theorem_crash.proofs.PlainFacts.{IsPlain}
 
 abbrev pub IsSimple : Fact → Type 0
@@ -32,6 +33,11 @@ plain_of (Marked r) simple = simple
 plain_of (Removed chunk) simple = simple
 plain_of (FileLeft chunk) simple = simple
 plain_of IoFailed simple = simple
+
+pub offset_simple : (fact : Fact) → IsOffsetFact fact → IsSimple fact
+offset_simple (Resumed input index place) of = tt
+offset_simple (Saved input index place) of = tt
+offset_simple fact of = absurd of
 
 -- no flush begins
 pub hands_on : (s : AllSettings) (fact : Fact) (h : History) → IsSimple fact → FlushesSendTheirChunks s h → FlushesSendTheirChunks s (fact ∷ h)

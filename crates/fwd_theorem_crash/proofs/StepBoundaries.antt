@@ -23,11 +23,12 @@ use Rattle.fwd_theorem_trace.proofs.Traversal.{traverses_rest, holds_now}
 use Rattle.fwd_theorem_trace.proofs.Run.{due_since, steps_step}
 use Rattle.fwd_theorem_crash.specs.CrashPoint.{CrashPoint, crash_point, LeadsTo}
 use Rattle.fwd_theorem_crash.specs.Safety.{IsSafe}
-use Rattle.fwd_theorem_crash.specs.StepBoundaries.{wait_at, takes_event, turn, HasReached, IsLoaded, HasStarted, HasWaited, HasStepped}
+use Rattle.fwd_theorem_crash.specs.StepBoundaries.{wait_at, takes_event, turn, IsOffsetCall, HasReached, IsLoaded, HasKept, HasStarted, HasWaited, HasStepped}
 use Rattle.fwd_theorem_crash.proofs.Completion.{past_is}
 use Rattle.fwd_theorem_crash.proofs.RunTraversal.{after, IsLoopOrFiles, IsStaying, passes_stay}
 use Rattle.fwd_theorem_crash.proofs.DiskPoints.{Safe, Kept, safe_now}
-use Rattle.fwd_theorem_crash.proofs.RunSafety.{can_walk, tells_step, loaded_safe, loaded_kept, safe_along, Found}
+use Rattle.fwd_theorem_crash.proofs.OffsetTraversal.{offset_stays}
+use Rattle.fwd_theorem_crash.proofs.RunSafety.{can_walk, can_keep, tells_step, loaded_safe, loaded_kept, safe_along, Found}
 
 module _ (s : AllSettings) (settings : MeetsRequirements s) (full : s.service.full ≡ true) (first : Files) (fresh : AreDurable first) where
   -- a run allows the past, and the order invariant holds
@@ -59,6 +60,11 @@ module _ (s : AllSettings) (settings : MeetsRequirements s) (full : s.service.fu
       let is : m ≡ after before call answer = ends.3 ∙ (passes_stay call answer before ends.0 ends.1 staying ends.2).1 in
       subst IsInOrder (sym is) (record { due = (due, was.due); kept = (can_walk s settings full first).still call answer before aside was.kept })
 
+  offset_kept : (before m : CrashPoint) (call : Call) (answer : Answer call) → IsOffsetCall call → IsAllowed s call before.past → IsInOrder before → Ends LeadsTo before (entry call answer ∷ []) m → IsInOrder m
+  offset_kept before m call answer of due was ends =
+      let is : m ≡ after before call answer = ends.3 ∙ (passes_stay call answer before ends.0 ends.1 (offset_stays call of) ends.2).1 in
+      subst IsInOrder (sym is) (record { due = (due, was.due); kept = (can_keep s settings full first).still call answer before of due was.kept })
+
   step_due : (m : CrashPoint) (brought : Happening) (es : List TraceEntry) (left : Action History) → IsInOrder m → EventAllowed s brought m.past → Execution (step s brought (logged m.past)) es left → Allowed s (past_after m.past es)
   step_due m brought es left was due way =
       let Q : History → Past → Type 0 = λ (x : History) (now : Past). (x ≡ logged now) × Unit {0} in
@@ -72,8 +78,9 @@ module _ (s : AllSettings) (settings : MeetsRequirements s) (full : s.service.fu
 
   pub in_order : {m : CrashPoint} → HasReached s first m → IsInOrder m
   in_order (IsLoaded es h m way ends) = loaded es h m way ends
+  in_order (HasKept before m call answer of come due led) = offset_kept before m call answer of due (in_order come) led
   in_order (HasStarted before m ends ready come led) = beside before m (OnLoop (Start ends)) ready tt tt tt (in_order come) led
-  in_order (HasWaited before m brought come led) = beside before m (OnLoop (wait_at s before)) brought tt tt (refl, refl) (in_order come) led
+  in_order (HasWaited before m brought come led) = beside before m (OnLoop (wait_at s (logged before.past))) brought tt tt (refl, refl) (in_order come) led
   in_order (HasStepped before m brought es h come due way led) = (stepped before m brought es h (in_order come) due way led).1
 
   -- ---- consequences for a point that a run has reached
@@ -105,8 +112,8 @@ module _ (s : AllSettings) (settings : MeetsRequirements s) (full : s.service.fu
 
   -- ---- a turn: the event that its wait returned is taken
 
-  waited : (m mid : CrashPoint) (brought : Happening) → HasReached s first m → Ends LeadsTo m (entry (OnLoop (wait_at s m)) brought ∷ []) mid → (mid ≡ after m (OnLoop (wait_at s m)) brought) × HasReached s first mid
-  waited m mid brought come led = (led.3 ∙ (passes_stay (OnLoop (wait_at s m)) brought m led.0 led.1 tt led.2).1, HasWaited m mid brought come led)
+  waited : (m mid : CrashPoint) (brought : Happening) → HasReached s first m → Ends LeadsTo m (entry (OnLoop (wait_at s (logged m.past))) brought ∷ []) mid → (mid ≡ after m (OnLoop (wait_at s (logged m.past))) brought) × HasReached s first mid
+  waited m mid brought come led = (led.3 ∙ (passes_stay (OnLoop (wait_at s (logged m.past))) brought m led.0 led.1 tt led.2).1, HasWaited m mid brought come led)
 
   -- the event, at the point after the wait
   takes_safe : (m : CrashPoint) (brought : Happening) (h : History) (es : List TraceEntry) (left : Action History) → h ≡ logged m.past → EventAllowed s brought m.past → HasReached s first m
@@ -123,27 +130,27 @@ module _ (s : AllSettings) (settings : MeetsRequirements s) (full : s.service.fu
       let at : Execution (step s brought (logged m.past)) es (Return k) = subst (λ (x : History). Execution (step s brought x) es (Return k)) same way in
       (HasStepped m end brought es k come due at led, step_noted m end brought es k come due at led)
 
-  brought_by_wait : (m mid : CrashPoint) (brought : Happening) → mid ≡ after m (OnLoop (wait_at s m)) brought → EventAllowed s brought mid.past
+  brought_by_wait : (m mid : CrashPoint) (brought : Happening) → mid ≡ after m (OnLoop (wait_at s (logged m.past))) brought → EventAllowed s brought mid.past
   brought_by_wait m mid brought is = subst (λ (x : CrashPoint). EventAllowed s brought x.past) (sym is) (inl refl)
 
-  same_noted : (m mid : CrashPoint) (brought : Happening) → mid ≡ after m (OnLoop (wait_at s m)) brought → logged m.past ≡ logged mid.past
+  same_noted : (m mid : CrashPoint) (brought : Happening) → mid ≡ after m (OnLoop (wait_at s (logged m.past))) brought → logged m.past ≡ logged mid.past
   same_noted m mid brought is = ap (λ (x : CrashPoint). logged x.past) (sym is)
 
-  pub turn_safe : (m : CrashPoint) (es : List TraceEntry) (left : Action History) → HasReached s first m → Execution (turn s m) es left → AtCrashPoints LeadsTo (IsSafe s first) m es
+  pub turn_safe : (m : CrashPoint) (es : List TraceEntry) (left : Action History) → HasReached s first m → Execution (turn s (logged m.past)) es left → AtCrashPoints LeadsTo (IsSafe s first) m es
   turn_safe m [] left come way = come_safe m come
   turn_safe m (e ∷ es) left come way =
       let brought : Happening = way.0 in
       subst (λ (x : TraceEntry). AtCrashPoints LeadsTo (IsSafe s first) m (x ∷ es)) (sym way.1) (
         come_safe m come,
         λ during mid passes.
-            let led : Ends LeadsTo m (entry (OnLoop (wait_at s m)) brought ∷ []) mid = (during, mid, passes, refl) in
+            let led : Ends LeadsTo m (entry (OnLoop (wait_at s (logged m.past))) brought ∷ []) mid = (during, mid, passes, refl) in
             let went = waited m mid brought come led in (
-              subst (IsSafe s first) (sym (passes_stay (OnLoop (wait_at s m)) brought m during mid tt passes).0) (come_safe m come),
+              subst (IsSafe s first) (sym (passes_stay (OnLoop (wait_at s (logged m.past))) brought m during mid tt passes).0) (come_safe m come),
               takes_safe mid brought (logged m.past) es left (same_noted m mid brought went.0) (brought_by_wait m mid brought went.0) went.1 way.2,
             ),
       )
 
-  pub turn_come : (m end : CrashPoint) (es : List TraceEntry) (k : History) → HasReached s first m → Execution (turn s m) es (Return k) → Ends LeadsTo m es end → HasReached s first end × (k ≡ logged end.past)
+  pub turn_come : (m end : CrashPoint) (es : List TraceEntry) (k : History) → HasReached s first m → Execution (turn s (logged m.past)) es (Return k) → Ends LeadsTo m es end → HasReached s first end × (k ≡ logged end.past)
   turn_come m end [] k come way led = absurd (cc way)
   turn_come m end (e ∷ es) k come way led =
       let brought : Happening = way.0 in

@@ -13,6 +13,7 @@ ghost use Rattle.fwd_model.specs.Fact.{History, Route, Marked};
 ghost use Rattle.fwd_model.specs.Trace.{Action, TraceEntry, history_after};
 ghost use Rattle.fwd_model.specs.Chunks.{ChunkInfo, chunks_of};
 ghost use Rattle.fwd_model.specs.Routes.{is_owed, home_of};
+ghost use Rattle.fwd_model.specs.KeptOffsets.{tracked, gets, puts};
 ghost use Rattle.fwd_model.specs.RecoveryActions.{recovers};
 ghost use Rattle.fwd_model.specs.StepActions.{step};
 ghost use Rattle.fwd_model.specs.Run.{RunResult, life};
@@ -53,9 +54,22 @@ pub fn steps_are_safe()
 pub fn turns_are_safe()
     ensures come { (s : AllSettings) (first : Files) (m : CrashPoint) → MeetsRequirements s → s.service.full ≡ true → AreDurable first → HasReached s first m → IsSafe s first m }
     ensures turn { (s : AllSettings) (first : Files) (m : CrashPoint) (entries : List TraceEntry) (left : Action History)
-        → MeetsRequirements s → s.service.full ≡ true → AreDurable first → HasReached s first m → Execution (turn s m) entries left → AtCrashPoints LeadsTo (IsSafe s first) m entries }
+        → MeetsRequirements s → s.service.full ≡ true → AreDurable first → HasReached s first m → Execution (turn s (logged m.past)) entries left → AtCrashPoints LeadsTo (IsSafe s first) m entries }
     ensures over { (s : AllSettings) (first : Files) (m last : CrashPoint) (entries : List TraceEntry) (h : History)
-        → MeetsRequirements s → s.service.full ≡ true → AreDurable first → HasReached s first m → Execution (turn s m) entries (Return h) → Ends LeadsTo m entries last → HasReached s first last × (h ≡ logged last.past) }
+        → MeetsRequirements s → s.service.full ≡ true → AreDurable first → HasReached s first m → Execution (turn s (logged m.past)) entries (Return h) → Ends LeadsTo m entries last → HasReached s first last × (h ≡ logged last.past) }
+{}
+
+/// As a run gets offsets after it has loaded, and as it puts them after a step, it reaches each point on
+/// the way: between two calls and inside one, for all answers. At the end the history so far is returned.
+pub fn offset_calls_are_reached()
+    ensures gets { (s : AllSettings) (first : Files) (m : CrashPoint) (loading entries : List TraceEntry) (h : History) (left : Action History)
+        → Execution (recovers s) loading (Return (Some h)) → Ends LeadsTo (crash_point [] first) loading m → Execution (gets s (tracked s) Return Return h) entries left → AtCrashPoints LeadsTo (HasReached s first) m entries }
+    ensures got { (s : AllSettings) (first : Files) (m last : CrashPoint) (loading entries : List TraceEntry) (h now : History)
+        → Execution (recovers s) loading (Return (Some h)) → Ends LeadsTo (crash_point [] first) loading m → Execution (gets s (tracked s) Return Return h) entries (Return now) → Ends LeadsTo m entries last → HasReached s first last × (now ≡ logged last.past) }
+    ensures puts { (s : AllSettings) (first : Files) (m : CrashPoint) (entries : List TraceEntry) (left : Action History)
+        → HasReached s first m → Execution (puts s (tracked s) Return (logged m.past)) entries left → AtCrashPoints LeadsTo (HasReached s first) m entries }
+    ensures put { (s : AllSettings) (first : Files) (m last : CrashPoint) (entries : List TraceEntry) (now : History)
+        → HasReached s first m → Execution (puts s (tracked s) Return (logged m.past)) entries (Return now) → Ends LeadsTo m entries last → HasReached s first last × (now ≡ logged last.past) }
 {}
 
 /// After a crash at a safe point, a run on whatever the crash left recovers each pending chunk that is

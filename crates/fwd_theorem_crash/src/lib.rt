@@ -9,6 +9,6 @@
 mod consistency;
 
 pub use consistency::{
-    crash_points_are_safe, flushes_send_their_chunks, recorded_outcomes_stay,
-    safe_chunks_are_recovered, steps_are_safe, turns_are_safe,
+    crash_points_are_safe, flushes_send_their_chunks, offset_calls_are_reached,
+    recorded_outcomes_stay, safe_chunks_are_recovered, steps_are_safe, turns_are_safe,
 };

@@ -11,7 +11,7 @@ use Rattle.fwd_outside.specs.declared.happening.Happening.TheVariants as happeni
 use Rattle.fwd_backlog.specs.declared.file_read.FileRead.{FileRead}
 use Rattle.fwd_backlog.specs.LoadProgram.{load_program}
 use Rattle.fwd_settings.specs.declared.settings_types.AllSettings.{AllSettings}
-use Rattle.fwd_model.specs.Fact.{Fact, History, Happened, Found}
+use Rattle.fwd_model.specs.Fact.{Fact, History, Happened, Resumed, Saved, Found}
 use Rattle.fwd_model.specs.Trace.{Answer, Action, TraceEntry, OnLoop, OnDisk, OnFiles, OnKeeper, Note, history_after}
 use Rattle.fwd_model.specs.DeviceActions.{on_disk}
 use Rattle.fwd_model.specs.Settings.{saturating_plus}
@@ -19,14 +19,16 @@ use Rattle.fwd_model.specs.Clock.{clock, clock_after, stopped, ticked}
 use Rattle.fwd_model.specs.Limits.{paused}
 use Rattle.fwd_model.specs.StepActions.{step}
 use Rattle.fwd_model.specs.RecoveryActions.{notes_files, loaded, loads_from, recovers}
-use Rattle.fwd_model.specs.Run.{RunResult, Over, lived, is_tick, is_over, is_over_after, goes_on, steps_on, is_last_tick, unless_last, brought, run, after_start, after_recovery, life}
+use Rattle.fwd_model.specs.KeptOffsets.{tracked, puts}
+use Rattle.fwd_model.specs.Run.{RunResult, Over, KeeperFailed, lived, is_tick, is_over, is_over_after, goes_on, steps_on, is_last_tick, unless_last, after_step, brought, run, after_start, starts, after_recovery, life}
 use Rattle.fwd_theorem_trace.specs.Past.{Past, logged, past_after}
-use Rattle.fwd_theorem_trace.specs.Allowed.{EventAllowed, IsLoading, Allowed}
+use Rattle.fwd_theorem_trace.specs.Allowed.{EventAllowed, IsLoading, IsAllowed, Allowed}
 use Rattle.fwd_theorem_trace.specs.Events.{events_only, event_of, waited_events, logged_events}
 use Rattle.fwd_theorem_trace.proofs.Traversal.{Traverses, Extends, walks_bind, walks_if, traverses_rest, noted_since}
 use Rattle.fwd_theorem_trace.proofs.Actions.{IsKept}
 use Rattle.fwd_theorem_trace.proofs.Steps.{IsOuter, told_happens}
-use Rattle.fwd_theorem_trace.proofs.Run.{last_due}
+use Rattle.fwd_theorem_trace.proofs.OffsetCalls.{IsOffsetFact, StaysAside, all_tracked, puts_on, gets_on}
+use Rattle.fwd_theorem_trace.proofs.Run.{last_due, loading_is_start}
 
 -- the last tick is determined by the events alone
 ticked_same : (h : History) → ticked (events_only h) ≡ ticked h
@@ -157,11 +159,36 @@ module _ (s : AllSettings) (ticks : Option ℕ) where
           (λ over. (ready, even_now x before now at (subst (λ (t : Option ℕ). is_last_tick s t x (logged now) ≡ false) is last)))
           (λ on. rw (last) (more now ready (even_now x before now at (subst (λ (t : Option ℕ). is_last_tick s t x (logged now) ≡ false) is last))))
 
+  -- gets and puts of offsets log no event, and are no waits
+  at_fact : (facts : History) (heard : List Happening) (fact : Fact) (answer : Unit {0}) (past : Past) → IsOffsetFact fact → IsAllowed s (Note fact) past → Allowed s past × IsAt facts heard past
+      → Allowed s (entry (Note fact) answer ∷ past) × IsAt facts heard (entry (Note fact) answer ∷ past)
+  at_fact facts heard (Resumed input index place) answer past is due so = ((due, so.0), so.1)
+  at_fact facts heard (Saved input index place) answer past is due so = ((due, so.0), so.1)
+  at_fact facts heard fact answer past is due so = absurd is
+
+  at_aside : (facts : History) (heard : List Happening) → StaysAside s (λ past. Allowed s past × IsAt facts heard past)
+  at_aside facts heard = record { call = λ call answer past due so. ((due, so.0), so.1); fact = at_fact facts heard }
+
+  even_fact : (fact : Fact) (answer : Unit {0}) (past : Past) → IsOffsetFact fact → IsAllowed s (Note fact) past → Allowed s past × LogsWaitedEvents past
+      → Allowed s (entry (Note fact) answer ∷ past) × LogsWaitedEvents (entry (Note fact) answer ∷ past)
+  even_fact (Resumed input index place) answer past is due so = ((due, so.0), so.1)
+  even_fact (Saved input index place) answer past is due so = ((due, so.0), so.1)
+  even_fact fact answer past is due so = absurd is
+
+  even_aside : StaysAside s (λ past. Allowed s past × LogsWaitedEvents past)
+  even_aside = record { call = λ call answer past due so. ((due, so.0), so.1); fact = even_fact }
+
   even_heard : (x : Happening) (past : Past) (before : List Happening) (next : History → Action RunResult) → EventAllowed s x past → Allowed s past → events_only (logged past) ≡ logged_events s ticks before → waited_events past ≡ x ∷ before
-      → Goes_even next → Ends_even past (steps_on s (unless_last s ticks next x) x (logged past))
+      → Goes_even next → Ends_even past (bind (step s x (logged past)) (after_step s ticks next x))
   even_heard x past before next due ready even heard more =
-      even_steps x past (unless_last s ticks next x) due ready
-      (λ now then at. even_behind ticks refl x before now next then (at.0 ∙ ap (λ (h : History). Happened x ∷ h) even, at.1 ∙ heard) more)
+      let K : Past → Type 0 = IsAt (Happened x ∷ events_only (logged past)) (waited_events past) in
+      let Q : RunResult → Past → Type 0 = λ (end : RunResult) (now : Past). LogsWaitedEvents now in
+      let then : History → Action RunResult = goes_on s (unless_last s ticks next x) x in
+      walks_bind (Allowed s) (λ (h : History) (now : Past). (h ≡ logged now) × K now) Q past (step s x (logged past)) (after_step s ticks next x) (step_at x past due ready)
+      (λ h now grown ready_now is.
+      subst (λ (y : History). Ends_even now (puts s (tracked s) then y)) (sym is.0)
+      (puts_on s (Allowed s) K (at_aside (Happened x ∷ events_only (logged past)) (waited_events past)) Q (tracked s) then (all_tracked s)
+      (λ later both. even_behind ticks refl x before later next both.0 (both.1.0 ∙ ap (λ (h : History). Happened x ∷ h) even, both.1.1 ∙ heard) more) now (ready_now, is.1)))
 
   abbrev wait_behind : Past → Happening → Past
   wait_behind past x = entry (OnLoop (Wait (saturating_plus (clock (logged past)) 250) (paused s (logged past)))) x ∷ past
@@ -185,11 +212,11 @@ module _ (s : AllSettings) (ticks : Option ℕ) where
 
   abbrev Loaded_even : Option History → Past → Type 0
   Loaded_even None now = (logged now ≡ []) × LogsWaitedEvents now
-  Loaded_even (Some h) now = (h ≡ logged now) × LogsWaitedEvents now
+  Loaded_even (Some h) now = (h ≡ logged now) × (LogsWaitedEvents now × IsLoading (logged now))
 
   even_finds : (number : ℕ) (reads : List FileRead) (past : Past) → number ≡ length (logged past) + 1 → IsLoading (logged past) → Allowed s past → LogsWaitedEvents past
       → Traverses (Allowed s) Loaded_even past (notes_files number reads (logged past))
-  even_finds number [] past at loading ready even = (ready, (refl, even))
+  even_finds number [] past at loading ready even = (ready, (refl, (even, loading)))
   even_finds number (read ∷ reads) past at loading ready even = (
     ready,
     λ answer.
@@ -205,7 +232,7 @@ module _ (s : AllSettings) (ticks : Option ℕ) where
   even_read (Ask call go) past none ready even = (ready, λ answer. even_read (go answer) (entry (OnDisk call) answer ∷ past) none (tt, ready) even)
 
   even_root : (root : Option (List ℕ)) → Traverses (Allowed s) Loaded_even [] (loads_from root)
-  even_root None = (tt, (refl, refl))
+  even_root None = (tt, (refl, (refl, tt)))
   even_root (Some root) = even_read (load_program root) [] refl tt refl
 
   even_life : (ends : Ends) (turns : ℕ) → Ends_even [] (life s ends ticks turns)
@@ -217,7 +244,10 @@ module _ (s : AllSettings) (ticks : Option ℕ) where
       by None now grown due is = (due, is.1)
       by (Some h) now grown due is =
           subst (λ (x : History). Ends_even now (after_recovery s ends ticks turns (Some x))) (sym is.0)
-          (due, λ ready. even_started turns (entry (OnLoop (Start ends)) ready ∷ now) ready (tt, due) is.1)
+          (gets_on s (Allowed s) LogsWaitedEvents even_aside (λ (end : RunResult) (then : Past). LogsWaitedEvents then) (tracked s) (λ at. Return (lived at KeeperFailed)) (starts s ends ticks turns)
+          (λ at start both. both)
+          (λ at start both. (both.0, λ ready. even_started turns (entry (OnLoop (Start ends)) ready ∷ at) ready (tt, both.0) both.1))
+          now (loading_is_start (logged now) is.1.1) (due, is.1.0))
 
   pub brought_of_life : (ends : Ends) (turns : ℕ) (es : List TraceEntry) (end : RunResult) → Execution (life s ends ticks turns) es (Return end)
       → events_only (history_after es []) ≡ logged_events s ticks (waited_events (past_after [] es))

@@ -5,6 +5,7 @@ pub mod Traversal
 pub mod Persistence
 pub mod Actions
 pub mod Steps
+pub mod OffsetCalls
 pub mod Run
 pub mod Agreement
 pub mod RouteResolution

@@ -12,18 +12,20 @@ use Rattle.fwd_backlog.specs.declared.file_read.FileRead.{FileRead}
 use Rattle.fwd_backlog.specs.LoadProgram.{load_program}
 use Rattle.fwd_settings.specs.declared.settings_types.AllSettings.{AllSettings}
 use Rattle.fwd_model.specs.Fact.{Fact, History, Happened, Found}
-use Rattle.fwd_model.specs.Trace.{Call, Answer, Action, TraceEntry, OnLoop, OnDisk, Note, history_after}
+use Rattle.fwd_model.specs.Trace.{Call, Answer, Action, TraceEntry, OnLoop, OnDisk, OnKeeper, Note, history_after}
 use Rattle.fwd_model.specs.DeviceActions.{on_disk}
 use Rattle.fwd_model.specs.Settings.{saturating_plus}
 use Rattle.fwd_model.specs.Clock.{clock, stopped, ticked}
 use Rattle.fwd_model.specs.Limits.{paused}
 use Rattle.fwd_model.specs.StepActions.{step}
 use Rattle.fwd_model.specs.RecoveryActions.{notes_files, loaded, loads_from, recovers}
-use Rattle.fwd_model.specs.Run.{RunResult, Over, lived, is_tick, is_over, goes_on, steps_on, is_last_tick, unless_last, brought, run, after_start, after_recovery, life}
+use Rattle.fwd_model.specs.KeptOffsets.{tracked, puts}
+use Rattle.fwd_model.specs.Run.{RunResult, Over, KeeperFailed, lived, is_tick, is_over, goes_on, steps_on, is_last_tick, unless_last, after_step, brought, run, after_start, starts, after_recovery, life}
 use Rattle.fwd_theorem_trace.specs.Past.{Past, logged, past_after}
-use Rattle.fwd_theorem_trace.specs.Allowed.{EventAllowed, IsLoading, IsAllowed, Allowed}
+use Rattle.fwd_theorem_trace.specs.Allowed.{EventAllowed, IsLoading, IsStart, IsAllowed, Allowed}
 use Rattle.fwd_theorem_trace.proofs.Traversal.{Traverses, Extends, walks_bind, walks_if, traverses_rest, holds_now, noted_since}
 use Rattle.fwd_theorem_trace.proofs.Steps.{told_happens}
+use Rattle.fwd_theorem_trace.proofs.OffsetCalls.{StaysAside, all_tracked, puts_on, gets_on}
 
 abbrev Any : Past → Type 0
 Any past = Unit {0}
@@ -38,10 +40,11 @@ last_due s n brings past is =
 
 -- ---- what holds at each point
 
--- a call that logs nothing, or logs a recovered file
+-- a call on another device than a keeper that logs nothing, or logs a recovered file
 abbrev pub IsPlain : Call → Type 0
 IsPlain (Note (Found number stream name bytes)) = Unit {0}
 IsPlain (Note fact) = ⊥
+IsPlain (OnKeeper call) = ⊥
 IsPlain call = Unit {0}
 
 -- an invariant of the past that each allowed such call keeps
@@ -79,15 +82,21 @@ module _ (s : AllSettings) (P : Past → Type 0) (onward : KeptByPlain s P) wher
   loads_root ready None = (ready, (refl, tt))
   loads_root ready (Some root) = loads_read (load_program root) [] refl ready
 
+pub loading_is_start : (h : History) → IsLoading h → IsStart h
+loading_is_start [] loading = loading
+loading_is_start (Found number stream name bytes ∷ h) loading = loading
+loading_is_start (fact ∷ h) loading = absurd loading
+
 -- ---- what holds after the loading, and after each step
 
--- P holds at each point. This holds as long as only recovered files are logged, and calls of the loop and
--- steps keep it.
+-- P holds at each point. So holds as long as only recovered files are logged, and calls of the loop, gets
+-- and puts of offsets, and steps keep it.
 pub record Lasts (s : AllSettings) (P So : Past → Type 0) : Type 0 where
   pub first : P []
   pub onward : KeptByPlain s P
   pub loaded : (past : Past) → IsLoading (logged past) → So past
   pub called : (call : LoopCall) (answer : Answer (OnLoop call)) (past : Past) → So past → So (entry (OnLoop call) answer ∷ past)
+  pub aside : StaysAside s (λ past. P past × So past)
   pub stepped : (brings : Happening) (past : Past) → EventAllowed s brings past → P past → So past → Traverses P (λ (h : History) (now : Past). (h ≡ logged now) × So now) past (step s brings (logged past))
 
 module _ (s : AllSettings) (P So : Past → Type 0) (lasts : Lasts s P So) where
@@ -100,12 +109,14 @@ module _ (s : AllSettings) (P So : Past → Type 0) (lasts : Lasts s P So) where
   abbrev Goes : (History → Action RunResult) → Type 0
   Goes next = (now : Past) → P now → So now → Lives now (next (logged now))
 
+  lives_on : (next : History → Action RunResult) (brings : Happening) (now : Past) → P now → So now → Goes next → Lives now (goes_on s next brings (logged now))
+  lives_on next brings now ready so more =
+      walks_if P Ends_so (is_over s brings (logged now)) now (Return (lived (logged now) Over)) (next (logged now)) (λ over. (ready, (refl, so))) (λ on. more now ready so)
+
   lives_step : (next : History → Action RunResult) (past : Past) (brings : Happening) → EventAllowed s brings past → P past → So past → Goes next → Lives past (steps_on s next brings (logged past))
   lives_step next past brings due ready so more =
       walks_bind P (λ (h : History) (now : Past). (h ≡ logged now) × So now) Ends_so past (step s brings (logged past)) (goes_on s next brings) (lasts.stepped brings past due ready so)
-      (λ h now grown then is.
-      subst (λ (x : History). Lives now (goes_on s next brings x)) (sym is.0)
-      (walks_if P Ends_so (is_over s brings (logged now)) now (Return (lived (logged now) Over)) (next (logged now)) (λ over. (then, (refl, is.1))) (λ on. more now then is.1)))
+      (λ h now grown then is. subst (λ (x : History). Lives now (goes_on s next brings x)) (sym is.0) (lives_on next brings now then is.1 more))
 
   lives_unless_last : (ticks : Option ℕ) (next : History → Action RunResult) (brings : Happening) → Goes next → Goes (unless_last s ticks next brings)
   lives_unless_last None next brings more past ready so = more past ready so
@@ -115,7 +126,12 @@ module _ (s : AllSettings) (P So : Past → Type 0) (lasts : Lasts s P So) where
 
   lives_brought : (ticks : Option ℕ) (next : History → Action RunResult) (past : Past) (brings : Happening) → EventAllowed s brings past → P past → So past → Goes next → Lives past (brought s ticks next (logged past) brings)
   lives_brought ticks next past happening.Failed due ready so more = (ready, (refl, so))
-  lives_brought ticks next past brings due ready so more = lives_step (unless_last s ticks next brings) past brings due ready so (lives_unless_last ticks next brings more)
+  lives_brought ticks next past brings due ready so more =
+      let then : History → Action RunResult = goes_on s (unless_last s ticks next brings) brings in
+      walks_bind P (λ (h : History) (now : Past). (h ≡ logged now) × So now) Ends_so past (step s brings (logged past)) (after_step s ticks next brings) (lasts.stepped brings past due ready so)
+      (λ h now grown ready_now is.
+      subst (λ (x : History). Lives now (puts s (tracked s) then x)) (sym is.0)
+      (puts_on s P So lasts.aside Ends_so (tracked s) then (all_tracked s) (λ later both. lives_on (unless_last s ticks next brings) brings later both.0 both.1 (lives_unless_last ticks next brings more)) now (ready_now, is.1)))
 
   lives_run : (ticks : Option ℕ) (turns : ℕ) → Goes (run s ticks turns)
   unfolding run
@@ -140,7 +156,10 @@ module _ (s : AllSettings) (P So : Past → Type 0) (lasts : Lasts s P So) where
       by None now grown due is = (due, (sym is, lasts.loaded now (subst IsLoading (sym is) tt)))
       by (Some h) now grown due is =
           subst (λ (x : History). Lives now (after_recovery s ends ticks turns (Some x))) (sym is.0)
-          (due, λ ready. lives_started ticks turns (entry (OnLoop (Start ends)) ready ∷ now) ready (lasts.onward (OnLoop (Start ends)) ready now tt tt due) (lasts.called (Start ends) ready now (lasts.loaded now is.1)))
+          (gets_on s P So lasts.aside Ends_so (tracked s) (λ at. Return (lived at KeeperFailed)) (starts s ends ticks turns)
+          (λ at start both. (both.0, (refl, both.1)))
+          (λ at start both. (both.0, λ ready. lives_started ticks turns (entry (OnLoop (Start ends)) ready ∷ at) ready (lasts.onward (OnLoop (Start ends)) ready at tt tt both.0) (lasts.called (Start ends) ready at both.1)))
+          now (loading_is_start (logged now) is.1) (due, lasts.loaded now is.1))
 
   -- it holds at each beginning of a run
   pub at_each : (ends : Ends) (ticks : Option ℕ) (turns : ℕ) (es : List TraceEntry) (left : Action RunResult) → Execution (life s ends ticks turns) es left → P (past_after [] es)
@@ -167,6 +186,7 @@ module _ (s : AllSettings) where
     onward = due_onward s;
     loaded = λ past loading. tt;
     called = λ call answer past so. tt;
+    aside = record { call = λ call answer past due so. ((due, so.0), tt); fact = λ fact answer past is due so. ((due, so.0), tt) };
     stepped = λ brings past due ready so. steps_step brings past due ready;
   }
 

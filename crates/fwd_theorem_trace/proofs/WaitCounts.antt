@@ -28,12 +28,12 @@ use Rattle.fwd_in_tail.specs.Followed.{Polled as Poll, polls as polls_of, reads_
 use Rattle.fwd_wire.specs.Message.{MessageContent}
 use Rattle.fwd_settings.specs.declared.settings_types.AllSettings.{AllSettings}
 use Rattle.fwd_model.specs.Fact.{History, Route, FlushStarted, Stream, LineStream, MessageStream, Standard, Batch, NoChunk, TooLarge, NoNumber, Retries, OnRoute, Exhausted, Accepted, Happened, ChunkClosed}
-use Rattle.fwd_model.specs.Trace.{Answer, Action, TraceEntry, OnLoop, Call, OnFiles}
+use Rattle.fwd_model.specs.Trace.{Answer, Action, TraceEntry, OnLoop, Call, OnFiles, OnKeeper}
 use Rattle.fwd_model.specs.DeviceActions.{on_loop, on_disk, on_files}
 use Rattle.fwd_model.specs.Settings.{outputs_for, output_at, output_name, retries_at, home_at, names_for, paths_at, from_head_at, reads_stdin_at}
 use Rattle.fwd_model.specs.Clock.{stopped, is_close_due}
 use Rattle.fwd_model.specs.Streams.{stream_of, said}
-use Rattle.fwd_model.specs.FollowedFiles.{file_at}
+use Rattle.fwd_model.specs.FollowedFiles.{file_at, settled}
 use Rattle.fwd_model.specs.Batches.{piece_batch, end_batch, poll_batch}
 use Rattle.fwd_model.specs.Messages.{completed_messages, becomes_malformed, message_batch, reply_of}
 use Rattle.fwd_model.specs.Chunks.{ChunkInfo, open_chunks, open_chunk, next, size, encoded, is_storable, records as records_of}
@@ -50,7 +50,8 @@ use Rattle.fwd_model.specs.FlushActions.{retries, applies_answer, notes_stage, s
 use Rattle.fwd_model.specs.InputActions.{hangs_up, after_reply, replies, acknowledges, accepts_messages, accepts_stream, pieces, polled, polls_file, polls_files, polls_input, polls_inputs, polls_all}
 use Rattle.fwd_model.specs.StepActions.{closes_and_dispatches, ticks, stops, at_input_end, handles, step}
 use Rattle.fwd_model.specs.RecoveryActions.{notes_files, loaded, loads_from, recovers}
-use Rattle.fwd_model.specs.Run.{RunResult, Over, lived, is_over, goes_on as run_goes_on, steps_on, is_last_tick, unless_last, brought, run}
+use Rattle.fwd_model.specs.KeptOffsets.{Tracked, tracked, kept_at, to_put, after_put, puts_by, puts}
+use Rattle.fwd_model.specs.Run.{RunResult, Over, lived, is_over, goes_on as run_goes_on, steps_on, is_last_tick, unless_last, after_step, brought, run}
 use Rattle.fwd_theorem_trace.specs.Waits.{is_wait, waits_in, WaitsFirst}
 use Rattle.fwd_theorem_trace.proofs.Actions.{OnLinks, links_dialed_on, links_polls, links_backs, links_breaks}
 
@@ -62,11 +63,12 @@ waits_append (e ∷ a) b = by (is_wait e.call) (waits_append a b)
     by true more = omega (arith, more)
     by false more = more
 
--- a call that isn't a wait, and makes no change of files
+-- a call that isn't a wait, isn't on a keeper, and makes no change of files
 abbrev pub is_plain : Call → Bool
 is_plain (OnLoop (Wait until paused)) = false
 is_plain (OnFiles (Changed path bytes)) = false
 is_plain (OnFiles (FailAt number)) = false
+is_plain (OnKeeper call) = false
 is_plain call = true
 
 abbrev pub ArePlain : List TraceEntry → Type 0
@@ -75,13 +77,14 @@ ArePlain (e ∷ es) = (is_plain e.call ≡ true) × ArePlain es
 
 plain_is_no_wait : (call : Call) → is_plain call ≡ true → is_wait call ≡ false
 plain_is_no_wait (OnLoop (Wait until paused)) plain = absurd (cc plain)
+plain_is_no_wait (OnKeeper call) plain = absurd (cc plain)
 plain_is_no_wait call plain = refl
 
 pub plain_waitless : (es : List TraceEntry) → ArePlain es → waits_in es ≡ 0
 plain_waitless [] plain = refl
 plain_waitless (e ∷ es) plain = rw (plain_is_no_wait e.call plain.0) (plain_waitless es plain.1)
 
--- for all answers, the action never waits, and changes no files
+-- for all answers, the action never waits, asks no keeper, and changes no files
 abbrev IsWaitless : {R : Type 0} → Action R → Type 0
 IsWaitless (Return x) = Unit {0}
 IsWaitless (Ask call go) = (is_plain call ≡ true) × ((answer : Answer call) → IsWaitless (go answer))
@@ -102,6 +105,29 @@ waitless_bind (Ask call go) next first more = (first.0, λ answer. waitless_bind
 waitless_if : {R : Type 0} (b : Bool) (p q : Action R) → IsWaitless p → IsWaitless q → IsWaitless (cond b p q)
 waitless_if true p q first second = first
 waitless_if false p q first second = second
+
+-- for all answers, the action never waits
+abbrev NeverWaits : {R : Type 0} → Action R → Type 0
+NeverWaits (Return x) = Unit {0}
+NeverWaits (Ask call go) = (is_wait call ≡ false) × ((answer : Answer call) → NeverWaits (go answer))
+
+waitless_never : {R : Type 0} (p : Action R) → IsWaitless p → NeverWaits p
+waitless_never (Return x) plain = tt
+waitless_never (Ask call go) plain = (plain_is_no_wait call plain.0, λ answer. waitless_never (go answer) (plain.1 answer))
+
+never_way : {R : Type 0} (p : Action R) (entries : List TraceEntry) (left : Action R) → NeverWaits p → Execution p entries left → waits_in entries ≡ 0
+never_way p [] left never way = refl
+never_way (Return x) (e ∷ es) left never way = absurd way
+never_way (Ask call go) (e ∷ es) left never way =
+    subst (λ (x : TraceEntry). waits_in (x ∷ es) ≡ 0) (sym way.1) (rw (never.0) (never_way (go way.0) es left (never.1 way.0) way.2))
+
+never_bind : {R S : Type 0} (p : Action R) (next : R → Action S) → NeverWaits p → ((x : R) → NeverWaits (next x)) → NeverWaits (bind p next)
+never_bind (Return x) next first more = more x
+never_bind (Ask call go) next first more = (first.0, λ answer. never_bind (go answer) next (first.1 answer) more)
+
+never_if : {R : Type 0} (b : Bool) (p q : Action R) → NeverWaits p → NeverWaits q → NeverWaits (cond b p q)
+never_if true p q first second = first
+never_if false p q first second = second
 
 waitless_disk : {R S : Type 0} (p : DiskProgram R) (next : R → Action S) → ((x : R) → IsWaitless (next x)) → IsWaitless (bind (on_disk p) next)
 waitless_disk (Return x) next more = more x
@@ -377,17 +403,33 @@ module _ (s : AllSettings) where
 
   -- ---- a turn
 
-  no_wait_steps_on : (next : History → Action RunResult) (x : Happening) (h : History) → ((at : History) → IsWaitless (next at)) → IsWaitless (steps_on s next x h)
+  no_wait_steps_on : (next : History → Action RunResult) (x : Happening) (h : History) → ((at : History) → NeverWaits (next at)) → NeverWaits (steps_on s next x h)
   no_wait_steps_on next x h more =
-      waitless_bind (step s x h) (run_goes_on s next x) (no_wait_step x h) (λ at. waitless_if (is_over s x at) (Return (lived at Over)) (next at) tt (more at))
+      never_bind (step s x h) (run_goes_on s next x) (waitless_never (step s x h) (no_wait_step x h)) (λ at. never_if (is_over s x at) (Return (lived at Over)) (next at) tt (more at))
 
-  no_wait_unless_last : (ticks : Option ℕ) (next : History → Action RunResult) (x : Happening) (h : History) → ((at : History) → IsWaitless (next at)) → IsWaitless (unless_last s ticks next x h)
+  no_wait_unless_last : (ticks : Option ℕ) (next : History → Action RunResult) (x : Happening) (h : History) → ((at : History) → NeverWaits (next at)) → NeverWaits (unless_last s ticks next x h)
   no_wait_unless_last ticks next x h more =
-      waitless_if (is_last_tick s ticks x h) (steps_on s next happening.Stop h) (next h) (no_wait_steps_on next happening.Stop h more) (more h)
+      never_if (is_last_tick s ticks x h) (steps_on s next happening.Stop h) (next h) (no_wait_steps_on next happening.Stop h more) (more h)
 
-  no_wait_brought : (ticks : Option ℕ) (next : History → Action RunResult) (h : History) (x : Happening) → ((at : History) → IsWaitless (next at)) → IsWaitless (brought s ticks next h x)
+  no_wait_put : (t : Tracked) (place : ℕ) (next : History → Action RunResult) → ((at : History) → NeverWaits (next at)) → (answer : Option (Unit {0})) (h : History) → NeverWaits (after_put t place next h answer)
+  no_wait_put t place next more None h = more h
+  no_wait_put t place next more (Some done) h = (refl, λ _. more _)
+
+  no_wait_puts_by : (t : Tracked) (o : Option ℕ) (next : History → Action RunResult) → ((at : History) → NeverWaits (next at)) → (h : History) → NeverWaits (puts_by t o next h)
+  no_wait_puts_by t None next more h = more h
+  no_wait_puts_by t (Some place) next more h = (refl, λ answer. no_wait_put t place next more answer h)
+
+  no_wait_puts : (ts : List Tracked) (next : History → Action RunResult) → ((at : History) → NeverWaits (next at)) → (h : History) → NeverWaits (puts s ts next h)
+  no_wait_puts [] next more h = more h
+  no_wait_puts (t ∷ ts) next more h = no_wait_puts_by t (to_put (settled s h t.input t.index) (kept_at h t.input t.index)) (puts s ts next) (no_wait_puts ts next more) h
+
+  no_wait_brought : (ticks : Option ℕ) (next : History → Action RunResult) (h : History) (x : Happening) → ((at : History) → NeverWaits (next at)) → NeverWaits (brought s ticks next h x)
   no_wait_brought ticks next h happening.Failed more = tt
-  no_wait_brought ticks next h x more = no_wait_steps_on (unless_last s ticks next x) x h (λ at. no_wait_unless_last ticks next x at more)
+  no_wait_brought ticks next h x more =
+      never_bind (step s x h) (after_step s ticks next x) (waitless_never (step s x h) (no_wait_step x h))
+      (λ at.
+      no_wait_puts (tracked s) (run_goes_on s (unless_last s ticks next x) x)
+      (λ later. never_if (is_over s x later) (Return (lived later Over)) (unless_last s ticks next x later) tt (no_wait_unless_last ticks next x later more)) at)
 
   pub turn_waits_first : (ticks : Option ℕ) (h : History) (entries : List TraceEntry) (left : Action RunResult) → Execution (run s ticks 1 h) entries left → (entries ≡ []) ⊎ WaitsFirst s h entries
   unfolding run
@@ -396,7 +438,7 @@ module _ (s : AllSettings) where
     brought = way.0;
     rest = es;
     first = ap (λ (x : TraceEntry). x ∷ es) way.1;
-    no_more = waitless_way (brought s ticks (run s ticks 0) h way.0) es left (no_wait_brought ticks (run s ticks 0) h way.0 (λ _. tt)) way.2;
+    no_more = never_way (brought s ticks (run s ticks 0) h way.0) es left (no_wait_brought ticks (run s ticks 0) h way.0 (λ _. tt)) way.2;
   })
 
   pub turn_waits_once : (ticks : Option ℕ) (h : History) (lived : RunResult) (entries : List TraceEntry) → Execution (run s ticks 1 h) entries (Return lived)

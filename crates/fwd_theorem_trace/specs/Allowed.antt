@@ -5,19 +5,20 @@ use Rattle.fwd_outside.specs.Program.{entry}
 use Rattle.fwd_outside.specs.Loop.{LoopCall, Wait, Dial, DropConn}
 use Rattle.fwd_outside.specs.declared.happening.Happening.{Happening}
 use Rattle.fwd_outside.specs.declared.happening.Happening.TheVariants as happening
-use Rattle.fwd_keeper.specs.Keeper.{Put}
+use Rattle.fwd_keeper.specs.Keeper.{KeeperCall, Get, Put, FailAt}
 use Rattle.fwd_settings.specs.declared.settings_types.AllSettings.{AllSettings}
 use Rattle.fwd_model.specs.Fact.{Fact, History, Batch, Placement, NoChunk, NewChunk, AppendedTo, Reason, TooLarge, NoNumber, NotStored, Route, Outcome, FlushStarted, InFlight, Retries, Delivered, Failed, Exhausted, Evicted, Happened, Resumed, Saved, Polled, Disconnected, Malformed, Found, Offered, Accepted, Refused, ChunkClosed, Sent, OnRoute, MarkStarted, Marked, Removed, FileLeft, IoFailed}
 use Rattle.fwd_model.specs.Trace.{Call, OnLoop, OnDisk, OnFiles, OnKeeper, Note}
 use Rattle.fwd_model.specs.Settings.{saturating_plus, outputs_for}
 use Rattle.fwd_model.specs.Clock.{clock, stopped}
+use Rattle.fwd_model.specs.FollowedFiles.{settled}
 use Rattle.fwd_model.specs.Chunks.{ChunkInfo, chunks_of, open_chunk, next, is_closed, is_storable}
 use Rattle.fwd_model.specs.Routes.{owes}
 use Rattle.fwd_model.specs.Payloads.{tag_of_chunk}
 use Rattle.fwd_model.specs.Limits.{paused}
 use Rattle.fwd_model.specs.Dispatch.{may_start}
 use Rattle.fwd_model.specs.Notes.{is_empty}
-use Rattle.fwd_model.specs.KeptOffsets.{Tracked, tracked}
+use Rattle.fwd_model.specs.KeptOffsets.{Tracked, tracked, kept_at, to_put}
 use Rattle.fwd_theorem_trace.specs.Past.{Past, logged, last_event, last_fact, last_call}
 
 -- only recovered files are logged, numbered by their positions from 1 on
@@ -25,6 +26,11 @@ abbrev pub IsLoading : History → Type 0
 IsLoading [] = Unit {0}
 IsLoading (Found number stream name bytes ∷ h) = (number ≡ length h + 1) × IsLoading h
 IsLoading (fact ∷ h) = ⊥
+
+-- recovered files, and after them the offsets from which reading resumes
+abbrev pub IsStart : History → Type 0
+IsStart (Resumed input index place ∷ h) = IsStart h
+IsStart h = IsLoading h
 
 -- a chunk has this number
 pub record IsChunk (h : History) (number : ℕ) : Type 0 where
@@ -87,6 +93,13 @@ pub record IsFinished (s : AllSettings) (chunk : ℕ) (h : History) : Type 0 whe
   pub shut : is_closed h chunk ≡ true
   pub owed : owes s h chunk ≡ false
 
+-- this is the settled offset of a followed file with this database and path, and isn't kept yet
+pub record PutAllowed (s : AllSettings) (db path : List ℕ) (place : ℕ) (h : History) : Type 0 where
+  pub file : Tracked
+  pub among : Contains (tracked s) file
+  pub of : (file.db ≡ db) × (file.path ≡ path)
+  pub new : to_put (settled s h file.input file.index) (kept_at h file.input file.index) ≡ Some place
+
 -- a put of this offset of this followed file just succeeded
 pub record WasSaved (s : AllSettings) (input index place : ℕ) (past : Past) : Type 0 where
   pub file : Tracked
@@ -102,7 +115,7 @@ EventAllowed s brought past =
 
 abbrev pub FactAllowed : AllSettings → Fact → Past → Type 0
 FactAllowed s (Happened brought) past = EventAllowed s brought past
-FactAllowed s (Resumed input index place) past = IsLoading (logged past)
+FactAllowed s (Resumed input index place) past = IsStart (logged past)
 FactAllowed s (Saved input index place) past = WasSaved s input index place past
 FactAllowed s (Polled input index long bytes) past = Unit {0}
 FactAllowed s (Disconnected conn) past = last_call past ≡ Some (OnLoop (DropConn conn))
@@ -134,11 +147,17 @@ LoopCallAllowed s (Wait until mask) past =
 LoopCallAllowed s (Dial output tag) past = DialAllowed output tag past (last_fact past)
 LoopCallAllowed s call past = Unit {0}
 
+-- offsets are got at the start, and put later
+abbrev pub KeeperCallAllowed : AllSettings → KeeperCall → Past → Type 0
+KeeperCallAllowed s (Get db path) past = IsStart (logged past)
+KeeperCallAllowed s (Put db path place) past = PutAllowed s db path place (logged past)
+KeeperCallAllowed s (FailAt number) past = ⊥
+
 abbrev pub IsAllowed : AllSettings → Call → Past → Type 0
 IsAllowed s (OnLoop call) past = LoopCallAllowed s call past
 IsAllowed s (OnDisk call) past = Unit {0}
 IsAllowed s (OnFiles call) past = Unit {0}
-IsAllowed s (OnKeeper call) past = ⊥
+IsAllowed s (OnKeeper call) past = KeeperCallAllowed s call past
 IsAllowed s (Note fact) past = FactAllowed s fact past
 
 -- each entry is allowed

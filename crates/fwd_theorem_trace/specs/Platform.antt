@@ -3,7 +3,7 @@ use Rattle.std.specs.Prelude.{◌≡◌, List, [], ◌∷◌, ◌++◌}
 use Rattle.fwd_model.specs.Trace.{Call, Answer, TraceEntry}
 
 -- What a platform answers to a call, given all earlier calls and answers: of the loop, the disk, the
--- files and the keeper of positions. The states of the devices are functions of these calls.
+-- files and the keeper of offsets. The states of the devices are functions of these calls.
 abbrev pub Platform : Type 0
 Platform = List TraceEntry → (call : Call) → Answer call
 

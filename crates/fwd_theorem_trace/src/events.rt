@@ -9,7 +9,7 @@ ghost use Rattle.fwd_model.specs.Run.{RunResult, life};
 ghost use Rattle.fwd_theorem_trace.specs.Past.{past_after};
 ghost use Rattle.fwd_theorem_trace.specs.Events.{events_only, waited_events, logged_events};
 
-/// The events that a run logs (`Brought`) are those that its waits returned, in order, plus the `Stop`
+/// The events that a run logs (`Happened`) are those that its waits returned, in order, plus the `Stop`
 /// after the last tick.
 pub fn logged_events_are_waited()
     ensures { (s : AllSettings) (ends : Ends) (ticks : Option ℕ) (turns : ℕ) (lived : RunResult) (entries : List TraceEntry)

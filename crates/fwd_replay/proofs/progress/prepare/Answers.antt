@@ -7,11 +7,11 @@ use Rattle.fwd_replay.proofs.TurnCalls.{prepared}
 use Rattle.fwd_replay.proofs.progress.prepare.Goals as goal
 
 pub returns-clause-ready : goal.returns-clause-ready
-returns-clause-ready c s start seen under =
+returns-clause-ready c s start seen kept under =
     let life = c.args.life.now in
     let done = c.args.going.now.changed in
     let makes : (at : FilesAt) → FilesRepresent c.args.files.now at → FilesRepresent c.make_changes.new.files (record at { changes = at.changes ++ changes_between life.lines done c.line_at-upto.result }) = λ at stands.
     subst (λ (l : List Planned). FilesRepresent c.make_changes.new.files (record at { changes = at.changes ++ changes_between l done c.line_at-upto.result })) c.as_slice.ensures (c.in_ok-make_changes.ensures at stands)
     in
-    prepared s start life c.args.going.now seen c.args.files.now c.make_changes.new.files under c.place_ahead-place.result c.paused.result c.line_at-upto.result c.max-going.result c.cut_at.result
+    prepared s start life c.args.going.now seen c.args.files.now c.make_changes.new.files kept under c.place_ahead-place.result c.paused.result c.line_at-upto.result c.max-going.result c.cut_at.result
     (c.paused.ensures s under.history under.at) c.place_ahead-place.ensures c.line_at-upto.ensures makes c.max-going.ensures c.cut_at.ensures

@@ -10,6 +10,6 @@ invariant-loop-life g l =
     record {
       same : l.settings ≡ l.fn.settings;
       start : Start;
-      finds : DevicesAreReady start l.between.disk l.between.files;
+      finds : DevicesAreReady start l.between.disk l.between.files l.between.keeper;
       goes : Continues l.fn.named.shown l.fn.settings l.fn.between.left l.fn.lives l.text l.between.cut l.between.left start (drop l.life-index l.fn.lives);
     }

@@ -1,5 +1,6 @@
 use Rattle.std.proofs.Common.{ap, refl}
 use Rattle.fwd_outside.specs.Files.{found}
+use Rattle.fwd_keeper_mem.specs.KeeperState.{KeeperState}
 use Rattle.fwd_script.specs.FilesState.{FilesState}
 use Rattle.fwd_script.specs.MemFiles.{files_now}
 use Rattle.fwd_replay.proofs.runs.initial_state.Goals as goal
@@ -10,6 +11,8 @@ returns-clause-first c = record {
     disk = c.new-disk.ensures.calls;
     has = λ path. ap (λ (h : FilesState). found (files_now h.given h.notes) path) c.new-files.ensures;
     unasked = ap (λ (h : FilesState). h.notes) c.new-files.ensures;
+    kept_given = ap (λ (k : KeeperState). k.given) c.new-keeper.ensures;
+    kept_unasked = ap (λ (k : KeeperState). k.notes) c.new-keeper.ensures;
   };
   cut = refl;
 }
