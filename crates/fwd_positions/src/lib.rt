@@ -1,12 +1,17 @@
 //! Offsets in followed files, kept in databases that sqlite3 reads.
 //!
-//! Each name of a database is a file with one table of paths and offsets. A put is one synced commit. The
-//! keeper logs its calls with the answers that the databases gave; nothing is stated about what a file holds.
+//! Each name of a database is a file with one table of paths and offsets. A put is one synced commit. A database
+//! that fails is closed, and opened again at a later call; the log says both. The keeper has a ghost log of its
+//! calls with the answers that the databases gave; nothing is stated about what a file holds.
 #![tactic(auto)]
 
+mod database;
 mod databases;
+mod errors;
 mod keeper_log;
+mod messages;
 mod sqlite_keeper;
+mod table;
 
 pub use fwd_keeper::{KeepErr, Keeper, held_was_given_or_put};
 pub use fwd_keeper_mem::{KeeperNote, MemKeeper};

@@ -8,30 +8,33 @@ ghost use Rattle.fwd_keeper.specs.declared.errors.KeepErr.TheVariants.{Failed};
 use crate::databases::Databases;
 use crate::keeper_log::KeeperCalls;
 use fwd_keeper::{KeepErr, Keeper};
+use fwd_log::Journal;
 
-/// Offsets in databases, one file for each. A file is opened at its first call and held until the end.
+/// Offsets in databases, one file for each. A file is opened at its first call and held until the end, or until
+/// it fails. No other process can open it meanwhile.
 #[derive(Drop)]
-pub struct SqliteKeeper {
-    databases: Databases,
+pub struct SqliteKeeper<'a> {
+    databases: Databases<'a>,
     faults: u64,
     calls: KeeperCalls,
 }
 
-impl SqliteKeeper {
-    /// Returns a keeper on which no call was made. The caller picks the first offsets.
-    pub fn new(rt: HostRuntime) -> Self
+impl<'a> SqliteKeeper<'a> {
+    /// Returns a keeper on which no call was made. It tells failures of databases in the journal. The caller
+    /// picks the first offsets.
+    pub fn new(rt: HostRuntime, journal: &'a Journal) -> Self
         ghost given: { KeeperGiven }
         ensures { (result.calls.given ≡ given) × (result.calls.entries ≡ []) }
     {
         SqliteKeeper {
-            databases: Databases::new(rt),
+            databases: Databases::new(rt, journal),
             faults: 0,
             calls: KeeperCalls::new(),
         }
     }
 
-    /// Returns the value of a call, or a failure, which is counted.
-    fn settle<T>(&mut self, answer: Option<T>) -> Result<T, KeepErr>
+    /// Returns what a call gave, or the failure, which it counts.
+    fn result_of<T>(&mut self, answer: Option<T>) -> Result<T, KeepErr>
         ensures outcome { outcome result ≡ Some answer }
         ensures cause { HasCause self.old.faults self.new.faults (IsErrOf result Failed) }
         ensures calls { self.new.calls ≡ self.old.calls }
@@ -46,7 +49,7 @@ impl SqliteKeeper {
     }
 }
 
-impl Keeper for SqliteKeeper {
+impl<'a> Keeper for SqliteKeeper<'a> {
     ghost faults = { λ keeper. keeper.faults };
 
     ghost call_log = { λ keeper. Some (keeper.calls.given, keeper.calls.entries) };
@@ -56,7 +59,7 @@ impl Keeper for SqliteKeeper {
             return Err(KeepErr::Memory);
         };
         self.calls = self.calls.then(&(db, path, kept));
-        self.settle(kept)
+        self.result_of(kept)
     }
 
     fn put(&mut self, db: &[u8], path: &[u8], place: u64) -> Result<(), KeepErr> {
@@ -64,6 +67,6 @@ impl Keeper for SqliteKeeper {
             return Err(KeepErr::Memory);
         };
         self.calls = self.calls.then(&(db, path, place, put));
-        self.settle(put)
+        self.result_of(put)
     }
 }

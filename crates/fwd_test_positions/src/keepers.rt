@@ -1,12 +1,22 @@
 //! Calls on keepers, with the answers that are wanted.
 
+use fwd_log::{Journal, Level};
 use fwd_positions::{KeepErr, Keeper, MemKeeper, SqliteKeeper};
 use std::alloc::Global;
-use std::fs;
+use std::test::Fail;
+use std::time::Duration;
+use std::{fs, io, thread};
 
 const FIRST: &str = "fwd_test_positions.first";
 
 const SECOND: &str = "fwd_test_positions.second";
+
+const TAKEN: &str = "fwd_test_positions.taken";
+
+const LOG: &str = "fwd_test_positions.log";
+
+/// Milliseconds after which a database that failed is opened again.
+const RETRIED: u64 = 5_100;
 
 /// A call with the answer that is wanted.
 #[derive(Clone, Copy)]
@@ -38,7 +48,7 @@ const LATER: &[Step] = &[
     Step::Gets(SECOND, "/l", Some(5)),
 ];
 
-/// A folder is no database, and a database in a folder that is missing cannot be opened.
+/// A folder is no database, and a database in a folder that is missing can't be opened.
 const REFUSED: &[Step] = &[
     Step::Refuses("."),
     Step::Refuses("fwd_test_positions.none/d"),
@@ -72,27 +82,87 @@ fn are_taken<K: Keeper>(keeper: &mut K, steps: &[Step]) -> bool {
     steps.iter().all(|step| is_taken(keeper, *step))
 }
 
-fn new_keeper(rt: HostRuntime) -> SqliteKeeper {
-    SqliteKeeper::new(rt)
+fn new_keeper(rt: HostRuntime, journal: &Journal) -> SqliteKeeper<'_> {
+    SqliteKeeper::new(rt, journal)
 }
 
 fn are_kept(rt: HostRuntime, steps: &[Step]) -> bool {
-    are_taken(&mut new_keeper(rt), steps)
+    let quiet = Journal::new(rt, None);
+    are_taken(&mut new_keeper(rt, &quiet), steps)
 }
 
-fn remove(rt: HostRuntime) -> bool {
-    fs::remove_file(&rt, FIRST).is_ok() && fs::remove_file(&rt, SECOND).is_ok()
+/// Removes a database with its log.
+fn remove(rt: HostRuntime, db: &str) -> Result<(), Fail> {
+    fs::remove_file(&rt, db)?;
+    fs::remove_file(&rt, format!(in rt.alloc(); "{db}-wal")?.as_str())?;
+    Ok(())
 }
 
 #[test]
-fn offsets_outlive_a_keeper(rt: HostRuntime) {
+fn offsets_outlive_a_keeper(rt: HostRuntime) -> Result<(), Fail> {
     let kept = are_kept(rt, STEPS) && are_kept(rt, LATER);
-    assert!(rt; kept && remove(rt));
+    remove(rt, FIRST)?;
+    remove(rt, SECOND)?;
+    assert!(rt; kept);
+    Ok(())
 }
 
 #[test]
 fn what_is_no_database_fails(rt: HostRuntime) {
     assert!(rt; are_kept(rt, REFUSED));
+}
+
+/// While a keeper has the database, another one is refused.
+fn is_refused_beside_another(
+    rt: HostRuntime,
+    journal: &Journal,
+    late: &mut SqliteKeeper<'_>,
+) -> bool {
+    let mut early = new_keeper(rt, journal);
+    puts(&mut early, TAKEN, "/l", 3) && refuses(late, TAKEN) && puts(&mut early, TAKEN, "/l", 4)
+}
+
+/// The refused keeper fails for a while after the other one is gone, and then has what that one put.
+fn is_taken_over(rt: HostRuntime, journal: &Journal) -> bool {
+    let mut late = new_keeper(rt, journal);
+    if !is_refused_beside_another(rt, journal, &mut late) || !refuses(&mut late, TAKEN) {
+        return false;
+    }
+    thread::sleep(&rt, Duration::from_millis(RETRIED));
+    gets(&mut late, TAKEN, "/l", Some(4)) && puts(&mut late, TAKEN, "/l", 5)
+}
+
+/// The lines of the log without their times.
+const TOLD: &[&str] = &[
+    " [error] [files] offsets of followed files aren't kept in fwd_test_positions.taken: database is locked",
+    " [ info] [files] offsets of followed files are kept in fwd_test_positions.taken again",
+];
+
+/// Returns whether the log has these lines and no others.
+fn is_told(rt: HostRuntime, wanted: &[&str]) -> io::Result<bool> {
+    let log = fs::read_to_string(&rt, LOG)?;
+    let mut lines = log.as_str().lines();
+    for text in wanted {
+        match lines.next() {
+            Some(line) if line.ends_with(*text) => {}
+            Some(_) | None => return Ok(false),
+        }
+    }
+    Ok(lines.next().is_none())
+}
+
+#[test]
+fn a_database_has_one_keeper(rt: HostRuntime) -> Result<(), Fail> {
+    let _ = fs::remove_file(&rt, LOG);
+    let journal = Journal::new(rt, None);
+    journal.open(Some(Level::Info), Some(LOG.as_bytes()));
+    let taken = is_taken_over(rt, &journal);
+    let told = is_told(rt, TOLD)?;
+    remove(rt, TAKEN)?;
+    fs::remove_file(&rt, LOG)?;
+    assert!(rt; taken);
+    assert!(rt; told);
+    Ok(())
 }
 
 /// The first call fails, and changes nothing.
