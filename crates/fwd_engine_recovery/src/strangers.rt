@@ -1,6 +1,7 @@
 //! Names in recovered chunk files that stand for no output. They are for a watcher, and no clause speaks of them.
 
 use crate::pending_outputs::is_among;
+use fwd_base::limits::MOST_OUTPUTS;
 use fwd_base::{Bytes, ChunkId, Memory, Names, OutputId};
 use fwd_engine_settings::RunSettings;
 use fwd_engine_state::Parts;
@@ -10,8 +11,8 @@ use std::alloc::Global;
 const MOST_STRANGERS: usize = 16;
 
 fn stands_for_output(run: &RunSettings, name: &[u8]) -> bool {
-    for output in 0..run.outputs() {
-        if run.output_name(OutputId(output as u32)) == name {
+    for output in 0..MOST_OUTPUTS {
+        if output < run.outputs() && run.output_name(OutputId(output as u32)) == name {
             return true;
         }
     }

@@ -1,5 +1,5 @@
 -- How many events a loop gave.
-use Rattle.std.proofs.Common.{ℕ, ◌+◌, ◌-◌, ◌^◌, ◌≤◌, ◌∙◌, min, refl, arith}
+use Rattle.std.proofs.Common.{ℕ, ◌+◌, ◌≤◌, ◌∙◌, refl, arith}
 use Rattle.fwd_outside.specs.Loop.{LoopCounts}
 use Rattle.fwd_engine_state.specs.LoopCounters.{EventsTaken, NoEventTaken}
 

@@ -1,2 +1,10 @@
 pub mod EventCounts
+pub mod RecoveredHistory
+pub mod OffsetActions
+pub mod StepOffsets
+pub mod TrackedFiles
+pub mod ResumedOffsets
+pub mod OneOffset
+pub mod NewRows
+pub mod Rows
 pub mod RunTurns

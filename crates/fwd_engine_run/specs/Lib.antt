@@ -1,2 +1,3 @@
 pub mod OffsetRows
+pub mod OneOffset
 pub mod RunOutcome

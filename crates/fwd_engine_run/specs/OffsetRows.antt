@@ -1,5 +1,5 @@
 -- The offsets that a run keeps of followed files, and the calls by which it gets and puts them.
-use Rattle.std.specs.Prelude.{◌≡◌, ℕ, Bool, List, [], length, slice_get, Option, Some, Result, Ok, Err, Unit}
+use Rattle.std.specs.Prelude.{◌≡◌, ℕ, length, slice_get, Some, Result, Ok, Err}
 use Rattle.fwd_keeper.specs.Keeper.{KeeperLog}
 use Rattle.fwd_outside.specs.declared.happening.Happening.{Happening}
 use Rattle.fwd_settings.specs.declared.settings_types.AllSettings.{AllSettings}

@@ -398,9 +398,7 @@ fn run_prepared(
     ensures { (begins : Start) → IsSetUp begins life.now disk.old files.old keeper.old → IfOk result (ProducesOutcome named.now.shown settings most begins life.now disk.new files.new keeper.new) }
 {
     match start(rt, alloc, settings, offsets, ends, life, disk, keeper) {
-        Ok(going) => run_started(
-            rt, alloc, named, going, life, disk, files, keeper, most,
-        ),
+        Ok(going) => run_started(rt, alloc, named, going, life, disk, files, keeper, most),
         Err(StartErr::DiskFailed) => Ok(failed_start(alloc, Ending::DiskFailed)),
         Err(StartErr::KeeperFailed) => Ok(failed_start(alloc, Ending::KeeperFailed)),
         Err(StartErr::LoopFailed) => Ok(failed_start(alloc, Ending::LoopFailed)),

@@ -161,7 +161,8 @@ fn begin_and_run<L: Loop, D: Disk, F: Files, K: Keeper>(
 {
     match Engine::begin(rt, alloc, settings, disk) {
         Ok(engine) => run_and_drop(
-            rt, alloc, named, engine, offsets, ends, ticks, disk, files, outside, keeper, most, watch,
+            rt, alloc, named, engine, offsets, ends, ticks, disk, files, outside, keeper, most,
+            watch,
         ),
         Err(BeginErr::DiskFault) => Ok(without_text(alloc, Ending::DiskFailed)),
         Err(BeginErr::Memory) => Err(Memory),
@@ -193,7 +194,8 @@ fn lived<L: Loop, D: Disk, F: Files, K: Keeper>(
     let ends = ends(alloc, &settings)?;
     let offsets = KeptOffsets::of(alloc, &settings)?;
     begin_and_run(
-        rt, alloc, &named, settings, offsets, &ends, ticks, disk, files, outside, keeper, most, watch,
+        rt, alloc, &named, settings, offsets, &ends, ticks, disk, files, outside, keeper, most,
+        watch,
     )
 }
 

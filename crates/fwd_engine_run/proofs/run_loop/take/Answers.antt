@@ -1,24 +1,51 @@
-use Rattle.std.proofs.Common.{Ok, Err, sym}
+use Rattle.std.proofs.Common.{Ok, sym}
 use Rattle.fwd_model.specs.CallLogs.{CallLogs}
-use Rattle.fwd_model.specs.Run.{brought, unless_last}
+use Rattle.fwd_model.specs.Run.{brought, goes_on, unless_last}
 use Rattle.fwd_engine_state.specs.RefinesAction.{with_all}
 use Rattle.fwd_engine.specs.EngineSteps.{Steps}
 use Rattle.fwd_engine.specs.declared.engine.Turn.TheVariants as turn
-use Rattle.fwd_engine_run.proofs.RunTurns.{took_more, took_over, took_so, goes_after}
+use Rattle.fwd_engine_run.specs.OffsetRows.{with_keeper}
+use Rattle.fwd_engine_run.proofs.RunTurns.{keeps_stepped, put_more, put_over, put_begun, took_so, goes_after}
 use Rattle.fwd_engine_run.proofs.run_loop.take.Goals as goal
 
-pub returns-in-Ok-More-clause-goes : goal.returns-in-Ok-More-clause-goes
-returns-in-Ok-More-clause-goes g c others s h next at =
-    let a : CallLogs = with_all (g.L.Loop.call_log c.args.outside.now) (g.D.Disk.call_log c.args.disk.now) (g.F.Files.call_log c.args.files.now) others in
-    let b : CallLogs = with_all (g.L.Loop.call_log c.step.new.outside) (g.D.Disk.call_log c.step.new.disk) (g.F.Files.call_log c.step.new.files) others in
+pub returns-in-More-clause-goes : goal.returns-in-More-clause-goes
+returns-in-More-clause-goes g c others s h next at keeps =
     let x = c.args.happening in
-    let steps : Steps a b s h x c.step.new.self (Ok turn.More) = rw c.in-Ok-More.field-0-is at (c.in-Ok-More.ensures.steps others s h at) in
-    goes_after a b _ s (brought s c.args.ticks next h x) (unless_last s c.args.ticks next x steps.1.history) next c.unless_last.new.engine c.unless_last.result
-    (took_more a b s c.args.ticks h next c.step.new.self x steps) (c.unless_last.ensures.goes others s steps.1.history next x (sym c.is_clock_tick-reads.ensures) steps.1.at)
+    let kept : CallLogs = with_keeper (g.K.Keeper.call_log c.args.keeper.now) others in
+    let a : CallLogs = with_all (g.L.Loop.call_log c.args.outside.now) (g.D.Disk.call_log c.args.disk.now) (g.F.Files.call_log c.args.files.now) kept in
+    let stepped : CallLogs = with_all (g.L.Loop.call_log c.step.new.outside) (g.D.Disk.call_log c.step.new.disk) (g.F.Files.call_log c.step.new.files) others in
+    let b : CallLogs = with_keeper (g.K.Keeper.call_log c.args.keeper.now) stepped in
+    let w : CallLogs = with_keeper (g.K.Keeper.call_log c.put.new.keeper) stepped in
+    let steps : Steps a b s h x c.step.new.self (Ok turn.More) = rw c.in-More.is at (c.in-Ok.ensures.steps kept s h at) in
+    let put = c.in-Ok-put.ensures.puts stepped s steps.1.history (goes_on s (unless_last s c.args.ticks next x) x) steps.1.at (keeps_stepped s c.args.offsets.now h x c.step.new.self turn.More steps.1 keeps) in
+    let goes = put_more a b s c.args.ticks h next c.step.new.self x w c.put.new.self steps put in
+    goes_after a w _ s (brought s c.args.ticks next h x) (unless_last s c.args.ticks next x goes.0) next c.unless_last.new.engine c.put.new.self c.unless_last.result goes.3
+    (c.unless_last.ensures.goes (with_keeper (g.K.Keeper.call_log c.put.new.keeper) others) s goes.0 next x c.put.new.self (sym c.is_clock_tick-reads.ensures) goes.1 goes.2)
 
-pub returns-in-Ok-Over-clause-goes : goal.returns-in-Ok-Over-clause-goes
-returns-in-Ok-Over-clause-goes g c others s h next at =
-    took_over _ _ s c.args.ticks h next c.step.new.self c.args.happening (rw c.in-Ok-Over.field-0-is at (c.in-Ok-Over.ensures.steps others s h at))
+pub returns-in-Over-clause-goes : goal.returns-in-Over-clause-goes
+returns-in-Over-clause-goes g c others s h next at keeps =
+    let x = c.args.happening in
+    let kept : CallLogs = with_keeper (g.K.Keeper.call_log c.args.keeper.now) others in
+    let a : CallLogs = with_all (g.L.Loop.call_log c.args.outside.now) (g.D.Disk.call_log c.args.disk.now) (g.F.Files.call_log c.args.files.now) kept in
+    let stepped : CallLogs = with_all (g.L.Loop.call_log c.step.new.outside) (g.D.Disk.call_log c.step.new.disk) (g.F.Files.call_log c.step.new.files) others in
+    let b : CallLogs = with_keeper (g.K.Keeper.call_log c.args.keeper.now) stepped in
+    let w : CallLogs = with_keeper (g.K.Keeper.call_log c.put.new.keeper) stepped in
+    let steps : Steps a b s h x c.step.new.self (Ok turn.Over) = rw c.in-Over.is at (c.in-Ok.ensures.steps kept s h at) in
+    let put = c.in-Ok-put.ensures.puts stepped s steps.1.history (goes_on s (unless_last s c.args.ticks next x) x) steps.1.at (keeps_stepped s c.args.offsets.now h x c.step.new.self turn.Over steps.1 keeps) in
+    put_over a b s c.args.ticks h next c.step.new.self x w c.put.new.self steps put
+
+pub returns-in-Err-put-clause-goes : goal.returns-in-Err-put-clause-goes
+returns-in-Err-put-clause-goes g c others s h next at keeps =
+    let x = c.args.happening in
+    let kept : CallLogs = with_keeper (g.K.Keeper.call_log c.args.keeper.now) others in
+    let a : CallLogs = with_all (g.L.Loop.call_log c.args.outside.now) (g.D.Disk.call_log c.args.disk.now) (g.F.Files.call_log c.args.files.now) kept in
+    let stepped : CallLogs = with_all (g.L.Loop.call_log c.step.new.outside) (g.D.Disk.call_log c.step.new.disk) (g.F.Files.call_log c.step.new.files) others in
+    let b : CallLogs = with_keeper (g.K.Keeper.call_log c.args.keeper.now) stepped in
+    let w : CallLogs = with_keeper (g.K.Keeper.call_log c.put.new.keeper) stepped in
+    let steps : Steps a b s h x c.step.new.self (Ok c.in-Ok.turn) = c.in-Ok.ensures.steps kept s h at in
+    put_begun a b s c.args.ticks h next c.step.new.self x w c.in-Ok.turn steps
+    (c.in-Err-put.ensures.puts stepped s steps.1.history (goes_on s (unless_last s c.args.ticks next x) x) steps.1.at (keeps_stepped s c.args.offsets.now h x c.step.new.self c.in-Ok.turn steps.1 keeps))
 
 pub returns-in-Err-clause-goes : goal.returns-in-Err-clause-goes
-returns-in-Err-clause-goes g c others s h next at = took_so _ _ s c.args.ticks h next c.step.new.self c.args.happening c.in-Err.fault (c.in-Err.ensures.steps others s h at)
+returns-in-Err-clause-goes g c others s h next at keeps =
+    took_so _ _ s c.args.ticks h next c.step.new.self c.args.happening c.args.offsets.now c.in-Err.fault (c.in-Err.ensures.steps (with_keeper (g.K.Keeper.call_log c.args.keeper.now) others) s h at)

@@ -2,17 +2,18 @@ use Rattle.std.proofs.Common.{suc}
 use Rattle.fwd_model.specs.CallLogs.{CallLogs}
 use Rattle.fwd_model.specs.Run.{run, brought}
 use Rattle.fwd_engine_state.specs.RefinesAction.{with_all}
+use Rattle.fwd_engine_run.specs.OffsetRows.{with_keeper}
 use Rattle.fwd_engine_run.proofs.RunTurns.{waited_on, unwaited, goes_after}
 use Rattle.fwd_engine_run.proofs.run_loop.turn.Goals as goal
 
 pub returns-in-Ok-clause-goes : goal.returns-in-Ok-clause-goes
-returns-in-Ok-clause-goes g c others s h more at =
-    let a : CallLogs = with_all (g.L.Loop.call_log c.args.outside.now) (g.D.Disk.call_log c.args.disk.now) (g.F.Files.call_log c.args.files.now) others in
+returns-in-Ok-clause-goes g c others s h more at keeps =
+    let a : CallLogs = with_all (g.L.Loop.call_log c.args.outside.now) (g.D.Disk.call_log c.args.disk.now) (g.F.Files.call_log c.args.files.now) (with_keeper (g.K.Keeper.call_log c.args.keeper.now) others) in
     let x = c.in-Ok.happening in
-    goes_after a _ _ s (run s c.args.ticks (suc more) h) (brought s c.args.ticks (run s c.args.ticks more) h x) (run s c.args.ticks more) c.take.new.engine c.take.result
-    (waited_on a _ s c.args.ticks h more x (c.in-Ok.ensures.waits a s h at)) (c.take.ensures.goes others s h (run s c.args.ticks more) at)
+    goes_after a _ _ s (run s c.args.ticks (suc more) h) (brought s c.args.ticks (run s c.args.ticks more) h x) (run s c.args.ticks more) c.take.new.engine c.take.new.offsets c.take.result
+    (waited_on a _ s c.args.ticks h more x (c.in-Ok.ensures.waits a s h at)) (c.take.ensures.goes others s h (run s c.args.ticks more) at keeps)
 
 pub returns-in-Err-clause-goes : goal.returns-in-Err-clause-goes
-returns-in-Err-clause-goes g c others s h more at =
-    let a : CallLogs = with_all (g.L.Loop.call_log c.args.outside.now) (g.D.Disk.call_log c.args.disk.now) (g.F.Files.call_log c.args.files.now) others in
+returns-in-Err-clause-goes g c others s h more at keeps =
+    let a : CallLogs = with_all (g.L.Loop.call_log c.args.outside.now) (g.D.Disk.call_log c.args.disk.now) (g.F.Files.call_log c.args.files.now) (with_keeper (g.K.Keeper.call_log c.args.keeper.now) others) in
     unwaited a _ s c.args.ticks h more (c.in-Err.ensures.waits a s h at)

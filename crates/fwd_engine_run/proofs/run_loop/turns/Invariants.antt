@@ -6,12 +6,13 @@ use Rattle.fwd_model.specs.Run.{run}
 use Rattle.fwd_engine_state.specs.LoopCounters.{EventsTaken}
 use Rattle.fwd_engine_state.specs.RefinesAction.{with_all}
 use Rattle.fwd_engine.specs.EngineSteps.{IsAt}
+use Rattle.fwd_engine_run.specs.OffsetRows.{with_keeper, Keeps}
 use Rattle.fwd_engine_run.proofs.run_loop.turns.Given as goal
 
 -- This many events came, and the engine is at a point of the run with the remaining turns left.
 abbrev pub invariant-loop : goal.invariant-loop
 invariant-loop g l =
     EventsTaken l.counter (g.L.Loop.counts l.fn.outside) (g.L.Loop.counts l.outside) × (g.L.Loop.faults l.fn.outside ≤ g.L.Loop.faults l.outside)
-    × (g.D.Disk.faults l.fn.disk ≤ g.D.Disk.faults l.disk) × (g.F.Files.faults l.fn.files ≤ g.F.Files.faults l.files)
-    × ((others : CallLogs) (s : AllSettings) (h : History) → IsAt l.fn.engine s h → (now : History) × IsAt l.engine s now
-    × Leads (with_all (g.L.Loop.call_log l.fn.outside) (g.D.Disk.call_log l.fn.disk) (g.F.Files.call_log l.fn.files) others) (with_all (g.L.Loop.call_log l.outside) (g.D.Disk.call_log l.disk) (g.F.Files.call_log l.files) others) (run s l.ticks l.most h) (run s l.ticks (l.most - l.counter) now))
+    × (g.D.Disk.faults l.fn.disk ≤ g.D.Disk.faults l.disk) × (g.F.Files.faults l.fn.files ≤ g.F.Files.faults l.files) × (g.K.Keeper.faults l.fn.keeper ≤ g.K.Keeper.faults l.keeper)
+    × ((others : CallLogs) (s : AllSettings) (h : History) → IsAt l.fn.engine s h → Keeps s l.fn.offsets h → (now : History) × IsAt l.engine s now × Keeps s l.offsets now
+    × Leads (with_all (g.L.Loop.call_log l.fn.outside) (g.D.Disk.call_log l.fn.disk) (g.F.Files.call_log l.fn.files) (with_keeper (g.K.Keeper.call_log l.fn.keeper) others)) (with_all (g.L.Loop.call_log l.outside) (g.D.Disk.call_log l.disk) (g.F.Files.call_log l.files) (with_keeper (g.K.Keeper.call_log l.keeper) others)) (run s l.ticks l.most h) (run s l.ticks (l.most - l.counter) now))
