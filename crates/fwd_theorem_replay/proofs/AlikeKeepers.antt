@@ -1,6 +1,6 @@
 -- Keepers in memory with the same first offsets answer the same calls the same.
 use Rattle.std.proofs.Common.{◌≡◌, ℕ, Option, Some, None, if◌then◌else◌, List, [], ◌∷◌, ◌++◌, sym, refl, ap}
-use Rattle.fwd_keeper.specs.Keeper.{KeeperCall, KeeperAnswer, KeeperEntry, KeeperGiven, Get, Put, FailAt, found, is_of}
+use Rattle.fwd_keeper.specs.Keeper.{KeeperCall, KeeperAnswer, KeeperEntry, KeeperGiven, Get, Put, FailAt, is_of}
 use Rattle.fwd_keeper_mem.specs.KeeperAnswers.{works, offsets_after, offsets_after_all, answer_after, IsPlayed}
 use Rattle.fwd_keeper_mem.specs.Offsets.{SameOffsets}
 
