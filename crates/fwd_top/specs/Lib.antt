@@ -1,6 +1,7 @@
 pub mod Words
 pub mod Status
 pub mod Cases
+pub mod Outcomes
 pub mod Answers
 pub mod Results
 pub mod Views
