@@ -72,19 +72,19 @@ module _ (s : AllSettings) (settings : MeetsRequirements s) (full : s.service.fu
               (step_safe s settings full first fresh m brought began.1.entries began.0 come due began.1.way) (λ end led. tt),
         )
 
-    turned : (after : Engine) (h : History) → Completes a b (turn s m) h → IsAt after s h → (h : History) × IsCrashSafeUpTo a b s first m (turn s m) (Return h) (IsAtCrashPoint s first after)
+    turned : (after : Engine) (h : History) → Completes a b (turn s (logged m.past)) h → IsAt after s h → (h : History) × IsCrashSafeUpTo a b s first m (turn s (logged m.past)) (Return h) (IsAtCrashPoint s first after)
     turned after h did at = (
       h,
-      goes a b s first m (turn s m) (Return h) (IsAtCrashPoint s first after) did (turn_safe s settings full first fresh m did.entries (Return h) come did.way)
+      goes a b s first m (turn s (logged m.past)) (Return h) (IsAtCrashPoint s first after) did (turn_safe s settings full first fresh m did.entries (Return h) come did.way)
           (λ end led.
           let is = turn_come s settings full first fresh m end did.entries h come did.way led in
           record { come = is.0; at = subst (IsAt after s) is.1 at }),
     )
 
-    began_turn : IsBegun a b (turn s m) → (left : Action History) × IsCrashSafeUpTo a b s first m (turn s m) left (λ _. Unit {0})
+    began_turn : IsBegun a b (turn s (logged m.past)) → (left : Action History) × IsCrashSafeUpTo a b s first m (turn s (logged m.past)) left (λ _. Unit {0})
     began_turn began = (
       began.0,
-      goes a b s first m (turn s m) began.0 (λ _. Unit {0}) began.1 (turn_safe s settings full first fresh m began.1.entries began.0 come began.1.way) (λ end led. tt),
+      goes a b s first m (turn s (logged m.past)) began.0 (λ _. Unit {0}) began.1 (turn_safe s settings full first fresh m began.1.entries began.0 come began.1.way) (λ end led. tt),
     )
 
     takes_step : (brought : Happening) (h : History) → is_failed brought ≡ false → takes_event s h brought ≡ step s brought h

@@ -76,6 +76,6 @@ StepIsCrashSafe a b s first m brought after (Err stop.Memory) =
 -- a turn, by its result
 abbrev pub TurnIsCrashSafe : CallLogs → CallLogs → AllSettings → Files → CrashPoint → Engine
     → Result Turn EngineStop → Type 0
-TurnIsCrashSafe a b s first m after (Ok answer) = CompletesCrashSafely a b s first m (turn s m) after
-TurnIsCrashSafe a b s first m after (Err stop.LoopFault) = CompletesCrashSafely a b s first m (turn s m) after
-TurnIsCrashSafe a b s first m after (Err stop.Memory) = BeganCrashSafely a b s first m (turn s m)
+TurnIsCrashSafe a b s first m after (Ok answer) = CompletesCrashSafely a b s first m (turn s (logged m.past)) after
+TurnIsCrashSafe a b s first m after (Err stop.LoopFault) = CompletesCrashSafely a b s first m (turn s (logged m.past)) after
+TurnIsCrashSafe a b s first m after (Err stop.Memory) = BeganCrashSafely a b s first m (turn s (logged m.past))

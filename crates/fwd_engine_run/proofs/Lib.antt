@@ -1,2 +1,4 @@
 pub mod EventCounts
 pub mod RunTurns
+pub mod OffsetActions
+pub mod RecoveredHistory

@@ -47,10 +47,11 @@ use Rattle.fwd_engine.specs.declared.engine.EngineStop.{EngineStop}
 use Rattle.fwd_engine.specs.declared.engine.EngineStop.TheVariants as stop
 use Rattle.fwd_engine.specs.declared.engine.Turn.{Turn}
 use Rattle.fwd_engine.specs.declared.engine.Turn.TheVariants as turn
-use Rattle.fwd_theorem_trace.proofs.WaitCounts.{ArePlain, is_plain, kept_same, plain_waitless, step_plain, waits_append}
+use Rattle.fwd_theorem_trace.proofs.WaitCounts.{ArePlain, is_plain, plain_waitless, step_plain, waits_append}
 use Rattle.fwd_replay.specs.FileChanges.{Course, FilesAt, course_after, after_wait, has_last, is_last_next, next_in}
 use Rattle.fwd_replay.specs.Runs.{Start, course_of, disk_of}
 use Rattle.fwd_replay.proofs.CallLog.{told_is}
+use Rattle.fwd_base.specs.declared.memory.Memory.{Memory}
 use Rattle.fwd_keeper.specs.Keeper.{KeeperEntry}
 use Rattle.fwd_keeper_mem.specs.KeeperState.{KeeperState}
 use Rattle.fwd_keeper_mem.specs.MemKeeper as kept_log
@@ -61,6 +62,7 @@ use Rattle.fwd_replay.specs.RunState.{FilesRepresent, HasPut, IsOver, IsReady, I
 use Rattle.fwd_replay.specs.RunState as stage
 use Rattle.fwd_replay.specs.declared.progress.Going.{Going}
 use Rattle.fwd_engine_run.proofs.OffsetActions.{AreAside, aside_disk, aside_loop, is_done, puts_leave}
+use Rattle.fwd_engine_run.proofs.StepOffsets.{step_keeps_offsets}
 use Rattle.fwd_replay.proofs.StillCalls.{AreStill, answers_of, aside_still, keeper_append, no_waits, none_last, stays_behind}
 use Rattle.fwd_replay.proofs.Course.{Alike, ahead_is, alike_held, answered_append, behind_append, held_alike, lines_stay, plain_alike, plain_answered, plain_changed, played_second, turn_uncut, uncut_append}
 
@@ -180,11 +182,6 @@ module _ (s : AllSettings) (start : Start) (planned : Life) (h : History) (trace
             ∙ sym (keeper_append trace turn);
       }
 
--- a step notes no offset
-pub step_keeps : (s : AllSettings) (x : Happening) (h : History) (es : List TraceEntry) (now : History) → Execution (step s x h) es (Return now) → (input index : ℕ) → kept_at now input index ≡ kept_at h input index
-step_keeps s x h es now way input index =
-    ap (λ (at : History). kept_at at input index) (step_history s x h es now way) ∙ kept_same es h input index (step_plain s x h es (Return now) way)
-
 -- calls that don't advance a run don't cut it
 no_cut_after : (cut : Option Cut) (course : Course) (es : List TraceEntry) → AreStill es → (is_some cut && has_last course es) ≡ false
 no_cut_after None course es still = refl
@@ -298,7 +295,7 @@ module _ (s : AllSettings) (start : Start) (planned : Life) (going : Going) (see
             ready.changed
             ∙ sym (plain_changed (after_wait (paused s h) (course_after (course_of start planned) ready.trace)) es plain)
             ∙ ap (λ (c : Course). c.changed) (sym (behind_append (course_of start planned) ready.trace (wait_of s h x ∷ es)));
-        keeps = keeps_same s going.offsets h stepped.history (step_keeps s x h es stepped.history stepped.did.way) ready.keeps;
+        keeps = keeps_same s going.offsets h stepped.history (step_keeps_offsets s x h stepped.history es stepped.did.way) ready.keeps;
         over = stepped.over;
       }
   took (Err stop.LoopFault) turns =
@@ -347,6 +344,9 @@ over_so false which is so = absurd (cc (is, so))
 more_so : (b : Bool) (which : Turn) → which ≡ as_turn b → which ≡ turn.More → b ≡ false
 more_so true which is so = absurd (cc (is, so))
 more_so false which is so = refl
+
+abbrev all_put : Result (Unit {0}) Memory
+all_put = Ok tt
 
 module _ (s : AllSettings) (start : Start) (planned : Life) (going : Going) (seen : Seen) (held : FilesState) (kept kept2 : KeeperState) (rows2 : KeptOffsets) where
   abbrev before : CallLogs

@@ -4,7 +4,7 @@ use Rattle.fwd_outside.specs.Program.{Return, Execution}
 use Rattle.fwd_outside.specs.declared.ends.Ends.{Ends}
 use Rattle.fwd_outside.specs.declared.happening.Happening.TheVariants as happening
 use Rattle.fwd_settings.specs.declared.settings_types.AllSettings.{AllSettings}
-use Rattle.fwd_model.specs.Fact.{Fact, History, Batch, Standard, Happened, Polled, Found, IoFailed}
+use Rattle.fwd_model.specs.Fact.{Fact, History, Batch, Standard, Happened, Resumed, Saved, Polled, Found, IoFailed}
 use Rattle.fwd_model.specs.Trace.{Action, TraceEntry}
 use Rattle.fwd_model.specs.Batches.{end_batch, poll_batch}
 use Rattle.fwd_model.specs.Acceptance.{ingests}
@@ -21,11 +21,13 @@ module _ (s : AllSettings) where
   each_comes fact h p each came =
       gives_so (ComeInOrder (conn_of fact) (completed_by s h fact) (fact ∷ h)) (AllBatchOutcomes s []) p (λ now adds. each_settled s fact h now each adds) came
 
-  each_lasts : Lasts s (AllBatchOutcomes s [])
+  pub each_lasts : Lasts s (AllBatchOutcomes s [])
   each_lasts = record {
     at_first = tt;
     later = λ h now each later. each_later s h now each later;
     found = λ number stream name bytes h each. each_one s (Found number stream name bytes) h tt each;
+    resumed = λ input index place h each. each_one s (Resumed input index place) h tt each;
+    saved = λ input index place h each. each_one s (Saved input index place) h tt each;
     faulted = λ h each. each_one s IoFailed h tt each;
     brought = λ x h none each. (subst (BatchOutcomes (conn_of (Happened x)) []) (sym none) tt, each);
     polled = λ input index poll h each.

@@ -3,7 +3,6 @@ use Rattle.std.proofs.Common.{◌≡◌, Bool, true, false, cond, List, [], ◌�
 use Rattle.fwd_outside.specs.Program.{entry, Return, Ask, bind, Execution}
 use Rattle.fwd_model.specs.Trace.{Call, Answer, Action, TraceEntry}
 use Rattle.fwd_theorem_trace.specs.Past.{Past, past_after}
-use Rattle.fwd_theorem_trace.proofs.Traversal.{Traverses}
 use Rattle.fwd_theorem_delivery.proofs.SilentActions.{is_silent, AreSilent, IsSilent}
 
 -- for all answers, P holds of each call and the entries before it, and Q of the result and all entries at
@@ -50,17 +49,6 @@ module _ (P : List TraceEntry → Call → Type 0) where
         (still_makes (es ++ e ∷ []) (go answer) holds (still.1 answer)),
   )
 
-  -- properties of traversals are carried along
-  pub with_walk : {R : Type 0} (D : Past → Type 0) (W : R → Past → Type 0) (Q : R → List TraceEntry → Type 0) (es : List TraceEntry) (p : Action R)
-      → Traverses D W (past_after [] es) p → MakesCalls P Q es p → MakesCalls P (λ (x : R) (now : List TraceEntry). Q x now × (D (past_after [] now) × W x (past_after [] now))) es p
-  with_walk D W Q es (Return x) walks makes = (makes, walks)
-  with_walk D W Q es (Ask call go) walks makes = (
-    makes.0,
-    λ answer.
-        let e : TraceEntry = entry call answer in
-        with_walk D W Q (es ++ e ∷ []) (go answer) (subst (λ (past : Past). Traverses D W past (go answer)) (sym (since_both [] es (e ∷ []))) (walks.1 answer)) (makes.1 answer),
-  )
-
   -- ---- ways
 
   pub made_along : {R : Type 0} (Q : R → List TraceEntry → Type 0) (es : List TraceEntry) (p : Action R) (more : List TraceEntry) (left : Action R) → MakesCalls P Q es p → Execution p more left → HoldsAlong P es more
@@ -77,7 +65,3 @@ module _ (P : List TraceEntry → Call → Type 0) where
       let own : TraceEntry = entry call way.0 in
       subst (λ (y : TraceEntry). Q x (es ++ y ∷ more)) (sym way.1)
       (subst (λ (now : List TraceEntry). Q x now) (append_assoc es (own ∷ []) more) (made_end Q (es ++ own ∷ []) (go way.0) more x (makes.1 way.0) way.2))
-
-  pub along_at : (es more : List TraceEntry) (e : TraceEntry) (rest : List TraceEntry) → HoldsAlong P es (more ++ e ∷ rest) → P (es ++ more) e.call
-  along_at es [] e rest along = subst (λ (now : List TraceEntry). P now e.call) (sym (append-nil es)) along.0
-  along_at es (m ∷ more) e rest along = subst (λ (now : List TraceEntry). P now e.call) (append_assoc es (m ∷ []) more) (along_at (es ++ m ∷ []) more e rest along.1)

@@ -8,7 +8,7 @@ use Rattle.fwd_outside.specs.declared.ends.Ends.{Ends}
 use Rattle.fwd_outside.specs.declared.happening.Happening.{Happening}
 use Rattle.fwd_outside.specs.declared.happening.Happening.TheVariants as happening
 use Rattle.fwd_settings.specs.declared.settings_types.AllSettings.{AllSettings}
-use Rattle.fwd_model.specs.Fact.{Fact, History, Happened, Found}
+use Rattle.fwd_model.specs.Fact.{Fact, History, Happened, Resumed, Saved, Found}
 use Rattle.fwd_model.specs.Trace.{Action, TraceEntry, Note}
 use Rattle.fwd_model.specs.Settings.{saturating_plus}
 use Rattle.fwd_model.specs.Clock.{clock, clock_after, next_close, is_close_due}
@@ -23,6 +23,7 @@ use Rattle.fwd_theorem_trace.proofs.Traversal.{Traverses, Extends, traverses_map
 use Rattle.fwd_theorem_trace.proofs.Persistence.{chunk_still, shut_since, chunk_since}
 use Rattle.fwd_theorem_trace.proofs.Actions.{IsKept}
 use Rattle.fwd_theorem_trace.proofs.Steps.{IsOuter, told_happens}
+use Rattle.fwd_theorem_trace.proofs.OffsetCalls.{IsOffsetFact}
 use Rattle.fwd_theorem_trace.proofs.Run.{due_onward, Lasts, so_at_end}
 use Rattle.fwd_theorem_trace.proofs.ClosedTurns.{IsClosed, closed_step}
 use Rattle.fwd_theorem_delivery.specs.OverdueChunks.{IsOverdue}
@@ -83,12 +84,18 @@ module _ (s : AllSettings) where
   none_yet (Found number stream name bytes ∷ h) loading = none_yet h loading.1
   none_yet (fact ∷ h) loading = absurd loading
 
+  swept_aside : (fact : Fact) (answer : Unit {0}) (past : Past) → IsOffsetFact fact → IsClosedInTime past → IsClosedInTime (entry (Note fact) answer ∷ past)
+  swept_aside (Resumed input index place) answer past is so = so
+  swept_aside (Saved input index place) answer past is so = so
+  swept_aside fact answer past is so = absurd is
+
   swept_lasts : Lasts s (Allowed s) IsClosedInTime
   swept_lasts = record {
     first = tt;
     onward = due_onward s;
     loaded = λ past loading c has. let there = subst (λ (l : List ChunkInfo). Contains l c) (none_yet (logged past) loading) has in absurd (omega (arith, there.1));
     called = λ call answer past so. so;
+    aside = record { call = λ call answer past due so. ((due, so.0), so.1); fact = λ fact answer past is due so. ((due, so.0), swept_aside fact answer past is so.1) };
     stepped = λ x past due ready so.
         let Closed : History → Past → Type 0 = λ (h : History) (now : Past). (h ≡ logged now) × IsClosed s now in
         let Stays : History → Past → Type 0 = λ (h : History) (now : Past). (h ≡ logged now) × Kept (cond (closes_at s (logged past) x) (chunks_of (logged past)) (chunks_at_closing (logged past))) (closes_at s (logged past) x) now in

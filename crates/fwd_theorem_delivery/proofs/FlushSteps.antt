@@ -1,42 +1,36 @@
 -- Each step of a run keeps the invariants of all flushes.
-use Rattle.std.proofs.Common.{◌≡◌, ◌⊎◌, ℕ, zero, suc, ◌+◌, Bool, true, false, cond, List, [], ◌∷◌, length, Option, Some, None, inl, inr, refl, sym, subst}
+use Rattle.std.proofs.Common.{◌≡◌, ◌⊎◌, ℕ, ◌+◌, Bool, true, false, cond, List, [], ◌∷◌, length, Option, Some, None, inl, inr, refl, sym, subst}
 use Rattle.std.specs.Prelude.{◌==◌}
 use Rattle.std.specs.List.{range_with_len}
 use Rattle.std.proofs.lemmas.Bool.{eq-eqb, ne_eqb}
 use Rattle.fwd_outside.specs.Program.{entry, Return, Ask, bind}
-use Rattle.fwd_outside.specs.Loop.{Start, Wait, Reply}
-use Rattle.fwd_outside.specs.Disk.{DiskProgram}
+use Rattle.fwd_outside.specs.Loop.{Wait, Reply}
 use Rattle.fwd_outside.specs.Files.{FilesProgram}
-use Rattle.fwd_outside.specs.declared.ends.Ends.{Ends as AllEnds}
 use Rattle.fwd_outside.specs.declared.happening.Happening.{Happening}
 use Rattle.fwd_outside.specs.declared.happening.Happening.TheVariants as happening
-use Rattle.fwd_backlog.specs.declared.file_read.FileRead.{FileRead}
-use Rattle.fwd_backlog.specs.LoadProgram.{load_program}
 use Rattle.fwd_in_tail.specs.Followed.{Polled as Poll, polls as polls_of}
 use Rattle.fwd_wire.specs.Message.{MessageContent}
 use Rattle.fwd_flush.specs.Verdict.{Room, Back, Broken, Replied, LinkBroke}
 use Rattle.fwd_settings.specs.declared.settings_types.AllSettings.{AllSettings}
-use Rattle.fwd_model.specs.Fact.{History, Stream, LineStream, MessageStream, Standard, Batch, Happened, Polled, Malformed, Found}
+use Rattle.fwd_model.specs.Fact.{History, Stream, LineStream, MessageStream, Standard, Batch, Happened, Polled, Malformed}
 use Rattle.fwd_model.specs.Trace.{Action}
-use Rattle.fwd_model.specs.DeviceActions.{on_disk, on_files}
-use Rattle.fwd_model.specs.Settings.{saturating_plus, paths_at, from_head_at, reads_stdin_at}
-use Rattle.fwd_model.specs.Clock.{clock, stopped, is_close_due}
+use Rattle.fwd_model.specs.DeviceActions.{on_files}
+use Rattle.fwd_model.specs.Settings.{paths_at, from_head_at, reads_stdin_at}
+use Rattle.fwd_model.specs.Clock.{stopped, is_close_due}
 use Rattle.fwd_model.specs.Streams.{stream_of, said}
 use Rattle.fwd_model.specs.FollowedFiles.{file_at}
 use Rattle.fwd_model.specs.Batches.{piece_batch, end_batch, poll_batch}
 use Rattle.fwd_model.specs.Messages.{completed_messages, becomes_malformed, message_batch, reply_of}
-use Rattle.fwd_model.specs.Limits.{is_paused, paused}
+use Rattle.fwd_model.specs.Limits.{is_paused}
 use Rattle.fwd_model.specs.CloseActions.{closes_all}
 use Rattle.fwd_model.specs.Acceptance.{Acceptance, accepts, ingests}
 use Rattle.fwd_model.specs.FlushActions.{walk, at_room, at_reply, at_break}
 use Rattle.fwd_model.specs.InputActions.{hangs_up, after_reply, replies, acknowledges, accepts_messages, accepts_stream, pieces, polled, polls_file, polls_files, polls_input, polls_inputs, polls_all}
 use Rattle.fwd_model.specs.StepActions.{closes_and_dispatches, ticks, stops, at_input_end, handles, step}
-use Rattle.fwd_model.specs.RecoveryActions.{notes_files, loaded, loads_from, recovers}
-use Rattle.fwd_model.specs.Run.{RunResult, Over, lived, goes_on, steps_on, is_last_tick, unless_last, brought, run, after_start, after_recovery, life, is_over}
 use Rattle.fwd_theorem_delivery.specs.Links.{event_on}
-use Rattle.fwd_theorem_delivery.proofs.Outcomes.{Now, asked, noted, Ends, ends_bind, ends_if}
-use Rattle.fwd_theorem_delivery.proofs.RunInvariant.{RunInvariant, whole_first, whole_fact, whole_aside}
-use Rattle.fwd_theorem_delivery.proofs.QuietActions.{SameTaken, TouchesNoFlush, quietly_accepts, quietly_closes_all}
+use Rattle.fwd_theorem_delivery.proofs.Outcomes.{Now, asked, noted, Ends, ends_bind}
+use Rattle.fwd_theorem_delivery.proofs.RunInvariant.{RunInvariant, whole_fact, whole_aside}
+use Rattle.fwd_theorem_delivery.proofs.QuietActions.{SameTaken, quietly_accepts, quietly_closes_all}
 use Rattle.fwd_theorem_delivery.proofs.QuietInvariant.{KeepsInvariant, Safe, safe_test, safe_then, safe_quiet, whole_quiet, open_rest}
 use Rattle.fwd_theorem_delivery.proofs.FlushStart.{safe_walk}
 use Rattle.fwd_theorem_delivery.proofs.LinkEvents.{safe_resumes}
@@ -149,7 +143,7 @@ module _ (s : AllSettings) where
   unfolding ticks
   safe_ticks closing n whole = safe_then s n (polls_all s n.history) (closes_and_dispatches s closing) (safe_follows_all n whole) (λ m whole_m. safe_walks closing m whole_m)
 
-  safe_stops : (before : Option ℕ) (n : Now) → RunInvariant s n → Safe s n (stops s before n.history)
+  pub safe_stops : (before : Option ℕ) (n : Now) → RunInvariant s n → Safe s n (stops s before n.history)
   unfolding stops
   safe_stops (Some at) n whole = (refl, whole)
   safe_stops None n whole = safe_walks true n whole
@@ -166,7 +160,7 @@ module _ (s : AllSettings) (n : Now) (whole : RunInvariant s n) (until pauses : 
   abbrev behind_wait : Happening → Now
   behind_wait brings = noted (Happened brings) (asked (Wait until pauses) brings n)
 
-  waits : (brings : Happening) → ((link : ℕ) → event_on link brings ≡ []) → RunInvariant s (asked (Wait until pauses) brings n)
+  pub waits : (brings : Happening) → ((link : ℕ) → event_on link brings ≡ []) → RunInvariant s (asked (Wait until pauses) brings n)
   waits brings nothing = whole_aside s n (entry (Wait until pauses) brings ∷ []) (λ to link given. none given) (λ link. rw (nothing link) refl) (λ link. refl) whole
     where
       none : ⊥ ⊎ ⊥ → ⊥
@@ -205,92 +199,6 @@ module _ (s : AllSettings) (n : Now) (whole : RunInvariant s n) (until pauses : 
   safe_happens happening.End = (refl, brings_none happening.End (λ link. refl))
   safe_happens happening.Failed = (refl, brings_none happening.Failed (λ link. refl))
 
-  safe_step : (brings : Happening) → Safe s (asked (Wait until pauses) brings n) (step s brings n.history)
+  pub safe_step : (brings : Happening) → Safe s (asked (Wait until pauses) brings n) (step s brings n.history)
   unfolding step
   safe_step brings = λ _ _. safe_happens brings
-
--- at the end of a run
-abbrev pub IsLived : AllSettings → RunResult → Now → Type 0
-IsLived s end n = (end.history ≡ n.history) × RunInvariant s n
-
-abbrev Lives : AllSettings → Now → Action RunResult → Type 0
-Lives s n p = Ends (IsLived s) n p
-
-module _ (s : AllSettings) where
-  abbrev LivesOn : (History → Action RunResult) → Type 0
-  LivesOn next = (m : Now) → RunInvariant s m → Lives s m (next m.history)
-
-  lives_on : (next : History → Action RunResult) (brings : Happening) (m : Now) → RunInvariant s m → LivesOn next → Lives s m (goes_on s next brings m.history)
-  lives_on next brings m whole rest = ends_if (IsLived s) (is_over s brings m.history) m (Return (lived m.history Over)) (next m.history) (refl, whole) (rest m whole)
-
-  -- a step, and its continuation
-  lives_step : (next : History → Action RunResult) (brings : Happening) (h : History) (m : Now) → Safe s m (step s brings h) → LivesOn next → Lives s m (steps_on s next brings h)
-  lives_step next brings h m safe rest =
-      ends_bind (KeepsInvariant s) (IsLived s) m (step s brings h) (goes_on s next brings) safe
-      (λ x now stays. subst (λ (y : History). Lives s now (goes_on s next brings y)) (sym stays.0) (lives_on next brings now stays.1 rest))
-
-  stop_step : (m : Now) → RunInvariant s m → Safe s m (step s happening.Stop m.history)
-  unfolding step
-  stop_step m whole = λ _ _. safe_stops s (stopped s m.history) (noted (Happened happening.Stop) m) (whole_fact s (Happened happening.Stop) m tt whole)
-
-  lives_unless_last : (ticks : Option ℕ) (next : History → Action RunResult) (brings : Happening) → LivesOn next → LivesOn (unless_last s ticks next brings)
-  lives_unless_last ticks next brings rest m whole =
-      ends_if (IsLived s) (is_last_tick s ticks brings m.history) m (steps_on s next happening.Stop m.history) (next m.history)
-      (lives_step next happening.Stop m.history m (stop_step m whole) rest) (rest m whole)
-
-  lives_brought : (ticks : Option ℕ) (next : History → Action RunResult) (n : Now) → RunInvariant s n → (until pauses : ℕ) (brings : Happening) → LivesOn next → Lives s (asked (Wait until pauses) brings n) (brought s ticks next n.history brings)
-  lives_brought ticks next n whole until pauses happening.Failed rest = (refl, waits s n whole until pauses happening.Failed (λ link. refl))
-  lives_brought ticks next n whole until pauses brings rest =
-      lives_step (unless_last s ticks next brings) brings n.history (asked (Wait until pauses) brings n) (safe_step s n whole until pauses brings) (lives_unless_last ticks next brings rest)
-
-  lives_run : (ticks : Option ℕ) (turns : ℕ) (n : Now) → RunInvariant s n → Lives s n (run s ticks turns n.history)
-  unfolding run
-  lives_run ticks zero n whole = (refl, whole)
-  lives_run ticks (suc turns) n whole = λ brings _.
-      lives_brought ticks (run s ticks turns) n whole (saturating_plus (clock n.history) 250) (paused s n.history) brings (λ m whole_m. lives_run ticks turns m whole_m)
-
-  abbrev first : Now
-  first = record { greatest = 0; calls = []; history = [] }
-
-  whole_started : (ends : AllEnds) (ready : Option (Unit {0})) (n : Now) → RunInvariant s n → RunInvariant s (asked (Start ends) ready n)
-  whole_started ends ready n whole = whole_aside s n (entry (Start ends) ready ∷ []) (λ to link given. none given) (λ link. refl) (λ link. refl) whole
-    where
-      none : ⊥ ⊎ ⊥ → ⊥
-      none (inl is) = is
-      none (inr is) = is
-
-  lives_started : (ends : AllEnds) (ticks : Option ℕ) (turns : ℕ) (ready : Option (Unit {0})) (n : Now) → RunInvariant s n → Lives s (asked (Start ends) ready n) (after_start s ticks turns n.history ready)
-  lives_started ends ticks turns None n whole = (refl, whole_started ends None n whole)
-  lives_started ends ticks turns (Some ready) n whole = lives_run ticks turns (asked (Start ends) (Some ready) n) (whole_started ends (Some ready) n whole)
-
-  -- ---- loading
-
-  -- what was recovered; if a call failed nothing was logged
-  abbrev Loaded : Option History → History → Type 0
-  Loaded None now = now ≡ []
-  Loaded (Some h) now = h ≡ now
-
-  quietly_finds : (number : ℕ) (accepts_messages : List FileRead) (h : History) → TouchesNoFlush Loaded h (notes_files number accepts_messages h)
-  quietly_finds number [] h = refl
-  quietly_finds number (read ∷ accepts_messages) h = (tt, λ _. quietly_finds (number + 1) accepts_messages (Found number read.file.stream read.file.name read.bytes ∷ h))
-
-  quietly_loaded : (p : DiskProgram (Option (List FileRead))) → TouchesNoFlush Loaded [] (bind (on_disk p) loaded)
-  quietly_loaded (Return None) = refl
-  quietly_loaded (Return (Some accepts_messages)) = quietly_finds 1 accepts_messages []
-  quietly_loaded (Ask call go) = (tt, λ answer. quietly_loaded (go answer))
-
-  quietly_loads : (root : Option (List ℕ)) → TouchesNoFlush Loaded [] (loads_from root)
-  quietly_loads None = refl
-  quietly_loads (Some root) = quietly_loaded (load_program root)
-
-  pub lives_life : (ends : AllEnds) (ticks : Option ℕ) (turns : ℕ) → Lives s first (life s ends ticks turns)
-  unfolding life recovers
-  lives_life ends ticks turns =
-      ends_bind (λ (h : Option History) (m : Now). Loaded h m.history × RunInvariant s m) (IsLived s) first (recovers s) (after_recovery s ends ticks turns)
-      (whole_quiet s Loaded first (loads_from s.service.path) (quietly_loads s.service.path) (whole_first s)) by
-    where
-      by : (h : Option History) (m : Now) → Loaded h m.history × RunInvariant s m → Lives s m (after_recovery s ends ticks turns h)
-      by None m stays = (sym stays.0, stays.1)
-      by (Some h) m stays =
-          subst (λ (x : History). Lives s m (after_recovery s ends ticks turns (Some x))) (sym stays.0)
-          (λ ready _. lives_started ends ticks turns ready m stays.1)

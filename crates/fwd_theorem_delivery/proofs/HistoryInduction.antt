@@ -1,5 +1,5 @@
--- What holds of the empty history, and is kept by each recovered file, event, poll and action, holds at
--- the end of each run.
+-- What holds of the empty history, and is kept by each recovered file, kept offset, event, poll and action,
+-- holds at the end of each run.
 use Rattle.std.proofs.Common.{◌≡◌, ℕ, ◌+◌, Bool, true, false, cond, List, [], ◌∷◌, length, Option, Some, None, refl, sym, ap, subst}
 use Rattle.std.specs.List.{range_with_len}
 use Rattle.fwd_base.specs.declared.ids.InputId.{InputId}
@@ -10,7 +10,7 @@ use Rattle.fwd_outside.specs.declared.happening.Happening.{Happening}
 use Rattle.fwd_outside.specs.declared.happening.Happening.TheVariants as happening
 use Rattle.fwd_in_tail.specs.Followed.{Polled as Poll, polls}
 use Rattle.fwd_settings.specs.declared.settings_types.AllSettings.{AllSettings}
-use Rattle.fwd_model.specs.Fact.{History, Batch, Standard, Happened, Polled, Found, IoFailed}
+use Rattle.fwd_model.specs.Fact.{Fact, History, Batch, Standard, Happened, Resumed, Saved, Polled, Found, IoFailed}
 use Rattle.fwd_model.specs.Trace.{Action, TraceEntry}
 use Rattle.fwd_model.specs.DeviceActions.{on_files}
 use Rattle.fwd_model.specs.Settings.{paths_at, from_head_at, reads_stdin_at}
@@ -26,6 +26,7 @@ use Rattle.fwd_model.specs.StepActions.{closes_and_dispatches, ticks, stops, at_
 use Rattle.fwd_model.specs.Run.{RunResult, life}
 use Rattle.fwd_theorem_trace.specs.Past.{Past, logged}
 use Rattle.fwd_theorem_trace.specs.Allowed.{IsLoading, Allowed}
+use Rattle.fwd_theorem_trace.proofs.OffsetCalls.{IsOffsetFact}
 use Rattle.fwd_theorem_trace.proofs.Traversal.{traverses_map}
 use Rattle.fwd_theorem_trace.proofs.Run.{due_onward, Lasts as NotedLasts, so_at_end, steps_step}
 use Rattle.fwd_theorem_delivery.specs.Guarantee.{completed_by}
@@ -39,6 +40,8 @@ pub record Lasts (s : AllSettings) (Each : History → Type 0) : Type 0 where
   pub at_first : Each []
   pub later : (h now : History) → Each h → AddsInner h now → Each now
   pub found : (number : ℕ) (stream name bytes : List ℕ) (h : History) → Each h → Each (Found number stream name bytes ∷ h)
+  pub resumed : (input index place : ℕ) (h : History) → Each h → Each (Resumed input index place ∷ h)
+  pub saved : (input index place : ℕ) (h : History) → Each h → Each (Saved input index place ∷ h)
   pub faulted : (h : History) → Each h → Each (IoFailed ∷ h)
   pub brought : (x : Happening) (h : History) → completed_by s h (Happened x) ≡ [] → Each h → Each (Happened x ∷ h)
   pub polled : (input index : ℕ) (poll : Poll) (h : History) → Each h → Yields Each (ingests s (poll_batch s h input index poll) (Polled input index poll.long poll.bytes ∷ h))
@@ -124,16 +127,22 @@ module _ (s : AllSettings) (Each : History → Type 0) (lasts : Lasts s Each) wh
   each_happens h happening.End each = lasts.brought happening.End h refl each
   each_happens h happening.Failed each = lasts.brought happening.Failed h refl each
 
-  each_step : (x : Happening) (h : History) → Each h → Yields Each (step s x h)
+  pub each_step : (x : Happening) (h : History) → Each h → Yields Each (step s x h)
   unfolding step
   each_step x h each = λ _. each_happens h x each
 
   -- ---- a run
 
-  each_loading : (h : History) → IsLoading h → Each h
+  pub each_loading : (h : History) → IsLoading h → Each h
   each_loading [] loading = lasts.at_first
   each_loading (Found number stream name bytes ∷ h) loading = lasts.found number stream name bytes h (each_loading h loading.1)
   each_loading (fact ∷ h) loading = absurd loading
+
+  -- the facts of kept offsets
+  pub each_aside : (fact : Fact) (h : History) → IsOffsetFact fact → Each h → Each (fact ∷ h)
+  each_aside (Resumed input index place) h is each = lasts.resumed input index place h each
+  each_aside (Saved input index place) h is each = lasts.saved input index place h each
+  each_aside fact h is each = absurd is
 
   each_noted : NotedLasts s (Allowed s) (λ (past : Past). Each (logged past))
   each_noted = record {
@@ -141,6 +150,7 @@ module _ (s : AllSettings) (Each : History → Type 0) (lasts : Lasts s Each) wh
     onward = due_onward s;
     loaded = λ past loading. each_loading (logged past) loading;
     called = λ call answer past each. each;
+    aside = record { call = λ call answer past due so. ((due, so.0), so.1); fact = λ fact answer past is due so. ((due, so.0), each_aside fact (logged past) is so.1) };
     stepped = λ x past due ready each.
         let W : History → Past → Type 0 = λ (h : History) (now : Past). (h ≡ logged now) × Unit {0} in
         traverses_map (Allowed s) (λ (h : History) (now : Past). Each h × W h now) (λ (h : History) (now : Past). (h ≡ logged now) × Each (logged now)) past (step s x (logged past))

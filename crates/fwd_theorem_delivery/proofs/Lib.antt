@@ -45,6 +45,7 @@ pub mod OutcomeFacts
 pub mod FlushStart
 pub mod LinkEvents
 pub mod FlushSteps
+pub mod FlushRun
 pub mod RunEnd
 pub mod TwoFlushes
 pub mod ExampleRun

@@ -4,7 +4,7 @@ use Rattle.fwd_outside.specs.Program.{Return, Execution}
 use Rattle.fwd_outside.specs.declared.ends.Ends.{Ends}
 use Rattle.fwd_outside.specs.declared.happening.Happening.TheVariants as happening
 use Rattle.fwd_settings.specs.declared.settings_types.AllSettings.{AllSettings}
-use Rattle.fwd_model.specs.Fact.{Fact, Batch, Standard, Happened, Polled, Found, IoFailed}
+use Rattle.fwd_model.specs.Fact.{Fact, Batch, Standard, Happened, Resumed, Saved, Polled, Found, IoFailed}
 use Rattle.fwd_model.specs.Trace.{TraceEntry}
 use Rattle.fwd_model.specs.Batches.{end_batch, poll_batch}
 use Rattle.fwd_model.specs.Run.{RunResult, life}
@@ -18,6 +18,8 @@ module _ (s : AllSettings) where
     at_first = tt;
     later = λ h now always later. always_later s h now always later;
     found = λ number stream name bytes h always. always_still s (Found number stream name bytes) h (refl, refl) always;
+    resumed = λ input index place h always. always_still s (Resumed input index place) h (refl, refl) always;
+    saved = λ input index place h always. always_still s (Saved input index place) h (refl, refl) always;
     faulted = λ h always. always_still s IoFailed h (refl, refl) always;
     brought = λ x h none always. (owing_arrived s (Happened x) h refl always).1;
     polled = λ input index poll h always.

@@ -1,6 +1,6 @@
 -- Over a run, each reply is due.
-use Rattle.std.proofs.Common.{◌≡◌, ℕ, zero, suc, true, List, [], ◌∷◌, ◌++◌, Option, Some, None, inl, sym, ◌∙◌, ap, subst}
-use Rattle.fwd_outside.specs.Program.{entry, Return, Execution}
+use Rattle.std.proofs.Common.{◌≡◌, ℕ, zero, suc, true, List, [], ◌∷◌, ◌++◌, Option, Some, None, inl, refl, sym, ◌∙◌, ap, subst}
+use Rattle.fwd_outside.specs.Program.{entry, Return, Ask, bind, Execution}
 use Rattle.fwd_outside.specs.Loop.{Reply, Start, Wait}
 use Rattle.fwd_outside.specs.declared.ends.Ends.{Ends}
 use Rattle.fwd_outside.specs.declared.happening.Happening.{Happening}
@@ -14,38 +14,58 @@ use Rattle.fwd_model.specs.Settings.{saturating_plus}
 use Rattle.fwd_model.specs.Clock.{clock}
 use Rattle.fwd_model.specs.Streams.{stream_of}
 use Rattle.fwd_model.specs.Limits.{paused}
+use Rattle.fwd_model.specs.KeptOffsets.{tracked}
 use Rattle.fwd_model.specs.StepActions.{step}
 use Rattle.fwd_model.specs.RecoveryActions.{recovers}
-use Rattle.fwd_model.specs.Run.{RunResult, Over, lived, is_over, goes_on, steps_on, is_last_tick, unless_last, brought, run, after_start, after_recovery, life}
-use Rattle.fwd_theorem_trace.specs.Past.{Past, logged, past_after, last_event}
+use Rattle.fwd_model.specs.Run.{RunResult, Over, KeeperFailed, lived, is_over, goes_on, steps_on, is_last_tick, unless_last, after_step, brought, run, after_start, starts, after_recovery, life}
+use Rattle.fwd_theorem_trace.specs.Past.{Past, logged, past_after}
 use Rattle.fwd_theorem_trace.specs.Allowed.{EventAllowed, Allowed}
-use Rattle.fwd_theorem_trace.proofs.Traversal.{Traverses}
-use Rattle.fwd_theorem_trace.proofs.Run.{due_onward, Loaded, loads_root, steps_step, last_due}
+use Rattle.fwd_theorem_trace.proofs.Traversal.{Traverses, holds_now, traverses_rest, walks_bind, walks_if}
+use Rattle.fwd_theorem_trace.proofs.OffsetCalls.{StaysAside, all_tracked, puts_on, gets_on}
+use Rattle.fwd_theorem_trace.proofs.Run.{due_onward, Loaded, loading_is_start, loads_root, steps_step, last_due}
 use Rattle.fwd_theorem_delivery.specs.Replies.{IsDueReply}
 use Rattle.fwd_theorem_delivery.proofs.SilentActions.{is_silent, AreSilent, still_loads}
-use Rattle.fwd_theorem_delivery.proofs.CallSequences.{MakesCalls, since_both, makes_bind, makes_if, makes_so, still_makes, with_walk, made_along, along_at}
+use Rattle.fwd_theorem_delivery.proofs.CallSequences.{MakesCalls, since_both, makes_so, still_makes}
 use Rattle.fwd_theorem_delivery.proofs.ReplyLists.{in_order}
 use Rattle.fwd_theorem_delivery.proofs.StepReplies.{Any, event_entry, IsDueOver, makes_happens}
 
 module _ (s : AllSettings) where
   -- a reply is due, given the entries before it
-  abbrev pub IsDueCall : List TraceEntry → Call → Type 0
-  IsDueCall before (OnLoop (Reply conn bytes)) = IsDueReply s (past_after [] before) conn bytes
-  IsDueCall before call = Unit {0}
+  abbrev IsDueAt : Past → Call → Type 0
+  IsDueAt past (OnLoop (Reply conn bytes)) = IsDueReply s past conn bytes
+  IsDueAt past call = Unit {0}
+
+  -- the same, given these entries in order
+  abbrev IsDueCall : List TraceEntry → Call → Type 0
+  IsDueCall before call = IsDueAt (past_after [] before) call
 
   due_still : (before : List TraceEntry) (call : Call) → is_silent call ≡ true → IsDueCall before call
   due_still before (OnLoop (Reply conn bytes)) is = absurd (cc is)
   due_still before call is = tt
 
-  abbrev Lives : List TraceEntry → Action RunResult → Type 0
-  Lives es p = MakesCalls IsDueCall Any es p
+  -- each reply is due
+  abbrev AreDue : Past → Type 0
+  AreDue [] = Unit {0}
+  AreDue (e ∷ past) = IsDueAt past e.call × AreDue past
 
-  -- the history is this one, and each entry is allowed
-  abbrev At : List TraceEntry → History → Type 0
-  At es h = (h ≡ logged (past_after [] es)) × Allowed s (past_after [] es)
+  -- and each entry is allowed
+  abbrev Due : Past → Type 0
+  Due past = Allowed s past × AreDue past
 
   since_last : (es : List TraceEntry) (e : TraceEntry) → past_after [] (es ++ e ∷ []) ≡ e ∷ past_after [] es
   since_last es e = since_both [] es (e ∷ [])
+
+  -- in a traversal of allowed entries
+  with_due : {R : Type 0} (Q : R → Past → Type 0) (es : List TraceEntry) (p : Action R) → MakesCalls IsDueCall Any es p → AreDue (past_after [] es) → Traverses (Allowed s) Q (past_after [] es) p → Traverses Due Q (past_after [] es) p
+  with_due Q es (Return x) makes due walks = ((walks.0, due), walks.1)
+  with_due Q es (Ask call go) makes due walks = (
+    (walks.0, due),
+    λ answer.
+        let e : TraceEntry = entry call answer in
+        let same = since_last es e in
+        subst (λ (past : Past). Traverses Due Q past (go answer)) same
+        (with_due Q (es ++ e ∷ []) (go answer) (makes.1 answer) (subst AreDue (sym same) (makes.0, due)) (subst (λ (past : Past). Traverses (Allowed s) Q past (go answer)) (sym same) (walks.1 answer))),
+  )
 
   -- ---- a step
 
@@ -82,80 +102,110 @@ module _ (s : AllSettings) where
         subst (λ (y : Happening). IsDueOver s IsDueCall (logged (past_after [] es)) input conn bytes (es ++ event_entry y ∷ [])) (sym is) (due_over es input conn bytes over)),
   )
 
-  step_at : (es : List TraceEntry) (x : Happening) → EventAllowed s x (past_after [] es) → Allowed s (past_after [] es) → MakesCalls IsDueCall (λ (h : History) (now : List TraceEntry). At now h) es (step s x (logged (past_after [] es)))
-  step_at es x due ready =
-      let W : History → Past → Type 0 = λ h now. (h ≡ logged now) × Unit {0} in
-      makes_so IsDueCall (λ (h : History) (now : List TraceEntry). Any h now × (Allowed s (past_after [] now) × W h (past_after [] now))) (λ (h : History) (now : List TraceEntry). At now h) es (step s x (logged (past_after [] es)))
-      (λ h now is. (is.1.1.0, is.1.0)) (with_walk IsDueCall (Allowed s) W Any es (step s x (logged (past_after [] es))) (steps_step s x (past_after [] es) due ready) (makes_step es x))
+  abbrev Returned : History → Past → Type 0
+  Returned h now = (h ≡ logged now) × Unit {0}
+
+  step_after : (x : Happening) (es : List TraceEntry) → EventAllowed s x (past_after [] es) → Due (past_after [] es) → Traverses Due Returned (past_after [] es) (step s x (logged (past_after [] es)))
+  step_after x es due ready = with_due Returned es (step s x (logged (past_after [] es))) (makes_step es x) ready.1 (steps_step s x (past_after [] es) due ready.0)
+
+  -- entries in order, the oldest first
+  abbrev in_time_order : Past → List TraceEntry
+  in_time_order [] = []
+  in_time_order (e ∷ past) = in_time_order past ++ e ∷ []
+
+  same_past : (past : Past) → past_after [] (in_time_order past) ≡ past
+  same_past [] = refl
+  same_past (e ∷ past) = since_last (in_time_order past) e ∙ ap (λ (older : Past). e ∷ older) (same_past past)
+
+  step_at : (x : Happening) (past : Past) → EventAllowed s x past → Due past → Traverses Due Returned past (step s x (logged past))
+  step_at x past due ready = subst (λ (now : Past). EventAllowed s x now → Due now → Traverses Due Returned now (step s x (logged now))) (same_past past) (step_after x (in_time_order past)) due ready
 
   -- ---- a run
 
-  abbrev Goes : (History → Action RunResult) → Type 0
-  Goes next = (now : List TraceEntry) (h : History) → At now h → Lives now (next h)
+  abbrev Whatever : Past → Type 0
+  Whatever past = Unit {0}
 
-  lives_step : (next : History → Action RunResult) (x : Happening) → Goes next → (es : List TraceEntry) (h : History) → At es h → EventAllowed s x (past_after [] es) → Lives es (steps_on s next x h)
-  lives_step next x more es h at due =
-      subst (λ (past : History). Lives es (steps_on s next x past)) (sym at.0)
-      (makes_bind IsDueCall (λ (h : History) (now : List TraceEntry). At now h) Any es (step s x (logged (past_after [] es))) (goes_on s next x) (step_at es x due at.1)
-      (λ then now is. makes_if IsDueCall Any (is_over s x then) now (Return (lived then Over)) (next then) (λ over. tt) (λ on. more now then is)))
+  abbrev Ended : RunResult → Past → Type 0
+  Ended end now = Unit {0}
+
+  abbrev Lives : Past → Action RunResult → Type 0
+  Lives past p = Traverses Due Ended past p
+
+  abbrev Goes : (History → Action RunResult) → Type 0
+  Goes next = (now : Past) → Due now → Lives now (next (logged now))
+
+  lives_on : (next : History → Action RunResult) (x : Happening) → Goes next → Goes (goes_on s next x)
+  lives_on next x more now ready = walks_if Due Ended (is_over s x (logged now)) now (Return (lived (logged now) Over)) (next (logged now)) (λ over. (ready, tt)) (λ on. more now ready)
+
+  -- a step, and what follows it
+  lives_after : (then : History → Action RunResult) (x : Happening) → Goes then → (past : Past) → EventAllowed s x past → Due past → Lives past (bind (step s x (logged past)) then)
+  lives_after then x more past due ready =
+      walks_bind Due Returned Ended past (step s x (logged past)) then (step_at x past due ready)
+      (λ h now grown still is. subst (λ (y : History). Lives now (then y)) (sym is.0) (more now still))
 
   lives_unless_last : (ticks : Option ℕ) (next : History → Action RunResult) (x : Happening) → Goes next → Goes (unless_last s ticks next x)
-  lives_unless_last None next x more now h at = more now h at
-  lives_unless_last (Some n) next x more now h at =
-      makes_if IsDueCall Any (is_last_tick s (Some n) x h) now (steps_on s next happening.Stop h) (next h)
-      (λ last. lives_step next happening.Stop more now h at (last_due s n x (past_after [] now) (subst (λ (past : History). is_last_tick s (Some n) x past ≡ true) at.0 last))) (λ no. more now h at)
+  lives_unless_last None next x more now ready = more now ready
+  lives_unless_last (Some n) next x more now ready =
+      walks_if Due Ended (is_last_tick s (Some n) x (logged now)) now (steps_on s next happening.Stop (logged now)) (next (logged now))
+      (λ last. lives_after (goes_on s next happening.Stop) happening.Stop (lives_on next happening.Stop more) now (last_due s n x now last) ready) (λ no. more now ready)
 
-  lives_brought : (ticks : Option ℕ) (next : History → Action RunResult) (x : Happening) → Goes next → (es : List TraceEntry) (h : History) → At es h → EventAllowed s x (past_after [] es)
-      → Lives es (brought s ticks next h x)
-  lives_brought ticks next happening.Failed more es h at due = tt
-  lives_brought ticks next x more es h at due = lives_step (unless_last s ticks next x) x (lives_unless_last ticks next x more) es h at due
+  due_aside : StaysAside s (λ past. Due past × Whatever past)
+  due_aside = record { call = λ call answer past due so. (((due, so.0.0), (tt, so.0.1)), tt); fact = λ fact answer past is due so. (((due, so.0.0), (tt, so.0.1)), tt) }
+
+  lives_brought : (ticks : Option ℕ) (next : History → Action RunResult) (x : Happening) → Goes next → (past : Past) → EventAllowed s x past → Due past → Lives past (brought s ticks next (logged past) x)
+  lives_brought ticks next happening.Failed more past due ready = (ready, tt)
+  lives_brought ticks next x more past due ready =
+      let then : History → Action RunResult = goes_on s (unless_last s ticks next x) x in
+      lives_after (after_step s ticks next x) x
+      (λ now still. puts_on s Due Whatever due_aside Ended (tracked s) then (all_tracked s) (λ later both. lives_on (unless_last s ticks next x) x (lives_unless_last ticks next x more) later both.0) now (still, tt)) past due ready
 
   lives_run : (ticks : Option ℕ) (turns : ℕ) → Goes (run s ticks turns)
   unfolding run
-  lives_run ticks zero es h at = tt
-  lives_run ticks (suc turns) es h at = (
-    tt,
+  lives_run ticks zero past ready = (ready, tt)
+  lives_run ticks (suc turns) past ready = (
+    ready,
     λ x.
-        let w : TraceEntry = entry (OnLoop (Wait (saturating_plus (clock h) 250) (paused s h))) x in
-        let same = since_last es w in
-        lives_brought ticks (run s ticks turns) x (lives_run ticks turns) (es ++ w ∷ []) h
-        (at.0 ∙ ap logged (sym same), subst (Allowed s) (sym same) ((ap (λ (past : History). saturating_plus (clock past) 250) at.0, ap (λ (past : History). paused s past) at.0), at.1))
-        (inl (ap last_event same)),
+        let wait : TraceEntry = entry (OnLoop (Wait (saturating_plus (clock (logged past)) 250) (paused s (logged past)))) x in
+        lives_brought ticks (run s ticks turns) x (lives_run ticks turns) (wait ∷ past) (inl refl) (((refl, refl), ready.0), (tt, ready.1)),
   )
 
   lives_started : (ticks : Option ℕ) (turns : ℕ) (ready : Option (Unit {0})) → Goes (λ h. after_start s ticks turns h ready)
-  lives_started ticks turns None es h at = tt
-  lives_started ticks turns (Some ready) es h at = lives_run ticks turns es h at
+  lives_started ticks turns None past due = (due, tt)
+  lives_started ticks turns (Some ready) past due = lives_run ticks turns past due
 
-  -- ---- loading
+  -- ---- recovery
 
   makes_loads : MakesCalls IsDueCall Any [] (recovers s)
   makes_loads =
       makes_so IsDueCall (λ (x : Option History) (now : List TraceEntry). (own : List TraceEntry) × (now ≡ [] ++ own) × AreSilent own) Any [] (recovers s) (λ x now is. tt)
       (still_makes IsDueCall [] (recovers s) due_still (still_loads s))
 
-  walks_loads : Traverses (Allowed s) Loaded [] (recovers s)
+  walks_loads : Traverses Due Loaded [] (recovers s)
   unfolding recovers
-  walks_loads = loads_root s (Allowed s) (due_onward s) tt s.service.path
+  walks_loads = with_due Loaded [] (recovers s) makes_loads tt (loads_root s (Allowed s) (due_onward s) tt s.service.path)
 
-  lives_begun : (ends : Ends) (ticks : Option ℕ) (turns : ℕ) (found : Option History) (es : List TraceEntry) → Allowed s (past_after [] es) → Loaded found (past_after [] es) → Lives es (after_recovery s ends ticks turns found)
-  lives_begun ends ticks turns None es due is = tt
-  lives_begun ends ticks turns (Some h) es due is = (
-    tt,
-    λ ready.
-        let e : TraceEntry = entry (OnLoop (Start ends)) ready in
-        let same = since_last es e in
-        lives_started ticks turns ready (es ++ e ∷ []) h (is.0 ∙ ap logged (sym same), subst (Allowed s) (sym same) (tt, due)),
-  )
+  lives_recovered : (ends : Ends) (ticks : Option ℕ) (turns : ℕ) (found : Option History) (now : Past) → Due now → Loaded found now → Lives now (after_recovery s ends ticks turns found)
+  lives_recovered ends ticks turns None now ready is = (ready, tt)
+  lives_recovered ends ticks turns (Some h) now ready is =
+      subst (λ (x : History). Lives now (after_recovery s ends ticks turns (Some x))) (sym is.0)
+      (gets_on s Due Whatever due_aside Ended (tracked s) (λ at. Return (lived at KeeperFailed)) (starts s ends ticks turns) (λ at start both. (both.0, tt))
+      (λ at start both. (both.0, λ ready. lives_started ticks turns ready (entry (OnLoop (Start ends)) ready ∷ at) ((tt, both.0.0), (tt, both.0.1))))
+      now (loading_is_start (logged now) is.1) (ready, tt))
 
   lives_life : (ends : Ends) (ticks : Option ℕ) (turns : ℕ) → Lives [] (life s ends ticks turns)
   unfolding life
-  lives_life ends ticks turns =
-      makes_bind IsDueCall (λ (x : Option History) (now : List TraceEntry). Any x now × (Allowed s (past_after [] now) × Loaded x (past_after [] now))) Any [] (recovers s) (after_recovery s ends ticks turns)
-      (with_walk IsDueCall (Allowed s) Loaded Any [] (recovers s) walks_loads makes_loads) (λ found now is. lives_begun ends ticks turns found now is.1.0 is.1.1)
+  lives_life ends ticks turns = walks_bind Due Loaded Ended [] (recovers s) (after_recovery s ends ticks turns) walks_loads (λ found now grown ready is. lives_recovered ends ticks turns found now ready is)
+
+  -- ---- at each point
+
+  due_before : (es : List TraceEntry) (past : Past) → AreDue (past_after past es) → AreDue past
+  due_before [] past due = due
+  due_before (e ∷ es) past due = (due_before es (e ∷ past) due).1
 
   pub due_reply : (ends : Ends) (ticks : Option ℕ) (turns : ℕ) (before rest : List TraceEntry) (conn : ℕ) (bytes : List ℕ) (answer : Option (Unit {0})) (left : Action RunResult)
       → Execution (life s ends ticks turns) (before ++ entry (OnLoop (Reply conn bytes)) answer ∷ rest) left → IsDueReply s (past_after [] before) conn bytes
   due_reply ends ticks turns before rest conn bytes answer left way =
       let e : TraceEntry = entry (OnLoop (Reply conn bytes)) answer in
-      along_at IsDueCall [] before e rest (made_along IsDueCall Any [] (life s ends ticks turns) (before ++ e ∷ rest) left (lives_life ends ticks turns) way)
+      let walks = traverses_rest Due Ended [] (life s ends ticks turns) (lives_life ends ticks turns) (before ++ e ∷ rest) left way in
+      let due : Due (past_after [] (before ++ e ∷ rest)) = holds_now Due Ended (past_after [] (before ++ e ∷ rest)) left walks in
+      (due_before rest (e ∷ past_after [] before) (subst AreDue (since_both [] before (e ∷ rest)) due.1)).0

@@ -27,7 +27,7 @@ use Rattle.fwd_theorem_delivery.proofs.LinkCalls.{closes_in}
 use Rattle.fwd_theorem_delivery.proofs.LinkClosures.{Closed, closed_at}
 use Rattle.fwd_theorem_delivery.proofs.Outcomes.{EndsAt, ends_way}
 use Rattle.fwd_theorem_delivery.proofs.FlushInvariant.{IsAtLink, OutcomeIsLoggedIn, WasTurnedAway, FlushState, EndedBy, Kept}
-use Rattle.fwd_theorem_delivery.proofs.FlushSteps.{IsLived, lives_life}
+use Rattle.fwd_theorem_delivery.proofs.FlushRun.{IsLived, lives_life}
 
 -- a run and its final state
 pub whole_at_end : (s : AllSettings) (ends : Ends) (ticks : Option ℕ) (turns : ℕ) (trace : List TraceEntry) (lived : RunResult) → Execution (life s ends ticks turns) trace (Return lived) → AreNewLinks 0 (loop_part trace)

@@ -17,6 +17,7 @@ use Rattle.fwd_top.specs.Cases.{Case, Replays, Generates, Runs, Lists, Refuses}
 use Rattle.fwd_top.specs.Outcomes.{Platform, platform_of, AreNotCalled, Produces}
 use Rattle.fwd_top.specs.Delivery.{IsDelivered}
 use Rattle.fwd_top.specs.CrashConsistency.{IsCrashConsistent}
+use Rattle.fwd_top.specs.Offsets.{EachRunKeepsOffsets}
 use Rattle.fwd_top.specs.Answers.{Verdict, says, status_of, of_reported, Outcome, IsVerdict, Devices, Asks, Comes, Wrote, Answers, is_over_disk, is_run, IsKeeperFault, IsLoopFault, IsDiskFault, spent, spent_by}
 use Rattle.fwd_top.specs.Results.{HasDiskFailed, HasKeeperFailed, HasLoopFailed, IsRefusal, WritesVerdict, WritesSo, given_by, is_to_run, takes_disk, unless_memory}
 use Rattle.fwd_top.specs.Words.{command_of}
@@ -31,8 +32,9 @@ still o = record { disk = grew_none o.disk; files = grew_none o.files; loop = gr
 -- what holds of each outcome holds of this one
 pub outcome_of : ((turns : ℕ) (case : Case) (old new : Platform) (r : Reported) (comes : Produces turns case old new r) → IsDelivered turns case old new r comes)
     → ((turns : ℕ) (case : Case) (old new : Platform) (r : Reported) (comes : Produces turns case old new r) → IsCrashConsistent turns case old new r comes)
+    → ((turns : ℕ) (case : Case) (old new : Platform) (r : Reported) (comes : Produces turns case old new r) → EachRunKeepsOffsets turns case old new r comes)
     → (turns : ℕ) (case : Case) (old new : Platform) (r : Reported) → Produces turns case old new r → Outcome turns case old new r
-outcome_of delivers stands turns case old new r comes = record { comes = comes; delivered = delivers turns case old new r comes; safe = stands turns case old new r comes }
+outcome_of delivers stands keeps turns case old new r comes = record { comes = comes; delivered = delivers turns case old new r comes; safe = stands turns case old new r comes; offsets = keeps turns case old new r comes }
 
 -- ---- calls and written text
 

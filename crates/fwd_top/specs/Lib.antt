@@ -7,3 +7,4 @@ pub mod Results
 pub mod Views
 pub mod Delivery
 pub mod CrashConsistency
+pub mod Offsets

@@ -12,6 +12,7 @@ ghost use Rattle.fwd_top.specs.Results.{AreSound, HasDiskFailed, HasKeeperFailed
 use crate::crash_consistency::outcomes_are_crash_consistent;
 use crate::guarantee::outcomes_are_delivered;
 use crate::job::{Job, read_job};
+use crate::offsets::outcomes_keep_offsets;
 use crate::status::Status;
 use fwd_keeper::Keeper;
 use fwd_outside::{Bytes, Disk, Files, Loop, Sink, SinkErr};
@@ -148,6 +149,9 @@ pub fn watched_forwarder<D: Disk, F: Files, L: Loop, K: Keeper, S: Sink>(
     // If appends are fsynced, no crash loses a pending file-backed chunk (`Outcome.safe`): the next run of a
     // schedule recovers it, whole, and pending for the same outputs; at each point of a run, even inside a call
     // on the disk, whatever a crash leaves has the file of each such chunk.
+    // Each offset of a followed file that is put has nothing lost before it (`Outcome.offsets`): each batch that
+    // was complete by then was accepted, or refused and counted, or has no events. The next run reads on from
+    // the offset that the keeper gives.
     ensures answers { Answers words.now (environment env.now) turns (devices (D.call_log disk.old) (F.call_log files.old) (L.call_log outside.old) (K.call_log keeper.old) (S.call_log out.old)) (devices (D.call_log disk.new) (F.call_log files.new) (L.call_log outside.new) (K.call_log keeper.new) (S.call_log out.new)) result }
     ensures text { IsOfTheFiles words.now (environment env.now) turns (devices (D.call_log disk.old) (F.call_log files.old) (L.call_log outside.old) (K.call_log keeper.old) (S.call_log out.old)) (devices (D.call_log disk.new) (F.call_log files.new) (L.call_log outside.new) (K.call_log keeper.new) (S.call_log out.new)) result }
     ensures file_cause { HasCause (F.faults files.old) (F.faults files.new) (result ≡ Status.FileFault) }
@@ -162,6 +166,7 @@ pub fn watched_forwarder<D: Disk, F: Files, L: Loop, K: Keeper, S: Sink>(
 {
     outcomes_are_delivered();
     outcomes_are_crash_consistent();
+    outcomes_keep_offsets();
     match read_job(alloc, words, env, files, watch) {
         Ok(job) => {
             let reported = run_job(rt, alloc, job, disk, files, outside, keeper, turns, watch);
@@ -204,6 +209,9 @@ pub fn log_forwarder<D: Disk, F: Files, L: Loop, K: Keeper, S: Sink>(
     // If appends are fsynced, no crash loses a pending file-backed chunk (`Outcome.safe`): the next run of a
     // schedule recovers it, whole, and pending for the same outputs; at each point of a run, even inside a call
     // on the disk, whatever a crash leaves has the file of each such chunk.
+    // Each offset of a followed file that is put has nothing lost before it (`Outcome.offsets`): each batch that
+    // was complete by then was accepted, or refused and counted, or has no events. The next run reads on from
+    // the offset that the keeper gives.
     ensures answers { Answers words.now (environment env.now) turns (devices (D.call_log disk.old) (F.call_log files.old) (L.call_log outside.old) (K.call_log keeper.old) (S.call_log out.old)) (devices (D.call_log disk.new) (F.call_log files.new) (L.call_log outside.new) (K.call_log keeper.new) (S.call_log out.new)) result }
     ensures text { IsOfTheFiles words.now (environment env.now) turns (devices (D.call_log disk.old) (F.call_log files.old) (L.call_log outside.old) (K.call_log keeper.old) (S.call_log out.old)) (devices (D.call_log disk.new) (F.call_log files.new) (L.call_log outside.new) (K.call_log keeper.new) (S.call_log out.new)) result }
     ensures file_cause { HasCause (F.faults files.old) (F.faults files.new) (result ≡ Status.FileFault) }

@@ -3,7 +3,7 @@ use Rattle.fwd_model.specs.CallLogs.{CallLogs, Completes}
 use Rattle.fwd_model.specs.RecoveryActions.{recovers}
 use Rattle.fwd_engine_state.specs.RefinesAction.{with_all}
 use Rattle.fwd_engine_run.specs.OffsetRows.{with_keeper}
-use Rattle.fwd_theorem_trace.proofs.Run.{recovered_is_loading}
+use Rattle.fwd_engine_run.proofs.RecoveredHistory.{recovered_is_loading}
 use Rattle.fwd_replay.specs.RunState.{nowhere}
 use Rattle.fwd_replay.proofs.LiveRun.{begins_load, caused_later, disk_failed, ran_on, to_run}
 use Rattle.fwd_replay.proofs.live_run.begin_and_run.Goals as goal

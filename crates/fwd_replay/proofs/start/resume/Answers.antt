@@ -5,7 +5,7 @@ use Rattle.fwd_engine_run.specs.OffsetRows.{GetsOutcome, with_keeper}
 use Rattle.fwd_engine_run.specs.declared.kept_offsets.Got.TheVariants as got
 use Rattle.fwd_engine_run.proofs.OffsetActions.{gets_leave, has_failed, is_done}
 use Rattle.fwd_keeper_mem.specs.MemKeeper.{log_of}
-use Rattle.fwd_theorem_trace.proofs.Run.{recovered_is_loading}
+use Rattle.fwd_engine_run.proofs.RecoveredHistory.{recovered_is_loading}
 use Rattle.fwd_replay.specs.RunState.{nowhere}
 use Rattle.fwd_replay.proofs.RunStart.{get_fails, loop_starts}
 use Rattle.fwd_replay.proofs.start.resume.Goals as goal

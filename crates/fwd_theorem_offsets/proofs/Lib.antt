@@ -1,0 +1,6 @@
+pub mod PassedOffsets
+pub mod LineOrigins
+pub mod SplitFiles
+pub mod TrackedFiles
+pub mod RunStart
+pub mod FirstRead
