@@ -14,7 +14,11 @@ use Rattle.fwd_replay.specs.declared.report.Ending.{Ending}
 use Rattle.fwd_replay.specs.declared.report.Ending.TheVariants as ending
 use Rattle.fwd_replay.specs.declared.report.Reported.{Reported}
 use Rattle.fwd_top.specs.Cases.{Case, Replays, Generates, Runs, Lists, Refuses}
-use Rattle.fwd_top.specs.Answers.{Verdict, says, status_of, of_reported, Platform, platform_of, AreNotCalled, Produces, IsVerdict, Devices, Asks, Comes, Wrote, Answers, is_over_disk, is_run, IsKeeperFault, IsLoopFault, IsDiskFault, spent, spent_by}
+use Rattle.fwd_top.specs.Outcomes.{Platform, platform_of, AreNotCalled, Produces}
+use Rattle.fwd_top.specs.Delivery.{IsDelivered}
+use Rattle.fwd_top.specs.CrashConsistency.{IsCrashConsistent}
+use Rattle.fwd_top.specs.Offsets.{EachRunKeepsOffsets}
+use Rattle.fwd_top.specs.Answers.{Verdict, says, status_of, of_reported, Outcome, IsVerdict, Devices, Asks, Comes, Wrote, Answers, is_over_disk, is_run, IsKeeperFault, IsLoopFault, IsDiskFault, spent, spent_by}
 use Rattle.fwd_top.specs.Results.{HasDiskFailed, HasKeeperFailed, HasLoopFailed, IsRefusal, WritesVerdict, WritesSo, given_by, is_to_run, takes_disk, unless_memory}
 use Rattle.fwd_top.specs.Words.{command_of}
 use Rattle.fwd_top.specs.declared.job.Job.{Job}
@@ -25,19 +29,26 @@ use Rattle.fwd_top.specs.declared.status.Status.TheVariants as status
 pub still : (o : Platform) → AreNotCalled o o
 still o = record { disk = grew_none o.disk; files = grew_none o.files; loop = grew_none o.loop; keeper = grew_none o.keeper }
 
+-- what holds of each outcome holds of this one
+pub outcome_of : ((turns : ℕ) (case : Case) (old new : Platform) (r : Reported) (comes : Produces turns case old new r) → IsDelivered turns case old new r comes)
+    → ((turns : ℕ) (case : Case) (old new : Platform) (r : Reported) (comes : Produces turns case old new r) → IsCrashConsistent turns case old new r comes)
+    → ((turns : ℕ) (case : Case) (old new : Platform) (r : Reported) (comes : Produces turns case old new r) → EachRunKeepsOffsets turns case old new r comes)
+    → (turns : ℕ) (case : Case) (old new : Platform) (r : Reported) → Produces turns case old new r → Outcome turns case old new r
+outcome_of delivers stands keeps turns case old new r comes = record { comes = comes; delivered = delivers turns case old new r comes; safe = stands turns case old new r comes; offsets = keeps turns case old new r comes }
+
 -- ---- calls and written text
 
 -- the outcome of a case gives its verdict
-pub in_case : (turns : ℕ) (case : Case) (old new : Platform) (r : Reported) → Produces turns case old new r → IsVerdict turns case old new (of_reported r)
+pub in_case : (turns : ℕ) (case : Case) (old new : Platform) (r : Reported) → Outcome turns case old new r → IsVerdict turns case old new (of_reported r)
 in_case turns (Replays s lives) old new r is = (r, is, refl)
 in_case turns (Generates s lives) old new r is = (r, is, refl)
 in_case turns (Runs s ticks) old new r is = (r, is, refl)
 in_case turns (Lists root) old new r is = (r, is, refl)
-in_case turns (Refuses other) old new r is = absurd is
+in_case turns (Refuses other) old new r is = absurd is.comes
 
 module _ {Y : Type 0} (words : List (String Y)) (env : Values) (turns : ℕ) (old new : Devices) where
   -- a job was done
-  comes_of : (case : Case) (read : FilesLog) (r : Reported) → Asks words env old.files read (Some case) → Produces turns case (platform_of old.disk read old.loop old.keeper) (platform_of new.disk new.files new.loop new.keeper) r → Comes words env turns old new (of_reported r)
+  comes_of : (case : Case) (read : FilesLog) (r : Reported) → Asks words env old.files read (Some case) → Outcome turns case (platform_of old.disk read old.loop old.keeper) (platform_of new.disk new.files new.loop new.keeper) r → Comes words env turns old new (of_reported r)
   comes_of case read r asks is = record { case = case; read = read; asks = asks; is = in_case turns case (platform_of old.disk read old.loop old.keeper) (platform_of new.disk new.files new.loop new.keeper) r is }
 
   -- there was nothing to do
@@ -80,7 +91,7 @@ module _ {Y : Type 0} (words : List (String Y)) (env : Values) (turns : ℕ) (ol
   refused other is asks disk loop keeper sink = ([], comes_refused words env turns old new other asks disk loop keeper, sink)
 
   -- a job was done
-  pub done : (case : Case) (read : FilesLog) (r : Reported) (result : Status) → Asks words env old.files read (Some case) → Produces turns case (platform_of old.disk read old.loop old.keeper) (platform_of new.disk new.files new.loop new.keeper) r → WritesVerdict old.sink new.sink (of_reported r) result
+  pub done : (case : Case) (read : FilesLog) (r : Reported) (result : Status) → Asks words env old.files read (Some case) → Outcome turns case (platform_of old.disk read old.loop old.keeper) (platform_of new.disk new.files new.loop new.keeper) r → WritesVerdict old.sink new.sink (of_reported r) result
       → Answers words env turns old new result
   done case read r result asks is tells = call_log r.text r.ending result (comes_of words env turns old new case read r asks is) tells
 

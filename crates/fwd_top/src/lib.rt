@@ -14,6 +14,7 @@
 mod crash_consistency;
 mod guarantee;
 mod job;
+mod offsets;
 mod status;
 mod top;
 mod words;

@@ -4,17 +4,15 @@ ghost use Rattle.std.specs.Prelude.{◌≡◌, ◌≤◌, IsErrOf};
 ghost use Rattle.fwd_outside.specs.Cause.{HasCause};
 ghost use Rattle.fwd_config.specs.Variables.{environment};
 ghost use Rattle.fwd_engine_state.specs.LoopCounters.{EventsTaken};
-ghost use Rattle.fwd_top.specs.Answers.{Answers, Produces, IsDiskFault, IsListed, IsKeeperFault, IsLoopFault, IsOfTheFiles, Platform, devices, of_reported, platform_of, spent, status_of};
+ghost use Rattle.fwd_top.specs.Answers.{Answers, IsDiskFault, IsKeeperFault, IsLoopFault, IsOfTheFiles, devices, of_reported, spent, status_of};
+ghost use Rattle.fwd_top.specs.Outcomes.{IsListed, Produces, platform_of};
 ghost use Rattle.fwd_replay.specs.declared.report.Ending.TheVariants as ending;
-ghost use Rattle.fwd_replay.specs.declared.report.Reported.{Reported};
-ghost use Rattle.fwd_top.specs.Cases.{Case};
-ghost use Rattle.fwd_top.specs.Delivery.{IsDelivered};
-ghost use Rattle.fwd_top.specs.CrashConsistency.{IsCrashConsistent};
 ghost use Rattle.fwd_top.specs.Results.{AreSound, HasDiskFailed, HasKeeperFailed, HasLoopFailed, WritesVerdict, Writes, given_by, of_job, settings_in};
 
 use crate::crash_consistency::outcomes_are_crash_consistent;
 use crate::guarantee::outcomes_are_delivered;
 use crate::job::{Job, read_job};
+use crate::offsets::outcomes_keep_offsets;
 use crate::status::Status;
 use fwd_keeper::Keeper;
 use fwd_outside::{Bytes, Disk, Files, Loop, Sink, SinkErr};
@@ -144,6 +142,16 @@ pub fn watched_forwarder<D: Disk, F: Files, L: Loop, K: Keeper, S: Sink>(
 ) -> Status
     // The calls on the files are those of the program's asking, and then those on all devices are those
     // of the reference model, or for a listing those of loading on the disk; the text is written.
+    // Each run that was made keeps the delivery guarantee (`Outcome.delivered`): complete input is accepted, or
+    // refused and counted, or followed the drop of its connection; each chunk is, for each output that it
+    // matches, delivered in full, failed, out of retries, evicted, marked done before, or still pending
+    // and in the report; the bytes sent over each link are a prefix of the payload of its flush.
+    // If appends are fsynced, no crash loses a pending file-backed chunk (`Outcome.safe`): the next run of a
+    // schedule recovers it, whole, and pending for the same outputs; at each point of a run, even inside a call
+    // on the disk, whatever a crash leaves has the file of each such chunk.
+    // Each offset of a followed file that is put has nothing lost before it (`Outcome.offsets`): each batch that
+    // was complete by then was accepted, or refused and counted, or has no events. The next run reads on from
+    // the offset that the keeper gives.
     ensures answers { Answers words.now (environment env.now) turns (devices (D.call_log disk.old) (F.call_log files.old) (L.call_log outside.old) (K.call_log keeper.old) (S.call_log out.old)) (devices (D.call_log disk.new) (F.call_log files.new) (L.call_log outside.new) (K.call_log keeper.new) (S.call_log out.new)) result }
     ensures text { IsOfTheFiles words.now (environment env.now) turns (devices (D.call_log disk.old) (F.call_log files.old) (L.call_log outside.old) (K.call_log keeper.old) (S.call_log out.old)) (devices (D.call_log disk.new) (F.call_log files.new) (L.call_log outside.new) (K.call_log keeper.new) (S.call_log out.new)) result }
     ensures file_cause { HasCause (F.faults files.old) (F.faults files.new) (result ≡ Status.FileFault) }
@@ -155,18 +163,10 @@ pub fn watched_forwarder<D: Disk, F: Files, L: Loop, K: Keeper, S: Sink>(
     ensures loop_cause { HasCause (L.faults outside.old) (L.faults outside.new) (IsLoopFault words.now result) }
     ensures heard { EventsTaken (spent words.now turns result) (L.counts outside.old) (L.counts outside.new) }
     ensures out_cause { HasCause (S.faults out.old) (S.faults out.new) (result ≡ Status.OutFault) }
-    // Each run of the case in `answers` keeps the delivery guarantee. Complete input is accepted, or
-    // refused and counted, or followed the drop of its connection. Each chunk is, for each output that it
-    // matches, delivered in full, failed, out of retries, evicted, marked done before, or still pending
-    // and in the report. The bytes sent over each link are a prefix of the payload of its flush.
-    ensures promise { (case : Case) (before behind : Platform) (reported : Reported) (comes : Produces turns case before behind reported) → IsDelivered turns case before behind reported comes }
-    // If appends are fsynced, no crash between the runs of a schedule loses a pending file-backed chunk:
-    // the next run recovers it, whole, and pending for the same outputs. At each point of a run, even
-    // inside a call on the disk, whatever a crash leaves has the file of each such chunk.
-    ensures crashes { (case : Case) (before behind : Platform) (reported : Reported) (comes : Produces turns case before behind reported) → IsCrashConsistent turns case before behind reported comes }
 {
     outcomes_are_delivered();
     outcomes_are_crash_consistent();
+    outcomes_keep_offsets();
     match read_job(alloc, words, env, files, watch) {
         Ok(job) => {
             let reported = run_job(rt, alloc, job, disk, files, outside, keeper, turns, watch);
@@ -202,6 +202,16 @@ pub fn log_forwarder<D: Disk, F: Files, L: Loop, K: Keeper, S: Sink>(
 ) -> Status
     // The calls on the files are those of the program's asking, and then those on all devices are those
     // of the reference model, or for a listing those of loading on the disk; the text is written.
+    // Each run that was made keeps the delivery guarantee (`Outcome.delivered`): complete input is accepted, or
+    // refused and counted, or followed the drop of its connection; each chunk is, for each output that it
+    // matches, delivered in full, failed, out of retries, evicted, marked done before, or still pending
+    // and in the report; the bytes sent over each link are a prefix of the payload of its flush.
+    // If appends are fsynced, no crash loses a pending file-backed chunk (`Outcome.safe`): the next run of a
+    // schedule recovers it, whole, and pending for the same outputs; at each point of a run, even inside a call
+    // on the disk, whatever a crash leaves has the file of each such chunk.
+    // Each offset of a followed file that is put has nothing lost before it (`Outcome.offsets`): each batch that
+    // was complete by then was accepted, or refused and counted, or has no events. The next run reads on from
+    // the offset that the keeper gives.
     ensures answers { Answers words.now (environment env.now) turns (devices (D.call_log disk.old) (F.call_log files.old) (L.call_log outside.old) (K.call_log keeper.old) (S.call_log out.old)) (devices (D.call_log disk.new) (F.call_log files.new) (L.call_log outside.new) (K.call_log keeper.new) (S.call_log out.new)) result }
     ensures text { IsOfTheFiles words.now (environment env.now) turns (devices (D.call_log disk.old) (F.call_log files.old) (L.call_log outside.old) (K.call_log keeper.old) (S.call_log out.old)) (devices (D.call_log disk.new) (F.call_log files.new) (L.call_log outside.new) (K.call_log keeper.new) (S.call_log out.new)) result }
     ensures file_cause { HasCause (F.faults files.old) (F.faults files.new) (result ≡ Status.FileFault) }
@@ -213,15 +223,6 @@ pub fn log_forwarder<D: Disk, F: Files, L: Loop, K: Keeper, S: Sink>(
     ensures loop_cause { HasCause (L.faults outside.old) (L.faults outside.new) (IsLoopFault words.now result) }
     ensures heard { EventsTaken (spent words.now turns result) (L.counts outside.old) (L.counts outside.new) }
     ensures out_cause { HasCause (S.faults out.old) (S.faults out.new) (result ≡ Status.OutFault) }
-    // Each run of the case in `answers` keeps the delivery guarantee. Complete input is accepted, or
-    // refused and counted, or followed the drop of its connection. Each chunk is, for each output that it
-    // matches, delivered in full, failed, out of retries, evicted, marked done before, or still pending
-    // and in the report. The bytes sent over each link are a prefix of the payload of its flush.
-    ensures promise { (case : Case) (before behind : Platform) (reported : Reported) (comes : Produces turns case before behind reported) → IsDelivered turns case before behind reported comes }
-    // If appends are fsynced, no crash between the runs of a schedule loses a pending file-backed chunk:
-    // the next run recovers it, whole, and pending for the same outputs. At each point of a run, even
-    // inside a call on the disk, whatever a crash leaves has the file of each such chunk.
-    ensures crashes { (case : Case) (before behind : Platform) (reported : Reported) (comes : Produces turns case before behind reported) → IsCrashConsistent turns case before behind reported comes }
 {
     watched_forwarder(
         rt,

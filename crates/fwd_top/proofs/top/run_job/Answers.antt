@@ -1,6 +1,6 @@
 use Rattle.std.proofs.Common.{None}
 use Rattle.fwd_outside.proofs.LogGrowth.{grew_none}
-use Rattle.fwd_top.specs.Answers.{platform_of, world}
+use Rattle.fwd_top.specs.Outcomes.{platform_of, world}
 use Rattle.fwd_top.proofs.Writing.{still, heard_none, no_cause}
 use Rattle.fwd_top.proofs.top.run_job.Goals as goal
 
