@@ -1,6 +1,6 @@
 //! The offsets that a run keeps of followed files.
 
-ghost use Rattle.std.specs.Prelude.{◌≡◌, ◌≤◌, ◌<◌, ◌^◌, ◌++◌, ℕ, List, [], map, length, Option, Ok, IfOk, OnOk};
+ghost use Rattle.std.specs.Prelude.{◌≡◌, ◌≤◌, ◌++◌, [], map, Ok, IfOk, OnOk};
 ghost use Rattle.fwd_outside.specs.Cause.{HasCause};
 ghost use Rattle.fwd_settings.specs.Requirements.{MeetsRequirements};
 ghost use Rattle.fwd_settings.specs.declared.settings_types.AllSettings.{AllSettings};

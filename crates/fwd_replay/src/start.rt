@@ -134,11 +134,13 @@ fn resume(
     ensures { (settings : AllSettings) (begins : Start) (h : History) (seen : Seen) (held : FilesState) → IsRecovered settings begins life.now seen h → IsAt engine settings h → Keeps settings offsets [] → FilesRepresent held (course_of begins life.now).files
         → keeper.old.given ≡ begins.offsets → keeper.old.notes ≡ [] → ends.now ≡ ends_of settings → Starts settings begins life.now seen held keeper.new result }
 {
-    let got = offsets.get(&mut engine, keeper);
-    keeper.is_played();
-    match got {
-        Ok(Got::All) => start_loop(alloc, engine, offsets, ends, life),
+    match offsets.get(&mut engine, keeper) {
+        Ok(Got::All) => {
+            keeper.is_played();
+            start_loop(alloc, engine, offsets, ends, life)
+        }
         Ok(Got::Failed) => {
+            keeper.is_played();
             let _given_back = engine.finish();
             Err(StartErr::KeeperFailed)
         }

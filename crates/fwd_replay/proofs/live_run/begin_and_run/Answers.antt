@@ -30,8 +30,8 @@ returns-in-Err-DiskFault-clause-life g c others =
     let did : Completes a b (recovers c.args.settings) None = rw c.in-Err-DiskFault.field-0-is at (c.in-Err-DiskFault.ensures.begins a) in
     disk_failed c.args.settings c.args.ticks c.args.most a b c.without_text.result did c.without_text.ensures
 
-pub returns-in-Err-Memory-clause-life : goal.returns-in-Err-Memory-clause-life
-returns-in-Err-Memory-clause-life g c others =
+pub returns-clause-life : goal.returns-clause-life
+returns-clause-life g c others =
     let a : CallLogs = with_all (g.L.Loop.call_log c.args.outside.now) (g.D.Disk.call_log c.args.disk.now) (g.F.Files.call_log c.args.files.now) (with_keeper (g.K.Keeper.call_log c.args.keeper.now) others) in
     let b : CallLogs = with_all (g.L.Loop.call_log c.args.outside.now) (g.D.Disk.call_log c.begin.new.disk) (g.F.Files.call_log c.args.files.now) (with_keeper (g.K.Keeper.call_log c.args.keeper.now) others) in
     let unfailed = rw c.in-Err-Memory.field-0-is at (c.in-Err-Memory.ensures.begins a) in

@@ -1,10 +1,7 @@
-use Rattle.std.proofs.Common.{Ok, refl}
-use Rattle.fwd_model.specs.KeptOffsets.{tracked, gets}
+use Rattle.std.proofs.Common.{refl}
+use Rattle.fwd_model.specs.KeptOffsets.{tracked}
 use Rattle.fwd_model.specs.Run.{Over, KeeperFailed, lived}
-use Rattle.fwd_engine_run.specs.OffsetRows.{GetsOutcome, with_keeper}
-use Rattle.fwd_engine_run.specs.declared.kept_offsets.Got.TheVariants as got
 use Rattle.fwd_engine_run.proofs.OffsetActions.{gets_leave, has_failed, is_done}
-use Rattle.fwd_keeper_mem.specs.MemKeeper.{log_of}
 use Rattle.fwd_engine_run.proofs.RecoveredHistory.{recovered_is_loading}
 use Rattle.fwd_replay.specs.RunState.{nowhere}
 use Rattle.fwd_replay.proofs.RunStart.{get_fails, loop_starts}
@@ -15,12 +12,12 @@ returns-in-Ok-All c s begins h seen held recovered at keeps stand given unasked 
     let gotten = rw c.in-Ok-All.field-0-is at (c.in-Ok-All.ensures.gets nowhere s h has_failed is_done at (recovered_is_loading s recovered.trace h recovered.way) keeps) in
     let now = gotten.0 in
     let leave = gets_leave s (tracked s) h (lived now Over) gotten.3.entries gotten.3.way in
-    loop_starts s begins c.args.life.now seen h recovered c.args.keeper.now c.get-got.new.keeper given unasked c.is_played.ensures (lived now Over) gotten.3.entries leave gotten.3.asked.keeper now refl held c.args.ends.now c.get-got.new.engine
-    c.get-got.new.self stand are gotten.1 gotten.2 c.start_loop.result c.start_loop.ensures
+    loop_starts s begins c.args.life.now seen h recovered c.args.keeper.now c.get.new.keeper given unasked c.is_played.ensures (lived now Over) gotten.3.entries leave gotten.3.asked.keeper now refl held c.args.ends.now c.get.new.engine
+    c.get.new.self stand are gotten.1 gotten.2 c.start_loop.result c.start_loop.ensures
 
 pub returns-in-Ok-Failed : goal.returns-in-Ok-Failed
 returns-in-Ok-Failed c s begins h seen held recovered at keeps stand given unasked are =
     let gotten = rw c.in-Ok-Failed.field-0-is at (c.in-Ok-Failed.ensures.gets nowhere s h has_failed is_done at (recovered_is_loading s recovered.trace h recovered.way) keeps) in
     let now = gotten.0 in
     let leave = gets_leave s (tracked s) h (lived now KeeperFailed) gotten.1.entries gotten.1.way in
-    (now, get_fails s begins c.args.life.now seen h recovered c.args.keeper.now c.get-got.new.keeper given unasked c.is_played.ensures (lived now KeeperFailed) gotten.1.entries leave gotten.1.asked.keeper now refl)
+    (now, get_fails s begins c.args.life.now seen h recovered c.args.keeper.now c.get.new.keeper given unasked c.is_played-in-Ok-Failed.ensures (lived now KeeperFailed) gotten.1.entries leave gotten.1.asked.keeper now refl)

@@ -15,7 +15,7 @@ returns-then-is_over-clause-ended g c s start under =
     in
     let which : c.in-Ok.turn ≡ turn.Over = c.is_over.ensures ∙ ap as_turn c.if-is_over.true in
     subst (λ (w : Turn). HasPut s start life c.put_offsets.new.going c.take.new.disk c.take.new.files c.put_offsets.new.keeper w) which
-    (c.in_ok-put_offsets.ensures.put s start life c.take.new.disk c.take.new.files c.in-Ok.turn (c.in-Ok.ensures.turned s start life ready))
+    (c.in_ok-put_offsets-in-Ok.ensures.put s start life c.take.new.disk c.take.new.files c.in-Ok.turn (c.in-Ok.ensures.turned s start life ready))
 
 pub returns-in-Err-LoopFault-clause-ended : goal.returns-in-Err-LoopFault-clause-ended
 returns-in-Err-LoopFault-clause-ended g c s start under =
