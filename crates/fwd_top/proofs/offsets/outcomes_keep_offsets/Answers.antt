@@ -5,7 +5,7 @@ use Rattle.fwd_replay.specs.declared.report.Shown.TheVariants.{All, Report}
 use Rattle.fwd_top.specs.Outcomes.{Produces}
 use Rattle.fwd_top.specs.Cases.{Case, Replays, Generates, Runs, Lists, Refuses}
 use Rattle.fwd_top.specs.Offsets.{EachRunKeepsOffsets}
-use Rattle.fwd_top.proofs.Offsets.{each_keeps_offsets, keeps_offsets}
+use Rattle.fwd_top.proofs.RunOffsets.{each_keeps_offsets, keeps_offsets}
 use Rattle.fwd_top.proofs.offsets.outcomes_keep_offsets.Goals as goal
 
 pub returns : goal.returns
