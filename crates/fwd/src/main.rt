@@ -7,11 +7,13 @@ mod arguments;
 ghost use Rattle.fwd_outside.specs.Disk.{DiskGiven};
 ghost use Rattle.fwd_outside.specs.Files.{FilesGiven};
 ghost use Rattle.fwd_outside.specs.Loop.{LoopGiven};
+ghost use Rattle.fwd_keeper.specs.Keeper.{KeeperGiven};
 
 use arguments::{environment, words};
 use fwd_base::{Bytes, Memory};
 use fwd_live::{Access, FolderDisk, FolderFiles, Identities, LiveLoop, Shared, StdSink};
 use fwd_log::{Journal, Level};
+use fwd_positions::SqliteKeeper;
 use fwd_top::{Status, status_line, watched_forwarder};
 use fwd_watch::Watcher;
 use std::alloc::Global;
@@ -49,15 +51,16 @@ fn is_listing(words: &[String]) -> bool {
     }
 }
 
-/// Makes the devices and runs the program. The caller picks the initial files, on the disk and beside it, and
-/// what the loop will bring. Without a loop the status is `LoopFault` or `Memory`, whatever the words are.
+/// Makes the devices and runs the program. The caller picks the initial files, on the disk and beside it, the
+/// initial offsets in the databases, and what the loop will bring. Without a loop the status is `LoopFault` or
+/// `Memory`, whatever the words are.
 fn run(
     rt: &HostRuntime,
     threads: &(impl Threads + Sync),
     words: &[String],
     env: &[(String, String)],
 ) -> Status
-    ghost given: { DiskGiven × (FilesGiven × LoopGiven) }
+    ghost given: { DiskGiven × (FilesGiven × (LoopGiven × KeeperGiven)) }
 {
     let access = if is_listing(words) {
         Access::Reader
@@ -72,6 +75,7 @@ fn run(
     };
     let mut disk = FolderDisk::new(*rt, &shared, access);
     let mut files = FolderFiles::new(*rt, &shared, &identities);
+    let mut keeper = SqliteKeeper::new(*rt, &shared.journal, &identities);
     let mut out = StdSink::new(*rt);
     let mut watcher = Watcher::new(rt.alloc(), &shared.journal);
     watched_forwarder(
@@ -82,6 +86,7 @@ fn run(
         &mut disk,
         &mut files,
         &mut outside,
+        &mut keeper,
         &mut out,
         u64::MAX,
         &mut watcher,
@@ -108,7 +113,7 @@ fn print_status(rt: &HostRuntime, status: &Status) -> io::Result<()> {
 /// Runs the program. A listing whose disk failed is made again: a live run may have removed files meanwhile.
 /// Nothing was written then.
 fn run_words(rt: &HostRuntime, threads: &(impl Threads + Sync)) -> Status
-    ghost given: { DiskGiven × (FilesGiven × LoopGiven) }
+    ghost given: { DiskGiven × (FilesGiven × (LoopGiven × KeeperGiven)) }
 {
     let words = match words(rt) {
         Ok(words) => words,

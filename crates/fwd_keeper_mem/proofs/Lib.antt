@@ -1,2 +1,3 @@
 pub mod OffsetTable
 pub mod NotesKept
+pub mod Unfailing

@@ -24,7 +24,7 @@ pub entries_push : (notes : List KeeperNote) (note : KeeperNote) → entries_of 
 entries_push [] note = refl
 entries_push (n ∷ notes) note = ap (λ (es : List KeeperEntry). entry_of n ∷ es) (entries_push notes note)
 
-after_push : (offsets : KeeperGiven) (es : List KeeperEntry) (e : KeeperEntry) → offsets_after_all offsets (es ++ e ∷ []) ≡ offsets_after (offsets_after_all offsets es) e.call e.answer
+pub after_push : (offsets : KeeperGiven) (es : List KeeperEntry) (e : KeeperEntry) → offsets_after_all offsets (es ++ e ∷ []) ≡ offsets_after (offsets_after_all offsets es) e.call e.answer
 after_push offsets [] e = refl
 after_push offsets (x ∷ es) e = after_push (offsets_after offsets x.call x.answer) es e
 

@@ -49,3 +49,15 @@ abbrev pub IsPlayed : KeeperGiven → List KeeperEntry → List KeeperEntry → 
 IsPlayed given before [] = Unit {0}
 IsPlayed given before (e ∷ es) =
     (e.answer ≡ answer_after given before e.call) × IsPlayed given (before ++ e ∷ []) es
+
+-- the answer of a keeper that has these offsets and isn't to fail
+abbrev pub answer_with : KeeperGiven → (call : KeeperCall) → KeeperAnswer call
+answer_with offsets (Get db path) = Some (found offsets db path)
+answer_with offsets (Put db path place) = Some tt
+answer_with offsets (FailAt number) = tt
+
+-- none of these calls fails: each has the answer of a keeper with the offsets after the calls before it
+abbrev pub IsUnfailing : KeeperGiven → List KeeperEntry → Type 0
+IsUnfailing offsets [] = Unit {0}
+IsUnfailing offsets (e ∷ es) =
+    (e.answer ≡ answer_with offsets e.call) × IsUnfailing (offsets_after offsets e.call e.answer) es

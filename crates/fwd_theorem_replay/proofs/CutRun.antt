@@ -25,7 +25,7 @@ use Rattle.fwd_theorem_crash.specs.CrashPoint.{crash_point}
 use Rattle.fwd_theorem_crash.specs.Safety.{IsSafe}
 use Rattle.fwd_theorem_crash.proofs.RunSafety.{all_safe}
 use Rattle.fwd_replay.specs.Runs.{Start, disk_of, CutRun, IsCutIn, IsCut, first_calls}
-use Rattle.fwd_theorem_crash.proofs.MoreTurns.{life_on}
+use Rattle.fwd_theorem_crash.proofs.MoreTurns.{life_on, turn_runs}
 use Rattle.fwd_theorem_replay.specs.Crashes.{CrashedAfter}
 use Rattle.fwd_theorem_replay.proofs.Entries.{AreNaming, played_naming}
 use Rattle.fwd_theorem_replay.proofs.PresetDisk.{AreSettings, set_both, set_each, fresh_files, disk_ends}
@@ -48,13 +48,15 @@ module _ (s : AllSettings) (turns : ℕ) (start : Start) (planned : Life) (c : C
   cut_life = by cut.cut_in
     where
       by : IsCutIn s turns start planned c.before c.history c.turn → IsBeginning s (c.before ++ c.turn)
-      by (inl on) = record {
-        turns = waits_in c.before + 1;
-        left = Return on.3.0;
-        way =
-            way_trans (life s (ends_of s) None (waits_in c.before + 1)) (run s None 1 c.history) (Return on.3.0) c.before c.turn
-            (life_on s c.history 1 (ends_of s) (waits_in c.before) (waits_in c.before + 1) refl c.before on.1) on.3.1;
-      }
+      by (inl on) =
+          let runs = turn_runs s c.history on.3.0 c.turn on.3.1 in
+          record {
+            turns = waits_in c.before + 1;
+            left = runs.0;
+            way =
+                way_trans (life s (ends_of s) None (waits_in c.before + 1)) (run s None 1 c.history) runs.0 c.before c.turn
+                (life_on s c.history 1 (ends_of s) (waits_in c.before) (waits_in c.before + 1) refl c.before on.1) runs.1;
+          }
       by (inr over) = record {
         turns = turns;
         left = Return (lived c.history Over);

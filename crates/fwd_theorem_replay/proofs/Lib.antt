@@ -8,7 +8,7 @@ pub mod EventsTaken
 pub mod TurnsSpent
 pub mod FolderListing
 pub mod AlikeDisks
-pub mod NoKeeper
+pub mod AlikeKeepers
 pub mod CommonPrefix
 pub mod CutPoint
 pub mod RunTexts

@@ -7,6 +7,9 @@ use Rattle.fwd_disk_mem.specs.declared.told.Told.{Told}
 use Rattle.fwd_disk_mem.specs.declared.told.Told.TheVariants.{Preset, FailAt}
 use Rattle.fwd_disk_mem.specs.Told.{files_of}
 use Rattle.fwd_disk_mem.specs.Images.{CrashFile, picked, file_settings}
+use Rattle.fwd_keeper.specs.Keeper.{found}
+use Rattle.fwd_keeper_mem.specs.KeeperAnswers.{offsets_after_all}
+use Rattle.fwd_keeper_mem.specs.Offsets.{SameOffsets}
 use Rattle.fwd_settings.specs.Endpoints.{ends_of}
 use Rattle.fwd_settings.specs.declared.settings_types.AllSettings.{AllSettings}
 use Rattle.fwd_script.specs.declared.schedule.Cut.{Cut}
@@ -16,7 +19,7 @@ use Rattle.fwd_script.specs.declared.schedule.Stored.{Stored}
 use Rattle.fwd_script_loop.specs.Lines.{given_of}
 use Rattle.fwd_script_loop.specs.Place.{beginning}
 use Rattle.fwd_model.specs.Fact.{History}
-use Rattle.fwd_model.specs.Trace.{TraceEntry, disk_part}
+use Rattle.fwd_model.specs.Trace.{TraceEntry, disk_part, keeper_part}
 use Rattle.fwd_model.specs.Run.{Over, RunResult, lived, life}
 use Rattle.fwd_theorem_trace.specs.Waits.{waits_in}
 use Rattle.fwd_replay.specs.FileChanges.{Course, course_after, has_last}
@@ -26,7 +29,7 @@ use Rattle.fwd_replay.specs.declared.report.Reported.{Reported}
 use Rattle.fwd_replay.specs.declared.report.Ending.TheVariants as ending
 use Rattle.fwd_replay.specs.declared.report.Shown.{Shown}
 use Rattle.fwd_theorem_replay.proofs.AlikeDisks.{Alike, alike_itself, alike_back, alike_append, alike_presets, same_calls}
-use Rattle.fwd_theorem_replay.proofs.NoKeeper.{life_keeperless}
+use Rattle.fwd_theorem_replay.proofs.AlikeKeepers.{same_itself, same_back, same_after}
 use Rattle.fwd_theorem_replay.proofs.CommonPrefix.{Answers, passes, ends_same}
 use Rattle.fwd_theorem_replay.proofs.CutPoint.{CutIn, Cutting, IsSameCut, all_answers, cutting_of, goes_past, never, not_last, same_cut}
 
@@ -34,12 +37,13 @@ use Rattle.fwd_theorem_replay.proofs.CutPoint.{CutIn, Cutting, IsSameCut, all_an
 pub record Similar (start start2 : Start) : Type 0 where
   pub disk : Alike start.disk start2.disk
   pub changes : start2.changes ≡ start.changes
+  pub offsets : SameOffsets start.offsets start2.offsets
 
 similar_back : (start start2 : Start) → Similar start start2 → Similar start2 start
-similar_back start start2 similar = record { disk = alike_back start.disk start2.disk similar.disk; changes = sym similar.changes }
+similar_back start start2 similar = record { disk = alike_back start.disk start2.disk similar.disk; changes = sym similar.changes; offsets = same_back start.offsets start2.offsets similar.offsets }
 
 same_course : (start start2 : Start) (planned : Life) → Similar start start2 → course_of start2 planned ≡ course_of start planned
-same_course start start2 planned similar = ap (λ (changes : List FileChange). course_of (record { disk = []; changes = changes }) planned) similar.changes
+same_course start start2 planned similar = ap (λ (changes : List FileChange). course_of (record { disk = []; changes = changes; offsets = [] }) planned) similar.changes
 
 pub alike_disks : (start start2 : Start) (planned : Life) → Similar start start2 → Alike (disk_of start planned) (disk_of start2 planned)
 alike_disks start start2 planned similar =
@@ -49,18 +53,17 @@ alike_disks start start2 planned similar =
 module _ (shown : Shown) (s : AllSettings) (turns : ℕ) (start start2 : Start) (planned : Life) (similar : Similar start start2) where
   -- ---- a run that ends
 
-  ended : (replayed : Reported) → (e : EndsIn shown s turns start planned replayed) → Answers (beginning (given_of planned)) (disk_of start planned) (course_of start planned) e.trace e.is.asked
-  ended replayed e = all_answers start planned (course_of start planned) refl e.trace e.is.asked e.is.answered (life_keeperless s (ends_of s) None turns e.trace (Return e.comes) e.is.way)
+  ended : (replayed : Reported) → (e : EndsIn shown s turns start planned replayed) → Answers (beginning (given_of planned)) (disk_of start planned) (course_of start planned) start.offsets [] e.trace e.is.asked
+  ended replayed e = all_answers start planned (course_of start planned) refl e.trace e.is.asked e.is.answered
 
-  ended2 : (replayed : Reported) → (e : EndsIn shown s turns start2 planned replayed) → Answers (beginning (given_of planned)) (disk_of start2 planned) (course_of start planned) e.trace e.is.asked
-  ended2 replayed e =
-      all_answers start2 planned (course_of start planned) (same_course start start2 planned similar) e.trace e.is.asked e.is.answered (life_keeperless s (ends_of s) None turns e.trace (Return e.comes) e.is.way)
+  ended2 : (replayed : Reported) → (e : EndsIn shown s turns start2 planned replayed) → Answers (beginning (given_of planned)) (disk_of start2 planned) (course_of start planned) start2.offsets [] e.trace e.is.asked
+  ended2 replayed e = all_answers start2 planned (course_of start planned) (same_course start start2 planned similar) e.trace e.is.asked e.is.answered
 
   same_end : (one other : Reported) → EndsIn shown s turns start planned one → EndsIn shown s turns start2 planned other → other ≡ one
   same_end one other e f =
       let same = ends_same e.comes f.comes e.trace f.trace
-      (passes (life s (ends_of s) None turns) (beginning (given_of planned)) (disk_of start planned) (disk_of start2 planned) (course_of start planned) e.trace f.trace e.is.asked f.is.asked (Return e.comes) f.comes
-      (alike_disks start start2 planned similar) e.is.way f.is.way (ended one e) (ended2 other f))
+      (passes (life s (ends_of s) None turns) (beginning (given_of planned)) (disk_of start planned) (disk_of start2 planned) (course_of start planned) start.offsets start2.offsets [] e.trace f.trace e.is.asked f.is.asked (Return e.comes) f.comes
+      (alike_disks start start2 planned similar) similar.offsets e.is.way f.is.way (ended one e) (ended2 other f))
       in
       f.reports
       ∙ ap (λ (l : List TraceEntry). reported_by (life_text shown s l f.comes.history) f.comes.end) same.0
@@ -71,7 +74,7 @@ module _ (shown : Shown) (s : AllSettings) (turns : ℕ) (start start2 : Start) 
   no_cut : {X : Type 0} (replayed : Reported) (c : CutRun) → EndsIn shown s turns start planned replayed → IsCut s turns start2 planned c → X
   no_cut {X = X} replayed c e cut = by cutting.cut_in
     where
-      cutting : Cutting s turns (beginning (given_of planned)) (disk_of start2 planned) (course_of start planned) c
+      cutting : Cutting s turns (beginning (given_of planned)) (disk_of start2 planned) (course_of start planned) start2.offsets c
       cutting = cutting_of s turns start2 planned c (course_of start planned) (same_course start start2 planned similar) cut
 
       alike : Alike (disk_of start planned) (disk_of start2 planned)
@@ -80,13 +83,13 @@ module _ (shown : Shown) (s : AllSettings) (turns : ℕ) (start start2 : Start) 
       by : CutIn s turns (course_of start planned) c.before c.history c.turn → X
       by (inl on) =
           never (has_last (course_of start planned) e.trace)
-          (goes_past s (beginning (given_of planned)) (disk_of start2 planned) (disk_of start planned) (course_of start planned) (alike_back (disk_of start planned) (disk_of start2 planned) alike) (waits_in c.before) turns c.history e.comes
+          (goes_past s (beginning (given_of planned)) (disk_of start2 planned) (disk_of start planned) (course_of start planned) start2.offsets start.offsets (alike_back (disk_of start planned) (disk_of start2 planned) alike) (same_back start.offsets start2.offsets similar.offsets) (waits_in c.before) turns c.history e.comes
           c.before e.trace c.asked e.is.asked on.0 on.1 e.is.way cutting.before (ended replayed e) on.2)
           (not_last planned.cut c.cut (has_last (course_of start planned) e.trace) cut.is e.is.uncut)
       by (inr over) =
           let same = ends_same e.comes (lived c.history Over) e.trace c.before
-          (passes (life s (ends_of s) None turns) (beginning (given_of planned)) (disk_of start planned) (disk_of start2 planned) (course_of start planned) e.trace c.before e.is.asked c.asked (Return e.comes) (lived c.history Over)
-          alike e.is.way over.0 (ended replayed e) cutting.before)
+          (passes (life s (ends_of s) None turns) (beginning (given_of planned)) (disk_of start planned) (disk_of start2 planned) (course_of start planned) start.offsets start2.offsets [] e.trace c.before e.is.asked c.asked (Return e.comes) (lived c.history Over)
+          alike similar.offsets e.is.way over.0 (ended replayed e) cutting.before)
           in
           let none : planned.cut ≡ None = e.last (sym (ap (λ (l : RunResult). l.end) same.1)) in
           absurd (cc (sym cut.is ∙ none))
@@ -94,9 +97,9 @@ module _ (shown : Shown) (s : AllSettings) (turns : ℕ) (start start2 : Start) 
   -- ---- a run that is cut
 
   module _ (c c2 : CutRun) (cut : IsCut s turns start planned c) (cut2 : IsCut s turns start2 planned c2) where
-    pub same_place : IsSameCut s turns (beginning (given_of planned)) (disk_of start planned) (disk_of start2 planned) (course_of start planned) (alike_disks start start2 planned similar) c c2
+    pub same_place : IsSameCut s turns (beginning (given_of planned)) (disk_of start planned) (disk_of start2 planned) (course_of start planned) start.offsets start2.offsets (alike_disks start start2 planned similar) similar.offsets c c2
     same_place =
-        same_cut s turns (beginning (given_of planned)) (disk_of start planned) (disk_of start2 planned) (course_of start planned) (alike_disks start start2 planned similar) c c2
+        same_cut s turns (beginning (given_of planned)) (disk_of start planned) (disk_of start2 planned) (course_of start planned) start.offsets start2.offsets (alike_disks start start2 planned similar) similar.offsets c c2
         (cutting_of s turns start planned c (course_of start planned) refl cut) (cutting_of s turns start2 planned c2 (course_of start planned) (same_course start start2 planned similar) cut2)
 
     pub cut_is : c2.cut ≡ c.cut
@@ -146,6 +149,11 @@ module _ (shown : Shown) (s : AllSettings) (turns : ℕ) (start start2 : Start) 
           ∙ ap (λ (at : Course). (course_after at (c2.before ++ c2.turn)).files.changes) (same_course start start2 planned similar)
           ∙ ap (λ (l : List TraceEntry). (course_after (course_of start planned) l).files.changes) all_is
           ∙ sym cut.changes;
+      offsets = λ db path.
+          sym (cut.offsets db path)
+          ∙ same_after start.offsets start2.offsets (keeper_part (c.before ++ c.turn)) similar.offsets db path
+          ∙ ap (λ (l : List TraceEntry). found (offsets_after_all start2.offsets (keeper_part l)) db path) (sym all_is)
+          ∙ cut2.offsets db path;
     }
 
     pub same_joined : (rest rest2 : Reported) → rest2 ≡ rest → joined (life_text shown s c2.before c2.history) c2.cut rest2 ≡ joined (life_text shown s c.before c.history) c.cut rest
@@ -194,4 +202,4 @@ module _ (shown : Shown) (s : AllSettings) where
           cut2.2.2 ∙ same_joined shown s turns start start2 planned similar c c2 cut.1 cut2.1 rest rest2 same ∙ sym cut.2.2
 
   pub one_text : (turns : ℕ) (lives : List Life) (one other : Reported) → IsReplayed shown s turns first lives one → IsReplayed shown s turns first lives other → one.ending ≢ ending.Memory → other.ending ≢ ending.Memory → other ≡ one
-  one_text turns lives one other is is2 = one_text_from lives turns first first (record { disk = alike_itself []; changes = refl }) one other is is2
+  one_text turns lives one other is is2 = one_text_from lives turns first first (record { disk = alike_itself []; changes = refl; offsets = same_itself [] }) one other is is2

@@ -1,6 +1,6 @@
 -- A run whose turns ran out had an event for each of them.
 use Rattle.std.proofs.Common.{◌≡◌, ℕ, zero, suc, ◌≤◌, Bool, true, false, ◌||◌, if◌then◌else◌, List, [], ◌∷◌, ◌++◌, Option, Some, None, refl, sym, ap, subst, ◌∙◌, arith}
-use Rattle.fwd_outside.specs.Program.{entry, Return, Execution}
+use Rattle.fwd_outside.specs.Program.{entry, Return, Ask, Execution}
 use Rattle.fwd_outside.specs.Loop.{LoopEntry, Start, Wait}
 use Rattle.fwd_outside.specs.declared.ends.Ends.{Ends}
 use Rattle.fwd_outside.specs.declared.happening.Happening.{Happening}
@@ -8,14 +8,17 @@ use Rattle.fwd_outside.specs.declared.happening.Happening.TheVariants as happeni
 use Rattle.fwd_settings.specs.declared.settings_types.AllSettings.{AllSettings}
 use Rattle.fwd_script_loop.specs.Place.{ArePlayed, Place, after_wait, behind}
 use Rattle.fwd_script_loop.proofs.PlayedCalls.{played_second}
-use Rattle.fwd_model.specs.Fact.{History}
-use Rattle.fwd_model.specs.Trace.{Action, TraceEntry, loop_part}
-use Rattle.fwd_model.specs.Settings.{saturating_plus}
+use Rattle.fwd_keeper.specs.Keeper.{Get, Put}
+use Rattle.fwd_model.specs.Fact.{History, Resumed, Saved}
+use Rattle.fwd_model.specs.Trace.{Action, Call, Answer, OnKeeper, Note, TraceEntry, loop_part}
+use Rattle.fwd_model.specs.Settings.{paths_at, saturating_plus}
 use Rattle.fwd_model.specs.Clock.{clock, stopped}
 use Rattle.fwd_model.specs.Limits.{paused}
+use Rattle.fwd_model.specs.FollowedFiles.{settled}
+use Rattle.fwd_model.specs.KeptOffsets.{Tracked, tracked, kept_at, to_put, indexes_from, resumes, got, gets, after_put, puts_by, puts}
 use Rattle.fwd_model.specs.StepActions.{step}
 use Rattle.fwd_model.specs.RecoveryActions.{recovers}
-use Rattle.fwd_model.specs.Run.{RunResult, Over, DiskFailed, LoopFailed, TurnsSpent, lived, is_end, is_over, is_over_after, goes_on, unless_last, brought, run, after_start, after_recovery, life}
+use Rattle.fwd_model.specs.Run.{RunResult, Over, DiskFailed, KeeperFailed, LoopFailed, TurnsSpent, lived, is_end, is_over, is_over_after, goes_on, unless_last, after_step, brought, run, after_start, starts, after_recovery, life}
 use Rattle.fwd_model.proofs.CallLogs.{loop_append}
 use Rattle.fwd_theorem_trace.proofs.Turns.{way_parts}
 use Rattle.fwd_theorem_trace.proofs.WaitCounts.{loading_plain, step_plain}
@@ -44,9 +47,56 @@ played_behind place es more all parts played =
     played_second place (loop_part es) (loop_part more) (subst (λ (l : List LoopEntry). ArePlayed place l) is played)
 
 module _ (s : AllSettings) (comes : RunResult) (spent : comes.end ≡ TurnsSpent) where
+  -- a run that ends so from a position of its loop had this there
+  abbrev Finds : (Place → Type 0) → Action RunResult → Type 0
+  Finds P from = (place : Place) (es : List TraceEntry) → Execution from es (Return comes) → ArePlayed place (loop_part es) → P place
+
   -- these turns run out only if there was an event for each
   abbrev HasEnough : ℕ → Action RunResult → Type 0
-  HasEnough turns from = (place : Place) (es : List TraceEntry) → Execution from es (Return comes) → ArePlayed place (loop_part es) → turns ≤ left_at place
+  HasEnough turns from = Finds (λ place. turns ≤ left_at place) from
+
+  -- ---- gets and puts of offsets ask nothing of the loop
+
+  module _ (P : Place → Type 0) where
+    abbrev FindsAll : (History → Action RunResult) → Type 0
+    FindsAll next = (h : History) → Finds P (next h)
+
+    asks_none : (call : Call) (go : Answer call → Action RunResult) → ((answer : Answer call) (es : List TraceEntry) → loop_part (entry call answer ∷ es) ≡ loop_part es) → ((answer : Answer call) → Finds P (go answer)) → Finds P (Ask call go)
+    asks_none call go none next place [] way played = absurd (cc way)
+    asks_none call go none next place (e ∷ es) way played =
+        let first : ArePlayed place (loop_part (entry call way.0 ∷ es)) = subst (λ (x : TraceEntry). ArePlayed place (loop_part (x ∷ es))) way.1 played in
+        next way.0 place es way.2 (subst (λ (l : List LoopEntry). ArePlayed place l) (none way.0 es) first)
+
+    after_put_finds : (t : Tracked) (place : ℕ) (next : History → Action RunResult) → FindsAll next → (h : History) (answer : Option (Unit {0})) → Finds P (after_put t place next h answer)
+    after_put_finds t place next finds h None = finds h
+    after_put_finds t place next finds h (Some done) =
+        asks_none (Note (Saved t.input t.index place)) (λ _. next (Saved t.input t.index place ∷ h)) (λ answer es. refl) (λ answer. finds (Saved t.input t.index place ∷ h))
+
+    puts_by_finds : (t : Tracked) (place : Option ℕ) (next : History → Action RunResult) → FindsAll next → (h : History) → Finds P (puts_by t place next h)
+    puts_by_finds t None next finds h = finds h
+    puts_by_finds t (Some place) next finds h = asks_none (OnKeeper (Put t.db t.path place)) (after_put t place next h) (λ answer es. refl) (after_put_finds t place next finds h)
+
+    puts_find : (ts : List Tracked) (next : History → Action RunResult) → FindsAll next → FindsAll (puts s ts next)
+    puts_find [] next finds h = finds h
+    puts_find (t ∷ ts) next finds h = puts_by_finds t (to_put (settled s h t.input t.index) (kept_at h t.input t.index)) (puts s ts next) (puts_find ts next finds) h
+
+    resumes_find : (input place : ℕ) (indexes : List ℕ) (next : History → Action RunResult) → FindsAll next → FindsAll (resumes input place indexes next)
+    resumes_find input place [] next finds h = finds h
+    resumes_find input place (index ∷ more) next finds h =
+        let now : History = Resumed input index place ∷ h in
+        asks_none (Note (Resumed input index place)) (λ _. resumes input place more next now) (λ answer es. refl) (λ answer. resumes_find input place more next finds now)
+
+    got_finds : (t : Tracked) (failed next : History → Action RunResult) → FindsAll failed → FindsAll next → (h : History) (answer : Option (Option ℕ)) → Finds P (got s t failed next h answer)
+    got_finds t failed next ends finds h None = ends h
+    got_finds t failed next ends finds h (Some None) = finds h
+    got_finds t failed next ends finds h (Some (Some place)) = resumes_find t.input place (indexes_from 0 t.path (paths_at s t.input)) next finds h
+
+    gets_find : (ts : List Tracked) (failed next : History → Action RunResult) → FindsAll failed → FindsAll next → FindsAll (gets s ts failed next)
+    gets_find [] failed next ends finds h = finds h
+    gets_find (t ∷ ts) failed next ends finds h =
+        asks_none (OnKeeper (Get t.db t.path)) (got s t failed (gets s ts failed next) h) (λ answer es. refl) (got_finds t failed (gets s ts failed next) ends (gets_find ts failed next ends finds) h)
+
+  -- ---- turns
 
   -- a turn goes on only if the event wasn't the end
   goes_by : (over : Bool) (turns : ℕ) (x : Happening) (h : History) (next : Action RunResult) (place : Place) (es : List TraceEntry) → is_over s x h ≡ over
@@ -58,12 +108,15 @@ module _ (s : AllSettings) (comes : RunResult) (spent : comes.end ≡ TurnsSpent
       → Execution (brought s None (run s None turns) h x) es (Return comes) → ArePlayed place (loop_part es) → (is_end x ≡ false) × (turns ≤ left_at place)
   turn_goes turns h happening.Failed place es enough way played = let failed = ends_so (lived h LoopFailed) comes es way in absurd (cc (sym spent ∙ failed))
   turn_goes turns h x place es enough way played =
-      let parts = way_parts (step s x h) (goes_on s (unless_last s None (run s None turns) x) x) es comes way in
-      let now = parts.0 in
+      let parts = way_parts (step s x h) (after_step s None (run s None turns) x) es comes way in
       let own = parts.1 in
       let more = parts.2 in
-      let went = goes_by (is_over s x now) turns x now (run s None turns now) (behind place (loop_part own)) more refl parts.5 (played_behind place own more es parts.3 played) (enough now) in
-      (went.0, subst (λ (n : ℕ). turns ≤ n) (none_taken place own (step_plain s x h own (Return now) parts.4)) went.1)
+      let went =
+      puts_find (λ at. (is_end x ≡ false) × (turns ≤ left_at at)) (tracked s) (goes_on s (unless_last s None (run s None turns) x) x)
+      (λ now at rest on answered. goes_by (is_over s x now) turns x now (run s None turns now) at rest refl on answered (enough now))
+      parts.0 (behind place (loop_part own)) more parts.5 (played_behind place own more es parts.3 played)
+      in
+      (went.0, subst (λ (n : ℕ). turns ≤ n) (none_taken place own (step_plain s x h own (Return parts.0) parts.4)) went.1)
 
   run_enough : (turns : ℕ) (h : History) → HasEnough turns (run s None turns h)
   unfolding run
@@ -81,12 +134,18 @@ module _ (s : AllSettings) (comes : RunResult) (spent : comes.end ≡ TurnsSpent
   started_enough turns h None place es way played = let failed = ends_so (lived h LoopFailed) comes es way in absurd (cc (sym spent ∙ failed))
   started_enough turns h (Some ready) place es way played = run_enough turns h place es way played
 
-  begun_enough : (ends : Ends) (turns : ℕ) (found : Option History) → HasEnough turns (after_recovery s ends None turns found)
-  begun_enough ends turns None place es way played = let failed = ends_so (lived [] DiskFailed) comes es way in absurd (cc (sym spent ∙ failed))
-  begun_enough ends turns (Some h) place [] way played = absurd (cc way)
-  begun_enough ends turns (Some h) place (e ∷ es) way played =
+  starts_enough : (ends : Ends) (turns : ℕ) (h : History) → HasEnough turns (starts s ends None turns h)
+  starts_enough ends turns h place [] way played = absurd (cc way)
+  starts_enough ends turns h place (e ∷ es) way played =
       let first : ArePlayed place (entry (Start ends) way.0 ∷ loop_part es) = subst (λ (x : TraceEntry). ArePlayed place (loop_part (x ∷ es))) way.1 played in
       started_enough turns h way.0 place es way.2 first.1
+
+  begun_enough : (ends : Ends) (turns : ℕ) (found : Option History) → HasEnough turns (after_recovery s ends None turns found)
+  begun_enough ends turns None place es way played = let failed = ends_so (lived [] DiskFailed) comes es way in absurd (cc (sym spent ∙ failed))
+  begun_enough ends turns (Some h) place es way played =
+      gets_find (λ at. turns ≤ left_at at) (tracked s) (λ (now : History). Return (lived now KeeperFailed)) (starts s ends None turns)
+      (λ now at rest on answered. let failed = ends_so (lived now KeeperFailed) comes rest on in absurd (cc (sym spent ∙ failed)))
+      (starts_enough ends turns) h place es way played
 
   pub life_enough : (ends : Ends) (turns : ℕ) → HasEnough turns (life s ends None turns)
   unfolding life

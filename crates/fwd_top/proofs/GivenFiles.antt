@@ -20,7 +20,8 @@ use Rattle.fwd_replay.specs.LiveRun.{IsRunLive}
 use Rattle.fwd_replay.specs.declared.report.Reported.{Reported}
 use Rattle.fwd_top.specs.Words.{Command, Run, Replay, ListFolder, Generate, command_of}
 use Rattle.fwd_top.specs.Cases.{Case, Replays, Generates, Runs, Lists, Refuses, Wanted, ToRun, ToReplay, Asked, asked, refused_by, refused_config, wanted_by, with_settings, with_sections, of_config, of_command}
-use Rattle.fwd_top.specs.Answers.{Verdict, says, of_reported, Platform, platform_of, world, Produces, IsVerdict, Devices, Asks, IsVerdictOf, IsOfTheFiles}
+use Rattle.fwd_top.specs.Outcomes.{Platform, platform_of, world}
+use Rattle.fwd_top.specs.Answers.{Verdict, says, of_reported, Outcome, IsVerdict, Devices, Asks, IsVerdictOf, IsOfTheFiles}
 use Rattle.fwd_top.specs.Results.{IsRefusal, WritesVerdict, of_job, unless_memory}
 use Rattle.fwd_top.specs.declared.job.Job.{Job}
 use Rattle.fwd_top.specs.declared.job.Job.TheVariants as job
@@ -93,14 +94,14 @@ module _ (files : FilesGiven) where
 
 -- the calls on the files for a case
 asked_for : (turns : ℕ) (case : Case) (old new : Platform) (verdict : Verdict) → IsVerdict turns case old new verdict → (entries : List FilesEntry) × LogGrew old.files new.files entries
-asked_for turns (Replays s lives) old new verdict is = ([], is.1.1.files)
-asked_for turns (Generates s lives) old new verdict is = ([], is.1.1.files)
-asked_for turns (Runs s ticks) old new verdict is = run is.1
+asked_for turns (Replays s lives) old new verdict is = ([], is.1.comes.1.files)
+asked_for turns (Generates s lives) old new verdict is = ([], is.1.comes.1.files)
+asked_for turns (Runs s ticks) old new verdict is = run is.1.comes
   where
     run : IsRunLive s ticks turns (world old) (world new) is.0 → (entries : List FilesEntry) × LogGrew old.files new.files entries
     run (inl lived) = (files_part lived.did.entries, lived.did.asked.files)
     run (inr begun) = (files_part begun.0.1.entries, begun.0.1.asked.files)
-asked_for turns (Lists root) old new verdict is = ([], is.1.1.0)
+asked_for turns (Lists root) old new verdict is = ([], is.1.comes.1.0)
 asked_for turns (Refuses other) old new verdict is = ([], is.1.files)
 
 module _ (old read new : FilesLog) (standing : FilesGiven) (before made first second : List FilesEntry) where
@@ -111,7 +112,7 @@ module _ (old read new : FilesLog) (standing : FilesGiven) (before made first se
       (honest_parts (files_after_all standing before) first second (subst (λ (l : List FilesEntry). IsConsistentLog (files_after_all standing before) l) is honest)).0
 
 module _ {Y : Type 0} (words : List (String Y)) (env : Values) (turns : ℕ) (old new : Devices) where
-  verdict_of : (case : Case) (read : FilesLog) (verdict : Verdict) → Asks words env old.files read (Some case) → IsVerdict turns case (platform_of old.disk read old.loop) (platform_of new.disk new.files new.loop) verdict
+  verdict_of : (case : Case) (read : FilesLog) (verdict : Verdict) → Asks words env old.files read (Some case) → IsVerdict turns case (platform_of old.disk read old.loop old.keeper) (platform_of new.disk new.files new.loop new.keeper) verdict
       → case ≢ Refuses status.FileFault
       → (standing : FilesGiven) (before made : List FilesEntry) → old.files ≡ Some (standing, before) → new.files ≡ Some (standing, before ++ made) → IsConsistentLog (files_after_all standing before) made
       → IsVerdictOf words env turns (files_after_all standing before) old new verdict
@@ -122,7 +123,7 @@ module _ {Y : Type 0} (words : List (String Y)) (env : Values) (turns : ℕ) (ol
     case = case;
     given =
         let did = asks.makes in
-        let more = asked_for turns case (platform_of old.disk read old.loop) (platform_of new.disk new.files new.loop) verdict is in
+        let more = asked_for turns case (platform_of old.disk read old.loop old.keeper) (platform_of new.disk new.files new.loop new.keeper) verdict is in
         gives (files_after_all standing before) (of_command asks.checked (command_of (map string_bytes words)) env) (ends_there asks.checked (command_of (map string_bytes words)) env) did.entries (asked asks.loaded case) other
         (first_honest old.files read new.files standing before made did.entries more.0 did.grew more.1 was now_is honest) did.way;
     read = read;
@@ -131,24 +132,25 @@ module _ {Y : Type 0} (words : List (String Y)) (env : Values) (turns : ℕ) (ol
 
   -- a job was done, and its outcome written
   pub done_files : (case : Case) (read : FilesLog) (r : Reported) (result : Status) → case ≢ Refuses status.FileFault → Asks words env old.files read (Some case)
-      → Produces turns case (platform_of old.disk read old.loop) (platform_of new.disk new.files new.loop) r → WritesVerdict old.sink new.sink (of_reported r) result → IsOfTheFiles words env turns old new result
+      → Outcome turns case (platform_of old.disk read old.loop old.keeper) (platform_of new.disk new.files new.loop new.keeper) r → WritesVerdict old.sink new.sink (of_reported r) result → IsOfTheFiles words env turns old new result
   done_files case read r result other asks is tells standing before made was now_is honest known =
-      let verdict = in_case turns case (platform_of old.disk read old.loop) (platform_of new.disk new.files new.loop) r is in
+      let verdict = in_case turns case (platform_of old.disk read old.loop old.keeper) (platform_of new.disk new.files new.loop new.keeper) r is in
       written (IsVerdictOf words env turns (files_after_all standing before) old new) old.sink new.sink r.text r.ending result
       (verdict_of case read (of_reported r) asks verdict other standing before made was now_is honest) tells
 
   -- there was nothing to do
-  pub refused_files : (result : Status) → IsRefusal result → Asks words env old.files new.files (unless_memory result) → LogGrew old.disk new.disk [] → LogGrew old.loop new.loop [] → LogGrew old.sink new.sink []
+  pub refused_files : (result : Status) → IsRefusal result → Asks words env old.files new.files (unless_memory result) → LogGrew old.disk new.disk [] → LogGrew old.loop new.loop [] → LogGrew old.keeper new.keeper [] → LogGrew old.sink new.sink []
       → IsOfTheFiles words env turns old new result
-  refused_files status.Done is asks disk loop sink standing before made was now_is honest known = absurd is
-  refused_files status.TurnsSpent is asks disk loop sink standing before made was now_is honest known = absurd is
-  refused_files status.OutFault is asks disk loop sink standing before made was now_is honest known = absurd is
-  refused_files status.LoopFault is asks disk loop sink standing before made was now_is honest known = absurd is
-  refused_files status.DiskFault is asks disk loop sink standing before made was now_is honest known = absurd is
-  refused_files status.FileFault is asks disk loop sink standing before made was now_is honest known = absurd (known refl)
-  refused_files status.Memory is asks disk loop sink standing before made was now_is honest known = tt
-  refused_files other is asks disk loop sink standing before made was now_is honest known =
-      ([], verdict_of (Refuses other) new.files (says [] other) asks (refl, record { disk = disk; files = grew_none new.files; loop = loop }) (λ same. cc same) standing before made was now_is honest, sink)
+  refused_files status.Done is asks disk loop keeper sink standing before made was now_is honest known = absurd is
+  refused_files status.TurnsSpent is asks disk loop keeper sink standing before made was now_is honest known = absurd is
+  refused_files status.OutFault is asks disk loop keeper sink standing before made was now_is honest known = absurd is
+  refused_files status.LoopFault is asks disk loop keeper sink standing before made was now_is honest known = absurd is
+  refused_files status.KeeperFault is asks disk loop keeper sink standing before made was now_is honest known = absurd is
+  refused_files status.DiskFault is asks disk loop keeper sink standing before made was now_is honest known = absurd is
+  refused_files status.FileFault is asks disk loop keeper sink standing before made was now_is honest known = absurd (known refl)
+  refused_files status.Memory is asks disk loop keeper sink standing before made was now_is honest known = tt
+  refused_files other is asks disk loop keeper sink standing before made was now_is honest known =
+      ([], verdict_of (Refuses other) new.files (says [] other) asks (refl, record { disk = disk; files = grew_none new.files; loop = loop; keeper = keeper }) (λ same. cc same) standing before made was now_is honest, sink)
 
 -- a job refuses nothing
 pub no_refusal : (j : Job) → of_job j ≢ Refuses status.FileFault

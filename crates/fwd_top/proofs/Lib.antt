@@ -2,4 +2,5 @@ pub mod Calls
 pub mod Writing
 pub mod GivenFiles
 pub mod Delivery
+pub mod RunOffsets
 pub mod GeneratedLoad

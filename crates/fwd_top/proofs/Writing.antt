@@ -14,8 +14,12 @@ use Rattle.fwd_replay.specs.declared.report.Ending.{Ending}
 use Rattle.fwd_replay.specs.declared.report.Ending.TheVariants as ending
 use Rattle.fwd_replay.specs.declared.report.Reported.{Reported}
 use Rattle.fwd_top.specs.Cases.{Case, Replays, Generates, Runs, Lists, Refuses}
-use Rattle.fwd_top.specs.Answers.{Verdict, says, status_of, of_reported, Platform, platform_of, AreNotCalled, Produces, IsVerdict, Devices, Asks, Comes, Wrote, Answers, is_over_disk, is_run, IsLoopFault, IsDiskFault, spent, spent_by}
-use Rattle.fwd_top.specs.Results.{HasDiskFailed, HasLoopFailed, IsRefusal, WritesVerdict, WritesSo, given_by, is_to_run, takes_disk, unless_memory}
+use Rattle.fwd_top.specs.Outcomes.{Platform, platform_of, AreNotCalled, Produces}
+use Rattle.fwd_top.specs.Delivery.{IsDelivered}
+use Rattle.fwd_top.specs.CrashConsistency.{IsCrashConsistent}
+use Rattle.fwd_top.specs.Offsets.{EachRunKeepsOffsets}
+use Rattle.fwd_top.specs.Answers.{Verdict, says, status_of, of_reported, Outcome, IsVerdict, Devices, Asks, Comes, Wrote, Answers, is_over_disk, is_run, IsKeeperFault, IsLoopFault, IsDiskFault, spent, spent_by}
+use Rattle.fwd_top.specs.Results.{HasDiskFailed, HasKeeperFailed, HasLoopFailed, IsRefusal, WritesVerdict, WritesSo, given_by, is_to_run, takes_disk, unless_memory}
 use Rattle.fwd_top.specs.Words.{command_of}
 use Rattle.fwd_top.specs.declared.job.Job.{Job}
 use Rattle.fwd_top.specs.declared.job.Job.TheVariants as job
@@ -23,32 +27,40 @@ use Rattle.fwd_top.specs.declared.status.Status.{Status}
 use Rattle.fwd_top.specs.declared.status.Status.TheVariants as status
 
 pub still : (o : Platform) → AreNotCalled o o
-still o = record { disk = grew_none o.disk; files = grew_none o.files; loop = grew_none o.loop }
+still o = record { disk = grew_none o.disk; files = grew_none o.files; loop = grew_none o.loop; keeper = grew_none o.keeper }
+
+-- what holds of each outcome holds of this one
+pub outcome_of : ((turns : ℕ) (case : Case) (old new : Platform) (r : Reported) (comes : Produces turns case old new r) → IsDelivered turns case old new r comes)
+    → ((turns : ℕ) (case : Case) (old new : Platform) (r : Reported) (comes : Produces turns case old new r) → IsCrashConsistent turns case old new r comes)
+    → ((turns : ℕ) (case : Case) (old new : Platform) (r : Reported) (comes : Produces turns case old new r) → EachRunKeepsOffsets turns case old new r comes)
+    → (turns : ℕ) (case : Case) (old new : Platform) (r : Reported) → Produces turns case old new r → Outcome turns case old new r
+outcome_of delivers stands keeps turns case old new r comes = record { comes = comes; delivered = delivers turns case old new r comes; safe = stands turns case old new r comes; offsets = keeps turns case old new r comes }
 
 -- ---- calls and written text
 
 -- the outcome of a case gives its verdict
-pub in_case : (turns : ℕ) (case : Case) (old new : Platform) (r : Reported) → Produces turns case old new r → IsVerdict turns case old new (of_reported r)
+pub in_case : (turns : ℕ) (case : Case) (old new : Platform) (r : Reported) → Outcome turns case old new r → IsVerdict turns case old new (of_reported r)
 in_case turns (Replays s lives) old new r is = (r, is, refl)
 in_case turns (Generates s lives) old new r is = (r, is, refl)
 in_case turns (Runs s ticks) old new r is = (r, is, refl)
 in_case turns (Lists root) old new r is = (r, is, refl)
-in_case turns (Refuses other) old new r is = absurd is
+in_case turns (Refuses other) old new r is = absurd is.comes
 
 module _ {Y : Type 0} (words : List (String Y)) (env : Values) (turns : ℕ) (old new : Devices) where
   -- a job was done
-  comes_of : (case : Case) (read : FilesLog) (r : Reported) → Asks words env old.files read (Some case) → Produces turns case (platform_of old.disk read old.loop) (platform_of new.disk new.files new.loop) r → Comes words env turns old new (of_reported r)
-  comes_of case read r asks is = record { case = case; read = read; asks = asks; is = in_case turns case (platform_of old.disk read old.loop) (platform_of new.disk new.files new.loop) r is }
+  comes_of : (case : Case) (read : FilesLog) (r : Reported) → Asks words env old.files read (Some case) → Outcome turns case (platform_of old.disk read old.loop old.keeper) (platform_of new.disk new.files new.loop new.keeper) r → Comes words env turns old new (of_reported r)
+  comes_of case read r asks is = record { case = case; read = read; asks = asks; is = in_case turns case (platform_of old.disk read old.loop old.keeper) (platform_of new.disk new.files new.loop new.keeper) r is }
 
   -- there was nothing to do
-  comes_refused : (other : Status) → Asks words env old.files new.files (Some (Refuses other)) → LogGrew old.disk new.disk [] → LogGrew old.loop new.loop [] → Comes words env turns old new (says [] other)
-  comes_refused other asks disk loop = record { case = Refuses other; read = new.files; asks = asks; is = (refl, record { disk = disk; files = grew_none new.files; loop = loop }) }
+  comes_refused : (other : Status) → Asks words env old.files new.files (Some (Refuses other)) → LogGrew old.disk new.disk [] → LogGrew old.loop new.loop [] → LogGrew old.keeper new.keeper [] → Comes words env turns old new (says [] other)
+  comes_refused other asks disk loop keeper = record { case = Refuses other; read = new.files; asks = asks; is = (refl, record { disk = disk; files = grew_none new.files; loop = loop; keeper = keeper }) }
 
 -- the text written for a verdict with this property
 pub written : (Holds : Verdict → Type 0) (a b : SinkLog) (text : List ℕ) (end : Ending) (result : Status) → Holds (says text (status_of end)) → WritesSo a b text (status_of end) result → Wrote Holds a b result
 written Holds a b text ending.Over result holds (inl wrote) = rw wrote.0 (text, holds, wrote.1)
 written Holds a b text ending.TurnsSpent result holds (inl wrote) = rw wrote.0 (text, holds, wrote.1)
 written Holds a b text ending.DiskFailed result holds (inl wrote) = rw wrote.0 (text, holds, wrote.1)
+written Holds a b text ending.KeeperFailed result holds (inl wrote) = rw wrote.0 (text, holds, wrote.1)
 written Holds a b text ending.LoopFailed result holds (inl wrote) = rw wrote.0 (text, holds, wrote.1)
 written Holds a b text ending.Memory result holds (inl wrote) = rw wrote.0 tt
 written Holds a b text end result holds (inr (inl wrote)) = rw wrote.0 (text, status_of end, holds, wrote.1)
@@ -60,24 +72,26 @@ module _ {Y : Type 0} (words : List (String Y)) (env : Values) (turns : ℕ) (ol
   call_log text ending.Over result comes (inl wrote) = rw wrote.0 (text, comes, wrote.1)
   call_log text ending.TurnsSpent result comes (inl wrote) = rw wrote.0 (text, comes, wrote.1)
   call_log text ending.DiskFailed result comes (inl wrote) = rw wrote.0 (text, comes, wrote.1)
+  call_log text ending.KeeperFailed result comes (inl wrote) = rw wrote.0 (text, comes, wrote.1)
   call_log text ending.LoopFailed result comes (inl wrote) = rw wrote.0 (text, comes, wrote.1)
   call_log text ending.Memory result comes (inl wrote) = rw wrote.0 (inr (inl (text, comes, wrote.1)))
   call_log text end result comes (inr (inl wrote)) = rw wrote.0 (text, status_of end, comes, wrote.1)
   call_log text end result comes (inr (inr wrote)) = rw wrote.0 (inr (inr (text, status_of end, comes, wrote.1)))
 
   -- there was nothing to do
-  pub refused : (result : Status) → IsRefusal result → Asks words env old.files new.files (unless_memory result) → LogGrew old.disk new.disk [] → LogGrew old.loop new.loop [] → LogGrew old.sink new.sink []
+  pub refused : (result : Status) → IsRefusal result → Asks words env old.files new.files (unless_memory result) → LogGrew old.disk new.disk [] → LogGrew old.loop new.loop [] → LogGrew old.keeper new.keeper [] → LogGrew old.sink new.sink []
       → Answers words env turns old new result
-  refused status.Done is asks disk loop sink = absurd is
-  refused status.TurnsSpent is asks disk loop sink = absurd is
-  refused status.OutFault is asks disk loop sink = absurd is
-  refused status.LoopFault is asks disk loop sink = absurd is
-  refused status.DiskFault is asks disk loop sink = absurd is
-  refused status.Memory is asks disk loop sink = inl (record { asks = asks; disk = disk; loop = loop }, sink)
-  refused other is asks disk loop sink = ([], comes_refused words env turns old new other asks disk loop, sink)
+  refused status.Done is asks disk loop keeper sink = absurd is
+  refused status.TurnsSpent is asks disk loop keeper sink = absurd is
+  refused status.OutFault is asks disk loop keeper sink = absurd is
+  refused status.LoopFault is asks disk loop keeper sink = absurd is
+  refused status.KeeperFault is asks disk loop keeper sink = absurd is
+  refused status.DiskFault is asks disk loop keeper sink = absurd is
+  refused status.Memory is asks disk loop keeper sink = inl (record { asks = asks; disk = disk; loop = loop; keeper = keeper }, sink)
+  refused other is asks disk loop keeper sink = ([], comes_refused words env turns old new other asks disk loop keeper, sink)
 
   -- a job was done
-  pub done : (case : Case) (read : FilesLog) (r : Reported) (result : Status) → Asks words env old.files read (Some case) → Produces turns case (platform_of old.disk read old.loop) (platform_of new.disk new.files new.loop) r → WritesVerdict old.sink new.sink (of_reported r) result
+  pub done : (case : Case) (read : FilesLog) (r : Reported) (result : Status) → Asks words env old.files read (Some case) → Outcome turns case (platform_of old.disk read old.loop old.keeper) (platform_of new.disk new.files new.loop new.keeper) r → WritesVerdict old.sink new.sink (of_reported r) result
       → Answers words env turns old new result
   done case read r result asks is tells = call_log r.text r.ending result (comes_of words env turns old new case read r asks is) tells
 
@@ -123,6 +137,7 @@ module _ {Y : Type 0} (words : List (String Y)) (turns : ℕ) (before after : Lo
   ran_heard text ending.TurnsSpent a b result run tells heard = spent_all text a b result run tells heard
   ran_heard text ending.Over a b result run tells heard = none_spent 0 text a b status.Done result tells (λ is. cc is) heard
   ran_heard text ending.DiskFailed a b result run tells heard = none_spent 0 text a b status.DiskFault result tells (λ is. cc is) heard
+  ran_heard text ending.KeeperFailed a b result run tells heard = none_spent 0 text a b status.KeeperFault result tells (λ is. cc is) heard
   ran_heard text ending.LoopFailed a b result run tells heard = none_spent 0 text a b status.LoopFault result tells (λ is. cc is) heard
   ran_heard text ending.Memory a b result run tells heard = none_spent 0 text a b status.Memory result tells (λ is. cc is) heard
 
@@ -148,6 +163,10 @@ loop_failed : (end : Ending) → status_of end ≡ status.LoopFault → end ≡ 
 loop_failed ending.LoopFailed is = refl
 loop_failed end is = absurd (cc is)
 
+keeper_failed : (end : Ending) → status_of end ≡ status.KeeperFault → end ≡ ending.KeeperFailed
+keeper_failed ending.KeeperFailed is = refl
+keeper_failed end is = absurd (cc is)
+
 disk_failed : (end : Ending) → status_of end ≡ status.DiskFault → end ≡ ending.DiskFailed
 disk_failed ending.DiskFailed is = refl
 disk_failed end is = absurd (cc is)
@@ -172,6 +191,15 @@ module _ {Y : Type 0} (words : List (String Y)) (before after : ℕ) (a b : Sink
   done_loop_cause (job.Generate s schedule) r run tells cause = record { later = cause.later; cause = λ fault. absurd (cc (sym run ∙ fault.0)) }
   done_loop_cause (job.List folder) r run tells cause = record { later = cause.later; cause = λ fault. absurd (cc (sym run ∙ fault.0)) }
 
+  pub done_keeper_cause : (j : Job) (r : Reported) → is_run (command_of (map string_bytes words)) ≡ is_to_run j → WritesVerdict a b (of_reported r) result → HasCause before after (HasKeeperFailed j r) → HasCause before after (IsKeeperFault words result)
+  done_keeper_cause (job.Run s ticks) r run tells cause = record {
+    later = cause.later;
+    cause = λ fault. cause.cause (keeper_failed r.ending (end_told r.text a b (status_of r.ending) result status.KeeperFault tells (λ is. cc is) (λ is. cc is) fault.1));
+  }
+  done_keeper_cause (job.Replay s schedule) r run tells cause = record { later = cause.later; cause = λ fault. absurd (cc (sym run ∙ fault.0)) }
+  done_keeper_cause (job.Generate s schedule) r run tells cause = record { later = cause.later; cause = λ fault. absurd (cc (sym run ∙ fault.0)) }
+  done_keeper_cause (job.List folder) r run tells cause = record { later = cause.later; cause = λ fault. absurd (cc (sym run ∙ fault.0)) }
+
   over_disk : (r : Reported) → WritesVerdict a b (of_reported r) result → HasCause before after (r.ending ≡ ending.DiskFailed) → HasCause before after (IsDiskFault words result)
   over_disk r tells cause = record {
     later = cause.later;
@@ -188,11 +216,15 @@ module _ {Y : Type 0} (words : List (String Y)) (before after : ℕ) (a b : Sink
 pub no_file_fault : (r : Reported) (a b : SinkLog) (result : Status) → WritesVerdict a b (of_reported r) result → result ≢ status.FileFault
 no_file_fault r a b result tells = told_by_one r.text a b (status_of r.ending) result status.FileFault tells (no_file_failed r.ending) (λ is. cc is) (λ is. cc is)
 
--- a refusal isn't a fault of the loop, the disk or the sink
+-- a refusal isn't a fault of the loop, the keeper, the disk or the sink
 module _ {Y : Type 0} (words : List (String Y)) where
   pub refused_loop : (result : Status) → IsRefusal result → IsLoopFault words result → ⊥
   refused_loop status.LoopFault is fault = is
   refused_loop result is fault = absurd (cc fault.1)
+
+  pub refused_keeper : (result : Status) → IsRefusal result → IsKeeperFault words result → ⊥
+  refused_keeper status.KeeperFault is fault = is
+  refused_keeper result is fault = absurd (cc fault.1)
 
   pub refused_disk : (result : Status) → IsRefusal result → IsDiskFault words result → ⊥
   refused_disk status.DiskFault is fault = is

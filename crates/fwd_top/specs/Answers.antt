@@ -1,31 +1,28 @@
 -- What the program answers.
-use Rattle.std.specs.Prelude.{◌≡◌, ◌≢◌, ◌⊎◌, ℕ, ◌≤◌, List, [], ◌∷◌, ◌++◌, length, map, String, string_bytes, Bool, true, false, if◌then◌else◌, Option, Some, None, option_map}
+use Rattle.std.specs.Prelude.{◌≡◌, ◌≢◌, ◌⊎◌, ℕ, ◌≤◌, List, [], ◌∷◌, ◌++◌, length, map, String, string_bytes, Bool, true, false, Option, Some, None, option_map}
 use Rattle.fwd_outside.specs.Program.{entry}
-use Rattle.fwd_outside.specs.Log.{LogGrew, Completes, IsBegunUnfailed, RunsProgram}
+use Rattle.fwd_outside.specs.Log.{LogGrew, RunsProgram}
 use Rattle.fwd_outside.specs.Disk.{DiskLog}
 use Rattle.fwd_outside.specs.Files.{FilesLog, FilesGiven, FilesEntry, IsConsistentLog, found, files_after_all}
 use Rattle.fwd_outside.specs.Loop.{LoopLog}
 use Rattle.fwd_outside.specs.Sink.{SinkLog, Write, Wrote as WroteAll, log_of_stopped}
+use Rattle.fwd_keeper.specs.Keeper.{KeeperLog}
 use Rattle.fwd_config.specs.Variables.{Values}
 use Rattle.fwd_config.specs.Sections.{reads_files, given}
 use Rattle.fwd_config.specs.declared.section.Section.{Section}
 use Rattle.fwd_settings.specs.Reading.{Checked}
 use Rattle.fwd_settings.specs.declared.settings_types.AllSettings.{AllSettings}
-use Rattle.fwd_backlog.specs.declared.file_read.FileRead.{FileRead}
-use Rattle.fwd_backlog.specs.declared.load.Backlog.{Backlog}
-use Rattle.fwd_backlog.specs.LoadProgram.{IsBacklog, load_program}
-use Rattle.fwd_report.specs.Listing.{IsListing}
-use Rattle.fwd_model.specs.CallLogs.{CallLogs}
-use Rattle.fwd_replay.specs.LiveRun.{IsRunLive}
-use Rattle.fwd_replay.specs.Runs.{IsReplayed, first}
 use Rattle.fwd_replay.specs.declared.report.Ending.{Ending}
 use Rattle.fwd_replay.specs.declared.report.Ending.TheVariants as ending
 use Rattle.fwd_replay.specs.declared.report.Reported.{Reported}
-use Rattle.fwd_replay.specs.declared.report.Shown.TheVariants.{All, Report}
 use Rattle.fwd_top.specs.Words.{Command, Run, ListFolder, command_of}
-use Rattle.fwd_top.specs.Cases.{Case, Replays, Generates, Runs, Lists, Refuses, asked, asks, AreSettingsOf}
+use Rattle.fwd_top.specs.Cases.{Case, Refuses, asked, asks, AreSettingsOf}
 use Rattle.fwd_top.specs.declared.status.Status.{Status}
 use Rattle.fwd_top.specs.declared.status.Status.TheVariants as status
+use Rattle.fwd_top.specs.Outcomes.{Platform, platform_of, AreNotCalled, Produces}
+use Rattle.fwd_top.specs.Delivery.{IsDelivered}
+use Rattle.fwd_top.specs.CrashConsistency.{IsCrashConsistent}
+use Rattle.fwd_top.specs.Offsets.{EachRunKeepsOffsets}
 
 -- a text to be written, unless it is empty, and the status after it
 pub record Verdict : Type 0 where
@@ -39,6 +36,7 @@ abbrev pub status_of : Ending → Status
 status_of ending.Over = status.Done
 status_of ending.TurnsSpent = status.TurnsSpent
 status_of ending.DiskFailed = status.DiskFault
+status_of ending.KeeperFailed = status.KeeperFault
 status_of ending.LoopFailed = status.LoopFault
 status_of ending.Memory = status.Memory
 
@@ -46,65 +44,31 @@ status_of ending.Memory = status.Memory
 abbrev pub of_reported : Reported → Verdict
 of_reported reported = says reported.text (status_of reported.ending)
 
--- the call logs of the devices of a run
-pub record Platform : Type 0 where
-  pub disk : DiskLog
-  pub files : FilesLog
-  pub loop : LoopLog
-
-abbrev pub platform_of : DiskLog → FilesLog → LoopLog → Platform
-platform_of disk files loop = record { disk = disk; files = files; loop = loop }
-
--- with a keeper of positions, which logs calls but is never called
-abbrev pub world : Platform → CallLogs
-world o = record { loop = o.loop; disk = o.disk; files = o.files; keeper = Some ([], []) }
-
--- none of them was called
-pub record AreNotCalled (old new : Platform) : Type 0 where
-  pub disk : LogGrew old.disk new.disk []
-  pub files : LogGrew old.files new.files []
-  pub loop : LogGrew old.loop new.loop []
-
--- The outcome of a listing, by its ending: the calls of loading, and the lines of what was recovered.
--- Without a text, the calls up to one that failed, or, if memory ran out, the first ones, of which none
--- failed.
-abbrev pub IsListed : List ℕ → DiskLog → DiskLog → List ℕ → Ending → Type 0
-IsListed root old new text ending.Over =
-    (files : List FileRead) × (backlog : Backlog) × Completes old new (load_program root) (Some files)
-    × IsBacklog files backlog × IsListing backlog.found text
-IsListed root old new text ending.DiskFailed = Completes old new (load_program root) None × (text ≡ [])
-IsListed root old new text ending.Memory = IsBegunUnfailed old new (load_program root) × (text ≡ [])
-IsListed root old new text ending.TurnsSpent = ⊥
-IsListed root old new text ending.LoopFailed = ⊥
-
--- The outcome of a case, and the calls on the devices for it. A schedule and a generated load are
--- replayed without them, and a listing calls the disk alone.
-abbrev pub Produces : ℕ → Case → Platform → Platform → Reported → Type 0
-Produces turns (Replays s lives) old new reported =
-    IsReplayed All s turns first lives reported × AreNotCalled old new
-Produces turns (Generates s lives) old new reported =
-    IsReplayed Report s turns first lives reported × AreNotCalled old new
-Produces turns (Runs s ticks) old new reported = IsRunLive s ticks turns (world old) (world new) reported
-Produces turns (Lists root) old new reported =
-    IsListed root old.disk new.disk reported.text reported.ending
-    × (LogGrew old.files new.files [] × LogGrew old.loop new.loop [])
-Produces turns (Refuses other) old new reported = ⊥
+-- what came of a case, and what holds of it: each of its runs keeps the delivery guarantee, no crash loses a
+-- pending chunk, and each kept offset of a followed file has nothing lost before it
+pub record Outcome (turns : ℕ) (case : Case) (old new : Platform) (reported : Reported) : Type 0 where
+  pub comes : Produces turns case old new reported
+  pub delivered : IsDelivered turns case old new reported comes
+  pub safe : IsCrashConsistent turns case old new reported comes
+  pub offsets : EachRunKeepsOffsets turns case old new reported comes
 
 -- the verdict of a case is that of its outcome
 abbrev pub IsVerdict : ℕ → Case → Platform → Platform → Verdict → Type 0
 IsVerdict turns (Refuses other) old new verdict = (verdict ≡ says [] other) × AreNotCalled old new
 IsVerdict turns case old new verdict =
-    (reported : Reported) × Produces turns case old new reported × (verdict ≡ of_reported reported)
+    (reported : Reported) × Outcome turns case old new reported × (verdict ≡ of_reported reported)
 
 -- the call logs of all devices
 pub record Devices : Type 0 where
   pub disk : DiskLog
   pub files : FilesLog
   pub loop : LoopLog
+  pub keeper : KeeperLog
   pub sink : SinkLog
 
-abbrev pub devices : DiskLog → FilesLog → LoopLog → SinkLog → Devices
-devices disk files loop sink = record { disk = disk; files = files; loop = loop; sink = sink }
+abbrev pub devices : DiskLog → FilesLog → LoopLog → KeeperLog → SinkLog → Devices
+devices disk files loop keeper sink =
+    record { disk = disk; files = files; loop = loop; keeper = keeper; sink = sink }
 
 -- The calls on the files are those of the program's asking, to its end with this case; without a case,
 -- because memory ran out, they are its first ones.
@@ -122,14 +86,15 @@ pub record Comes {Y : Type 0} (words : List (String Y)) (env : Values) (turns : 
   pub case : Case
   pub read : FilesLog
   pub asks : Asks words env old.files read (Some case)
-  pub is : IsVerdict turns case (platform_of old.disk read old.loop)
-      (platform_of new.disk new.files new.loop) verdict
+  pub is : IsVerdict turns case (platform_of old.disk read old.loop old.keeper)
+      (platform_of new.disk new.files new.loop new.keeper) verdict
 
 -- the asking was begun, and there was no other call
 pub record Begins {Y : Type 0} (words : List (String Y)) (env : Values) (old new : Devices) : Type 0 where
   pub asks : Asks words env old.files new.files None
   pub disk : LogGrew old.disk new.disk []
   pub loop : LogGrew old.loop new.loop []
+  pub keeper : LogGrew old.keeper new.keeper []
 
 -- a text was written to its end, or a prefix of it
 abbrev pub WroteIt : SinkLog → SinkLog → List ℕ → Type 0
@@ -171,8 +136,8 @@ pub record IsVerdictOf {Y : Type 0} (words : List (String Y)) (env : Values) (tu
   pub case : Case
   pub given : given (found standing) (asks checked words env) ≡ asked loaded case
   pub read : FilesLog
-  pub is : IsVerdict turns case (platform_of old.disk read old.loop)
-      (platform_of new.disk new.files new.loop) verdict
+  pub is : IsVerdict turns case (platform_of old.disk read old.loop old.keeper)
+      (platform_of new.disk new.files new.loop new.keeper) verdict
 
 -- If the files log their calls, return the existing bytes, and don't fail, the verdict is that of these
 -- bytes.
@@ -192,6 +157,11 @@ is_run other = false
 -- a run's loop failed
 abbrev pub IsLoopFault : {Y : Type 0} → List (String Y) → Status → Type 0
 IsLoopFault words result = (is_run (command_of (map string_bytes words)) ≡ true) × (result ≡ status.LoopFault)
+
+-- a run's keeper failed
+abbrev pub IsKeeperFault : {Y : Type 0} → List (String Y) → Status → Type 0
+IsKeeperFault words result =
+    (is_run (command_of (map string_bytes words)) ≡ true) × (result ≡ status.KeeperFault)
 
 -- the words ask for a run or a listing, which use the disk
 abbrev pub is_over_disk : Option Command → Bool

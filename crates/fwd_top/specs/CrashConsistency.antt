@@ -15,7 +15,7 @@ use Rattle.fwd_replay.specs.Runs.{first}
 use Rattle.fwd_replay.specs.declared.report.Reported.{Reported}
 use Rattle.fwd_replay.specs.declared.report.Shown.TheVariants.{All, Report}
 use Rattle.fwd_top.specs.Cases.{Case, Replays, Generates, Runs, Lists, Refuses}
-use Rattle.fwd_top.specs.Answers.{Platform, Produces, world}
+use Rattle.fwd_top.specs.Outcomes.{Platform, Produces, world}
 
 -- settings of a configuration with which each append is fsynced
 pub record AreSynced (s : AllSettings) : Type 0 where

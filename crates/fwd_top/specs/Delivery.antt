@@ -13,7 +13,7 @@ use Rattle.fwd_replay.specs.declared.report.Reported.{Reported}
 use Rattle.fwd_replay.specs.declared.report.Shown.{Shown}
 use Rattle.fwd_replay.specs.declared.report.Shown.TheVariants.{All, Report}
 use Rattle.fwd_top.specs.Cases.{Case, Replays, Generates, Runs, Lists, Refuses}
-use Rattle.fwd_top.specs.Answers.{Platform, Produces, world}
+use Rattle.fwd_top.specs.Outcomes.{Platform, Produces, world}
 
 -- each run of a replay does, up to its end or to the turn in which it is cut
 abbrev pub EachIsDelivered : (shown : Shown) (s : AllSettings) (turns : ℕ) (start : Start) (lives : List Life)

@@ -1,8 +1,10 @@
 pub mod Words
 pub mod Status
 pub mod Cases
+pub mod Outcomes
 pub mod Answers
 pub mod Results
 pub mod Views
 pub mod Delivery
 pub mod CrashConsistency
+pub mod Offsets

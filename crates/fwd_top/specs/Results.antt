@@ -88,6 +88,7 @@ IsRefusal status.Done = ⊥
 IsRefusal status.TurnsSpent = ⊥
 IsRefusal status.OutFault = ⊥
 IsRefusal status.LoopFault = ⊥
+IsRefusal status.KeeperFault = ⊥
 IsRefusal status.DiskFault = ⊥
 IsRefusal other = Unit {0}
 
@@ -150,7 +151,7 @@ ComesOfLoad count (Some case) =
     (checked : Checked AllSettings) × (loaded : Option (List Section)) × AreSettingsOf loaded checked
     × (of_load checked count ≡ asked loaded case)
 
--- the least number of events that the loop returned, and that the loop or the disk failed
+-- the least number of events that the loop returned, and that the loop, the keeper or the disk failed
 abbrev pub given_by : Job → ℕ → Reported → ℕ
 given_by (job.Run s ticks) turns reported = heard_in turns reported.ending
 given_by (job.Replay s schedule) turns reported = 0
@@ -162,6 +163,12 @@ HasLoopFailed (job.Run s ticks) reported = reported.ending ≡ ending.LoopFailed
 HasLoopFailed (job.Replay s schedule) reported = ⊥
 HasLoopFailed (job.Generate s schedule) reported = ⊥
 HasLoopFailed (job.List folder) reported = ⊥
+
+abbrev pub HasKeeperFailed : Job → Reported → Type 0
+HasKeeperFailed (job.Run s ticks) reported = reported.ending ≡ ending.KeeperFailed
+HasKeeperFailed (job.Replay s schedule) reported = ⊥
+HasKeeperFailed (job.Generate s schedule) reported = ⊥
+HasKeeperFailed (job.List folder) reported = ⊥
 
 abbrev pub HasDiskFailed : Job → Reported → Type 0
 HasDiskFailed (job.Run s ticks) reported = reported.ending ≡ ending.DiskFailed

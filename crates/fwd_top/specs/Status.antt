@@ -72,6 +72,7 @@ line_of status.OutFault = codes "output fault"
 line_of status.TurnsSpent = codes "turns spent"
 line_of status.Memory = codes "out of memory"
 line_of status.LoopFault = codes "loop fault"
+line_of status.KeeperFault = codes "keeper fault"
 
 -- the exit status of the program
 abbrev pub number_of : Status → ℕ
@@ -85,3 +86,4 @@ number_of status.OutFault = 6
 number_of status.TurnsSpent = 7
 number_of status.Memory = 8
 number_of status.LoopFault = 9
+number_of status.KeeperFault = 11

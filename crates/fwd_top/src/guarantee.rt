@@ -1,6 +1,6 @@
 ghost use Rattle.std.specs.Prelude.{ℕ};
 ghost use Rattle.fwd_replay.specs.declared.report.Reported.{Reported};
-ghost use Rattle.fwd_top.specs.Answers.{Produces, Platform};
+ghost use Rattle.fwd_top.specs.Outcomes.{Produces, Platform};
 ghost use Rattle.fwd_top.specs.Cases.{Case};
 ghost use Rattle.fwd_top.specs.Delivery.{IsDelivered};
 

@@ -1,5 +1,5 @@
-//! The top call: `log_forwarder` does all that the program does, over the disk, the files, the loop and
-//! the sink that it is given.
+//! The top call: `log_forwarder` does all that the program does, over the disk, the files, the loop, the
+//! keeper of offsets and the sink that it is given.
 //!
 //! Its calls on the files are those of `asks` (the configuration's files, then the schedule of a replay).
 //! Then its calls on all devices are, for `run`, those of the reference model's run, for `list` those of
@@ -14,6 +14,7 @@
 mod crash_consistency;
 mod guarantee;
 mod job;
+mod offsets;
 mod status;
 mod top;
 mod words;

@@ -39,6 +39,8 @@ pub enum Status {
     Memory,
     /// The platform failed.
     LoopFault,
+    /// A kept offset of a followed file can't be read.
+    KeeperFault,
 }
 
 impl Status {
@@ -57,6 +59,7 @@ impl Status {
             Status::TurnsSpent => 7,
             Status::Memory => 8,
             Status::LoopFault => 9,
+            Status::KeeperFault => 11,
         }
     }
 }
@@ -169,6 +172,7 @@ pub fn status_line(alloc: Global, status: &Status) -> Result<Bytes, Memory>
         Status::TurnsSpent => text.extend_from_slice(b"turns spent")?,
         Status::Memory => text.extend_from_slice(b"out of memory")?,
         Status::LoopFault => text.extend_from_slice(b"loop fault")?,
+        Status::KeeperFault => text.extend_from_slice(b"keeper fault")?,
     }
     Ok(text)
 }

@@ -4,18 +4,17 @@ ghost use Rattle.std.specs.Prelude.{◌≡◌, ◌≤◌, IsErrOf};
 ghost use Rattle.fwd_outside.specs.Cause.{HasCause};
 ghost use Rattle.fwd_config.specs.Variables.{environment};
 ghost use Rattle.fwd_engine_state.specs.LoopCounters.{EventsTaken};
-ghost use Rattle.fwd_top.specs.Answers.{Answers, Produces, IsDiskFault, IsListed, IsLoopFault, IsOfTheFiles, Platform, devices, of_reported, platform_of, spent, status_of};
+ghost use Rattle.fwd_top.specs.Answers.{Answers, IsDiskFault, IsKeeperFault, IsLoopFault, IsOfTheFiles, devices, of_reported, spent, status_of};
+ghost use Rattle.fwd_top.specs.Outcomes.{IsListed, Produces, platform_of};
 ghost use Rattle.fwd_replay.specs.declared.report.Ending.TheVariants as ending;
-ghost use Rattle.fwd_replay.specs.declared.report.Reported.{Reported};
-ghost use Rattle.fwd_top.specs.Cases.{Case};
-ghost use Rattle.fwd_top.specs.Delivery.{IsDelivered};
-ghost use Rattle.fwd_top.specs.CrashConsistency.{IsCrashConsistent};
-ghost use Rattle.fwd_top.specs.Results.{AreSound, HasDiskFailed, HasLoopFailed, WritesVerdict, Writes, given_by, of_job, settings_in};
+ghost use Rattle.fwd_top.specs.Results.{AreSound, HasDiskFailed, HasKeeperFailed, HasLoopFailed, WritesVerdict, Writes, given_by, of_job, settings_in};
 
 use crate::crash_consistency::outcomes_are_crash_consistent;
 use crate::guarantee::outcomes_are_delivered;
 use crate::job::{Job, read_job};
+use crate::offsets::outcomes_keep_offsets;
 use crate::status::Status;
+use fwd_keeper::Keeper;
 use fwd_outside::{Bytes, Disk, Files, Loop, Sink, SinkErr};
 use fwd_replay::{Ending, Reported, Shown, replay, run_live};
 use fwd_report::{ListErr, listing};
@@ -51,19 +50,21 @@ fn list_folder<D: Disk>(
 
 /// Does a job. A schedule and a generated load are replayed without the devices, and a folder is listed
 /// over the disk alone.
-fn run_job<D: Disk, F: Files, L: Loop>(
+fn run_job<D: Disk, F: Files, L: Loop, K: Keeper>(
     rt: &(impl Threads + Sync),
     alloc: Global,
     job: Job,
     disk: &mut D,
     files: &mut F,
     outside: &mut L,
+    keeper: &mut K,
     turns: u64,
     watch: &mut impl Watch,
 ) -> Reported
     requires { AreSound (settings_in job) }
-    ensures comes { Produces turns (of_job job) (platform_of (D.call_log disk.old) (F.call_log files.old) (L.call_log outside.old)) (platform_of (D.call_log disk.new) (F.call_log files.new) (L.call_log outside.new)) result }
+    ensures comes { Produces turns (of_job job) (platform_of (D.call_log disk.old) (F.call_log files.old) (L.call_log outside.old) (K.call_log keeper.old)) (platform_of (D.call_log disk.new) (F.call_log files.new) (L.call_log outside.new) (K.call_log keeper.new)) result }
     ensures heard { EventsTaken (given_by job turns result) (L.counts outside.old) (L.counts outside.new) }
+    ensures keeper_cause { HasCause (K.faults keeper.old) (K.faults keeper.new) (HasKeeperFailed job result) }
     ensures loop_cause { HasCause (L.faults outside.old) (L.faults outside.new) (HasLoopFailed job result) }
     ensures disk_cause { HasCause (D.faults disk.old) (D.faults disk.new) (HasDiskFailed job result) }
     ensures files_later { F.faults files.old ≤ F.faults files.new }
@@ -71,7 +72,7 @@ fn run_job<D: Disk, F: Files, L: Loop>(
     match job {
         Job::Run { settings, ticks } => {
             run_live(
-                rt, alloc, settings, ticks, disk, files, outside, turns, watch,
+                rt, alloc, settings, ticks, disk, files, outside, keeper, turns, watch,
             )
         }
         Job::Replay { settings, schedule } => {
@@ -107,6 +108,7 @@ fn status_of(ending: Ending) -> Status
         Ending::Over => Status::Done,
         Ending::TurnsSpent => Status::TurnsSpent,
         Ending::DiskFailed => Status::DiskFault,
+        Ending::KeeperFailed => Status::KeeperFault,
         Ending::LoopFailed => Status::LoopFault,
         Ending::Memory => Status::Memory,
     }
@@ -125,7 +127,7 @@ fn write_outcome<S: Sink>(out: &mut S, reported: &Reported) -> Status
 
 /// Does all that `log_forwarder` does, and tells a watcher how a live run goes. What the watcher does has no effect on
 /// the run, and no clause speaks of it: the clauses are those of `log_forwarder`.
-pub fn watched_forwarder<D: Disk, F: Files, L: Loop, S: Sink>(
+pub fn watched_forwarder<D: Disk, F: Files, L: Loop, K: Keeper, S: Sink>(
     rt: &(impl Threads + Sync),
     alloc: Global,
     words: &[String],
@@ -133,37 +135,41 @@ pub fn watched_forwarder<D: Disk, F: Files, L: Loop, S: Sink>(
     disk: &mut D,
     files: &mut F,
     outside: &mut L,
+    keeper: &mut K,
     out: &mut S,
     turns: u64,
     watch: &mut impl Watch,
 ) -> Status
     // The calls on the files are those of the program's asking, and then those on all devices are those
     // of the reference model, or for a listing those of loading on the disk; the text is written.
-    ensures answers { Answers words.now (environment env.now) turns (devices (D.call_log disk.old) (F.call_log files.old) (L.call_log outside.old) (S.call_log out.old)) (devices (D.call_log disk.new) (F.call_log files.new) (L.call_log outside.new) (S.call_log out.new)) result }
-    ensures text { IsOfTheFiles words.now (environment env.now) turns (devices (D.call_log disk.old) (F.call_log files.old) (L.call_log outside.old) (S.call_log out.old)) (devices (D.call_log disk.new) (F.call_log files.new) (L.call_log outside.new) (S.call_log out.new)) result }
+    // Each run that was made keeps the delivery guarantee (`Outcome.delivered`): complete input is accepted, or
+    // refused and counted, or followed the drop of its connection; each chunk is, for each output that it
+    // matches, delivered in full, failed, out of retries, evicted, marked done before, or still pending
+    // and in the report; the bytes sent over each link are a prefix of the payload of its flush.
+    // If appends are fsynced, no crash loses a pending file-backed chunk (`Outcome.safe`): the next run of a
+    // schedule recovers it, whole, and pending for the same outputs; at each point of a run, even inside a call
+    // on the disk, whatever a crash leaves has the file of each such chunk.
+    // Each offset of a followed file that is put has nothing lost before it (`Outcome.offsets`): each batch that
+    // was complete by then was accepted, or refused and counted, or has no events. The next run reads on from
+    // the offset that the keeper gives.
+    ensures answers { Answers words.now (environment env.now) turns (devices (D.call_log disk.old) (F.call_log files.old) (L.call_log outside.old) (K.call_log keeper.old) (S.call_log out.old)) (devices (D.call_log disk.new) (F.call_log files.new) (L.call_log outside.new) (K.call_log keeper.new) (S.call_log out.new)) result }
+    ensures text { IsOfTheFiles words.now (environment env.now) turns (devices (D.call_log disk.old) (F.call_log files.old) (L.call_log outside.old) (K.call_log keeper.old) (S.call_log out.old)) (devices (D.call_log disk.new) (F.call_log files.new) (L.call_log outside.new) (K.call_log keeper.new) (S.call_log out.new)) result }
     ensures file_cause { HasCause (F.faults files.old) (F.faults files.new) (result ≡ Status.FileFault) }
-    // A run answers `DiskFault` or `LoopFault` only if a failure of its disk or its loop was counted, and
-    // `TurnsSpent` only if the loop returned that many events; a listing answers `DiskFault` only if a
-    // failure of the disk was counted.
+    // A run answers `DiskFault`, `KeeperFault` or `LoopFault` only if a failure of its disk, its keeper or
+    // its loop was counted, and `TurnsSpent` only if the loop returned that many events; a listing answers
+    // `DiskFault` only if a failure of the disk was counted.
     ensures disk_cause { HasCause (D.faults disk.old) (D.faults disk.new) (IsDiskFault words.now result) }
+    ensures keeper_cause { HasCause (K.faults keeper.old) (K.faults keeper.new) (IsKeeperFault words.now result) }
     ensures loop_cause { HasCause (L.faults outside.old) (L.faults outside.new) (IsLoopFault words.now result) }
     ensures heard { EventsTaken (spent words.now turns result) (L.counts outside.old) (L.counts outside.new) }
     ensures out_cause { HasCause (S.faults out.old) (S.faults out.new) (result ≡ Status.OutFault) }
-    // Each run of the case in `answers` keeps the delivery guarantee. Complete input is accepted, or
-    // refused and counted, or followed the drop of its connection. Each chunk is, for each output that it
-    // matches, delivered in full, failed, out of retries, evicted, marked done before, or still pending
-    // and in the report. The bytes sent over each link are a prefix of the payload of its flush.
-    ensures promise { (case : Case) (before behind : Platform) (reported : Reported) (comes : Produces turns case before behind reported) → IsDelivered turns case before behind reported comes }
-    // If appends are fsynced, no crash between the runs of a schedule loses a pending file-backed chunk:
-    // the next run recovers it, whole, and pending for the same outputs. At each point of a run, even
-    // inside a call on the disk, whatever a crash leaves has the file of each such chunk.
-    ensures crashes { (case : Case) (before behind : Platform) (reported : Reported) (comes : Produces turns case before behind reported) → IsCrashConsistent turns case before behind reported comes }
 {
     outcomes_are_delivered();
     outcomes_are_crash_consistent();
+    outcomes_keep_offsets();
     match read_job(alloc, words, env, files, watch) {
         Ok(job) => {
-            let reported = run_job(rt, alloc, job, disk, files, outside, turns, watch);
+            let reported = run_job(rt, alloc, job, disk, files, outside, keeper, turns, watch);
             write_outcome(out, &reported)
         }
         Err(status) => status,
@@ -171,18 +177,18 @@ pub fn watched_forwarder<D: Disk, F: Files, L: Loop, S: Sink>(
 }
 
 /// Does all that the program does. The words `run -c FILE [-n TICKS]` name a configuration, which is read
-/// and run over the given devices: the engine loads the disk, and then takes the events of the loop. With
-/// TICKS it is stopped after that many clock ticks. The words `replay -c FILE -s FILE` also name a
-/// schedule, whose runs are made over a loop, a disk and files in memory. The text is written: the report
-/// of a run; for each replayed run what the links of standard outputs took, a line feed if that isn't
-/// empty and doesn't end in one, and the report; and between two runs the line of the crash. The words
-/// `list -p FOLDER` list the chunk files under a folder of the disk, each with its content. The words
-/// `gen -n COUNT` use no device: a load of COUNT lines is generated and replayed, and its reports alone
-/// are written. At most `turns` events are taken.
+/// and run over the given devices: the engine loads the disk, gets the kept offsets of followed files, and
+/// then takes the events of the loop. With TICKS it is stopped after that many clock ticks. The words
+/// `replay -c FILE -s FILE` also name a schedule, whose runs are made over a loop, a disk, files and a
+/// keeper in memory. The text is written: the report of a run; for each replayed run what the links of
+/// standard outputs took, a line feed if that isn't empty and doesn't end in one, and the report; and
+/// between two runs the line of the crash. The words `list -p FOLDER` list the chunk files under a folder
+/// of the disk, each with its content. The words `gen -n COUNT` use no device: a load of COUNT lines is
+/// generated and replayed, and its reports alone are written. At most `turns` events are taken.
 ///
 /// Nothing in the program calls it: `main` calls `watched_forwarder`, which has the same contract, and a
 /// watcher besides. It is for those who read the contract, and for callers without a watcher.
-pub fn log_forwarder<D: Disk, F: Files, L: Loop, S: Sink>(
+pub fn log_forwarder<D: Disk, F: Files, L: Loop, K: Keeper, S: Sink>(
     rt: &(impl Threads + Sync),
     alloc: Global,
     words: &[String],
@@ -190,30 +196,33 @@ pub fn log_forwarder<D: Disk, F: Files, L: Loop, S: Sink>(
     disk: &mut D,
     files: &mut F,
     outside: &mut L,
+    keeper: &mut K,
     out: &mut S,
     turns: u64,
 ) -> Status
     // The calls on the files are those of the program's asking, and then those on all devices are those
     // of the reference model, or for a listing those of loading on the disk; the text is written.
-    ensures answers { Answers words.now (environment env.now) turns (devices (D.call_log disk.old) (F.call_log files.old) (L.call_log outside.old) (S.call_log out.old)) (devices (D.call_log disk.new) (F.call_log files.new) (L.call_log outside.new) (S.call_log out.new)) result }
-    ensures text { IsOfTheFiles words.now (environment env.now) turns (devices (D.call_log disk.old) (F.call_log files.old) (L.call_log outside.old) (S.call_log out.old)) (devices (D.call_log disk.new) (F.call_log files.new) (L.call_log outside.new) (S.call_log out.new)) result }
+    // Each run that was made keeps the delivery guarantee (`Outcome.delivered`): complete input is accepted, or
+    // refused and counted, or followed the drop of its connection; each chunk is, for each output that it
+    // matches, delivered in full, failed, out of retries, evicted, marked done before, or still pending
+    // and in the report; the bytes sent over each link are a prefix of the payload of its flush.
+    // If appends are fsynced, no crash loses a pending file-backed chunk (`Outcome.safe`): the next run of a
+    // schedule recovers it, whole, and pending for the same outputs; at each point of a run, even inside a call
+    // on the disk, whatever a crash leaves has the file of each such chunk.
+    // Each offset of a followed file that is put has nothing lost before it (`Outcome.offsets`): each batch that
+    // was complete by then was accepted, or refused and counted, or has no events. The next run reads on from
+    // the offset that the keeper gives.
+    ensures answers { Answers words.now (environment env.now) turns (devices (D.call_log disk.old) (F.call_log files.old) (L.call_log outside.old) (K.call_log keeper.old) (S.call_log out.old)) (devices (D.call_log disk.new) (F.call_log files.new) (L.call_log outside.new) (K.call_log keeper.new) (S.call_log out.new)) result }
+    ensures text { IsOfTheFiles words.now (environment env.now) turns (devices (D.call_log disk.old) (F.call_log files.old) (L.call_log outside.old) (K.call_log keeper.old) (S.call_log out.old)) (devices (D.call_log disk.new) (F.call_log files.new) (L.call_log outside.new) (K.call_log keeper.new) (S.call_log out.new)) result }
     ensures file_cause { HasCause (F.faults files.old) (F.faults files.new) (result ≡ Status.FileFault) }
-    // A run answers `DiskFault` or `LoopFault` only if a failure of its disk or its loop was counted, and
-    // `TurnsSpent` only if the loop returned that many events; a listing answers `DiskFault` only if a
-    // failure of the disk was counted.
+    // A run answers `DiskFault`, `KeeperFault` or `LoopFault` only if a failure of its disk, its keeper or
+    // its loop was counted, and `TurnsSpent` only if the loop returned that many events; a listing answers
+    // `DiskFault` only if a failure of the disk was counted.
     ensures disk_cause { HasCause (D.faults disk.old) (D.faults disk.new) (IsDiskFault words.now result) }
+    ensures keeper_cause { HasCause (K.faults keeper.old) (K.faults keeper.new) (IsKeeperFault words.now result) }
     ensures loop_cause { HasCause (L.faults outside.old) (L.faults outside.new) (IsLoopFault words.now result) }
     ensures heard { EventsTaken (spent words.now turns result) (L.counts outside.old) (L.counts outside.new) }
     ensures out_cause { HasCause (S.faults out.old) (S.faults out.new) (result ≡ Status.OutFault) }
-    // Each run of the case in `answers` keeps the delivery guarantee. Complete input is accepted, or
-    // refused and counted, or followed the drop of its connection. Each chunk is, for each output that it
-    // matches, delivered in full, failed, out of retries, evicted, marked done before, or still pending
-    // and in the report. The bytes sent over each link are a prefix of the payload of its flush.
-    ensures promise { (case : Case) (before behind : Platform) (reported : Reported) (comes : Produces turns case before behind reported) → IsDelivered turns case before behind reported comes }
-    // If appends are fsynced, no crash between the runs of a schedule loses a pending file-backed chunk:
-    // the next run recovers it, whole, and pending for the same outputs. At each point of a run, even
-    // inside a call on the disk, whatever a crash leaves has the file of each such chunk.
-    ensures crashes { (case : Case) (before behind : Platform) (reported : Reported) (comes : Produces turns case before behind reported) → IsCrashConsistent turns case before behind reported comes }
 {
     watched_forwarder(
         rt,
@@ -223,6 +232,7 @@ pub fn log_forwarder<D: Disk, F: Files, L: Loop, S: Sink>(
         disk,
         files,
         outside,
+        keeper,
         out,
         turns,
         &mut Unwatched,

@@ -1,7 +1,7 @@
 use Rattle.std.proofs.Common.{inl, inr}
 use Rattle.fwd_settings.specs.Endpoints.{ends_of}
 use Rattle.fwd_replay.specs.declared.report.Shown.TheVariants.{All, Report}
-use Rattle.fwd_top.specs.Answers.{Produces}
+use Rattle.fwd_top.specs.Outcomes.{Produces}
 use Rattle.fwd_top.specs.Cases.{Case, Replays, Generates, Runs, Lists, Refuses}
 use Rattle.fwd_top.specs.CrashConsistency.{IsCrashConsistent}
 use Rattle.fwd_top.proofs.crash_consistency.outcomes_are_crash_consistent.Goals as goal

@@ -1,14 +1,17 @@
 use Rattle.std.proofs.Common.{None}
 use Rattle.fwd_outside.proofs.LogGrowth.{grew_none}
-use Rattle.fwd_top.specs.Answers.{platform_of, world}
+use Rattle.fwd_top.specs.Outcomes.{platform_of, world}
 use Rattle.fwd_top.proofs.Writing.{still, heard_none, no_cause}
 use Rattle.fwd_top.proofs.top.run_job.Goals as goal
 
 pub returns-in-Run-clause-comes : goal.returns-in-Run-clause-comes
-returns-in-Run-clause-comes g c = rw c.in-Run.is (c.run_live.ensures.life (world (platform_of None None None)))
+returns-in-Run-clause-comes g c = rw c.in-Run.is (c.run_live.ensures.life (world (platform_of None None None None)))
 
 pub returns-in-Run-clause-heard : goal.returns-in-Run-clause-heard
 returns-in-Run-clause-heard g c = rw c.in-Run.is c.run_live.ensures.heard
+
+pub returns-in-Run-clause-keeper_cause : goal.returns-in-Run-clause-keeper_cause
+returns-in-Run-clause-keeper_cause g c = rw c.in-Run.is c.run_live.ensures.keeper_cause
 
 pub returns-in-Run-clause-loop_cause : goal.returns-in-Run-clause-loop_cause
 returns-in-Run-clause-loop_cause g c = rw c.in-Run.is c.run_live.ensures.loop_cause
@@ -17,10 +20,13 @@ pub returns-in-Run-clause-disk_cause : goal.returns-in-Run-clause-disk_cause
 returns-in-Run-clause-disk_cause g c = rw c.in-Run.is c.run_live.ensures.disk_cause
 
 pub returns-in-Replay-clause-comes : goal.returns-in-Replay-clause-comes
-returns-in-Replay-clause-comes g c = rw c.in-Replay.is (c.replay.ensures, still (platform_of (g.D.Disk.call_log c.args.disk.now) (g.F.Files.call_log c.args.files.now) (g.L.Loop.call_log c.args.outside.now)))
+returns-in-Replay-clause-comes g c = rw c.in-Replay.is (c.replay.ensures, still (platform_of (g.D.Disk.call_log c.args.disk.now) (g.F.Files.call_log c.args.files.now) (g.L.Loop.call_log c.args.outside.now) (g.K.Keeper.call_log c.args.keeper.now)))
 
 pub returns-in-Replay-clause-heard : goal.returns-in-Replay-clause-heard
 returns-in-Replay-clause-heard g c = rw c.in-Replay.is (heard_none (g.L.Loop.counts c.args.outside.now))
+
+pub returns-in-Replay-clause-keeper_cause : goal.returns-in-Replay-clause-keeper_cause
+returns-in-Replay-clause-keeper_cause g c = rw c.in-Replay.is (no_cause (g.K.Keeper.faults c.args.keeper.now) (λ none. none))
 
 pub returns-in-Replay-clause-loop_cause : goal.returns-in-Replay-clause-loop_cause
 returns-in-Replay-clause-loop_cause g c = rw c.in-Replay.is (no_cause (g.L.Loop.faults c.args.outside.now) (λ none. none))
@@ -29,10 +35,13 @@ pub returns-in-Replay-clause-disk_cause : goal.returns-in-Replay-clause-disk_cau
 returns-in-Replay-clause-disk_cause g c = rw c.in-Replay.is (no_cause (g.D.Disk.faults c.args.disk.now) (λ none. none))
 
 pub returns-in-Generate-clause-comes : goal.returns-in-Generate-clause-comes
-returns-in-Generate-clause-comes g c = rw c.in-Generate.is (c.replay-in-Generate.ensures, still (platform_of (g.D.Disk.call_log c.args.disk.now) (g.F.Files.call_log c.args.files.now) (g.L.Loop.call_log c.args.outside.now)))
+returns-in-Generate-clause-comes g c = rw c.in-Generate.is (c.replay-in-Generate.ensures, still (platform_of (g.D.Disk.call_log c.args.disk.now) (g.F.Files.call_log c.args.files.now) (g.L.Loop.call_log c.args.outside.now) (g.K.Keeper.call_log c.args.keeper.now)))
 
 pub returns-in-Generate-clause-heard : goal.returns-in-Generate-clause-heard
 returns-in-Generate-clause-heard g c = rw c.in-Generate.is (heard_none (g.L.Loop.counts c.args.outside.now))
+
+pub returns-in-Generate-clause-keeper_cause : goal.returns-in-Generate-clause-keeper_cause
+returns-in-Generate-clause-keeper_cause g c = rw c.in-Generate.is (no_cause (g.K.Keeper.faults c.args.keeper.now) (λ none. none))
 
 pub returns-in-Generate-clause-loop_cause : goal.returns-in-Generate-clause-loop_cause
 returns-in-Generate-clause-loop_cause g c = rw c.in-Generate.is (no_cause (g.L.Loop.faults c.args.outside.now) (λ none. none))
@@ -41,4 +50,4 @@ pub returns-in-Generate-clause-disk_cause : goal.returns-in-Generate-clause-disk
 returns-in-Generate-clause-disk_cause g c = rw c.in-Generate.is (no_cause (g.D.Disk.faults c.args.disk.now) (λ none. none))
 
 pub returns-in-List-clause-comes : goal.returns-in-List-clause-comes
-returns-in-List-clause-comes g c = rw c.in-List.is (rw c.as_slice.ensures at c.list_folder.ensures.lists, (grew_none (g.F.Files.call_log c.args.files.now), grew_none (g.L.Loop.call_log c.args.outside.now)))
+returns-in-List-clause-comes g c = rw c.in-List.is (rw c.as_slice.ensures at c.list_folder.ensures.lists, (grew_none (g.F.Files.call_log c.args.files.now), grew_none (g.L.Loop.call_log c.args.outside.now), grew_none (g.K.Keeper.call_log c.args.keeper.now)))

@@ -1,0 +1,66 @@
+-- What came of a case: the calls on the devices, and the text.
+use Rattle.std.specs.Prelude.{◌≡◌, ℕ, List, [], Some, None}
+use Rattle.fwd_outside.specs.Log.{LogGrew, Completes, IsBegunUnfailed}
+use Rattle.fwd_outside.specs.Disk.{DiskLog}
+use Rattle.fwd_outside.specs.Files.{FilesLog}
+use Rattle.fwd_outside.specs.Loop.{LoopLog}
+use Rattle.fwd_keeper.specs.Keeper.{KeeperLog}
+use Rattle.fwd_backlog.specs.declared.file_read.FileRead.{FileRead}
+use Rattle.fwd_backlog.specs.declared.load.Backlog.{Backlog}
+use Rattle.fwd_backlog.specs.LoadProgram.{IsBacklog, load_program}
+use Rattle.fwd_report.specs.Listing.{IsListing}
+use Rattle.fwd_model.specs.CallLogs.{CallLogs}
+use Rattle.fwd_replay.specs.LiveRun.{IsRunLive}
+use Rattle.fwd_replay.specs.Runs.{IsReplayed, first}
+use Rattle.fwd_replay.specs.declared.report.Ending.{Ending}
+use Rattle.fwd_replay.specs.declared.report.Ending.TheVariants as ending
+use Rattle.fwd_replay.specs.declared.report.Reported.{Reported}
+use Rattle.fwd_replay.specs.declared.report.Shown.TheVariants.{All, Report}
+use Rattle.fwd_top.specs.Cases.{Case, Replays, Generates, Runs, Lists, Refuses}
+
+-- the call logs of the devices of a run
+pub record Platform : Type 0 where
+  pub disk : DiskLog
+  pub files : FilesLog
+  pub loop : LoopLog
+  pub keeper : KeeperLog
+
+abbrev pub platform_of : DiskLog → FilesLog → LoopLog → KeeperLog → Platform
+platform_of disk files loop keeper = record { disk = disk; files = files; loop = loop; keeper = keeper }
+
+-- the same, as the logs of the model's devices
+abbrev pub world : Platform → CallLogs
+world o = record { loop = o.loop; disk = o.disk; files = o.files; keeper = o.keeper }
+
+-- none of them was called
+pub record AreNotCalled (old new : Platform) : Type 0 where
+  pub disk : LogGrew old.disk new.disk []
+  pub files : LogGrew old.files new.files []
+  pub loop : LogGrew old.loop new.loop []
+  pub keeper : LogGrew old.keeper new.keeper []
+
+-- The outcome of a listing, by its ending: the calls of loading, and the lines of what was recovered.
+-- Without a text, the calls up to one that failed, or, if memory ran out, the first ones, of which none
+-- failed.
+abbrev pub IsListed : List ℕ → DiskLog → DiskLog → List ℕ → Ending → Type 0
+IsListed root old new text ending.Over =
+    (files : List FileRead) × (backlog : Backlog) × Completes old new (load_program root) (Some files)
+    × IsBacklog files backlog × IsListing backlog.found text
+IsListed root old new text ending.DiskFailed = Completes old new (load_program root) None × (text ≡ [])
+IsListed root old new text ending.Memory = IsBegunUnfailed old new (load_program root) × (text ≡ [])
+IsListed root old new text ending.TurnsSpent = ⊥
+IsListed root old new text ending.KeeperFailed = ⊥
+IsListed root old new text ending.LoopFailed = ⊥
+
+-- The outcome of a case, and the calls on the devices for it. A schedule and a generated load are
+-- replayed without them, and a listing calls the disk alone.
+abbrev pub Produces : ℕ → Case → Platform → Platform → Reported → Type 0
+Produces turns (Replays s lives) old new reported =
+    IsReplayed All s turns first lives reported × AreNotCalled old new
+Produces turns (Generates s lives) old new reported =
+    IsReplayed Report s turns first lives reported × AreNotCalled old new
+Produces turns (Runs s ticks) old new reported = IsRunLive s ticks turns (world old) (world new) reported
+Produces turns (Lists root) old new reported =
+    IsListed root old.disk new.disk reported.text reported.ending
+    × (LogGrew old.files new.files [] × LogGrew old.loop new.loop [] × LogGrew old.keeper new.keeper [])
+Produces turns (Refuses other) old new reported = ⊥
