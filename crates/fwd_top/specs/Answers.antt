@@ -1,5 +1,5 @@
 -- What the program answers.
-use Rattle.std.specs.Prelude.{◌≡◌, ◌≢◌, ◌⊎◌, ℕ, ◌≤◌, List, [], ◌∷◌, ◌++◌, length, map, String, string_bytes, Bool, true, false, Option, Some, None, option_map}
+use Rattle.std.specs.Prelude.{◌≡◌, ◌≢◌, ◌⊎◌, ℕ, ◌≤◌, List, [], ◌∷◌, ◌++◌, length, map, String, string_bytes, Bool, true, false, if◌then◌else◌, Option, Some, None, option_map}
 use Rattle.fwd_outside.specs.Program.{entry}
 use Rattle.fwd_outside.specs.Log.{LogGrew, RunsProgram}
 use Rattle.fwd_outside.specs.Disk.{DiskLog}

@@ -40,13 +40,14 @@ pub record KeepsOffsets (s : AllSettings) (entries : List TraceEntry) : Type 0 w
       ≡ begun_at (last_given (past_after [] before) file.db file.path)
 
 -- of each run of a replay, up to its end or to the turn in which it is cut, which puts none
-abbrev pub EachKeepsOffsets : (shown : Shown) (s : AllSettings) (turns : ℕ) (start : Start) (lives : List Life)
-    (reported : Reported) → IsReplayed shown s turns start lives reported → Type 0
+abbrev pub EachKeepsOffsets : (shown : Shown) (s : AllSettings) (turns : ℕ) (start : Start)
+    (lives : List Life) (reported : Reported) → IsReplayed shown s turns start lives reported → Type 0
 EachKeepsOffsets shown s turns start [] reported is = Unit {0}
 EachKeepsOffsets shown s turns start (planned ∷ lives) reported (inl ends) = KeepsOffsets s ends.trace
 EachKeepsOffsets shown s turns start (planned ∷ lives) reported (inr (inl cut)) =
     KeepsOffsets s cut.0.before
-    × EachKeepsOffsets shown s (turns - waits_in (cut.0.before ++ cut.0.turn)) cut.0.next lives cut.2.0 cut.2.1
+    × EachKeepsOffsets shown s
+    (turns - waits_in (cut.0.before ++ cut.0.turn)) cut.0.next lives cut.2.0 cut.2.1
 EachKeepsOffsets shown s turns start (planned ∷ lives) reported (inr (inr wanting)) = Unit {0}
 
 -- of a run over devices, to its end or to where memory ran out
