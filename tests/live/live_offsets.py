@@ -177,6 +177,23 @@ def a_database_has_one_run(room):
     holds((offset_in(first), offset_in(first, path="other.log")) == (7, 7), "both offsets are in the database")
 
 
+def an_offset_is_forgotten(room):
+    """sqlite3 removes an offset when no run has the database. Then the file is read as one that is new."""
+    text = PRINTED.format(path="app.log", db="offsets")
+    for turn, lines in enumerate((b"line 1\n", b"line 2\n", b"line 3\n")):
+        with Program(room, "forgotten", text) as program:
+            append(room, program, lines)
+            until(lambda: b"line %d" % (turn + 1) in program.stdout(), "the new line comes", 20)
+            status, came = program.stop(), program.stdout()
+        holds(status == 0, f"status {status}: {program.stderr().decode(errors='replace')}")
+        holds((b"line 1" in came) == (turn != 1), f"run {turn} printed {came!r}")
+        if turn == 1:
+            connection = sqlite3.connect(program.path("offsets"))
+            with connection:
+                connection.execute("DELETE FROM place WHERE path = 'app.log'")
+            connection.close()
+
+
 def what_is_no_database(room):
     """The run ends at its start, and says why."""
     databases = {"a_folder": ".", "in_no_folder": "none/offsets", "without_rights": "shut/offsets", "text": "app.log"}
@@ -341,6 +358,7 @@ def offsets_of_fluent_bit(room):
 CASES = (
     a_follower_is_killed,
     a_database_has_one_run,
+    an_offset_is_forgotten,
     what_is_no_database,
     rotated_while_down,
     rotated_while_down_by_logrotate,
