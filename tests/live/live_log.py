@@ -159,7 +159,7 @@ def refused_beside_a_reset(room):
 
 
 REFUSALS = [
-    ("[INPUT]\n    Name tail\n    Path x\n    DB y\n", 4, "UnknownKey", "tail has no key DB; it has "),
+    ("[INPUT]\n    Name tail\n    Path x\n    DB.sync y\n", 4, "UnknownKey", "tail has no key DB.sync; it has "),
     ("[INPUT]\n    Name tcp\n[OUTPUT]\n    Name tcp\n    Format json\n", 5, "BadChoice", "Format json: one of json_lines, msgpack"),
     ("[INPUT]\n    Name tcp\n    Port five\n", 3, "BadNumber", "Port five: "),
     ("[INPUT]\n    Name syslog\n", 2, "UnknownPlugin", "Name syslog: one of tail, tcp, forward, stdin"),

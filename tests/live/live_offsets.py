@@ -9,7 +9,7 @@ import tempfile
 import threading
 import time
 
-from live_followed import LOGROTATE, come, configuration, is_once_in_order, rename, write
+from live_followed import LOGROTATE, come, configuration, is_once_in_order, rename, write, written
 from live_room import PATIENCE, Collector, Program, free_port, holds, until
 from live_stored import KILLS, chunks_in, killed
 
@@ -302,7 +302,7 @@ def killed_while_it_is_rotated(room):
     open(os.path.join(folder, "app.log"), "wb").close()
     with Program(room, "struck", text) as program:
         killed(program)
-    writer = write(program, 0, 10_000, 0.001, "told")
+    writer = write(program, 0, 100_000, 0.001, "told")
     try:
         for _ in range(4):
             with Program(room, "struck", text) as program:
@@ -312,14 +312,14 @@ def killed_while_it_is_rotated(room):
                 killed(program)
             time.sleep(0.2 * chance.random())
             writer.send_signal(1)
-        with Program(room, "struck", text) as program:
-            holds(writer.wait(60) == 0, "the writer failed")
-            until(lambda: set(come(collector)) >= set(range(10_000)), "all lines come", 20)
-            status = program.stop()
+            until(lambda: os.path.exists(program.path("app.log")), "the writer has a new file", 20)
     finally:
-        if writer.poll() is None:
-            writer.kill()
-            writer.wait()
+        writer.kill()
+        writer.wait()
+    stands = written(program)
+    with Program(room, "struck", text) as program:
+        until(lambda: set(come(collector)) >= stands, f"all {len(stands)} lines come", 30)
+        status = program.stop()
     collector.close()
     holds(status == 0, f"status {status}: {program.stderr().decode(errors='replace')}")
 

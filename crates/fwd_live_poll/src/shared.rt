@@ -63,7 +63,7 @@ impl Shared {
             let text = format_args!(
                 "inputs are held back, as a write failed: {name} can't be {what}: {reason}"
             );
-            self.tell(Level::Warn, &text);
+            tell(&self.journal, Level::Warn, &text);
         }
     }
 
@@ -83,14 +83,18 @@ impl Shared {
             None => true,
         };
         if filled && self.disk_failed.replace(false) {
-            self.tell(Level::Info, &"inputs go on, as there is room again");
+            tell(
+                &self.journal,
+                Level::Info,
+                &"inputs go on, as there is room again",
+            );
         }
     }
+}
 
-    fn tell(&self, level: Level, text: &impl Display) {
-        self.journal
-            .write(level, Source::Storage, Topic::Pause, text);
-    }
+/// Writes a line on the storage to the log.
+fn tell(journal: &Journal, level: Level, text: &impl Display) {
+    journal.write(level, Source::Storage, Topic::Pause, text);
 }
 
 /// Writes the parts of the reserve that are missing, at least one, as far as the limit of the process on a
