@@ -4,8 +4,8 @@ use Rattle.std.specs.Str.{str_eq_ignore_ascii_case}
 use Rattle.fwd_config.specs.declared.section.Section.{Section}
 use Rattle.fwd_log.specs.declared.level.Level.{Level}
 use Rattle.fwd_log.specs.declared.level.Level.TheVariants as level
-use Rattle.fwd_settings_schema.specs.Text.{truth_of}
-use Rattle.fwd_settings_schema.specs.Number.{port_of}
+use Rattle.fwd_settings_values.specs.Text.{truth_of}
+use Rattle.fwd_settings_values.specs.Number.{port_of}
 use Rattle.fwd_log_settings.specs.declared.keys.LogSettings.{LogSettings}
 use Rattle.fwd_log_settings.specs.declared.keys.PageServer.{PageServer}
 use Rattle.fwd_log_settings.specs.Entry.{last_value}

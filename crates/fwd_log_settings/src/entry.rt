@@ -5,7 +5,7 @@ ghost use Rattle.std.specs.Option.{option_copied};
 ghost use Rattle.fwd_log_settings.specs.Entry.{last_value, value_in, value_of_section};
 
 use fwd_config::{Entry, Section};
-use fwd_settings_schema::same_name;
+use fwd_settings_values::same_name;
 
 /// Returns the value of the last entry with a key, or the one before.
 fn value_in<'a>(entries: &'a [Entry], key: &[u8], before: Option<&'a [u8]>) -> Option<&'a [u8]>

@@ -8,7 +8,7 @@ use crate::entry::last_value;
 use fwd_base::{Bytes, Memory};
 use fwd_config::{Section, Sections};
 use fwd_log::Level;
-use fwd_settings_schema::{port, same_name, truth};
+use fwd_settings_values::{port, same_name, truth};
 use std::alloc::Global;
 
 /// Where the pages are served.

@@ -12,7 +12,7 @@ use Rattle.std.proofs.lemmas.List.Kept.{AllPairs-cons}
 use Rattle.std.proofs.lemmas.Slice.Eq.{bytes_eq-Decides}
 use Rattle.std.proofs.Common.{zero, suc}
 use Rattle.std.proofs.Common.{lit≤}
-use Rattle.fwd_settings_schema.specs.Text.{is_visible_text, is_uri_text}
+use Rattle.fwd_settings_values.specs.Text.{is_visible_text, is_uri_text}
 use Rattle.fwd_settings_schema.specs.declared.error_kind.SettingKind.TheVariants.{Missing, TooMany, BadChoice}
 use Rattle.fwd_filters.specs.declared.filter_step.FilterStep.{FilterStep}
 use Rattle.fwd_config.specs.declared.section.Place.{Place}

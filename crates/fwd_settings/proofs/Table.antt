@@ -9,8 +9,8 @@ use Rattle.fwd_outside.specs.Program.{Return, Ask}
 use Rattle.fwd_parser.specs.declared.parser.Parser.{Parser}
 use Rattle.fwd_settings_schema.specs.declared.error_kind.SettingKind.{SettingKind}
 use Rattle.fwd_settings_schema.specs.declared.error_kind.SettingKind.TheVariants.{BadNumber, BadChoice}
-use Rattle.fwd_settings_schema.specs.Number.{positive_of, within}
-use Rattle.fwd_settings_schema.specs.Text.{is_tag_text, is_id_text, is_plain_text, is_visible_text, is_uri_text}
+use Rattle.fwd_settings_values.specs.Number.{positive_of, within}
+use Rattle.fwd_settings_values.specs.Text.{is_tag_text, is_id_text, is_plain_text, is_visible_text, is_uri_text}
 use Rattle.fwd_config.specs.declared.section.Entry.{Entry}
 use Rattle.fwd_settings_schema.specs.declared.keys.Key.{Key}
 use Rattle.fwd_settings_schema.specs.declared.keys.Kind.{Kind}

@@ -10,8 +10,8 @@ use Rattle.fwd_settings_schema.specs.declared.plugins.FilterPlugin.{FilterPlugin
 use Rattle.fwd_settings_schema.specs.declared.plugins.FilterPlugin.TheVariants as plugin
 use Rattle.fwd_settings_schema.specs.declared.keys.Key.{Key}
 use Rattle.fwd_settings_schema.specs.declared.keys.Key.TheVariants as key
-use Rattle.fwd_settings_schema.specs.declared.words.Operation.{Operation}
-use Rattle.fwd_settings_schema.specs.declared.words.Operation.TheVariants as operation
+use Rattle.fwd_settings_values.specs.declared.words.Operation.{Operation}
+use Rattle.fwd_settings_values.specs.declared.words.Operation.TheVariants as operation
 use Rattle.fwd_settings_schema.specs.declared.properties.Property.{Property}
 use Rattle.fwd_settings_schema.specs.Property.{operation_at, text_at, grep_in, condition_in, change_in, wildcard_in}
 use Rattle.fwd_settings.specs.Reading.{Checked, fault}

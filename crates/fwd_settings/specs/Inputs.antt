@@ -5,7 +5,7 @@ use Rattle.std.specs.Str.{bytes_eq}
 use Rattle.fwd_parser.specs.declared.parser.Parser.{Parser}
 use Rattle.fwd_parser.specs.declared.parser.Shape.{Shape}
 use Rattle.fwd_parser.specs.declared.parser.Shape.TheVariants as shape
-use Rattle.fwd_settings_schema.specs.Text.{parts_of}
+use Rattle.fwd_settings_values.specs.Text.{parts_of}
 use Rattle.fwd_settings_schema.specs.declared.error_kind.SettingKind.TheVariants.{Missing}
 use Rattle.fwd_config.specs.declared.section.Place.{Place}
 use Rattle.fwd_config.specs.declared.section.Entry.{Entry}
@@ -21,8 +21,8 @@ use Rattle.fwd_settings_schema.specs.declared.plugins.InputPlugin.TheVariants as
 use Rattle.fwd_settings_schema.specs.declared.keys.Key.{Key}
 use Rattle.fwd_settings_schema.specs.declared.keys.Key.TheVariants as key
 use Rattle.fwd_settings_schema.specs.declared.keys.Kind.{Kind}
-use Rattle.fwd_settings_schema.specs.declared.words.LineFormat.{LineFormat}
-use Rattle.fwd_settings_schema.specs.declared.words.LineFormat.TheVariants as format
+use Rattle.fwd_settings_values.specs.declared.words.LineFormat.{LineFormat}
+use Rattle.fwd_settings_values.specs.declared.words.LineFormat.TheVariants as format
 use Rattle.fwd_settings_schema.specs.declared.properties.Property.{Property}
 use Rattle.fwd_settings_schema.specs.Keys.{name_of, name_of_input, key_of, head_of}
 use Rattle.fwd_settings_schema.specs.Property.{number_at, port_at, truth_at, format_at, text_at, last_in, parser_in}

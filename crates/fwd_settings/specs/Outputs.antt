@@ -14,7 +14,7 @@ use Rattle.fwd_settings.specs.declared.settings_types.OutputKind.TheVariants as 
 use Rattle.fwd_settings.specs.declared.settings_types.OutputSet.{OutputSet}
 use Rattle.fwd_settings.specs.declared.settings_types.HttpOptions.{HttpOptions}
 use Rattle.fwd_http.specs.declared.statuses.StatusRange.{StatusRange}
-use Rattle.fwd_settings_schema.specs.Statuses.{statuses_of}
+use Rattle.fwd_settings_values.specs.Statuses.{statuses_of}
 use Rattle.fwd_settings_schema.specs.declared.plugins.OutputPlugin.{OutputPlugin}
 use Rattle.fwd_settings_schema.specs.declared.plugins.OutputPlugin.TheVariants as plugin
 use Rattle.fwd_settings_schema.specs.declared.keys.Key.TheVariants as key

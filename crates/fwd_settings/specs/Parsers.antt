@@ -8,7 +8,7 @@ use Rattle.fwd_parser.specs.declared.parser.Shape.{Shape}
 use Rattle.fwd_parser.specs.declared.parser.Shape.TheVariants as shape
 use Rattle.fwd_parser.specs.declared.parser.FieldType.{FieldType}
 use Rattle.fwd_parser.specs.declared.parser.TimeRule.{TimeRule}
-use Rattle.fwd_settings_schema.specs.Types.{types_of}
+use Rattle.fwd_settings_values.specs.Types.{types_of}
 use Rattle.fwd_settings_schema.specs.declared.error_kind.SettingKind.TheVariants.{BadChoice, Missing}
 use Rattle.fwd_config.specs.declared.section.Place.{Place}
 use Rattle.fwd_config.specs.declared.section.Entry.{Entry}
@@ -17,8 +17,8 @@ use Rattle.fwd_settings_schema.specs.declared.section_kind.SectionKind.{SectionK
 use Rattle.fwd_settings_schema.specs.declared.section_kind.SectionKind.TheVariants as head
 use Rattle.fwd_settings_schema.specs.declared.section_kind.Target.TheVariants as target
 use Rattle.fwd_settings_schema.specs.declared.keys.Key.TheVariants as key
-use Rattle.fwd_settings_schema.specs.declared.words.LineFormat.{LineFormat}
-use Rattle.fwd_settings_schema.specs.declared.words.LineFormat.TheVariants as format
+use Rattle.fwd_settings_values.specs.declared.words.LineFormat.{LineFormat}
+use Rattle.fwd_settings_values.specs.declared.words.LineFormat.TheVariants as format
 use Rattle.fwd_settings_schema.specs.declared.properties.Property.{Property}
 use Rattle.fwd_settings_schema.specs.Keys.{head_of}
 use Rattle.fwd_settings_schema.specs.Property.{format_at, text_at, truth_at, last_in, pattern_in}

@@ -2,7 +2,7 @@
 use Rattle.std.specs.Prelude.{All, AllPairs, ◌≢◌, ◌≡◌, ℕ, ◌≤◌, IsTrue, List, [], ◌∷◌, ◌++◌, length, Option, Some, None, IsSome, IsUtf8}
 use Rattle.std.specs.List.{AllByRecursion}
 use Rattle.fwd_base.specs.Limits.{longest_tag, longest_name, most_inputs, most_outputs}
-use Rattle.fwd_settings_schema.specs.Text.{is_visible_text, is_uri_text}
+use Rattle.fwd_settings_values.specs.Text.{is_visible_text, is_uri_text}
 use Rattle.fwd_settings.specs.declared.settings_types.AllSettings.{AllSettings}
 use Rattle.fwd_settings.specs.declared.settings_types.InputSet.{InputSet}
 use Rattle.fwd_settings.specs.declared.settings_types.InputKind.{InputKind}

@@ -5,11 +5,11 @@ use Rattle.fwd_base.specs.Size.{size_of}
 use Rattle.fwd_parser.specs.declared.parser.Parser.{Parser}
 use Rattle.fwd_settings_schema.specs.declared.error_kind.SettingKind.{SettingKind}
 use Rattle.fwd_settings_schema.specs.declared.error_kind.SettingKind.TheVariants.{UnknownKey, BadNumber, BadSize, BadChoice}
-use Rattle.fwd_settings_schema.specs.Number.{positive_of, port_of, flush_of, retries_of}
-use Rattle.fwd_settings_schema.specs.Text.{truth_of, is_false_word, is_tag_text, is_id_text, is_plain_text, is_visible_text, is_uri_text}
-use Rattle.fwd_settings_schema.specs.Types.{types_of}
-use Rattle.fwd_settings_schema.specs.Statuses.{statuses_of}
-use Rattle.fwd_settings_schema.specs.Rule.{key_and_rest_of, header_of, condition_of, change_of}
+use Rattle.fwd_settings_values.specs.Number.{positive_of, port_of, flush_of, retries_of}
+use Rattle.fwd_settings_values.specs.Text.{truth_of, is_false_word, is_tag_text, is_id_text, is_plain_text, is_visible_text, is_uri_text}
+use Rattle.fwd_settings_values.specs.Types.{types_of}
+use Rattle.fwd_settings_values.specs.Statuses.{statuses_of}
+use Rattle.fwd_settings_values.specs.Rule.{key_and_rest_of, header_of, condition_of, change_of}
 use Rattle.fwd_http.specs.Fields.{is_field_value}
 use Rattle.fwd_config.specs.declared.section.Place.{Place}
 use Rattle.fwd_config.specs.declared.section.Entry.{Entry}
@@ -22,7 +22,7 @@ use Rattle.fwd_settings_schema.specs.declared.section_kind.Target.{Target}
 use Rattle.fwd_settings_schema.specs.declared.properties.Value.{Value}
 use Rattle.fwd_settings_schema.specs.declared.properties.Value.TheVariants as value
 use Rattle.fwd_settings_schema.specs.declared.properties.Property.{Property}
-use Rattle.fwd_settings_schema.specs.Words.{sync_of, store_of, line_format_of, parser_format_of, record_form_of, file_form_of, operation_of}
+use Rattle.fwd_settings_values.specs.Words.{sync_of, store_of, line_format_of, parser_format_of, record_form_of, file_form_of, operation_of}
 use Rattle.fwd_settings_schema.specs.Keys.{key_of}
 use Rattle.fwd_settings.specs.Reading.{Reading, Checked, ◌>>=◌, known, fault, at, pattern, each}
 

@@ -1,6 +1,6 @@
 //! Reading of entries by the table of keys.
 
-ghost use Rattle.fwd_settings_schema.specs.Rule.{key_and_rest_of};
+ghost use Rattle.fwd_settings_values.specs.Rule.{key_and_rest_of};
 ghost use Rattle.fwd_settings.specs.Reading.{ReturnsResult, known, fault, at};
 ghost use Rattle.fwd_settings.specs.Values.{value_of, pattern_property, grep_of, id_value, property_value, entry_property, entry_properties};
 ghost use Rattle.fwd_settings.specs.Parsers.{no_parser, parser_named};

@@ -1,4 +1,1 @@
-pub mod Split
-pub mod FieldTypes
-pub mod StatusRanges
 pub mod Collect

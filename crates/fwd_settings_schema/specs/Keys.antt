@@ -2,7 +2,7 @@
 use Rattle.std.specs.Prelude.{ℕ, Bool, true, false, ◌&&◌, List, [], ◌∷◌, codes, Option, None, option_map}
 use Rattle.std.specs.List.{find}
 use Rattle.std.specs.Str.{str_eq_ignore_ascii_case}
-use Rattle.fwd_settings_schema.specs.declared.rules.ChangeWord.TheVariants as change
+use Rattle.fwd_settings_values.specs.declared.rules.ChangeWord.TheVariants as change
 use Rattle.fwd_settings_schema.specs.declared.keys.Key.{Key}
 use Rattle.fwd_settings_schema.specs.declared.keys.Key.TheVariants as key
 use Rattle.fwd_settings_schema.specs.declared.keys.Kind.{Kind}

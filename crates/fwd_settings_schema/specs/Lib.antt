@@ -1,8 +1,2 @@
-pub mod Number
-pub mod Text
-pub mod Types
-pub mod Statuses
-pub mod Rule
-pub mod Words
 pub mod Keys
 pub mod Property

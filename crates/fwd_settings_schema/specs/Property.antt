@@ -12,8 +12,8 @@ use Rattle.fwd_grep.specs.declared.rules.GrepRule.{GrepRule}
 use Rattle.fwd_reshape.specs.declared.rules.Condition.{Condition}
 use Rattle.fwd_reshape.specs.declared.rules.Change.{Change}
 use Rattle.fwd_settings_schema.specs.declared.keys.Key.{Key}
-use Rattle.fwd_settings_schema.specs.declared.words.LineFormat.{LineFormat}
-use Rattle.fwd_settings_schema.specs.declared.words.Operation.{Operation}
+use Rattle.fwd_settings_values.specs.declared.words.LineFormat.{LineFormat}
+use Rattle.fwd_settings_values.specs.declared.words.Operation.{Operation}
 use Rattle.fwd_settings_schema.specs.declared.properties.Value.{Value}
 use Rattle.fwd_settings_schema.specs.declared.properties.Value.TheVariants as value
 use Rattle.fwd_settings_schema.specs.declared.properties.Property.{Property}

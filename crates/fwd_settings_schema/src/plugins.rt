@@ -4,7 +4,7 @@ ghost use Rattle.std.specs.Prelude.{◌≡◌};
 ghost use Rattle.std.specs.List.{find};
 ghost use Rattle.fwd_settings_schema.specs.Keys.{name_of_input, is_input_named, input_of, name_of_filter, is_filter_named, filter_of, name_of_output, is_output_named, output_of};
 
-use crate::same_name;
+use fwd_settings_values::same_name;
 
 /// The plugin of an input.
 #[derive(Clone, Copy)]

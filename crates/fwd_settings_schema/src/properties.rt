@@ -6,13 +6,13 @@ ghost use Rattle.std.specs.List.{filter_map, last_or};
 ghost use Rattle.fwd_settings_schema.specs.Property.{last_value, number_at, port_at, truth_at, format_at, form_at, operation_at, text_at, id_at, id_place_at, retries_at, last_in, pattern_in, parser_in, grep_in, condition_in, change_in, wildcard_in, header_in, is_header};
 
 use crate::keys::Key;
-use crate::words::{LineFormat, Operation};
 use fwd_base::{Bytes, Form, Items, Memory, Names, Pattern, Retries};
 use fwd_config::Place;
 use fwd_grep::{GrepRule, GrepRules};
 use fwd_http::{HeaderField, HeaderFields};
 use fwd_parser::Parser;
 use fwd_reshape::{Change, Changes, Condition, Conditions, ModifyRules};
+use fwd_settings_values::{LineFormat, Operation};
 use std::alloc::Global;
 
 /// The value read for an entry.

@@ -5,7 +5,7 @@ ghost use Rattle.std.specs.List.{find};
 ghost use Rattle.fwd_settings_schema.specs.Keys.{heads, name_of_head, is_head_named, head_of, plugin_of};
 
 use crate::plugins::{FilterPlugin, InputPlugin, OutputPlugin};
-use crate::same_name;
+use fwd_settings_values::same_name;
 
 /// The kind of a section.
 #[derive(Clone, Copy)]

@@ -6,8 +6,8 @@ ghost use Rattle.fwd_settings_schema.specs.Keys.{table, covers, is_row_of, row_o
 
 use crate::keys::{Key, Kind, Plain};
 use crate::plugins::{FilterPlugin, InputPlugin, OutputPlugin};
-use crate::rules::ChangeWord;
 use crate::section_kind::Target;
+use fwd_settings_values::ChangeWord;
 
 /// The sections and plugins that a row of the table is about.
 #[derive(Clone, Copy)]

@@ -1,5 +1,5 @@
 use Rattle.std.proofs.Common.{◌≡◌, ℕ, Bool, List, Option, Some, Result, subst, sym, ap, ◌∙◌}
-use Rattle.fwd_settings_schema.specs.Rule.{key_and_rest_of}
+use Rattle.fwd_settings_values.specs.Rule.{key_and_rest_of}
 use Rattle.fwd_config.specs.declared.section.Place.{Place}
 use Rattle.fwd_settings.specs.declared.fault.Stop.{Stop}
 use Rattle.fwd_settings_schema.specs.declared.properties.Value.{Value}

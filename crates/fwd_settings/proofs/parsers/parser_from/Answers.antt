@@ -7,7 +7,7 @@ use Rattle.fwd_config.specs.declared.section.Place.{Place}
 use Rattle.fwd_settings.specs.declared.fault.Stop.{Stop}
 use Rattle.fwd_settings_schema.specs.declared.keys.Key.TheVariants as key
 use Rattle.fwd_settings_schema.specs.declared.properties.Property.{Property}
-use Rattle.fwd_settings_schema.specs.declared.words.LineFormat.{LineFormat}
+use Rattle.fwd_settings_values.specs.declared.words.LineFormat.{LineFormat}
 use Rattle.fwd_settings_schema.specs.Property.{format_at}
 use Rattle.fwd_settings.specs.Reading.{Reading, Checked, known, ReturnsResult}
 use Rattle.fwd_settings.specs.Parsers.{time_of, parser_by, shape_by, with_time, parser_from}

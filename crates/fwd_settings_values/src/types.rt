@@ -1,7 +1,7 @@
 //! Types of a parser's fields.
 
 ghost use Rattle.std.specs.Prelude.{◌≡◌, IfOk};
-ghost use Rattle.fwd_settings_schema.specs.Types.{type_of, field_type_of, types_of_words, types_of};
+ghost use Rattle.fwd_settings_values.specs.Types.{type_of, field_type_of, types_of_words, types_of};
 
 use crate::texts::parts_at;
 use fwd_base::{Bytes, Memory, Names, index_of};

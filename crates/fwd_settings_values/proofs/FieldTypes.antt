@@ -2,7 +2,7 @@
 use Rattle.std.proofs.Common.{◌≡◌, ℕ, suc, ◌+◌, ◌<◌, ◌≤◌, List, [], ◌∷◌, ◌++◌, length, drop, get_or, Option, Some, None, refl, sym, ap, ◌∙◌, arith, add-one, drop-cons, append_assoc}
 use Rattle.std.proofs.lemmas.List.{append-nil, drop_all}
 use Rattle.fwd_parser.specs.declared.parser.FieldType.{FieldType}
-use Rattle.fwd_settings_schema.specs.Types.{field_type_of, types_of_words, in_front}
+use Rattle.fwd_settings_values.specs.Types.{field_type_of, types_of_words, in_front}
 
 -- the types so far, followed by those of the remaining words
 abbrev pub append_types : List FieldType → Option (List FieldType) → Option (List FieldType)

@@ -1,7 +1,7 @@
 //! The words that values choose from, case ignored.
 
 ghost use Rattle.std.specs.Prelude.{◌≡◌};
-ghost use Rattle.fwd_settings_schema.specs.Words.{sync_of, store_of, line_format_of, parser_format_of, record_form_of, file_form_of, operation_of};
+ghost use Rattle.fwd_settings_values.specs.Words.{sync_of, store_of, line_format_of, parser_format_of, record_form_of, file_form_of, operation_of};
 
 use crate::texts::same_name;
 use fwd_base::Form;

@@ -1,7 +1,7 @@
 //! Words for true and false.
 
 ghost use Rattle.std.specs.Prelude.{◌≡◌};
-ghost use Rattle.fwd_settings_schema.specs.Text.{truth_of, is_true_word, is_false_word};
+ghost use Rattle.fwd_settings_values.specs.Text.{truth_of, is_true_word, is_false_word};
 
 use crate::texts::same_name;
 

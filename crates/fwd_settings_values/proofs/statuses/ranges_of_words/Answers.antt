@@ -1,7 +1,7 @@
 use Rattle.std.proofs.Common.{◌≡◌, ◌<◌, List, ℕ, length, get_or, sym, ap, subst, ◌∙◌, arith}
-use Rattle.fwd_settings_schema.specs.Statuses.{status_range_of}
-use Rattle.fwd_settings_schema.proofs.StatusRanges.{good_status}
-use Rattle.fwd_settings_schema.proofs.statuses.ranges_of_words.Goals as goal
+use Rattle.fwd_settings_values.specs.Statuses.{status_range_of}
+use Rattle.fwd_settings_values.proofs.StatusRanges.{good_status}
+use Rattle.fwd_settings_values.proofs.statuses.ranges_of_words.Goals as goal
 
 pub loop-word-preserved : goal.loop-word-preserved
 loop-word-preserved c =

@@ -1,7 +1,7 @@
 //! Rules of the filters `grep` and `modify`, and header fields.
 
 ghost use Rattle.std.specs.Prelude.{◌≡◌, IfOk, option_map};
-ghost use Rattle.fwd_settings_schema.specs.Rule.{is_key, one_key, key_and_rest_of, two_keys, header_of, condition_of, change_of};
+ghost use Rattle.fwd_settings_values.specs.Rule.{is_key, one_key, key_and_rest_of, two_keys, header_of, condition_of, change_of};
 
 use crate::texts::{same_name, split_word};
 use fwd_base::{Bytes, Memory};

@@ -3,8 +3,8 @@ use Rattle.std.specs.Prelude.{ℕ, ◌*◌, ◌+◌, ◌-◌, if◌then◌else�
 use Rattle.std.specs.Str.{str_eq_ignore_ascii_case}
 use Rattle.fwd_base.specs.Number.{is_digits}
 use Rattle.fwd_http.specs.declared.statuses.StatusRange.{StatusRange}
-use Rattle.fwd_settings_schema.specs.Text.{parts_of}
-use Rattle.fwd_settings_schema.specs.Types.{in_front}
+use Rattle.fwd_settings_values.specs.Text.{parts_of}
+use Rattle.fwd_settings_values.specs.Types.{in_front}
 
 abbrev pub from_to : ℕ → ℕ → StatusRange
 from_to first last = record { first = first; last = last }

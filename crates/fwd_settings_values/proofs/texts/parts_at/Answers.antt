@@ -1,7 +1,7 @@
 use Rattle.std.proofs.Common.{sym, ◌∙◌, arith}
-use Rattle.fwd_settings_schema.specs.Text.{is_one_of}
-use Rattle.fwd_settings_schema.proofs.Split.{split_on, split_done, starts_empty, goes_empty}
-use Rattle.fwd_settings_schema.proofs.texts.parts_at.Goals as goal
+use Rattle.fwd_settings_values.specs.Text.{is_one_of}
+use Rattle.fwd_settings_values.proofs.Split.{split_on, split_done, starts_empty, goes_empty}
+use Rattle.fwd_settings_values.proofs.texts.parts_at.Goals as goal
 
 pub loop-byte-init : goal.loop-byte-init
 loop-byte-init c = starts_empty (is_one_of c.args.separators.now) c.args.text.now c.new-parts.result c.new-part.result c.new-parts.ensures c.new-part.ensures

@@ -5,7 +5,7 @@ use Rattle.std.specs.Str.{bytes_eq, byte}
 use Rattle.fwd_parser.specs.declared.parser.FieldType.{FieldType}
 use Rattle.fwd_parser.specs.declared.parser.TypeKind.{TypeKind}
 use Rattle.fwd_parser.specs.declared.parser.TypeKind.TheVariants as kind
-use Rattle.fwd_settings_schema.specs.Text.{parts_of}
+use Rattle.fwd_settings_values.specs.Text.{parts_of}
 
 -- an unknown type is text
 abbrev pub type_of : List ℕ → TypeKind

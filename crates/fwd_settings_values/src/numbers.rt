@@ -1,7 +1,7 @@
 //! Numbers: counts, ports, durations and retries.
 
 ghost use Rattle.std.specs.Prelude.{◌≡◌, ◌-◌, ◌<◌};
-ghost use Rattle.fwd_settings_schema.specs.Number.{positive_of, port_of, decimals, thousandths, flush_of, retries_of, within};
+ghost use Rattle.fwd_settings_values.specs.Number.{positive_of, port_of, decimals, thousandths, flush_of, retries_of, within};
 
 use crate::texts::same_name;
 use fwd_base::{Retries, index_of, is_digits, number};

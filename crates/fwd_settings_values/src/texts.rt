@@ -2,7 +2,7 @@
 
 ghost use Rattle.std.specs.Prelude.{◌≡◌, IfOk};
 ghost use Rattle.std.specs.Str.{str_eq_ignore_ascii_case};
-ghost use Rattle.fwd_settings_schema.specs.Text.{is_tag_text, is_id_text, has_blank, is_plain_text, is_visible_text, is_uri_text, is_one_of, parts_of, first_word, rest};
+ghost use Rattle.fwd_settings_values.specs.Text.{is_tag_text, is_id_text, has_blank, is_plain_text, is_visible_text, is_uri_text, is_one_of, parts_of, first_word, rest};
 
 use fwd_base::limits::{LONGEST_NAME, LONGEST_TAG};
 use fwd_base::{Bytes, Memory, Names, index_of_blank, is_blank, is_utf8, skip_blanks};

@@ -3,10 +3,10 @@ use Rattle.std.specs.Prelude.{ℕ, Bool, true, false, if◌then◌else◌, List,
 use Rattle.std.specs.Str.{str_eq_ignore_ascii_case}
 use Rattle.fwd_base.specs.declared.output_options.Form.{Form}
 use Rattle.fwd_base.specs.declared.output_options.Form.TheVariants as form
-use Rattle.fwd_settings_schema.specs.declared.words.LineFormat.{LineFormat}
-use Rattle.fwd_settings_schema.specs.declared.words.LineFormat.TheVariants as format
-use Rattle.fwd_settings_schema.specs.declared.words.Operation.{Operation}
-use Rattle.fwd_settings_schema.specs.declared.words.Operation.TheVariants as operation
+use Rattle.fwd_settings_values.specs.declared.words.LineFormat.{LineFormat}
+use Rattle.fwd_settings_values.specs.declared.words.LineFormat.TheVariants as format
+use Rattle.fwd_settings_values.specs.declared.words.Operation.{Operation}
+use Rattle.fwd_settings_values.specs.declared.words.Operation.TheVariants as operation
 
 -- the value of a word, or what the text is otherwise
 abbrev pub word_or : {X : Type 0} → List ℕ → X → List ℕ → Option X → Option X

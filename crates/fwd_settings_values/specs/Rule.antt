@@ -5,11 +5,11 @@ use Rattle.fwd_reshape.specs.declared.rules.Condition.{Condition}
 use Rattle.fwd_reshape.specs.declared.rules.Condition.TheVariants as condition
 use Rattle.fwd_reshape.specs.declared.rules.Change.{Change}
 use Rattle.fwd_reshape.specs.declared.rules.Change.TheVariants as change
-use Rattle.fwd_settings_schema.specs.declared.rules.ChangeWord.{ChangeWord}
-use Rattle.fwd_settings_schema.specs.declared.rules.ChangeWord.TheVariants as word
+use Rattle.fwd_settings_values.specs.declared.rules.ChangeWord.{ChangeWord}
+use Rattle.fwd_settings_values.specs.declared.rules.ChangeWord.TheVariants as word
 use Rattle.fwd_http.specs.declared.fields.HeaderField.{HeaderField}
 use Rattle.fwd_http.specs.Fields.{is_field_name, is_field_value}
-use Rattle.fwd_settings_schema.specs.Text.{first_word, rest}
+use Rattle.fwd_settings_values.specs.Text.{first_word, rest}
 
 -- a key: it isn't empty and doesn't begin with a dollar
 abbrev pub is_key : List ℕ → Bool

@@ -2,8 +2,8 @@
 use Rattle.std.proofs.Common.{◌≡◌, ℕ, suc, ◌+◌, ◌<◌, ◌≤◌, List, [], ◌∷◌, ◌++◌, length, drop, get_or, Option, Some, None, refl, sym, ap, ◌∙◌, arith, add-one, drop-cons, append_assoc}
 use Rattle.std.proofs.lemmas.List.{append-nil, drop_all}
 use Rattle.fwd_http.specs.declared.statuses.StatusRange.{StatusRange}
-use Rattle.fwd_settings_schema.specs.Types.{in_front}
-use Rattle.fwd_settings_schema.specs.Statuses.{status_range_of, ranges_of_words}
+use Rattle.fwd_settings_values.specs.Types.{in_front}
+use Rattle.fwd_settings_values.specs.Statuses.{status_range_of, ranges_of_words}
 
 -- the ranges so far, followed by those of the remaining words
 abbrev pub append_ranges : List StatusRange → Option (List StatusRange) → Option (List StatusRange)

@@ -1,7 +1,7 @@
 use Rattle.std.proofs.Common.{◌≡◌, ◌<◌, List, ℕ, length, get_or, sym, ap, subst, ◌∙◌, arith}
-use Rattle.fwd_settings_schema.specs.Types.{field_type_of}
-use Rattle.fwd_settings_schema.proofs.FieldTypes.{good_word}
-use Rattle.fwd_settings_schema.proofs.types.types_of_words.Goals as goal
+use Rattle.fwd_settings_values.specs.Types.{field_type_of}
+use Rattle.fwd_settings_values.proofs.FieldTypes.{good_word}
+use Rattle.fwd_settings_values.proofs.types.types_of_words.Goals as goal
 
 pub loop-word-preserved : goal.loop-word-preserved
 loop-word-preserved c =

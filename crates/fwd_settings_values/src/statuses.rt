@@ -1,7 +1,7 @@
 //! Statuses of HTTP that are retried.
 
 ghost use Rattle.std.specs.Prelude.{◌≡◌, ◌<◌, ◌-◌, IfOk};
-ghost use Rattle.fwd_settings_schema.specs.Statuses.{from_to, one_status, status_range_of, ranges_of_words, statuses_of};
+ghost use Rattle.fwd_settings_values.specs.Statuses.{from_to, one_status, status_range_of, ranges_of_words, statuses_of};
 
 use crate::texts::{parts_at, same_name};
 use fwd_base::{Memory, Names, is_digits};
