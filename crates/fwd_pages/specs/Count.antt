@@ -4,8 +4,8 @@ use Rattle.std.specs.Int.{bit_at}
 use Rattle.fwd_base.specs.declared.ids.InputId.{InputId}
 use Rattle.fwd_outside.specs.declared.home.Home.{Home}
 use Rattle.fwd_outside.specs.declared.home.Home.TheVariants.{Disk, Ram}
-use Rattle.fwd_table.specs.declared.row.Row.{Row}
-use Rattle.fwd_table.specs.declared.row.RowSeen.{RowSeen}
+use Rattle.fwd_table.specs.Row.{Row}
+use Rattle.fwd_table.specs.RowSeen.{RowSeen}
 use Rattle.fwd_table.specs.Rows.{seen_of}
 use Rattle.fwd_pages.specs.declared.count.Counted.{Counted}
 use Rattle.fwd_pages.specs.declared.count.Counted.TheVariants as counted

@@ -8,17 +8,17 @@ use Rattle.std.proofs.lemmas.List.Elements.{All-head, All-tail}
 use Rattle.std.proofs.lemmas.List.Sums.{sum_by-cons}
 use Rattle.fwd_base.specs.declared.ids.ChunkId.{ChunkId}
 use Rattle.fwd_base.specs.declared.ids.OutputId.{OutputId}
-use Rattle.fwd_table.specs.declared.route.Route.{Route}
-use Rattle.fwd_table.specs.declared.row.Row.{Row}
-use Rattle.fwd_table.specs.declared.sums.ByOutput.{ByOutput}
-use Rattle.fwd_table.specs.declared.sums.ByOutput.TheVariants.{Flights, FlyingBytes, WaitingBytes}
-use Rattle.fwd_table.specs.declared.sums.Sums.{Sums}
-use Rattle.fwd_table.specs.Routes.{RiseFrom, flying_of, is_to}
-use Rattle.fwd_table.specs.Rows.{ChunksRise, IsOwedToNobody, flies_to, flights_to, is_owed_row, owed_rows, without_chunk}
-use Rattle.fwd_table.specs.Usage.{in_file, is_from, is_recovered_row, flies, is_flying, is_waiting, size_of, flying_to, waiting_for, files_up, found_up, memory_of}
-use Rattle.fwd_table.specs.Sums.{Over, Memory, FilesUp, FoundUp, Unowed, Rows, route_part, part_at, part, AreSums, IsTotal, IsValidRow}
-use Rattle.fwd_table.proofs.ChunkRows.{behind_rise, none_goes, others_behind}
-use Rattle.fwd_table.proofs.RowSums.{none_behind}
+use Rattle.fwd_table_rows.specs.declared.route.Route.{Route}
+use Rattle.fwd_table_rows.specs.declared.row.Row.{Row}
+use Rattle.fwd_table_rows.specs.declared.sums.ByOutput.{ByOutput}
+use Rattle.fwd_table_rows.specs.declared.sums.ByOutput.TheVariants.{Flights, FlyingBytes, WaitingBytes}
+use Rattle.fwd_table_rows.specs.declared.sums.Sums.{Sums}
+use Rattle.fwd_table_rows.specs.Routes.{RiseFrom, flying_of, is_to}
+use Rattle.fwd_table_rows.specs.Rows.{ChunksRise, IsOwedToNobody, flies_to, flights_to, is_owed_row, owed_rows, without_chunk}
+use Rattle.fwd_table_rows.specs.Usage.{in_file, is_from, is_recovered_row, flies, is_flying, is_waiting, size_of, flying_to, waiting_for, files_up, found_up, memory_of}
+use Rattle.fwd_table_rows.specs.Sums.{Over, Memory, FilesUp, FoundUp, Unowed, Rows, route_part, part_at, part, AreSums, IsTotal, IsValidRow}
+use Rattle.fwd_table_rows.proofs.ChunkRows.{behind_rise, none_goes, others_behind}
+use Rattle.fwd_table_rows.proofs.RowSums.{none_behind}
 
 -- ---- the route to an output is the only one
 

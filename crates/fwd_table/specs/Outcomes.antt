@@ -1,15 +1,12 @@
 -- What happens to a route after the outcome of a flush.
-use Rattle.std.specs.Prelude.{ℕ, ◌+◌, ◌-◌, ◌*◌, ◌^◌, min, nat_le, Bool, true, false, if◌then◌else◌}
+use Rattle.std.specs.Prelude.{ℕ, ◌*◌, nat_le, Bool, true, false, if◌then◌else◌}
 use Rattle.fwd_base.specs.declared.output_options.Retries.{Retries}
 use Rattle.fwd_base.specs.declared.output_options.Retries.TheVariants.{Times, Unlimited}
+use Rattle.fwd_table_rows.specs.Routes.{saturating_plus}
 use Rattle.fwd_table.specs.declared.outcome.Answer.{Answer}
 use Rattle.fwd_table.specs.declared.outcome.Answer.TheVariants.{Good, Retry, Bad}
 use Rattle.fwd_table.specs.declared.outcome.Outcome.{Outcome}
 use Rattle.fwd_table.specs.declared.outcome.Outcome.TheVariants.{Retrying, Resolved, Last, Spent, SpentLast}
-
--- addition that saturates at 2^64 - 1
-abbrev pub saturating_plus : ℕ → ℕ → ℕ
-saturating_plus a b = min (a + b) (2 ^ 64 - 1)
 
 -- the time in milliseconds so many seconds after another
 abbrev pub due_after : ℕ → ℕ → ℕ

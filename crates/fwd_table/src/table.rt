@@ -4,27 +4,25 @@ ghost use Rattle.std.specs.Prelude.{◌≡◌, ◌↔◌, ◌+◌, ◌*◌, ◌<
 ghost use Rattle.std.specs.Option.{option_map_or};
 ghost use Rattle.fwd_retry.specs.declared.timer.Timer.{Timer};
 ghost use Rattle.fwd_retry.specs.Timer.{first, in_time, is_next, IsFirst};
-ghost use Rattle.fwd_table.specs.declared.row.Row.{Row};
+ghost use Rattle.fwd_table_rows.specs.declared.row.Row.{Row};
 ghost use Rattle.fwd_table.specs.Outcomes.{due_after, may_retry, is_tried_again, outcome_of, resolved};
-ghost use Rattle.fwd_table.specs.Routes.{flying_of, mask_of, IsMaskOf};
-ghost use Rattle.fwd_table.specs.Changes.{row_changed};
-ghost use Rattle.fwd_table.specs.Usage.{size_of, flying_to, waiting_for, memory_of, files_up, found_up};
+ghost use Rattle.fwd_table_rows.specs.Routes.{flying_of, mask_of, IsMaskOf};
+ghost use Rattle.fwd_table_rows.specs.Changes.{row_changed};
+ghost use Rattle.fwd_table_rows.specs.Usage.{size_of, flying_to, waiting_for, memory_of, files_up, found_up};
 ghost use Rattle.fwd_base.specs.Limits.{most_inputs};
-ghost use Rattle.fwd_table.specs.Rows.{IsIdle, IsOwedToNobody, rows_at, has_row, is_row_of, is_route_idle, flights_to, owed_rows, row_at, routes_at, tries_of, owes_nothing, idle_timers_of, seen_of, opened, on_chunk, without_chunk, grown, shut_at, started_to, stayed_to, answered_by, resolved_to};
+ghost use Rattle.fwd_table_rows.specs.Rows.{IsIdle, IsOwedToNobody, rows_at, has_row, is_row_of, is_route_idle, flights_to, owed_rows, row_at, routes_at, tries_of, owes_nothing, idle_timers_of, seen_of, opened, on_chunk, without_chunk, grown, shut_at, started_to, stayed_to, answered_by, resolved_to};
 
 use crate::outcome::{due_after, may_retry, resolved, spent};
-use crate::route::{Change, Route, Routes};
-use crate::row::{Row, RowChange};
-use crate::slot::{
-    Slot, change_row, clear_row, close_gaps, drop_first_gaps, drop_unowed_places, due_in, find_row,
-    free_end, make_storage, next_in, soonest_due, sums_of,
-};
-use crate::sums::{Sums, Way};
 use crate::{Answer, Outcome, RowSeen};
 use fwd_base::limits::MOST_OUTPUTS;
 use fwd_base::{Bytes, ChunkId, InputId, Memory, OutputId, Retries};
 use fwd_outside::Home;
 use fwd_retry::Timer;
+use fwd_table_rows::{
+    Change, Route, Routes, Row, RowChange, Slot, Sums, Way, change_row, clear_row, close_gaps,
+    drop_first_gaps, drop_unowed_places, due_in, find_row, free_end, make_storage, next_in,
+    soonest_due, sums_of,
+};
 use std::alloc::Global;
 use std::collections::VecDeque;
 use std::marker::Model;
@@ -50,8 +48,8 @@ pub struct Table {
 impl Model for Table {
     ghost use Rattle.std.specs.Prelude.{◌-◌, vec_capacity};
     ghost use Rattle.std.specs.VecDeque.{deque_len, deque_capacity};
-    ghost use Rattle.fwd_table.specs.Slots.{SlotsInvariant, slot_rows, rows_in};
-    ghost use Rattle.fwd_table.specs.Rows.{TableModel, spare_of};
+    ghost use Rattle.fwd_table_rows.specs.Slots.{slot_rows, rows_in};
+    ghost use Rattle.fwd_table.specs.TableModel.{SlotsInvariant, TableModel, spare_of};
 
     ghost Value = { TableModel };
 

@@ -1,4 +1,4 @@
-use Rattle.fwd_table.specs.Slots.{rows_in}
+use Rattle.fwd_table_rows.specs.Slots.{rows_in}
 use Rattle.fwd_table.proofs.Usage.{flying_are}
 use Rattle.fwd_table.proofs.table.Table.flying_bytes.Goals as goal
 

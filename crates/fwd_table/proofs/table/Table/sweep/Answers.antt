@@ -3,10 +3,10 @@ use Rattle.std.specs.Prelude.{◌==◌}
 use Rattle.std.proofs.lemmas.Bool.{eqb-true, not-false}
 use Rattle.std.proofs.lemmas.List.Elements.{All-filter}
 use Rattle.std.proofs.lemmas.List.Kept.{AllPairs-filter}
-use Rattle.fwd_table.specs.declared.row.Row.{Row}
-use Rattle.fwd_table.specs.Slots.{rows_in}
-use Rattle.fwd_table.specs.Rows.{IsNotDueBefore, is_owed_row}
-use Rattle.fwd_table.specs.Sums.{IsValidRow, Unowed}
+use Rattle.fwd_table_rows.specs.declared.row.Row.{Row}
+use Rattle.fwd_table_rows.specs.Slots.{rows_in}
+use Rattle.fwd_table_rows.specs.Rows.{IsNotDueBefore, is_owed_row}
+use Rattle.fwd_table_rows.specs.Sums.{IsValidRow, Unowed}
 use Rattle.fwd_table.proofs.Usage.{none_unowed}
 use Rattle.fwd_table.proofs.table.Table.sweep.Goals as goal
 
