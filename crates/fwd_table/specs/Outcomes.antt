@@ -25,15 +25,15 @@ is_tried_again Retry limit tries = may_retry limit tries
 is_tried_again Bad limit tries = false
 
 -- the outcome of a resolved route, which may be the last one of its chunk
-abbrev pub resolved : Bool → Outcome
-resolved is_last = if is_last then Last else Resolved
+abbrev pub resolved_outcome : Bool → Outcome
+resolved_outcome is_last = if is_last then Last else Resolved
 
 -- the outcome of a route whose retries are exhausted
-abbrev pub spent : Bool → Outcome
-spent is_last = if is_last then SpentLast else Spent
+abbrev pub spent_outcome : Bool → Outcome
+spent_outcome is_last = if is_last then SpentLast else Spent
 
 -- what happens to a route after the outcome of its flush
 abbrev pub outcome_of : Answer → Bool → Bool → Outcome
-outcome_of Good again is_last = resolved is_last
-outcome_of Retry again is_last = if again then Retrying else spent is_last
-outcome_of Bad again is_last = resolved is_last
+outcome_of Good again is_last = resolved_outcome is_last
+outcome_of Retry again is_last = if again then Retrying else spent_outcome is_last
+outcome_of Bad again is_last = resolved_outcome is_last

@@ -6,7 +6,7 @@ mod outcome;
 mod table;
 mod tally;
 
-pub use fwd_table_rows::RowSeen;
+pub use fwd_table_rows::{RowSeen, is_file};
 pub use outcome::{Answer, Outcome, may_retry};
 pub use table::Table;
 pub use tally::{InputTallies, InputTally, OutputTallies, OutputTally, Tally};

@@ -9,7 +9,7 @@ use Rattle.fwd_table_rows.specs.declared.row.Row.{Row}
 use Rattle.fwd_table_rows.specs.declared.row.RowChange.{RowChange}
 use Rattle.fwd_table_rows.specs.declared.row.RowChange.TheVariants.{Grows, Shuts, Changes, Resolves}
 use Rattle.fwd_table_rows.specs.Rows.{ChunksRise, is_row_of, row_at, on_chunk}
-use Rattle.fwd_table_rows.specs.Changes.{row_changed}
+use Rattle.fwd_table_rows.specs.Changes.{row_with_change}
 
 rise-map : (f : Row → Row) → ((row : Row) → (f row).chunk.0 ≡ row.chunk.0) → (rows : List Row) → ChunksRise rows → ChunksRise (map f rows)
 rise-map f same rows rise i j d less within =
@@ -20,17 +20,17 @@ rise-map f same rows rise i j d less within =
     let old = rise i j d less below in
     rw (first, second, same (get_or rows i d), same (get_or rows j d)) old
 
-pub keeps_chunk : (change : RowChange) (row : Row) → (row_changed change row).chunk.0 ≡ row.chunk.0
+pub keeps_chunk : (change : RowChange) (row : Row) → (row_with_change change row).chunk.0 ≡ row.chunk.0
 keeps_chunk (Grows size) row = refl
 keeps_chunk (Shuts now) row = refl
 keeps_chunk (Changes output change) row = refl
 keeps_chunk (Resolves output) row = refl
 
-kept_by : (test : Bool) (change : RowChange) (row : Row) → (if test then row_changed change row else row).chunk.0 ≡ row.chunk.0
+kept_by : (test : Bool) (change : RowChange) (row : Row) → (if test then row_with_change change row else row).chunk.0 ≡ row.chunk.0
 kept_by true change row = keeps_chunk change row
 kept_by false change row = refl
 
-pub rise-on_chunk : (chunk : ChunkId) (change : RowChange) (rows : List Row) → ChunksRise rows → ChunksRise (on_chunk chunk (row_changed change) rows)
+pub rise-on_chunk : (chunk : ChunkId) (change : RowChange) (rows : List Row) → ChunksRise rows → ChunksRise (on_chunk chunk (row_with_change change) rows)
 rise-on_chunk chunk change rows rise = rise-map _ (λ row. kept_by (is_row_of chunk row) change row) rows rise
 
 found_at : (test : Row → Bool) (rows : List Row) (i : ℕ) (row d : Row) → slice_get rows i ≡ Some row → test row ≡ true → ((k : ℕ) → k < i → test (get_or rows k d) ≡ false) → find test rows ≡ Some row

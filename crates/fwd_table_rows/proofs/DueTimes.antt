@@ -15,7 +15,7 @@ use Rattle.fwd_table_rows.specs.declared.row.RowChange.{RowChange}
 use Rattle.fwd_table_rows.specs.declared.row.RowChange.TheVariants.{Grows, Shuts, Changes, Resolves}
 use Rattle.fwd_table_rows.specs.Routes.{due_at, is_to, idle_timers}
 use Rattle.fwd_table_rows.specs.Rows.{IsNotDueBefore, timers_of_row, is_row_of, on_chunk}
-use Rattle.fwd_table_rows.specs.Changes.{changed, row_changed, due_by, row_due_by}
+use Rattle.fwd_table_rows.specs.Changes.{with_change, row_with_change, due_by, row_due_by}
 use Rattle.fwd_table_rows.proofs.SlotChanges.{AtPlace}
 
 abbrev pub Till : ℕ → Route → Type 0
@@ -29,33 +29,33 @@ waits_lower m n less row wait shut = All-weaker (Till n) (Till m) (till_lower m 
 
 -- ---- due times after changes
 
-changed_till : (n : ℕ) (change : Change) (r : Route) → Till n r → Till (min n (due_by change)) (changed change r)
+changed_till : (n : ℕ) (change : Change) (r : Route) → Till n r → Till (min n (due_by change)) (with_change change r)
 changed_till n Starts r till flies = absurd (cc flies)
 changed_till n Stays r till idle = omega arith
 changed_till n (Retries due) r till idle = omega arith
 
-changed_at : (n : ℕ) (change : Change) (r : Route) (test : Bool) → Till n r → Till (min n (due_by change)) (if test then changed change r else r)
+changed_at : (n : ℕ) (change : Change) (r : Route) (test : Bool) → Till n r → Till (min n (due_by change)) (if test then with_change change r else r)
 changed_at n change r true till = changed_till n change r till
 changed_at n change r false till = till_lower (min n (due_by change)) n (omega arith) r till
 
-row_changed_waits : (n : ℕ) (change : RowChange) (row : Row) → IsNotDueBefore n row → IsNotDueBefore (min n (row_due_by change)) (row_changed change row)
+row_changed_waits : (n : ℕ) (change : RowChange) (row : Row) → IsNotDueBefore n row → IsNotDueBefore (min n (row_due_by change)) (row_with_change change row)
 row_changed_waits n (Grows size) row wait = waits_lower (min n (2 ^ 64 - 1)) n (omega arith) row wait
 row_changed_waits n (Shuts now) row wait = λ shut. All-map (Till (min n now)) (due_at now) row.routes (λ k d within idle. omega arith)
 row_changed_waits n (Changes output change) row wait = λ shut.
-    All-map (Till (min n (due_by change))) (λ r. if is_to output r then changed change r else r) row.routes
-    (All-weaker (Till n) (λ r. Till (min n (due_by change)) (if is_to output r then changed change r else r)) (λ r till. changed_at n change r (is_to output r) till) row.routes (wait shut))
+    All-map (Till (min n (due_by change))) (λ r. if is_to output r then with_change change r else r) row.routes
+    (All-weaker (Till n) (λ r. Till (min n (due_by change)) (if is_to output r then with_change change r else r)) (λ r till. changed_at n change r (is_to output r) till) row.routes (wait shut))
 row_changed_waits n (Resolves output) row wait = λ shut.
     All-filter (λ r. not (is_to output r)) (Till (min n (2 ^ 64 - 1))) row.routes
     (All-weaker (Till n) (Till (min n (2 ^ 64 - 1))) (till_lower (min n (2 ^ 64 - 1)) n (omega arith)) row.routes (wait shut))
 
-row_waits_by : (n : ℕ) (change : RowChange) (row : Row) (test : Bool) → IsNotDueBefore n row → IsNotDueBefore (min n (row_due_by change)) (if test then row_changed change row else row)
+row_waits_by : (n : ℕ) (change : RowChange) (row : Row) (test : Bool) → IsNotDueBefore n row → IsNotDueBefore (min n (row_due_by change)) (if test then row_with_change change row else row)
 row_waits_by n change row true wait = row_changed_waits n change row wait
 row_waits_by n change row false wait = waits_lower (min n (row_due_by change)) n (omega arith) row wait
 
-pub on_chunk_waits : (n : ℕ) (chunk : ChunkId) (change : RowChange) (rows : List Row) → All (IsNotDueBefore n) rows → All (IsNotDueBefore (min n (row_due_by change))) (on_chunk chunk (row_changed change) rows)
+pub on_chunk_waits : (n : ℕ) (chunk : ChunkId) (change : RowChange) (rows : List Row) → All (IsNotDueBefore n) rows → All (IsNotDueBefore (min n (row_due_by change))) (on_chunk chunk (row_with_change change) rows)
 on_chunk_waits n chunk change rows wait =
-    All-map (IsNotDueBefore (min n (row_due_by change))) (λ row. if is_row_of chunk row then row_changed change row else row) rows
-    (All-weaker (IsNotDueBefore n) (λ row. IsNotDueBefore (min n (row_due_by change)) (if is_row_of chunk row then row_changed change row else row)) (λ row one. row_waits_by n change row (is_row_of chunk row) one) rows wait)
+    All-map (IsNotDueBefore (min n (row_due_by change))) (λ row. if is_row_of chunk row then row_with_change change row else row) rows
+    (All-weaker (IsNotDueBefore n) (λ row. IsNotDueBefore (min n (row_due_by change)) (if is_row_of chunk row then row_with_change change row else row)) (λ row one. row_waits_by n change row (is_row_of chunk row) one) rows wait)
 
 -- ---- nothing is due before
 

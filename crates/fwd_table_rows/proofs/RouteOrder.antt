@@ -7,7 +7,7 @@ use Rattle.fwd_table_rows.specs.declared.route.Change.{Change}
 use Rattle.fwd_table_rows.specs.declared.route.Change.TheVariants.{Starts, Stays, Retries}
 use Rattle.fwd_base.specs.declared.ids.OutputId.{OutputId}
 use Rattle.fwd_table_rows.specs.Routes.{RiseFrom, idle_at, is_to, on_output}
-use Rattle.fwd_table_rows.specs.Changes.{changed}
+use Rattle.fwd_table_rows.specs.Changes.{with_change}
 
 pub rise_later : (m n : ℕ) (rs : List Route) → m ≤ n → RiseFrom n rs → RiseFrom m rs
 rise_later m n [] within rise = tt
@@ -38,14 +38,14 @@ output_below n [] i d rise within = absurd (omega (arith, within))
 output_below n (r ∷ rs) zero d rise within = rise.1
 output_below n (r ∷ rs) (suc i) d rise within = output_below (r.output.0 + 1) rs i d rise.2 (omega (arith, within))
 
-changed_keeps : (change : Change) (r : Route) → (changed change r).output.0 ≡ r.output.0
+changed_keeps : (change : Change) (r : Route) → (with_change change r).output.0 ≡ r.output.0
 changed_keeps Starts r = refl
 changed_keeps Stays r = refl
 changed_keeps (Retries due) r = refl
 
-keeps_by : (test : Bool) (change : Change) (r : Route) → (if test then changed change r else r).output.0 ≡ r.output.0
+keeps_by : (test : Bool) (change : Change) (r : Route) → (if test then with_change change r else r).output.0 ≡ r.output.0
 keeps_by true change r = changed_keeps change r
 keeps_by false change r = refl
 
-pub rise-on_output : (output : OutputId) (change : Change) (n : ℕ) (rs : List Route) → RiseFrom n rs → RiseFrom n (on_output output (changed change) rs)
+pub rise-on_output : (output : OutputId) (change : Change) (n : ℕ) (rs : List Route) → RiseFrom n rs → RiseFrom n (on_output output (with_change change) rs)
 rise-on_output output change n rs rise = rise-map _ (λ r. keeps_by (is_to output r) change r) n rs rise

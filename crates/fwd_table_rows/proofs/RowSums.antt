@@ -1,11 +1,11 @@
 -- Totals over rows, before and after a row changes.
 use Rattle.std.proofs.Common.{◌≡◌, inl, inr, ℕ, suc, ◌+◌, ◌-◌, ◌*◌, ◌^◌, ◌<◌, ◌≤◌, ◌++◌, Bool, true, false, not, List, [], ◌∷◌, length, get_or, set, take, replicate, refl, sym, ◌∙◌, ap, subst, arith, lit≤}
 use Rattle.std.specs.Prelude.{◌==◌, ◌&&◌, All, sum_by, slice_index, if◌then◌else◌, Option}
-use Rattle.std.specs.List.{list_any, remove}
+use Rattle.std.specs.List.{list_any}
 use Rattle.std.proofs.lemmas.Bool.{cases_Bool, cases_eq, eq-eqb, ne_eqb}
 use Rattle.std.proofs.lemmas.List.{get_or-replicate, get_or-set_other, get_or-set_same}
-use Rattle.std.proofs.lemmas.List.Elements.{All-map, All-weaker, All-set}
-use Rattle.std.proofs.lemmas.List.Sums.{get_or-le-sum_by, sum_by-append, sum_by-cons, sum_by-le, sum_by-remove, sum_by-set, sum_by_more, sum_by_more_le}
+use Rattle.std.proofs.lemmas.List.Elements.{All-weaker}
+use Rattle.std.proofs.lemmas.List.Sums.{sum_by-append, sum_by-cons, sum_by-le, sum_by_more, sum_by_more_le}
 use Rattle.fwd_base.specs.declared.ids.ChunkId.{ChunkId}
 use Rattle.fwd_table_rows.specs.declared.route.Route.{Route}
 use Rattle.fwd_table_rows.specs.declared.row.Row.{Row}
@@ -17,8 +17,8 @@ use Rattle.fwd_table_rows.specs.declared.sums.Way.{Way}
 use Rattle.fwd_table_rows.specs.declared.sums.Way.TheVariants.{In, Out}
 use Rattle.fwd_table_rows.specs.declared.sums.Sums.{Sums}
 use Rattle.fwd_table_rows.specs.Routes.{RiseFrom, due_at, flying_of, is_to, routes_to}
-use Rattle.fwd_table_rows.specs.Rows.{is_owed_row, is_row_of, on_chunk}
-use Rattle.fwd_table_rows.specs.Changes.{row_changed}
+use Rattle.fwd_table_rows.specs.Rows.{is_owed_row}
+use Rattle.fwd_table_rows.specs.Changes.{row_with_change}
 use Rattle.fwd_table_rows.specs.Usage.{in_file, is_from, is_recovered_row, flies}
 use Rattle.fwd_table_rows.specs.Sums.{Counted, Over, Memory, FilesUp, FoundUp, Unowed, Rows, file_size, held_size, route_part, part_at, part, total, AreSums, CanShift, Shifts, IsValidRow}
 use Rattle.fwd_base.specs.declared.ids.InputId.{InputId}
@@ -114,32 +114,13 @@ size_of_change (Shuts now) = 0
 size_of_change (Changes output change) = 0
 size_of_change (Resolves output) = 0
 
-pub change_sound : (change : RowChange) (row : Row) → size_of_change change < 2 ^ 64 → IsValidRow row → IsValidRow (row_changed change row)
+pub change_sound : (change : RowChange) (row : Row) → size_of_change change < 2 ^ 64 → IsValidRow row → IsValidRow (row_with_change change row)
 change_sound (Grows size) row few sound = record { rise = sound.rise; size = few }
 change_sound (Shuts now) row few sound = record { rise = rise-map (due_at now) (λ r. refl) 0 row.routes sound.rise; size = sound.size }
 change_sound (Changes output change) row few sound = record { rise = rise-on_output output change 0 row.routes sound.rise; size = sound.size }
 change_sound (Resolves output) row few sound = record { rise = rise-filter (λ r. not (is_to output r)) 0 row.routes sound.rise; size = sound.size }
 
-sound_by : (change : RowChange) (row : Row) (test : Bool) → size_of_change change < 2 ^ 64 → IsValidRow row → IsValidRow (if test then row_changed change row else row)
-sound_by change row true few sound = change_sound change row few sound
-sound_by change row false few sound = sound
-
-pub on_chunk_sound : (chunk : ChunkId) (change : RowChange) (rows : List Row) → size_of_change change < 2 ^ 64 → All IsValidRow rows → All IsValidRow (on_chunk chunk (row_changed change) rows)
-on_chunk_sound chunk change rows few sound =
-    All-map IsValidRow (λ row. if is_row_of chunk row then row_changed change row else row) rows
-    (All-weaker IsValidRow (λ row. IsValidRow (if is_row_of chunk row then row_changed change row else row)) (λ row one. sound_by change row (is_row_of chunk row) few one) rows sound)
-
 -- ---- sums follow
-
-pub goes_out : (sums : Sums) (rows : List Row) (i : ℕ) (d : Row) → AreSums sums rows → i < length rows → (counted : Counted) (key : ℕ) → key < 64 → part counted key (get_or rows i d) ≤ total counted key sums
-goes_out sums rows i d are within counted key below =
-    let is = are counted key below in
-    let one = get_or-le-sum_by (part counted key) rows i d within in
-    omega (arith, is, one)
-
-pub goes_out_as : (sums : Sums) (rows : List Row) (i : ℕ) (row : Row) → AreSums sums rows → i < length rows → row ≡ get_or rows i row → (counted : Counted) (key : ℕ) → key < 64 → part counted key row ≤ total counted key sums
-goes_out_as sums rows i row are within is counted key below =
-    subst (λ (r : Row). part counted key r ≤ total counted key sums) (sym is) (goes_out sums rows i row are within counted key below)
 
 pub comes_in : (counted : Counted) (key : ℕ) (rows : List Row) (sum : ℕ) (row : Row) → All IsValidRow rows → IsValidRow row → length rows < 2 ^ 64 → sum ≤ sum_by (part counted key) rows → sum + part counted key row < 2 ^ 128
 comes_in counted key rows sum row sound one few within =
@@ -147,29 +128,10 @@ comes_in counted key rows sum row sound one few within =
     let own = part_few counted key row one in
     omega (arith, all, own, few, within)
 
--- the new part of a row whose old part was subtracted
-pub comes_again : (counted : Counted) (key : ℕ) (rows : List Row) (i : ℕ) (new again d e : Row) (before between : ℕ) → All IsValidRow rows → IsValidRow new → length rows < 2 ^ 64 → i < length rows → before ≡ sum_by (part counted key) rows
-    → between + part counted key (get_or rows i d) ≡ before → again ≡ new → between + part counted key again < 2 ^ 128
-comes_again counted key rows i new again d e before between sound one few within is out same =
-    rw same (comes_in counted key rows between new sound one few (omega (arith, is, out)))
-
--- one row changed: its old part was subtracted and its new one added
-pub sums_changed : (counted : Counted) (key : ℕ) (rows : List Row) (i : ℕ) (new d : Row) (before between behind : ℕ) → i < length rows → before ≡ sum_by (part counted key) rows
-    → between + part counted key (get_or rows i d) ≡ before → behind ≡ between + part counted key new → behind ≡ sum_by (part counted key) (set rows i new)
-sums_changed counted key rows i new d before between behind within is out into =
-    let sums = sum_by-set (part counted key) rows i new d within in
-    omega (arith, sums, is, out, into)
-
 pub sums_pushed : (counted : Counted) (key : ℕ) (rows : List Row) (new : Row) (before behind : ℕ) → before ≡ sum_by (part counted key) rows → behind ≡ before + part counted key new → behind ≡ sum_by (part counted key) (rows ++ new ∷ [])
 sums_pushed counted key rows new before behind is into =
     let sums = sum_by-append (part counted key) rows (new ∷ []) in
     omega (arith, sums, is, into)
-
-pub sums_gone : (counted : Counted) (key : ℕ) (rows : List Row) (i : ℕ) (d : Row) (before behind : ℕ) → i < length rows → before ≡ sum_by (part counted key) rows
-    → behind + part counted key (get_or rows i d) ≡ before → behind ≡ sum_by (part counted key) (remove rows i)
-sums_gone counted key rows i d before behind within is out =
-    let sums = sum_by-remove (part counted key) rows i d within in
-    omega (arith, sums, is, out)
 
 -- the totals over no rows
 pub none_summed : AreSums (record { flights = replicate 64 0; flying = replicate 64 0; waiting = replicate 64 0; memory = replicate 64 0; files_up = 0; found_up = 0; unowed = 0; rows = 0 }) []
@@ -219,23 +181,7 @@ module _ (what : ByOutput) (way : Way) (row : Row) (items : List Route) (i : ℕ
         rw (here, more) (shifted key below)
   ]
 
--- ---- rows among others
-
-pub sound_at : (rows : List Row) (i : ℕ) (d : Row) → All IsValidRow rows → i < length rows → IsValidRow (get_or rows i d)
-sound_at rows i d sound within = sound i d within
-
-pub sound_as : (rows : List Row) (i : ℕ) (row : Row) → All IsValidRow rows → i < length rows → row ≡ get_or rows i row → IsValidRow row
-sound_as rows i row sound within is = subst IsValidRow (sym is) (sound i row within)
-
-pub sound_set : (rows : List Row) (i : ℕ) (new : Row) → All IsValidRow rows → IsValidRow new → All IsValidRow (set rows i new)
-sound_set rows i new sound one = All-set IsValidRow rows i new one sound
-
-pub sums_more : (counted : Counted) (key : ℕ) (rows : List Row) (i : ℕ) (row : Row) (before behind : ℕ) → i < length rows → row ≡ get_or rows i row → before ≡ sum_by (part counted key) (take i rows)
-    → behind ≡ before + part counted key row → behind ≡ sum_by (part counted key) (take (i + 1) rows)
-sums_more counted key rows i row before behind within is so_far into =
-    let more = sum_by_more (part counted key) rows i row within in
-    let own : part counted key row ≡ part counted key (get_or rows i row) = ap (part counted key) is in
-    omega (arith, more, own, so_far, into)
+-- ---- a new row
 
 pub opened_sound : (chunk : ChunkId) (input : Option InputId) (home : Home) (tag : List ℕ) (size owed : ℕ) (routes : List Route) → size < 2 ^ 64 → routes ≡ routes_to owed
     → IsValidRow (record { chunk = chunk; input = input; home = home; tag = tag; size = size; shut = false; routes = routes })

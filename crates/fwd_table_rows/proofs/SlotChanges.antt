@@ -1,5 +1,5 @@
 -- The rows of slots, when the slot of one chunk changes.
-use Rattle.std.proofs.Common.{◌≡◌, ◌≢◌, ◌⊎◌, inl, inr, ℕ, zero, suc, ◌+◌, ◌-◌, ◌<◌, ◌≤◌, Bool, true, false, List, [], ◌∷◌, ◌++◌, length, get_or, set, drop, Some, None, Result, Ok, Err, refl, sym, ◌∙◌, ap, subst, arith}
+use Rattle.std.proofs.Common.{◌≡◌, ◌≢◌, ◌⊎◌, inl, inr, ℕ, zero, suc, ◌+◌, ◌-◌, ◌<◌, ◌≤◌, Bool, true, false, List, [], ◌∷◌, ◌++◌, length, get_or, set, Some, None, Result, Ok, Err, refl, sym, ◌∙◌, ap, subst, arith}
 use Rattle.std.specs.Prelude.{All, Option, IfSome, filter, sum_by, option_map, option_to_list, is_some, IsTrue, if◌then◌else◌}
 use Rattle.std.specs.List.{flat_map}
 use Rattle.std.specs.Option.{option_map_or}
@@ -17,7 +17,7 @@ use Rattle.fwd_base.specs.declared.ids.ChunkId.{ChunkId}
 use Rattle.fwd_table_rows.specs.declared.slot.Slot.{Slot}
 use Rattle.fwd_table_rows.specs.declared.row.Row.{Row}
 use Rattle.fwd_table_rows.specs.declared.row.RowChange.{RowChange}
-use Rattle.fwd_table_rows.specs.Changes.{row_changed}
+use Rattle.fwd_table_rows.specs.Changes.{row_with_change}
 use Rattle.fwd_table_rows.specs.Slots.{HasOwnRow, IsPlaceOf, NumbersRise, is_owed_at, rows_in, slot_rows, timers_of_slot}
 use Rattle.fwd_table_rows.specs.Rows.{idle_timers_of, is_owed_row, on_chunk, owed_rows, row_at, rows_at, timers_of_row, without_chunk}
 use Rattle.fwd_table_rows.proofs.Chunks.{keeps_chunk}
@@ -209,10 +209,10 @@ numbers_stay places i new d within same rise j k e less below =
     let same_e : new.chunk.0 ≡ (get_or places i e).chunk.0 = same ∙ ap (λ (p : Slot). p.chunk.0) (get_or_default places i d e within) in
     rw (set_number places i j new e within same_e, set_number places i k new e within same_e) (rise j k e less there)
 
-pub own_changed : (change : RowChange) (place : Slot) → HasOwnRow place → HasOwnRow (record place { row = option_map (row_changed change) place.row })
+pub own_changed : (change : RowChange) (place : Slot) → HasOwnRow place → HasOwnRow (record place { row = option_map (row_with_change change) place.row })
 own_changed change place own = by place.row own
   where
-    by : (row : Option Row) → IfSome row (λ r. r.chunk.0 ≡ place.chunk.0) → IfSome (option_map (row_changed change) row) (λ r. r.chunk.0 ≡ place.chunk.0)
+    by : (row : Option Row) → IfSome row (λ r. r.chunk.0 ≡ place.chunk.0) → IfSome (option_map (row_with_change change) row) (λ r. r.chunk.0 ≡ place.chunk.0)
     by None own = tt
     by (Some r) own = keeps_chunk change r ∙ own
 
@@ -287,16 +287,3 @@ pub record Keeps (old new : List Slot) : Type 0 where
   pub rows : rows_in new ≡ rows_in old
   pub numbers : NumbersRise old → NumbersRise new
   pub own : All HasOwnRow old → All HasOwnRow new
-
-pub keeps_all : (places : List Slot) → Keeps places places
-keeps_all places = record { rows = refl; numbers = λ rise. rise; own = λ own. own }
-
-pub first_goes : (old places rest : List Slot) → rest ≡ drop 1 places → 0 < length places → ((place : Slot) → (get_or places 0 place).row ≡ None) → Keeps old places → Keeps old rest
-first_goes old [] rest is some empty keeps = absurd (omega (arith, some))
-first_goes old (p ∷ ps) rest is some empty keeps =
-    rw is
-    (record {
-      rows = ap (λ (row : Option Row). option_to_list row ++ rows_in ps) (sym (empty p)) ∙ keeps.rows;
-      numbers = λ rise. behind_rise p.chunk p ps (keeps.numbers rise);
-      own = λ own. All-tail HasOwnRow p ps (keeps.own own);
-    })

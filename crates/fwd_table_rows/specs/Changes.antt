@@ -10,17 +10,18 @@ use Rattle.fwd_table_rows.specs.Routes.{started, stayed, retried, on_output}
 use Rattle.fwd_table_rows.specs.Rows.{grown, shut_at, resolved_to}
 
 -- a route after a change
-abbrev pub changed : Change → Route → Route
-changed Starts r = started r
-changed Stays r = stayed r
-changed (Retries due) r = retried due r
+abbrev pub with_change : Change → Route → Route
+with_change Starts r = started r
+with_change Stays r = stayed r
+with_change (Retries due) r = retried due r
 
 -- a row after a change
-abbrev pub row_changed : RowChange → Row → Row
-row_changed (Grows size) row = grown size row
-row_changed (Shuts now) row = shut_at now row
-row_changed (Changes output change) row = record row { routes = on_output output (changed change) row.routes }
-row_changed (Resolves output) row = resolved_to output row
+abbrev pub row_with_change : RowChange → Row → Row
+row_with_change (Grows size) row = grown size row
+row_with_change (Shuts now) row = shut_at now row
+row_with_change (Changes output change) row =
+    record row { routes = on_output output (with_change change) row.routes }
+row_with_change (Resolves output) row = resolved_to output row
 
 -- a time before which a change makes no route due
 abbrev pub due_by : Change → ℕ

@@ -1,5 +1,7 @@
 -- The rows of a table: chunks with their routes, by rising chunk id.
-use Rattle.std.specs.Prelude.{◌≡◌, ℕ, ◌<◌, ◌≤◌, ◌==◌, ◌&&◌, Bool, true, false, not, List, [], length, map, filter, find, Option, is_some, option_to_list, IsSomeAnd, IsTrue, All, AllPairs, if◌then◌else◌}
+use Rattle.std.specs.Prelude.{◌≡◌, ℕ, ◌<◌, ◌≤◌, ◌==◌, ◌&&◌, Bool, true, false, not, List, [], length, map}
+use Rattle.std.specs.Prelude.{filter, find, Option, is_some, option_to_list, IsSomeAnd, IsTrue, All, AllPairs}
+use Rattle.std.specs.Prelude.{if◌then◌else◌}
 use Rattle.std.specs.List.{flat_map}
 use Rattle.std.specs.Option.{option_map_or}
 use Rattle.fwd_base.specs.declared.ids.ChunkId.{ChunkId}
@@ -10,7 +12,8 @@ use Rattle.fwd_retry.specs.declared.timer.Timer.{Timer}
 use Rattle.fwd_table_rows.specs.declared.route.Route.{Route}
 use Rattle.fwd_table_rows.specs.declared.row.Row.{Row}
 use Rattle.fwd_table_rows.specs.declared.row.RowSeen.{RowSeen}
-use Rattle.fwd_table_rows.specs.Routes.{routes_to, due_at, is_to, on_output, without_output, started, stayed, retried, tries_to, mask_of, flying_of, idle_timers}
+use Rattle.fwd_table_rows.specs.Routes.{routes_to, due_at, is_to, on_output, without_output, started, stayed}
+use Rattle.fwd_table_rows.specs.Routes.{retried, tries_to, mask_of, flying_of, idle_timers}
 
 -- the rows of slots
 abbrev pub rows_at : List (Option Row) → List Row
@@ -100,7 +103,8 @@ seen_of row = record {
 
 -- no idle route of a row is due before a time
 abbrev pub IsNotDueBefore : ℕ → Row → Type 0
-IsNotDueBefore reading row = IsTrue row.shut → All (λ r. r.flying ≡ false → reading ≤ r.due) row.routes
+IsNotDueBefore reading row =
+    IsTrue row.shut → All (λ r. r.flying ≡ false → reading ≤ r.due) row.routes
 
 -- ---- changes of its rows
 

@@ -1,5 +1,6 @@
 -- The slots of a table, ordered by chunk id; removed rows leave empty slots.
-use Rattle.std.specs.Prelude.{◌≡◌, ◌≢◌, ◌<◌, ℕ, Bool, false, List, length, map, Option, IfSome, MatchOption, All, AllPairs, option_to_list}
+use Rattle.std.specs.Prelude.{◌≡◌, ◌≢◌, ◌<◌, ℕ, Bool, false, List, length, map, Option, IfSome, MatchOption}
+use Rattle.std.specs.Prelude.{All, AllPairs, option_to_list}
 use Rattle.std.specs.List.{HoldsAt, flat_map}
 use Rattle.std.specs.Option.{option_map_or}
 use Rattle.fwd_base.specs.declared.ids.ChunkId.{ChunkId}

@@ -1,6 +1,7 @@
 -- The totals that a table maintains, so that no call has to scan all rows.
 use Rattle.std.specs.Option.{option_map_or}
-use Rattle.std.specs.Prelude.{◌≡◌, ℕ, Option, ◌+◌, ◌<◌, ◌≤◌, ◌^◌, ◌==◌, ◌&&◌, ◌||◌, not, List, length, slice_index, sum_by, if◌then◌else◌}
+use Rattle.std.specs.Prelude.{◌≡◌, ℕ, Option, ◌+◌, ◌<◌, ◌≤◌, ◌^◌, ◌==◌, ◌&&◌, ◌||◌, not, List, length}
+use Rattle.std.specs.Prelude.{slice_index, sum_by, if◌then◌else◌}
 use Rattle.fwd_table_rows.specs.declared.route.Route.{Route}
 use Rattle.fwd_table_rows.specs.declared.row.Row.{Row}
 use Rattle.fwd_table_rows.specs.declared.sums.ByOutput.{ByOutput}

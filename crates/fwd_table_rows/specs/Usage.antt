@@ -1,5 +1,6 @@
 -- What of a table is in files, in memory and in flight.
-use Rattle.std.specs.Prelude.{ℕ, Bool, true, false, ◌&&◌, ◌||◌, ◌==◌, not, List, length, filter, sum_by, Option, Some, None}
+use Rattle.std.specs.Prelude.{ℕ, Bool, true, false, ◌&&◌, ◌||◌, ◌==◌, not, List, length, filter, sum_by}
+use Rattle.std.specs.Prelude.{Option, Some, None}
 use Rattle.std.specs.List.{list_any}
 use Rattle.fwd_base.specs.declared.ids.InputId.{InputId}
 use Rattle.fwd_base.specs.declared.ids.OutputId.{OutputId}

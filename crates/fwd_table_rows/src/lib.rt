@@ -8,7 +8,7 @@ mod slot;
 mod sums;
 
 pub use route::{Change, Route, Routes};
-pub use row::{Row, RowChange, RowSeen};
+pub use row::{Row, RowChange, RowSeen, is_file};
 pub use slot::{
     Slot, change_row, clear_row, close_gaps, drop_first_gaps, drop_unowed_places, due_in, find_row,
     free_end, make_storage, next_in, soonest_due, sums_of,

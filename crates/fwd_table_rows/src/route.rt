@@ -1,12 +1,15 @@
 //! Routes: the outputs that a chunk is pending for.
 
-ghost use Rattle.std.specs.Prelude.{◌≡◌, ◌==◌, ◌≤◌, [], All, false, fold, filter, find, length, map, nat_le, not, OnOk, option_copied, option_map, vec_capacity, if◌then◌else◌};
+ghost use Rattle.std.specs.Prelude.{◌≡◌, ◌==◌, ◌≤◌, [], All, false, fold, filter, find, length, map, nat_le};
+ghost use Rattle.std.specs.Prelude.{not, OnOk, option_copied, option_map, vec_capacity, if◌then◌else◌};
 ghost use Rattle.std.specs.BTreeSet.{insert_key};
 ghost use Rattle.fwd_base.specs.Limits.{most_outputs};
 ghost use Rattle.fwd_retry.specs.Timer.{by_time, earlier as earlier_of, is_next};
 ghost use Rattle.fwd_retry.specs.declared.timer.Timer.{Timer};
-ghost use Rattle.fwd_table_rows.specs.Routes.{idle_at, due_at, is_to, on_output, without_output, timer_of, idle_timers, tries_to, routes_below, routes_to, mask_of, flying_of, IsMaskOf, RiseFrom};
-ghost use Rattle.fwd_table_rows.specs.Changes.{changed, due_by};
+ghost use Rattle.fwd_table_rows.specs.Routes.{idle_at, due_at, is_to, on_output, without_output, timer_of};
+ghost use Rattle.fwd_table_rows.specs.Routes.{idle_timers, tries_to, routes_below, routes_to, mask_of};
+ghost use Rattle.fwd_table_rows.specs.Routes.{flying_of, IsMaskOf, RiseFrom};
+ghost use Rattle.fwd_table_rows.specs.Changes.{with_change, due_by};
 
 use fwd_base::limits::MOST_OUTPUTS;
 use fwd_base::{ChunkId, Memory, OutputId, is_set};
@@ -62,8 +65,8 @@ impl Route {
         }
     }
 
-    fn changed(self, change: Change) -> Route
-        ensures { result ≡ changed change self }
+    fn with_change(self, change: Change) -> Route
+        ensures { result ≡ with_change change self }
     {
         match change {
             Change::Starts => Route {
@@ -84,11 +87,11 @@ impl Route {
     }
 
     /// Returns the route, changed if it is the one to this output.
-    fn changed_at(self, output: OutputId, change: Change) -> Route
-        ensures { result ≡ (if is_to output self then changed change self else self) }
+    fn with_change_at(self, output: OutputId, change: Change) -> Route
+        ensures { result ≡ (if is_to output self then with_change change self else self) }
     {
         if self.output == output {
-            self.changed(change)
+            self.with_change(change)
         } else {
             self
         }
@@ -134,10 +137,10 @@ fn begin_routes(routes: &mut [Route], due: u64)
 }
 
 fn change_routes(routes: &mut [Route], output: OutputId, change: Change)
-    ensures { routes.new ≡ on_output output (changed change) routes.old }
+    ensures { routes.new ≡ on_output output (with_change change) routes.old }
 {
     for route in routes.iter_mut() {
-        *route = route.changed_at(output, change);
+        *route = route.with_change_at(output, change);
     }
 }
 
@@ -171,7 +174,8 @@ impl Model for Routes {
 
     ghost view = { λ r. r.routes.items };
 
-    ghost invariant = { λ r. RiseFrom 0 r.routes.items × All (λ route. route.flying ≡ false → r.soonest ≤ route.due) r.routes.items };
+    ghost invariant = { λ r. RiseFrom 0 r.routes.items
+        × All (λ route. route.flying ≡ false → r.soonest ≤ route.due) r.routes.items };
 }
 
 impl Routes {
@@ -250,7 +254,7 @@ impl Routes {
 
     /// Changes the route to an output, if it is pending.
     pub fn change(&mut self, output: OutputId, change: Change)
-        ensures { self.new ≡ on_output output (changed change) self.old }
+        ensures { self.new ≡ on_output output (with_change change) self.old }
     {
         change_routes(&mut self.routes, output, change);
         self.soonest = soonest_of(&self.routes);
@@ -277,7 +281,7 @@ impl Routes {
     }
 
     /// Returns the mask of the outputs with a flush in flight.
-    pub fn flying(&self) -> u64
+    pub fn flying_mask(&self) -> u64
         ensures value { result ≡ mask_of (flying_of self.now) }
         ensures bits { IsMaskOf (flying_of self.now) result }
     {
@@ -299,7 +303,8 @@ impl Routes {
         after: Option<Timer>,
         first: Option<Timer>,
     ) -> Option<Timer>
-        ensures { result ≡ fold (λ found timer. Some (earlier_of found timer)) first (filter (is_next now after) (idle_timers chunk self.now)) }
+        ensures { result ≡ fold (λ found timer. Some (earlier_of found timer)) first
+            (filter (is_next now after) (idle_timers chunk self.now)) }
     {
         let mut first = first;
         for route in &self.routes {
@@ -325,7 +330,10 @@ impl Routes {
         now: u64,
         timers: &mut BTreeSet<Timer>,
     ) -> Result<(), Memory>
-        ensures { OnOk result (timers.new.keys ≡ fold (insert_key by_time) timers.old.keys (filter (λ (t : Timer). nat_le t.due now) (idle_timers chunk self.now))) }
+        ensures { OnOk result
+            (timers.new.keys
+            ≡ fold (insert_key by_time) timers.old.keys
+            (filter (λ (t : Timer). nat_le t.due now) (idle_timers chunk self.now))) }
     {
         if now < self.soonest {
             return Ok(());

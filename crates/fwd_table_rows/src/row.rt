@@ -6,8 +6,9 @@ ghost use Rattle.fwd_retry.specs.declared.timer.Timer.{Timer};
 ghost use Rattle.fwd_retry.specs.Timer.{by_time, earlier as earlier_of, is_next};
 ghost use Rattle.fwd_table_rows.specs.Rows.{IsNotDueBefore, seen_of, timers_of_row, waits_for};
 ghost use Rattle.fwd_table_rows.specs.Routes.{flying_of, IsMaskOf};
-ghost use Rattle.fwd_table_rows.specs.Changes.{row_changed, row_due_by};
+ghost use Rattle.fwd_table_rows.specs.Changes.{row_with_change, row_due_by};
 ghost use Rattle.fwd_table_rows.specs.Sums.{IsValidRow};
+ghost use Rattle.fwd_table_rows.specs.Usage.{is_file};
 
 use crate::route::{Change, Routes};
 use fwd_base::{Bytes, ChunkId, InputId, Memory, OutputId};
@@ -47,6 +48,16 @@ pub struct RowSeen {
     pub shut: bool,
 }
 
+/// Returns whether a chunk is kept in a file.
+pub fn is_file(home: Home) -> bool
+    ensures { result ≡ is_file home }
+{
+    match home {
+        Home::Disk => true,
+        Home::Ram => false,
+    }
+}
+
 /// A change of a row that stays.
 #[derive(Clone, Copy, Debug, PartialEq, Eq)]
 pub enum RowChange {
@@ -71,7 +82,7 @@ impl RowChange {
 
 impl Row {
     pub fn apply(&mut self, change: RowChange)
-        ensures row { self.new ≡ row_changed change self.old }
+        ensures row { self.new ≡ row_with_change change self.old }
         ensures sound { IsValidRow self.old → IsValidRow self.new }
     {
         match change {
@@ -96,7 +107,7 @@ impl Row {
             home: self.home,
             size: self.size,
             owed: self.routes.owed(),
-            flying: self.routes.flying(),
+            flying: self.routes.flying_mask(),
             shut: self.shut,
         }
     }
@@ -111,7 +122,8 @@ impl Row {
     /// Returns the first of `first` and the timers of the row's idle routes that are due at `now` and come
     /// after `after`.
     pub fn next(&self, now: u64, after: Option<Timer>, first: Option<Timer>) -> Option<Timer>
-        ensures { result ≡ fold (λ found timer. Some (earlier_of found timer)) first (filter (is_next now after) (timers_of_row self.now)) }
+        ensures { result ≡ fold (λ found timer. Some (earlier_of found timer)) first
+            (filter (is_next now after) (timers_of_row self.now)) }
     {
         if self.shut {
             self.routes.next(self.chunk, now, after, first)
@@ -132,7 +144,10 @@ impl Row {
 
     /// Adds the timers of the row's idle routes that are due at `now`.
     pub fn put_due(&self, now: u64, timers: &mut BTreeSet<Timer>) -> Result<(), Memory>
-        ensures { OnOk result (timers.new.keys ≡ fold (insert_key by_time) timers.old.keys (filter (λ (t : Timer). nat_le t.due now) (timers_of_row self.now))) }
+        ensures { OnOk result
+            (timers.new.keys
+            ≡ fold (insert_key by_time) timers.old.keys
+            (filter (λ (t : Timer). nat_le t.due now) (timers_of_row self.now))) }
     {
         if !self.shut {
             return Ok(());

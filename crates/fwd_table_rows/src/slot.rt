@@ -1,6 +1,8 @@
 //! Slots of a table. Removing a row leaves its slot empty, so that no other row moves.
 
-ghost use Rattle.std.specs.Prelude.{◌≡◌, ℕ, [], ◌+◌, ◌<◌, ◌≤◌, ◌^◌, None, Some, get_or, length, map, filter, fold, is_some, nat_le, option_copied, option_map, vec_capacity, All, IfOk, IfSome, IsTrue, OnOk};
+ghost use Rattle.std.specs.Prelude.{◌≡◌, ℕ, [], ◌+◌, ◌<◌, ◌≤◌, ◌^◌, None, Some, get_or, length, map, filter};
+ghost use Rattle.std.specs.Prelude.{fold, is_some, nat_le, option_copied, option_map, vec_capacity, All};
+ghost use Rattle.std.specs.Prelude.{IfOk, IfSome, IsTrue, OnOk};
 ghost use Rattle.std.specs.BTreeSet.{insert_key};
 ghost use Rattle.std.specs.List.{flat_map};
 ghost use Rattle.std.specs.Option.{option_map_or};
@@ -8,9 +10,10 @@ ghost use Rattle.std.specs.VecDeque.{deque_capacity, deque_len};
 ghost use Rattle.fwd_base.specs.Limits.{most_outputs};
 ghost use Rattle.fwd_retry.specs.Timer.{by_time, earlier as earlier_of, first, in_time, is_next};
 ghost use Rattle.fwd_retry.specs.declared.timer.Timer.{Timer};
-ghost use Rattle.fwd_table_rows.specs.Changes.{row_changed};
+ghost use Rattle.fwd_table_rows.specs.Changes.{row_with_change};
 ghost use Rattle.fwd_table_rows.specs.declared.slot.Slot.{Slot};
-ghost use Rattle.fwd_table_rows.specs.Slots.{HasOwnRow, IsPlaceOf, NumbersRise, is_owed_at, rows_in, timers_of_slot};
+ghost use Rattle.fwd_table_rows.specs.Slots.{HasOwnRow, IsPlaceOf, NumbersRise, is_owed_at, rows_in};
+ghost use Rattle.fwd_table_rows.specs.Slots.{timers_of_slot};
 ghost use Rattle.fwd_table_rows.specs.Rows.{IsNotDueBefore, on_chunk, owed_rows, row_at, without_chunk};
 ghost use Rattle.fwd_table_rows.specs.Sums.{AreSums, Counted, IsValidRow, part_of, total};
 
@@ -54,11 +57,16 @@ impl Slot {
     /// Changes the slot's row, if there is one, and the sums with it.
     fn change(&mut self, sums: &mut Sums, change: RowChange)
         requires sound { IfSome self.old.row IsValidRow }
-        requires held { (counted : Counted) (key : ℕ) → key < 64 → part_of counted key self.old.row ≤ total counted key sums.old }
-        requires room { (counted : Counted) (key : ℕ) → key < 64 → total counted key sums.old + 2 ^ 64 ≤ 2 ^ 128 }
-        ensures place { self.new ≡ record self.old { row = option_map (row_changed change) self.old.row } }
+        requires held { (counted : Counted) (key : ℕ) → key < 64
+            → part_of counted key self.old.row ≤ total counted key sums.old }
+        requires room { (counted : Counted) (key : ℕ) → key < 64
+            → total counted key sums.old + 2 ^ 64 ≤ 2 ^ 128 }
+        ensures place { self.new
+            ≡ record self.old { row = option_map (row_with_change change) self.old.row } }
         ensures sound { IfSome self.new.row IsValidRow }
-        ensures sums { (counted : Counted) (key : ℕ) → key < 64 → total counted key sums.new + part_of counted key self.old.row ≡ total counted key sums.old + part_of counted key self.new.row }
+        ensures sums { (counted : Counted) (key : ℕ) → key < 64
+            → total counted key sums.new + part_of counted key self.old.row
+            ≡ total counted key sums.old + part_of counted key self.new.row }
     {
         if let Some(row) = &mut self.row {
             sums.shift(row, Way::Out);
@@ -69,9 +77,11 @@ impl Slot {
 
     /// Removes the slot's row, if there is one, from the slot and from the sums.
     fn clear(&mut self, sums: &mut Sums)
-        requires held { (counted : Counted) (key : ℕ) → key < 64 → part_of counted key self.old.row ≤ total counted key sums.old }
+        requires held { (counted : Counted) (key : ℕ) → key < 64
+            → part_of counted key self.old.row ≤ total counted key sums.old }
         ensures place { self.new ≡ record self.old { row = None } }
-        ensures sums { (counted : Counted) (key : ℕ) → key < 64 → total counted key sums.new + part_of counted key self.old.row ≡ total counted key sums.old }
+        ensures sums { (counted : Counted) (key : ℕ) → key < 64
+            → total counted key sums.new + part_of counted key self.old.row ≡ total counted key sums.old }
     {
         if let Some(row) = self.row.take() {
             sums.shift(&row, Way::Out);
@@ -80,8 +90,10 @@ impl Slot {
 
     /// Adds the slot's row, if there is one, to the sums.
     fn count(&self, sums: &mut Sums)
-        requires { (counted : Counted) (key : ℕ) → key < 64 → total counted key sums.old + part_of counted key self.now.row < 2 ^ 128 }
-        ensures { (counted : Counted) (key : ℕ) → key < 64 → total counted key sums.new ≡ total counted key sums.old + part_of counted key self.now.row }
+        requires { (counted : Counted) (key : ℕ) → key < 64
+            → total counted key sums.old + part_of counted key self.now.row < 2 ^ 128 }
+        ensures { (counted : Counted) (key : ℕ) → key < 64
+            → total counted key sums.new ≡ total counted key sums.old + part_of counted key self.now.row }
     {
         if let Some(row) = &self.row {
             sums.shift(row, Way::In);
@@ -91,7 +103,8 @@ impl Slot {
     /// Returns the first of `first` and the timers of the idle routes that are due at `now` and come after
     /// `after`.
     fn next(&self, now: u64, after: Option<Timer>, first: Option<Timer>) -> Option<Timer>
-        ensures { result ≡ fold (λ found timer. Some (earlier_of found timer)) first (filter (is_next now after) (timers_of_slot self.now)) }
+        ensures { result ≡ fold (λ found timer. Some (earlier_of found timer)) first
+            (filter (is_next now after) (timers_of_slot self.now)) }
     {
         match &self.row {
             Some(row) => row.next(now, after, first),
@@ -111,7 +124,10 @@ impl Slot {
 
     /// Adds the timers of the idle routes that are due at `now`.
     fn put_due(&self, now: u64, timers: &mut BTreeSet<Timer>) -> Result<(), Memory>
-        ensures { OnOk result (timers.new.keys ≡ fold (insert_key by_time) timers.old.keys (filter (λ (t : Timer). nat_le t.due now) (timers_of_slot self.now))) }
+        ensures { OnOk result
+            (timers.new.keys
+            ≡ fold (insert_key by_time) timers.old.keys
+            (filter (λ (t : Timer). nat_le t.due now) (timers_of_slot self.now))) }
     {
         match &self.row {
             Some(row) => row.put_due(now, timers),
@@ -189,12 +205,14 @@ pub fn change_row(places: &mut VecDeque<Slot>, sums: &mut Sums, chunk: ChunkId, 
     requires sound { All IsValidRow (rows_in places.old.items) }
     requires sums { AreSums sums.old (rows_in places.old.items) }
     requires few { length places.old.items < 2 ^ 64 }
-    ensures rows { rows_in places.new.items ≡ on_chunk chunk (row_changed change) (rows_in places.old.items) }
+    ensures rows { rows_in places.new.items
+        ≡ on_chunk chunk (row_with_change change) (rows_in places.old.items) }
     ensures numbers { NumbersRise places.new.items }
     ensures own { All HasOwnRow places.new.items }
     ensures sound { All IsValidRow (rows_in places.new.items) }
     ensures sums { AreSums sums.new (rows_in places.new.items) }
-    ensures room { (deque_capacity places.new ≡ deque_capacity places.old) × (deque_len places.new ≡ deque_len places.old) }
+    ensures room { (deque_capacity places.new ≡ deque_capacity places.old)
+        × (deque_len places.new ≡ deque_len places.old) }
 {
     if let Some(place) = place_of(places, chunk) {
         places[place].change(sums, change);
@@ -210,7 +228,8 @@ pub fn clear_row(places: &mut VecDeque<Slot>, sums: &mut Sums, chunk: ChunkId)
     ensures numbers { NumbersRise places.new.items }
     ensures own { All HasOwnRow places.new.items }
     ensures sums { AreSums sums.new (rows_in places.new.items) }
-    ensures room { (deque_capacity places.new ≡ deque_capacity places.old) × (deque_len places.new ≡ deque_len places.old) }
+    ensures room { (deque_capacity places.new ≡ deque_capacity places.old)
+        × (deque_len places.new ≡ deque_len places.old) }
 {
     if let Some(place) = place_of(places, chunk) {
         places[place].clear(sums);
@@ -219,7 +238,8 @@ pub fn clear_row(places: &mut VecDeque<Slot>, sums: &mut Sums, chunk: ChunkId)
 
 /// Returns whether the first slot is empty.
 fn is_first_empty(places: &VecDeque<Slot>) -> bool
-    ensures { IsTrue result → (0 < length places.now.items) × ((place : Slot) → (get_or places.now.items 0 place).row ≡ None) }
+    ensures { IsTrue result
+        → (0 < length places.now.items) × ((place : Slot) → (get_or places.now.items 0 place).row ≡ None) }
 {
     match places.front() {
         Some(first) => first.row.is_none(),
@@ -232,7 +252,8 @@ pub fn drop_first_gaps(places: &mut VecDeque<Slot>)
     ensures rows { rows_in places.new.items ≡ rows_in places.old.items }
     ensures numbers { NumbersRise places.old.items → NumbersRise places.new.items }
     ensures own { All HasOwnRow places.old.items → All HasOwnRow places.new.items }
-    ensures room { (deque_capacity places.new ≡ deque_capacity places.old) × (deque_len places.new ≤ deque_len places.old) }
+    ensures room { (deque_capacity places.new ≡ deque_capacity places.old)
+        × (deque_len places.new ≤ deque_len places.old) }
 {
     while is_first_empty(places) {
         places.pop_front();
@@ -245,7 +266,8 @@ pub fn close_gaps(places: &mut VecDeque<Slot>)
     ensures numbers { NumbersRise places.old.items → NumbersRise places.new.items }
     ensures own { All HasOwnRow places.old.items → All HasOwnRow places.new.items }
     ensures full { All (λ place. IsTrue (is_some place.row)) places.new.items }
-    ensures room { (deque_capacity places.new ≡ deque_capacity places.old) × (deque_len places.new ≤ deque_len places.old) }
+    ensures room { (deque_capacity places.new ≡ deque_capacity places.old)
+        × (deque_len places.new ≤ deque_len places.old) }
 {
     places.retain(|place| place.row.is_some());
 }
@@ -255,7 +277,8 @@ pub fn drop_unowed_places(places: &mut VecDeque<Slot>)
     ensures rows { rows_in places.new.items ≡ owed_rows (rows_in places.old.items) }
     ensures numbers { NumbersRise places.old.items → NumbersRise places.new.items }
     ensures own { All HasOwnRow places.old.items → All HasOwnRow places.new.items }
-    ensures room { (deque_capacity places.new ≡ deque_capacity places.old) × (deque_len places.new ≤ deque_len places.old) }
+    ensures room { (deque_capacity places.new ≡ deque_capacity places.old)
+        × (deque_len places.new ≤ deque_len places.old) }
 {
     places.retain(|place| place.is_owed());
 }
@@ -280,7 +303,8 @@ pub fn free_end(places: &mut VecDeque<Slot>, chunk: ChunkId)
     ensures numbers { NumbersRise places.new.items }
     ensures own { All HasOwnRow places.new.items }
     ensures below { All (λ place. place.chunk.0 < chunk.0) places.new.items }
-    ensures room { (deque_capacity places.new ≡ deque_capacity places.old) × (deque_len places.new ≤ deque_len places.old) }
+    ensures room { (deque_capacity places.new ≡ deque_capacity places.old)
+        × (deque_len places.new ≤ deque_len places.old) }
 {
     if !end_below(places, chunk) {
         close_gaps(places);
@@ -291,7 +315,8 @@ pub fn free_end(places: &mut VecDeque<Slot>, chunk: ChunkId)
 /// an empty one if the slot is empty.
 fn tighten_last(alloc: Global, places: &mut VecDeque<Slot>) -> Result<Vec<Route>, Memory>
     ensures places { places.new.items ≡ places.old.items }
-    ensures room { (deque_capacity places.new ≡ deque_capacity places.old) × (deque_len places.new ≡ deque_len places.old) }
+    ensures room { (deque_capacity places.new ≡ deque_capacity places.old)
+        × (deque_len places.new ≡ deque_len places.old) }
 {
     let Some(last) = places.len().checked_sub(1) else {
         return Ok(Vec::new(alloc));
@@ -307,7 +332,8 @@ pub fn make_storage(
     storage: &mut Vec<Route>,
 ) -> Result<(), Memory>
     ensures places { places.new.items ≡ places.old.items }
-    ensures same { (deque_capacity places.new ≡ deque_capacity places.old) × (deque_len places.new ≡ deque_len places.old) }
+    ensures same { (deque_capacity places.new ≡ deque_capacity places.old)
+        × (deque_len places.new ≡ deque_len places.old) }
     ensures room { OnOk result (most_outputs ≤ vec_capacity storage.new) }
     ensures kept { most_outputs ≤ vec_capacity storage.old → most_outputs ≤ vec_capacity storage.new }
 {
@@ -343,7 +369,10 @@ pub fn soonest_due(places: &VecDeque<Slot>) -> u64
 
 /// Adds the timers of the idle routes that are due at `now` to a set.
 fn put_due_in(places: &VecDeque<Slot>, now: u64, timers: &mut BTreeSet<Timer>) -> Result<(), Memory>
-    ensures { OnOk result (timers.new.keys ≡ fold (insert_key by_time) timers.old.keys (filter (λ (t : Timer). nat_le t.due now) (flat_map timers_of_slot places.now.items))) }
+    ensures { OnOk result
+        (timers.new.keys
+        ≡ fold (insert_key by_time) timers.old.keys
+        (filter (λ (t : Timer). nat_le t.due now) (flat_map timers_of_slot places.now.items))) }
 {
     for index in 0..places.len() {
         places[index].put_due(now, timers)?;
@@ -354,7 +383,9 @@ fn put_due_in(places: &VecDeque<Slot>, now: u64, timers: &mut BTreeSet<Timer>) -
 /// Returns the timers of the idle routes that are due at `now`, ordered by due time, then chunk, then
 /// output.
 pub fn due_in(alloc: Global, places: &VecDeque<Slot>, now: u64) -> Result<Vec<Timer>, Memory>
-    ensures { IfOk result (λ timers. timers.items ≡ in_time (filter (λ (t : Timer). nat_le t.due now) (flat_map timers_of_slot places.now.items))) }
+    ensures { IfOk result
+        (λ timers. timers.items
+        ≡ in_time (filter (λ (t : Timer). nat_le t.due now) (flat_map timers_of_slot places.now.items))) }
 {
     let mut timers = BTreeSet::new(alloc);
     put_due_in(places, now, &mut timers)?;

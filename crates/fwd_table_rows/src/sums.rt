@@ -1,16 +1,17 @@
 //! Totals over the rows of a table, maintained incrementally.
 
-ghost use Rattle.std.specs.Prelude.{◌≡◌, ◌+◌, ◌<◌, ◌==◌, ◌&&◌, ◌||◌, ℕ, [], not, length, slice_index, slice_index_or, if◌then◌else◌};
-ghost use Rattle.fwd_table_rows.specs.Usage.{in_file, is_file, is_recovered_row, flies};
+ghost use Rattle.std.specs.Prelude.{◌≡◌, ◌+◌, ◌<◌, ◌==◌, ◌&&◌, ◌||◌, ℕ, [], not, length, slice_index};
+ghost use Rattle.std.specs.Prelude.{slice_index_or, if◌then◌else◌};
+ghost use Rattle.fwd_table_rows.specs.Usage.{in_file, is_recovered_row, flies};
 ghost use Rattle.fwd_table_rows.specs.Rows.{is_owed_row};
 ghost use Rattle.fwd_table_rows.specs.Routes.{RiseFrom};
-ghost use Rattle.fwd_table_rows.specs.Sums.{Counted, file_size, route_part, part_at, part, total, AreSums, CanShift, Shifts, IsTotal, held_size};
+ghost use Rattle.fwd_table_rows.specs.Sums.{Counted, file_size, route_part, part_at, part, total, AreSums};
+ghost use Rattle.fwd_table_rows.specs.Sums.{CanShift, Shifts, IsTotal, held_size};
 
 use crate::route::Route;
-use crate::row::Row;
+use crate::row::{Row, is_file};
 use fwd_base::limits::{MOST_INPUTS, MOST_OUTPUTS};
 use fwd_base::{InputId, OutputId};
-use fwd_outside::Home;
 
 /// A total over the routes of each output.
 #[derive(Clone, Copy, Debug, PartialEq, Eq)]
@@ -31,7 +32,7 @@ pub enum Way {
 }
 
 impl Way {
-    fn shifted(self, sum: u128, part: u64) -> u128
+    fn shift(self, sum: u128, part: u64) -> u128
         requires { CanShift self sum part }
         ensures { Shifts self sum part result }
     {
@@ -62,15 +63,6 @@ pub struct Sums {
     unowed: u128,
     /// The number of rows.
     rows: u128,
-}
-
-fn is_file(home: Home) -> bool
-    ensures { result ≡ is_file home }
-{
-    match home {
-        Home::Disk => true,
-        Home::Ram => false,
-    }
 }
 
 /// Returns the bytes that a row's chunk has in a file.
@@ -132,28 +124,33 @@ fn unowed_part(row: &Row) -> u64
 /// Adds the parts of a row's routes to the totals of their outputs, or subtracts them.
 fn shift_routes(sums: &mut [u128], what: ByOutput, row: &Row, way: Way)
     requires long { length sums.old ≡ 64 }
-    requires can { (key : ℕ) → key < 64 → CanShift way (slice_index sums.old key) (part (Counted.Over what) key row.now) }
+    requires can { (key : ℕ) → key < 64
+        → CanShift way (slice_index sums.old key) (part (Counted.Over what) key row.now) }
     ensures long { length sums.new ≡ 64 }
-    ensures shifts { (key : ℕ) → key < 64 → Shifts way (slice_index sums.old key) (part (Counted.Over what) key row.now) (slice_index sums.new key) }
+    ensures shifts { (key : ℕ) → key < 64
+        → Shifts way (slice_index sums.old key) (part (Counted.Over what) key row.now)
+        (slice_index sums.new key) }
 {
     for route in row.routes.as_slice() {
         let part = route_part(what, row, route);
         let place = route.output.0 as usize;
-        sums[place] = way.shifted(sums[place], part);
+        sums[place] = way.shift(sums[place], part);
     }
 }
 
 /// Adds a row's part to the total of its input, or subtracts it. Inputs past the last one aren't counted.
 fn shift_memory(sums: &mut [u128], row: &Row, way: Way)
     requires long { length sums.old ≡ 64 }
-    requires can { (key : ℕ) → key < 64 → CanShift way (slice_index sums.old key) (part Counted.Memory key row.now) }
+    requires can { (key : ℕ) → key < 64
+        → CanShift way (slice_index sums.old key) (part Counted.Memory key row.now) }
     ensures long { length sums.new ≡ 64 }
-    ensures shifts { (key : ℕ) → key < 64 → Shifts way (slice_index sums.old key) (part Counted.Memory key row.now) (slice_index sums.new key) }
+    ensures shifts { (key : ℕ) → key < 64
+        → Shifts way (slice_index sums.old key) (part Counted.Memory key row.now) (slice_index sums.new key) }
 {
     if let Some(input) = row.input {
         let place = input.0 as usize;
         if place < sums.len() {
-            sums[place] = way.shifted(sums[place], held_size(row));
+            sums[place] = way.shift(sums[place], held_size(row));
         }
     }
 }
@@ -177,17 +174,20 @@ impl Sums {
 
     /// Adds a row's parts, or subtracts them.
     pub fn shift(&mut self, row: &Row, way: Way)
-        requires { (counted : Counted) (key : ℕ) → key < 64 → CanShift way (total counted key self.old) (part counted key row.now) }
-        ensures { (counted : Counted) (key : ℕ) → key < 64 → Shifts way (total counted key self.old) (part counted key row.now) (total counted key self.new) }
+        requires { (counted : Counted) (key : ℕ) → key < 64
+            → CanShift way (total counted key self.old) (part counted key row.now) }
+        ensures { (counted : Counted) (key : ℕ) → key < 64
+            → Shifts way (total counted key self.old) (part counted key row.now)
+            (total counted key self.new) }
     {
         shift_routes(&mut self.flights, ByOutput::Flights, row, way);
         shift_routes(&mut self.flying, ByOutput::FlyingBytes, row, way);
         shift_routes(&mut self.waiting, ByOutput::WaitingBytes, row, way);
         shift_memory(&mut self.memory, row, way);
-        self.files_up = way.shifted(self.files_up, files_part(row));
-        self.found_up = way.shifted(self.found_up, found_part(row));
-        self.unowed = way.shifted(self.unowed, unowed_part(row));
-        self.rows = way.shifted(self.rows, 1);
+        self.files_up = way.shift(self.files_up, files_part(row));
+        self.found_up = way.shift(self.found_up, found_part(row));
+        self.unowed = way.shift(self.unowed, unowed_part(row));
+        self.rows = way.shift(self.rows, 1);
     }
 
     /// Returns the number of chunks in flight to an output.
@@ -198,14 +198,14 @@ impl Sums {
     }
 
     /// Returns the bytes of chunks in files that are in flight to an output.
-    pub fn flying(&self, output: OutputId) -> u128
+    pub fn flying_bytes(&self, output: OutputId) -> u128
         ensures { IsTotal (Counted.Over ByOutput.FlyingBytes) output.0 self.now result }
     {
         at(&self.flying, output)
     }
 
     /// Returns the bytes of closed chunks in files that wait for an output.
-    pub fn waiting(&self, output: OutputId) -> u128
+    pub fn waiting_bytes(&self, output: OutputId) -> u128
         ensures { IsTotal (Counted.Over ByOutput.WaitingBytes) output.0 self.now result }
     {
         at(&self.waiting, output)

@@ -1,7 +1,7 @@
 use Rattle.std.proofs.Common.{sym, ap, subst}
 use Rattle.std.proofs.lemmas.List.Elements.{All-set}
 use Rattle.fwd_table_rows.specs.declared.slot.Slot.{Slot}
-use Rattle.fwd_table_rows.specs.Changes.{row_changed}
+use Rattle.fwd_table_rows.specs.Changes.{row_with_change}
 use Rattle.fwd_table_rows.specs.Slots.{HasOwnRow}
 use Rattle.fwd_table_rows.proofs.SlotSums.{held_at, room_left, sound_after, sound_there, summed_set}
 use Rattle.fwd_table_rows.proofs.ChunkRows.{none_changes}
@@ -24,7 +24,7 @@ returns-in-Some-clause-rows c =
     let places = c.args.places.now.items in
     let there = c.in-Some.ensures in
     let old = c.index_mut.result.now in
-    rw (c.change.ensures.place, c.index_mut.ensures.value) (sym (change_there c.args.chunk old (row_changed c.args.change) places c.in-Some.place c.requires.numbers c.requires.own there.0 (there.1 old)))
+    rw (c.change.ensures.place, c.index_mut.ensures.value) (sym (change_there c.args.chunk old (row_with_change c.args.change) places c.in-Some.place c.requires.numbers c.requires.own there.0 (there.1 old)))
 
 pub returns-in-Some-clause-numbers : goal.returns-in-Some-clause-numbers
 returns-in-Some-clause-numbers c =
@@ -47,4 +47,4 @@ returns-in-Some-clause-sums c counted key below =
     summed_set counted key c.args.places.now.items c.in-Some.place c.index_mut.result.now c.change.new.self _ _ c.in-Some.ensures.0 c.index_mut.ensures.value (c.requires.sums counted key below) (c.change.ensures.sums counted key below)
 
 pub returns-in_default-clause-rows : goal.returns-in_default-clause-rows
-returns-in_default-clause-rows c = sym (none_changes c.args.chunk (row_changed c.args.change) _ (others_stand c.args.chunk c.args.places.now.items c.in_default.ensures c.requires.own))
+returns-in_default-clause-rows c = sym (none_changes c.args.chunk (row_with_change c.args.change) _ (others_stand c.args.chunk c.args.places.now.items c.in_default.ensures c.requires.own))

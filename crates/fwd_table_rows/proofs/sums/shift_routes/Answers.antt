@@ -22,8 +22,8 @@ bounds-sums-place-in-loop-route c =
     let low = low_at items.result.now c.args.row.now.routes c.loop-route.route-index nowhere items.ensures.value items.ensures.rise c.loop-route-test.true in
     omega (arith, low, c.loop-route.invariant.0)
 
-pub shifted-requires : goal.shifted-requires
-shifted-requires c =
+pub shift-requires : goal.shift-requires
+shift-requires c =
     let items = c.as_slice-route-items in
     let low = low_at items.result.now c.args.row.now.routes c.loop-route.route-index nowhere items.ensures.value items.ensures.rise c.loop-route-test.true in
     rw c.route_part-part.ensures
@@ -32,7 +32,7 @@ shifted-requires c =
 pub loop-route-preserved : goal.loop-route-preserved
 loop-route-preserved c =
     let items = c.as_slice-route-items in
-    let step = rw c.route_part-part.ensures at c.shifted.ensures in (
+    let step = rw c.route_part-part.ensures at c.shift.ensures in (
       length-set c.loop-route.sums _ _ ∙ c.loop-route.invariant.0,
-      shift_on c.args.what c.args.way c.args.row.now items.result.now c.loop-route.route-index nowhere c.loop-route-test.true c.args.sums.now c.loop-route.sums c.loop-route.invariant.1 c.shifted.result c.loop-route.invariant.0 step,
+      shift_on c.args.what c.args.way c.args.row.now items.result.now c.loop-route.route-index nowhere c.loop-route-test.true c.args.sums.now c.loop-route.sums c.loop-route.invariant.1 c.shift.result c.loop-route.invariant.0 step,
     )

@@ -15,14 +15,14 @@ shift_routes-requires-3-clause-can c key below = c.requires (Over WaitingBytes) 
 pub shift_memory-requires-clause-can : goal.shift_memory-requires-clause-can
 shift_memory-requires-clause-can c key below = c.requires Memory key below
 
-pub shifted-self-requires : goal.shifted-self-requires
-shifted-self-requires c = rw c.files_part.ensures (c.requires FilesUp 0 (omega arith))
+pub shift-self-requires : goal.shift-self-requires
+shift-self-requires c = rw c.files_part.ensures (c.requires FilesUp 0 (omega arith))
 
-pub shifted-self-requires-2 : goal.shifted-self-requires-2
-shifted-self-requires-2 c = rw c.found_part.ensures (c.requires FoundUp 0 (omega arith))
+pub shift-self-requires-2 : goal.shift-self-requires-2
+shift-self-requires-2 c = rw c.found_part.ensures (c.requires FoundUp 0 (omega arith))
 
-pub shifted-self-requires-3 : goal.shifted-self-requires-3
-shifted-self-requires-3 c = rw c.unowed_part.ensures (c.requires Unowed 0 (omega arith))
+pub shift-self-requires-3 : goal.shift-self-requires-3
+shift-self-requires-3 c = rw c.unowed_part.ensures (c.requires Unowed 0 (omega arith))
 
-pub shifted-self-requires-4 : goal.shifted-self-requires-4
-shifted-self-requires-4 c = c.requires Rows 0 (omega arith)
+pub shift-self-requires-4 : goal.shift-self-requires-4
+shift-self-requires-4 c = c.requires Rows 0 (omega arith)

@@ -5,8 +5,8 @@ use Rattle.fwd_table_rows.specs.Routes.{RiseFrom, mask_of, flying_of, IsMaskOf}
 use Rattle.fwd_table_rows.proofs.RouteOrder.{output_below, rise-filter}
 use Rattle.fwd_table_rows.proofs.Bits.{mask_has_bits}
 use Rattle.fwd_table_rows.proofs.Masks.{kept_more, left_more}
-use Rattle.fwd_table_rows.proofs.route.Routes.flying.Goals as goal
-use Rattle.fwd_table_rows.proofs.route.Routes.flying.Goals.{then-route, else-route}
+use Rattle.fwd_table_rows.proofs.route.Routes.flying_mask.Goals as goal
+use Rattle.fwd_table_rows.proofs.route.Routes.flying_mask.Goals.{then-route, else-route}
 
 pub overflow_shl-mask : goal.overflow_shl-mask
 overflow_shl-mask c =
