@@ -7,8 +7,8 @@ use Rattle.std.proofs.lemmas.List.{length-map}
 use Rattle.fwd_base.specs.declared.ids.ChunkId.{ChunkId}
 use Rattle.fwd_base.specs.declared.ids.OutputId.{OutputId}
 use Rattle.fwd_settings.specs.declared.settings_types.AllSettings.{AllSettings}
-use Rattle.fwd_table.specs.declared.route.Route.{Route as Owed}
-use Rattle.fwd_table.specs.declared.row.Row.{Row}
+use Rattle.fwd_table.specs.Route.{Route as Owed}
+use Rattle.fwd_table.specs.Row.{Row}
 use Rattle.fwd_table.specs.Routes.{is_to}
 use Rattle.fwd_table.specs.Rows.{is_row_of, on_chunk, resolved_to, owed_rows, is_owed_row, waits_for, is_route_idle}
 use Rattle.fwd_table.specs.Usage.{size_of, in_file, is_waiting}

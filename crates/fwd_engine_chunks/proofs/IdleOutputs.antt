@@ -7,8 +7,8 @@ use Rattle.std.proofs.lemmas.Bool.{cases_Bool, cases_eq, eq-eqb, ne_eqb, eqb-tru
 use Rattle.fwd_settings.specs.declared.settings_types.AllSettings.{AllSettings}
 use Rattle.fwd_settings.specs.declared.settings_types.OutputSet.{OutputSet}
 use Rattle.fwd_route.specs.GlobTest.{globs, matching_from}
-use Rattle.fwd_table.specs.declared.route.Route.{Route as Owed}
-use Rattle.fwd_table.specs.declared.row.Row.{Row}
+use Rattle.fwd_table.specs.Route.{Route as Owed}
+use Rattle.fwd_table.specs.Row.{Row}
 use Rattle.fwd_table.specs.Routes.{is_to}
 use Rattle.fwd_table.specs.Rows.{row_at, waits_for}
 use Rattle.fwd_table.specs.Usage.{in_file, is_file}

@@ -6,8 +6,8 @@ use Rattle.std.proofs.lemmas.List.{map-append, append-nil}
 use Rattle.std.proofs.lemmas.List.Elements.{filter-append}
 use Rattle.std.proofs.lemmas.List.FromFn.{filter_of_map_range_with_len_more}
 use Rattle.fwd_base.specs.declared.ids.ChunkId.{ChunkId}
-use Rattle.fwd_table.specs.declared.row.Row.{Row}
-use Rattle.fwd_table.specs.declared.row.RowSeen.{RowSeen}
+use Rattle.fwd_table.specs.Row.{Row}
+use Rattle.fwd_table.specs.RowSeen.{RowSeen}
 use Rattle.fwd_table.specs.Rows.{rows_at, seen_of}
 use Rattle.fwd_table.proofs.SlotRows.{none_seen, one_seen}
 

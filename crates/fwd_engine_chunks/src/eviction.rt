@@ -4,7 +4,7 @@ ghost use Rattle.std.specs.Prelude.{◌≡◌, ◌≤◌, true, false, Option, S
 ghost use Rattle.std.specs.Option.{option_map_or};
 ghost use Rattle.fwd_settings.specs.declared.settings_types.AllSettings.{AllSettings};
 ghost use Rattle.fwd_table.specs.Rows.{row_at};
-ghost use Rattle.fwd_table.specs.Usage.{in_file, is_file};
+ghost use Rattle.fwd_table.specs.Usage.{in_file};
 ghost use Rattle.fwd_model.specs.Fact.{History, Route};
 ghost use Rattle.fwd_model.specs.Settings.{total_limit_at};
 ghost use Rattle.fwd_model.specs.Routes.{route, is_idle};
@@ -21,8 +21,8 @@ use fwd_base::{ChunkId, Memory, OutputId};
 use fwd_engine_settings::RunSettings;
 use fwd_engine_state::{Parts, RouteId, State};
 use fwd_limits::Loss;
-use fwd_outside::{Disk, Home};
-use fwd_table::Table;
+use fwd_outside::Disk;
+use fwd_table::{Table, is_file};
 
 /// Evicts an idle route.
 fn evict_route<D: Disk>(
@@ -95,15 +95,6 @@ fn enforce_limits<D: Disk>(
         enforce_limit(run, parts, disk, *output, chunk)?;
     }
     Ok(())
-}
-
-fn is_file(home: Home) -> bool
-    ensures { result ≡ is_file home }
-{
-    match home {
-        Home::Disk => true,
-        Home::Ram => false,
-    }
 }
 
 /// Whether a chunk is pending and kept in a file.

@@ -21,7 +21,7 @@ use Rattle.fwd_chunk.specs.Content.{ReadReturns, read_content_program, HasRecord
 use Rattle.fwd_payload.specs.Content.{MadeOf}
 use Rattle.fwd_settings.specs.declared.settings_types.AllSettings.{AllSettings}
 use Rattle.fwd_table.specs.Rows.{row_at, has_row}
-use Rattle.fwd_table.specs.declared.row.Row.{Row}
+use Rattle.fwd_table.specs.Row.{Row}
 use Rattle.fwd_model.specs.Fact.{History, Route, IoFailed}
 use Rattle.fwd_model.specs.Trace.{Action}
 use Rattle.fwd_model.specs.CallLogs.{CallLogs, Leads, IsBegun}

@@ -6,7 +6,7 @@ use Rattle.std.proofs.lemmas.Bool.{cases_Bool}
 use Rattle.std.proofs.lemmas.List.{append-nil}
 use Rattle.std.proofs.lemmas.List.Elements.{filter-append}
 use Rattle.std.proofs.lemmas.Nat.Bits.{bit_at-zero, bit_at_set_same, bit_at_set_other}
-use Rattle.fwd_table.specs.declared.route.Route.{Route}
+use Rattle.fwd_table.specs.Route.{Route}
 use Rattle.fwd_table.specs.Routes.{idle_at, routes_below, routes_to}
 use Rattle.fwd_table.proofs.MaskRoutes.{routes_below-none, routes_below-more}
 

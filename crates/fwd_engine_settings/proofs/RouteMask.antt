@@ -5,7 +5,7 @@ use Rattle.std.proofs.lemmas.List.{append-nil}
 use Rattle.std.proofs.lemmas.Nat.Bits.{bit_at-zero, bit_at_set_same, bit_at_set_other}
 use Rattle.fwd_route.specs.GlobTest.{globs, matching_outputs}
 use Rattle.fwd_settings.specs.declared.settings_types.OutputSet.{OutputSet}
-use Rattle.fwd_table.specs.declared.route.Route.{Route}
+use Rattle.fwd_table.specs.Route.{Route}
 use Rattle.fwd_table.specs.Routes.{idle_at, routes_below, routes_to}
 use Rattle.fwd_table.proofs.MaskRoutes.{routes_below-none, routes_below-more}
 use Rattle.fwd_engine_settings.proofs.GlobMatch.{matching_behind, matching_yes, matching_no, matching_end}

@@ -6,7 +6,7 @@ use Rattle.fwd_table.specs.declared.outcome.Answer.{Answer}
 use Rattle.fwd_table.specs.declared.outcome.Answer.TheVariants.{Good, Retry, Bad}
 use Rattle.fwd_table.specs.declared.outcome.Outcome.{Outcome}
 use Rattle.fwd_table.specs.declared.outcome.Outcome.TheVariants.{Retrying, Resolved, Last, Spent, SpentLast}
-use Rattle.fwd_table.specs.declared.row.Row.{Row}
+use Rattle.fwd_table.specs.Row.{Row}
 use Rattle.fwd_table.specs.Outcomes.{may_retry, is_tried_again, outcome_of}
 use Rattle.fwd_table.specs.Rows.{answered_by}
 use Rattle.fwd_model.specs.Routes.{resolves, progress_of, uses_link}

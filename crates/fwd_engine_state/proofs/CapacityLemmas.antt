@@ -4,8 +4,8 @@ use Rattle.std.specs.Prelude.{◌==◌, nat_lt, nat_le, option_map}
 use Rattle.fwd_settings.specs.declared.settings_types.AllSettings.{AllSettings}
 use Rattle.fwd_table.specs.Routes.{flying_of}
 use Rattle.fwd_table.specs.Rows.{seen_of}
-use Rattle.fwd_table.specs.declared.row.Row.{Row}
-use Rattle.fwd_table.specs.declared.row.RowSeen.{RowSeen}
+use Rattle.fwd_table.specs.Row.{Row}
+use Rattle.fwd_table.specs.RowSeen.{RowSeen}
 use Rattle.fwd_table.specs.Usage.{in_file, is_recovered, files_up, found_up}
 use Rattle.fwd_limits.proofs.Sums.{mask_none}
 use Rattle.fwd_model.specs.Dispatch.{fits_row}

@@ -8,8 +8,8 @@ use Rattle.std.proofs.lemmas.List.{length-map}
 use Rattle.std.proofs.lemmas.List.Sums.{sum_by-cons}
 use Rattle.fwd_base.specs.declared.ids.ChunkId.{ChunkId}
 use Rattle.fwd_settings.specs.declared.settings_types.AllSettings.{AllSettings}
-use Rattle.fwd_table.specs.declared.route.Route.{Route as Owed}
-use Rattle.fwd_table.specs.declared.row.Row.{Row}
+use Rattle.fwd_table.specs.Route.{Route as Owed}
+use Rattle.fwd_table.specs.Row.{Row}
 use Rattle.fwd_table.specs.Routes.{is_to, flying_of}
 use Rattle.fwd_table.specs.Rows.{is_row_of, is_owed_row}
 use Rattle.fwd_table.specs.Usage.{in_file, is_flying, is_waiting, size_of}

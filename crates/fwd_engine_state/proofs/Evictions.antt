@@ -9,9 +9,9 @@ use Rattle.std.proofs.lemmas.List.Elements.{All-cons, All-nil}
 use Rattle.fwd_base.specs.declared.ids.ChunkId.{ChunkId}
 use Rattle.fwd_base.specs.declared.ids.OutputId.{OutputId}
 use Rattle.fwd_settings.specs.declared.settings_types.AllSettings.{AllSettings}
-use Rattle.fwd_table.specs.declared.route.Route.{Route as Owed}
-use Rattle.fwd_table.specs.declared.row.Row.{Row}
-use Rattle.fwd_table.specs.declared.row.RowChange.TheVariants.{Resolves}
+use Rattle.fwd_table.specs.Route.{Route as Owed}
+use Rattle.fwd_table.specs.Row.{Row}
+use Rattle.fwd_table.specs.RowChange.TheVariants.{Resolves}
 use Rattle.fwd_table.specs.Routes.{is_to, flying_of}
 use Rattle.fwd_table.specs.Rows.{ChunksRise, is_row_of, on_chunk, resolved_to, owed_rows, is_owed_row}
 use Rattle.fwd_table.proofs.Chunks.{rise-on_chunk}

@@ -7,8 +7,8 @@ use Rattle.fwd_settings.specs.declared.settings_types.AllSettings.{AllSettings}
 use Rattle.fwd_flush.specs.FlushProgram.{Progress}
 use Rattle.fwd_table.specs.Routes.{is_to}
 use Rattle.fwd_table.specs.Rows.{row_at, has_row, waits_for}
-use Rattle.fwd_table.specs.declared.row.Row.{Row}
-use Rattle.fwd_table.specs.declared.route.Route.{Route as Owed}
+use Rattle.fwd_table.specs.Row.{Row}
+use Rattle.fwd_table.specs.Route.{Route as Owed}
 use Rattle.fwd_model.specs.Fact.{History, Route}
 use Rattle.fwd_model.specs.Chunks.{ChunkInfo, chunks_of, is_closed, next}
 use Rattle.fwd_model.specs.Routes.{flight, owed, is_owed, is_idle, table_route, row_of, rows_of}

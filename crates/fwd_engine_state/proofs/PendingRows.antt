@@ -6,7 +6,7 @@ use Rattle.std.proofs.lemmas.Bool.{cases_Bool, cases_eq, ne_eqb, eq-eqb, eqb-tru
 use Rattle.fwd_settings.specs.declared.settings_types.AllSettings.{AllSettings}
 use Rattle.fwd_base.specs.declared.ids.ChunkId.{ChunkId}
 use Rattle.fwd_table.specs.Rows.{is_row_of, on_chunk, has_row}
-use Rattle.fwd_table.specs.declared.row.Row.{Row}
+use Rattle.fwd_table.specs.Row.{Row}
 use Rattle.fwd_model.specs.Fact.{History, Route, Outcome, OnRoute}
 use Rattle.fwd_model.specs.Settings.{outputs_for}
 use Rattle.fwd_model.specs.Chunks.{ChunkInfo, chunks_of, is_closed, next}

@@ -4,7 +4,7 @@ use Rattle.std.specs.Prelude.{All, if◌then◌else◌}
 use Rattle.std.proofs.lemmas.List.{length-map, get_or-map}
 use Rattle.std.proofs.lemmas.List.Elements.{All-filter}
 use Rattle.fwd_base.specs.declared.ids.ChunkId.{ChunkId}
-use Rattle.fwd_table.specs.declared.row.Row.{Row}
+use Rattle.fwd_table.specs.Row.{Row}
 use Rattle.fwd_table.specs.Rows.{is_row_of, on_chunk, owed_rows, is_owed_row}
 
 abbrev pub AtMost : ℕ → List Row → Type 0

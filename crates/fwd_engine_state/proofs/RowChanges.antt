@@ -8,8 +8,8 @@ use Rattle.fwd_flush.specs.FlushProgram.{Progress}
 use Rattle.fwd_table.specs.Outcomes.{due_after}
 use Rattle.fwd_table.specs.Routes.{due_at, started, retried, is_to, on_output}
 use Rattle.fwd_table.specs.Rows.{is_row_of, on_chunk, shut_at, grown, started_to, retried_to}
-use Rattle.fwd_table.specs.declared.row.Row.{Row}
-use Rattle.fwd_table.specs.declared.route.Route.{Route as Owed}
+use Rattle.fwd_table.specs.Row.{Row}
+use Rattle.fwd_table.specs.Route.{Route as Owed}
 use Rattle.fwd_model.specs.Fact.{History, Route, Outcome, Batch, Accepted, AppendedTo, ChunkClosed, OnRoute, FlushStarted, InFlight, Retries, Delivered, Failed, Exhausted, Evicted}
 use Rattle.fwd_model.specs.Settings.{saturating_plus, outputs_for}
 use Rattle.fwd_model.specs.Clock.{clock}

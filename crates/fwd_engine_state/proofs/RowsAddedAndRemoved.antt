@@ -9,8 +9,8 @@ use Rattle.fwd_outside.specs.declared.home.Home.TheVariants.{Disk}
 use Rattle.fwd_settings.specs.declared.settings_types.AllSettings.{AllSettings}
 use Rattle.fwd_table.specs.Routes.{idle_at, routes_to, without_output, due_at}
 use Rattle.fwd_table.specs.Rows.{is_row_of, on_chunk, resolved_to, owed_rows, shut_at, opened as opened_row}
-use Rattle.fwd_table.specs.declared.row.Row.{Row}
-use Rattle.fwd_table.specs.declared.route.Route.{Route as Owed}
+use Rattle.fwd_table.specs.Row.{Row}
+use Rattle.fwd_table.specs.Route.{Route as Owed}
 use Rattle.fwd_model.specs.Fact.{History, Route, Outcome, Batch, NewChunk, Accepted, Found, OnRoute}
 use Rattle.fwd_model.specs.Settings.{outputs_for, output_name, home_at}
 use Rattle.fwd_model.specs.RecoveredFile.{recovered_chunk, is_marked_done}

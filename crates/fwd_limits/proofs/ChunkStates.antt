@@ -8,9 +8,9 @@ use Rattle.std.proofs.lemmas.Nat.Bits.{shr_and_one}
 use Rattle.std.proofs.lemmas.Bool.{eq-eqb, eqb-true}
 use Rattle.std.proofs.lemmas.List.Folds.{Any-from_list_any, list_any-from_Any}
 use Rattle.fwd_base.specs.declared.ids.OutputId.{OutputId}
-use Rattle.fwd_table.specs.declared.route.Route.{Route}
-use Rattle.fwd_table.specs.declared.row.Row.{Row}
-use Rattle.fwd_table.specs.declared.row.RowSeen.{RowSeen}
+use Rattle.fwd_table.specs.Route.{Route}
+use Rattle.fwd_table.specs.Row.{Row}
+use Rattle.fwd_table.specs.RowSeen.{RowSeen}
 use Rattle.fwd_table.specs.Routes.{flying_of, is_to, IsMaskOf}
 use Rattle.fwd_table.specs.Rows.{seen_of}
 use Rattle.fwd_table.specs.Usage.{is_file}

@@ -7,9 +7,9 @@ use Rattle.std.proofs.lemmas.Bool.Decides.{nat_tests}
 use Rattle.std.proofs.lemmas.List.Elements.{All-head, All-tail, All-filter}
 use Rattle.fwd_base.specs.declared.ids.ChunkId.{ChunkId}
 use Rattle.fwd_base.specs.declared.ids.OutputId.{OutputId}
-use Rattle.fwd_table.specs.declared.route.Route.{Route}
-use Rattle.fwd_table.specs.declared.row.Row.{Row}
-use Rattle.fwd_table.specs.declared.row.RowChange.TheVariants.{Resolves}
+use Rattle.fwd_table.specs.Route.{Route}
+use Rattle.fwd_table.specs.Row.{Row}
+use Rattle.fwd_table.specs.RowChange.TheVariants.{Resolves}
 use Rattle.fwd_table.specs.Routes.{is_to, without_output, flying_of}
 use Rattle.fwd_table.specs.Rows.{ChunksRise, is_row_of, on_chunk, resolved_to}
 use Rattle.fwd_table.proofs.Chunks.{rise-on_chunk}

@@ -4,7 +4,7 @@ use Rattle.std.specs.Prelude.{nat_le, nat_lt}
 use Rattle.std.proofs.lemmas.Bool.Decides.{nat_tests}
 use Rattle.fwd_base.specs.declared.ids.ChunkId.{ChunkId}
 use Rattle.fwd_base.specs.declared.ids.OutputId.{OutputId}
-use Rattle.fwd_table.specs.declared.row.Row.{Row}
+use Rattle.fwd_table.specs.Row.{Row}
 use Rattle.fwd_limits.specs.declared.eviction.Loss.TheVariants.{Fits, NewLoses}
 use Rattle.fwd_table.specs.Usage.{size_of}
 use Rattle.fwd_limits.specs.Evictions.{evicted_among, first_chunk, loss_of, fixed, other_waiting, next_eviction, IsShortest}

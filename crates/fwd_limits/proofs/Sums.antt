@@ -8,8 +8,8 @@ use Rattle.std.proofs.lemmas.Bool.Decides.{nat_tests}
 use Rattle.std.proofs.lemmas.List.Elements.{filter-append}
 use Rattle.fwd_base.specs.declared.ids.ChunkId.{ChunkId}
 use Rattle.fwd_limits.specs.Evictions.{first_chunk}
-use Rattle.fwd_table.specs.declared.row.Row.{Row}
-use Rattle.fwd_table.specs.declared.route.Route.{Route}
+use Rattle.fwd_table.specs.Row.{Row}
+use Rattle.fwd_table.specs.Route.{Route}
 use Rattle.fwd_table.specs.Routes.{mask_of}
 use Rattle.fwd_table.specs.Rows.{rows_at}
 use Rattle.fwd_table.specs.Usage.{size_of}

@@ -4,8 +4,8 @@ use Rattle.std.specs.Prelude.{filter, option_map, option_to_list, IfSome}
 use Rattle.std.proofs.lemmas.List.Filters.{sum_by-filter_both}
 use Rattle.fwd_base.specs.declared.ids.ChunkId.{ChunkId}
 use Rattle.fwd_base.specs.declared.ids.OutputId.{OutputId}
-use Rattle.fwd_table.specs.declared.row.Row.{Row}
-use Rattle.fwd_table.specs.declared.row.RowSeen.{RowSeen}
+use Rattle.fwd_table.specs.Row.{Row}
+use Rattle.fwd_table.specs.RowSeen.{RowSeen}
 use Rattle.fwd_table.specs.Routes.{flying_of, IsMaskOf}
 use Rattle.fwd_table.specs.Rows.{is_row_of, seen_of}
 use Rattle.fwd_table.specs.Usage.{in_file, is_waiting, size_of, waiting_for}

@@ -1,6 +1,6 @@
 -- Backpressure: which inputs are paused.
 use Rattle.std.specs.Prelude.{◌≡◌, ℕ, Bool, true, false, nat_le, List, Option, Some, None, slice_get, IsSomeAnd}
-use Rattle.fwd_table.specs.declared.row.Row.{Row}
+use Rattle.fwd_table.specs.Row.{Row}
 use Rattle.fwd_table.specs.Usage.{memory_of}
 
 -- whether the used memory reaches a limit, if there is one

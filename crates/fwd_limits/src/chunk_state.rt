@@ -1,12 +1,10 @@
 //! The state of a chunk towards an output.
 
 ghost use Rattle.std.specs.Prelude.{◌≡◌, ◌&&◌, not, None, get_or, option_map};
-ghost use Rattle.fwd_table.specs.Usage.{is_file};
 ghost use Rattle.fwd_limits.specs.ChunkState.{state_of, state_in_row};
 
 use fwd_base::{ChunkId, OutputId, is_set};
-use fwd_outside::Home;
-use fwd_table::{RowSeen, Table};
+use fwd_table::{RowSeen, Table, is_file};
 
 /// The state of a chunk towards an output.
 #[derive(Clone, Copy, Debug, PartialEq, Eq)]
@@ -18,15 +16,6 @@ pub struct ChunkState {
     pub is_file: bool,
     /// Whether it is closed, pending for the output, and not in flight to it.
     pub is_waiting: bool,
-}
-
-fn is_file(home: Home) -> bool
-    ensures { result ≡ is_file home }
-{
-    match home {
-        Home::Disk => true,
-        Home::Ram => false,
-    }
 }
 
 /// Returns whether a chunk is closed, pending and not in flight.

@@ -3,7 +3,7 @@
 ghost use Rattle.std.specs.Prelude.{◌≡◌, ℕ, ◌<◌, List, length};
 ghost use Rattle.fwd_base.specs.declared.ids.ChunkId.{ChunkId};
 ghost use Rattle.fwd_base.specs.declared.ids.OutputId.{OutputId};
-ghost use Rattle.fwd_table.specs.declared.row.Row.{Row};
+ghost use Rattle.fwd_table.specs.Row.{Row};
 ghost use Rattle.fwd_table.specs.Rows.{ChunksRise};
 ghost use Rattle.fwd_limits.specs.Evictions.{evicted_among, evicted_for, evicted_by_calls, IsShortest};
 

@@ -2,7 +2,7 @@
 use Rattle.std.specs.Prelude.{ℕ, ◌+◌, ◌==◌, ◌&&◌, ◌||◌, nat_lt, nat_le, not, Bool, false, List, map, filter, Option, Some, None}
 use Rattle.fwd_retry.specs.declared.timer.Timer.{Timer}
 pub use Rattle.fwd_retry.specs.Timer.{by_time, in_time}
-use Rattle.fwd_table.specs.declared.row.Row.{Row}
+use Rattle.fwd_table.specs.Row.{Row}
 use Rattle.fwd_table.specs.Rows.{idle_timers_of, row_at}
 use Rattle.fwd_table.specs.Usage.{in_file, is_recovered_row, flies, files_up, found_up}
 use Rattle.fwd_settings.specs.declared.settings_types.AllSettings.{AllSettings}

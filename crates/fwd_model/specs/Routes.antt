@@ -9,8 +9,8 @@ use Rattle.fwd_event.specs.declared.event.Event.{Event}
 use Rattle.fwd_retry.specs.Wait.{wait}
 use Rattle.fwd_table.specs.Outcomes.{due_after}
 use Rattle.fwd_table.specs.Rows.{is_route_idle, flights_to as flights_in}
-use Rattle.fwd_table.specs.declared.row.Row.{Row}
-use Rattle.fwd_table.specs.declared.route.Route.{Route as Owed}
+use Rattle.fwd_table.specs.Row.{Row}
+use Rattle.fwd_table.specs.Route.{Route as Owed}
 use Rattle.fwd_flush.specs.FlushProgram.{Progress, link_in}
 use Rattle.fwd_settings.specs.declared.settings_types.AllSettings.{AllSettings}
 use Rattle.fwd_model.specs.Fact.{History, Route, Found, ChunkClosed, OnRoute, Outcome, FlushStarted, InFlight, Retries, Delivered, Failed, Exhausted, Evicted}

@@ -3,8 +3,8 @@ use Rattle.std.proofs.Common.{◌≡◌, ℕ, ◌+◌, ◌-◌, min, List, get_o
 use Rattle.std.specs.Prelude.{sum_by, option_map}
 use Rattle.std.proofs.lemmas.List.Sums.{sum_by_push}
 use Prim.Native.Nat.{◌^◌}
-use Rattle.fwd_table.specs.declared.row.Row.{Row}
-use Rattle.fwd_table.specs.declared.row.RowSeen.{RowSeen}
+use Rattle.fwd_table.specs.Row.{Row}
+use Rattle.fwd_table.specs.RowSeen.{RowSeen}
 use Rattle.fwd_table.specs.Rows.{rows_at, seen_of}
 use Rattle.fwd_table.proofs.SlotRows.{none_seen, one_seen as seen_at}
 use Rattle.fwd_pages.specs.declared.count.Counted.{Counted}

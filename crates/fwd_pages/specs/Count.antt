@@ -2,17 +2,12 @@
 use Rattle.std.specs.Prelude.{ℕ, ◌-◌, ◌^◌, min, Bool, true, false, not, ◌==◌, ◌&&◌, List, sum_by, Option, Some, None, if◌then◌else◌}
 use Rattle.std.specs.Int.{bit_at}
 use Rattle.fwd_base.specs.declared.ids.InputId.{InputId}
-use Rattle.fwd_outside.specs.declared.home.Home.{Home}
-use Rattle.fwd_outside.specs.declared.home.Home.TheVariants.{Disk, Ram}
-use Rattle.fwd_table.specs.declared.row.Row.{Row}
-use Rattle.fwd_table.specs.declared.row.RowSeen.{RowSeen}
+use Rattle.fwd_table.specs.Row.{Row}
+use Rattle.fwd_table.specs.RowSeen.{RowSeen}
 use Rattle.fwd_table.specs.Rows.{seen_of}
+use Rattle.fwd_table.specs.Usage.{is_file}
 use Rattle.fwd_pages.specs.declared.count.Counted.{Counted}
 use Rattle.fwd_pages.specs.declared.count.Counted.TheVariants as counted
-
-abbrev pub is_in_file : Home → Bool
-is_in_file Disk = true
-is_in_file Ram = false
 
 -- whether a chunk came from this input in this run
 abbrev pub is_from : ℕ → Option InputId → Bool
@@ -21,10 +16,10 @@ is_from input (Some from) = from.0 == input
 
 -- whether a row is counted
 abbrev pub is_counted : Counted → RowSeen → Bool
-is_counted counted.InMemory row = not (is_in_file row.home)
-is_counted counted.InFiles row = is_in_file row.home
-is_counted (counted.MemoryOf input) row = is_from input.0 row.input && not (is_in_file row.home)
-is_counted (counted.FilesOf input) row = is_from input.0 row.input && is_in_file row.home
+is_counted counted.InMemory row = not (is_file row.home)
+is_counted counted.InFiles row = is_file row.home
+is_counted (counted.MemoryOf input) row = is_from input.0 row.input && not (is_file row.home)
+is_counted (counted.FilesOf input) row = is_from input.0 row.input && is_file row.home
 is_counted (counted.OpenOf input) row = is_from input.0 row.input && not row.shut
 is_counted (counted.OwedTo output) row = bit_at row.owed output.0 == 1
 

@@ -4,7 +4,7 @@ use Rattle.std.specs.List.{zip}
 use Rattle.std.specs.Int.{bit_at}
 use Rattle.fwd_base.specs.declared.ids.InputId.{InputId}
 use Rattle.fwd_base.specs.declared.ids.OutputId.{OutputId}
-use Rattle.fwd_table.specs.declared.row.Row.{Row}
+use Rattle.fwd_table.specs.Row.{Row}
 use Rattle.fwd_table.specs.declared.tally.InputTally.{InputTally}
 use Rattle.fwd_table.specs.declared.tally.OutputTally.{OutputTally}
 use Rattle.fwd_table.specs.declared.tally.Tally.{Tally}

@@ -1,11 +1,10 @@
 //! Counts of the table's rows.
 
 ghost use Rattle.std.specs.Prelude.{◌≡◌};
-ghost use Rattle.fwd_pages.specs.Count.{count_of, is_counted, is_from, is_in_file, one_seen};
+ghost use Rattle.fwd_pages.specs.Count.{count_of, is_counted, is_from, one_seen};
 
 use fwd_base::{InputId, OutputId, is_set};
-use fwd_outside::Home;
-use fwd_table::{RowSeen, Table};
+use fwd_table::{RowSeen, Table, is_file};
 
 /// Which rows are counted.
 #[derive(Clone, Copy, Debug, PartialEq, Eq)]
@@ -24,15 +23,6 @@ pub enum Counted {
     OwedTo(OutputId),
 }
 
-fn is_in_file(home: Home) -> bool
-    ensures { result ≡ is_in_file home }
-{
-    match home {
-        Home::Disk => true,
-        Home::Ram => false,
-    }
-}
-
 fn is_from(row: &RowSeen, input: InputId) -> bool
     ensures { result ≡ is_from input.0 row.now.input }
 {
@@ -46,10 +36,10 @@ fn is_counted(which: Counted, row: &RowSeen) -> bool
     ensures { result ≡ is_counted which row.now }
 {
     match which {
-        Counted::InMemory => !is_in_file(row.home),
-        Counted::InFiles => is_in_file(row.home),
-        Counted::MemoryOf(input) => is_from(row, input) && !is_in_file(row.home),
-        Counted::FilesOf(input) => is_from(row, input) && is_in_file(row.home),
+        Counted::InMemory => !is_file(row.home),
+        Counted::InFiles => is_file(row.home),
+        Counted::MemoryOf(input) => is_from(row, input) && !is_file(row.home),
+        Counted::FilesOf(input) => is_from(row, input) && is_file(row.home),
         Counted::OpenOf(input) => is_from(row, input) && !row.shut,
         Counted::OwedTo(output) => is_set(row.owed, output.0),
     }

@@ -10,8 +10,8 @@ use Rattle.std.proofs.lemmas.Bool.{cases_eq, cases_lt, eq-eqb, ne_eqb, eqb-true,
 use Rattle.std.proofs.lemmas.List.Folds.{Any-from_list_any, list_any-from_Any}
 use Prim.Native.Nat.{◌^◌}
 use lib.Count.{ones_step}
-use Rattle.fwd_table.specs.declared.route.Route.{Route}
-use Rattle.fwd_table.specs.declared.row.Row.{Row}
+use Rattle.fwd_table.specs.Route.{Route}
+use Rattle.fwd_table.specs.Row.{Row}
 use Rattle.fwd_table.specs.Routes.{mask_of, IsMaskOf}
 use Rattle.fwd_table.proofs.Masks.{mask-cons}
 use Rattle.fwd_report.specs.Report.{is_owed_to}

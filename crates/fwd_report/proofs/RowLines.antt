@@ -12,8 +12,8 @@ use Rattle.std.proofs.lemmas.Bool.{eq-eqb, ne_eqb}
 use Prim.Native.Nat.{◌^◌}
 use Rattle.fwd_json.specs.Text.{json}
 use Rattle.fwd_value.specs.Val.{text}
-use Rattle.fwd_table.specs.declared.row.Row.{Row}
-use Rattle.fwd_table.specs.declared.row.RowSeen.{RowSeen}
+use Rattle.fwd_table.specs.Row.{Row}
+use Rattle.fwd_table.specs.RowSeen.{RowSeen}
 use Rattle.fwd_table.specs.Routes.{mask_of, IsMaskOf}
 use Rattle.fwd_table.specs.Rows.{rows_at, seen_of}
 use Rattle.fwd_table.proofs.SlotRows.{place_more, none_seen, one_seen}

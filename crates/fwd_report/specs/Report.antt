@@ -3,7 +3,7 @@ use Rattle.std.specs.Prelude.{ℕ, ◌+◌, ◌-◌, ◌^◌, ◌==◌, min, Boo
 use Rattle.std.specs.List.{flat_map, list_any, zip}
 use Rattle.fwd_json.specs.Text.{json}
 use Rattle.fwd_value.specs.Val.{text}
-use Rattle.fwd_table.specs.declared.row.Row.{Row}
+use Rattle.fwd_table.specs.Row.{Row}
 use Rattle.fwd_table.specs.declared.tally.InputTally.{InputTally}
 use Rattle.fwd_table.specs.declared.tally.OutputTally.{OutputTally}
 use Rattle.fwd_table.specs.declared.tally.Tally.{Tally}

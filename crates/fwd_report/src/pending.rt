@@ -5,7 +5,7 @@ ghost use Rattle.std.specs.List.{flat_map};
 ghost use Rattle.std.specs.Option.{option_map_or};
 ghost use Rattle.fwd_json.specs.Text.{json};
 ghost use Rattle.fwd_value.specs.Val.{text as text_value};
-ghost use Rattle.fwd_table.specs.declared.row.Row.{Row};
+ghost use Rattle.fwd_table.specs.Row.{Row};
 ghost use Rattle.fwd_table.specs.Routes.{IsMaskOf};
 ghost use Rattle.fwd_table.specs.Rows.{seen_of};
 ghost use Rattle.fwd_report.specs.Report.{owed_routes, names_from, chunk_line, row_lines, owed_part};

@@ -1,12 +1,5 @@
-pub mod RouteOrder
-pub mod Masks
-pub mod MaskRoutes
-pub mod Bits
-pub mod Chunks
-pub mod ChunkRows
-pub mod DueTimes
-pub mod RowSums
 pub mod Usage
-pub mod SlotChanges
-pub mod SlotRows
-pub mod SlotSums
+pub use Rattle.fwd_table_rows.proofs.Chunks
+pub use Rattle.fwd_table_rows.proofs.MaskRoutes
+pub use Rattle.fwd_table_rows.proofs.Masks
+pub use Rattle.fwd_table_rows.proofs.SlotRows

@@ -1,6 +1,6 @@
 -- Totals over rows agree with the definitions of limits and flushes.
 use Rattle.std.proofs.Common.{◌≡◌, inl, inr, ℕ, ◌+◌, ◌<◌, ◌≤◌, Bool, true, false, not, cond, List, [], ◌∷◌, length, refl, sym, ◌∙◌, ap, arith}
-use Rattle.std.specs.Prelude.{◌==◌, ◌&&◌, All, filter, find, sum_by, slice_index, ◌||◌, if◌then◌else◌, Option, Some, None}
+use Rattle.std.specs.Prelude.{◌==◌, ◌&&◌, All, filter, find, sum_by, ◌||◌, if◌then◌else◌, Option, Some, None}
 use Rattle.std.specs.List.{list_any}
 use Rattle.std.specs.Option.{option_map_or}
 use Rattle.std.proofs.lemmas.Bool.{cases_Bool, cases_eq, cases_lt, eq-eqb, ne_eqb}
@@ -8,17 +8,17 @@ use Rattle.std.proofs.lemmas.List.Elements.{All-head, All-tail}
 use Rattle.std.proofs.lemmas.List.Sums.{sum_by-cons}
 use Rattle.fwd_base.specs.declared.ids.ChunkId.{ChunkId}
 use Rattle.fwd_base.specs.declared.ids.OutputId.{OutputId}
-use Rattle.fwd_table.specs.declared.route.Route.{Route}
-use Rattle.fwd_table.specs.declared.row.Row.{Row}
-use Rattle.fwd_table.specs.declared.sums.ByOutput.{ByOutput}
-use Rattle.fwd_table.specs.declared.sums.ByOutput.TheVariants.{Flights, FlyingBytes, WaitingBytes}
-use Rattle.fwd_table.specs.declared.sums.Sums.{Sums}
-use Rattle.fwd_table.specs.Routes.{RiseFrom, flying_of, is_to}
-use Rattle.fwd_table.specs.Rows.{ChunksRise, IsOwedToNobody, flies_to, flights_to, is_owed_row, owed_rows, without_chunk}
-use Rattle.fwd_table.specs.Usage.{in_file, is_from, is_recovered_row, flies, is_flying, is_waiting, size_of, flying_to, waiting_for, files_up, found_up, memory_of}
-use Rattle.fwd_table.specs.Sums.{Over, Memory, FilesUp, FoundUp, Unowed, Rows, route_part, part_at, part, AreSums, IsTotal, IsValidRow}
-use Rattle.fwd_table.proofs.ChunkRows.{behind_rise, none_goes, others_behind}
-use Rattle.fwd_table.proofs.RowSums.{none_behind}
+use Rattle.fwd_table_rows.specs.declared.route.Route.{Route}
+use Rattle.fwd_table_rows.specs.declared.row.Row.{Row}
+use Rattle.fwd_table_rows.specs.declared.sums.ByOutput.{ByOutput}
+use Rattle.fwd_table_rows.specs.declared.sums.ByOutput.TheVariants.{Flights, FlyingBytes, WaitingBytes}
+use Rattle.fwd_table_rows.specs.declared.sums.Sums.{Sums}
+use Rattle.fwd_table_rows.specs.Routes.{RiseFrom, flying_of, is_to}
+use Rattle.fwd_table_rows.specs.Rows.{ChunksRise, IsOwedToNobody, flies_to, flights_to, is_owed_row, owed_rows, without_chunk}
+use Rattle.fwd_table_rows.specs.Usage.{in_file, is_from, is_recovered_row, flies, is_flying, is_waiting, size_of, flying_to, waiting_for, files_up, found_up, memory_of}
+use Rattle.fwd_table_rows.specs.Sums.{Over, Memory, FilesUp, FoundUp, Unowed, Rows, route_part, part_at, part, total, AreSums, IsTotal, IsValidRow}
+use Rattle.fwd_table_rows.proofs.ChunkRows.{behind_rise, none_goes, others_behind}
+use Rattle.fwd_table_rows.proofs.RowSums.{none_behind}
 
 -- ---- the route to an output is the only one
 
@@ -174,18 +174,18 @@ flying_are output sums rows sum is are sound = total_of FlyingBytes output.0 sum
 pub waiting_are : (output : OutputId) (sums : Sums) (rows : List Row) (sum : ℕ) → IsTotal (Over WaitingBytes) output.0 sums sum → AreSums sums rows → All IsValidRow rows → sum ≡ size_of (waiting_for output rows)
 waiting_are output sums rows sum is are sound = total_of WaitingBytes output.0 sums rows sum is are sound ∙ sizes (part (Over WaitingBytes) output.0) (λ (row : Row). in_file row && is_waiting output row) rows (waiting_row output) sound
 
-pub memory_is : (input : ℕ) (sums : Sums) (rows : List Row) → input < 64 → AreSums sums rows → All IsValidRow rows → slice_index sums.memory input ≡ memory_of input rows
+pub memory_is : (input : ℕ) (sums : Sums) (rows : List Row) → input < 64 → AreSums sums rows → All IsValidRow rows → total Memory input sums ≡ memory_of input rows
 memory_is input sums rows near are sound =
     are Memory input near
     ∙ sizes (part Memory input) (λ (row : Row). not (in_file row) && (is_from input row.input && (not row.shut || not (length row.routes == 0)))) rows (λ row one. memory_row input row) sound
 
-pub files_are : (sums : Sums) (rows : List Row) → AreSums sums rows → All IsValidRow rows → sums.files_up ≡ files_up rows
+pub files_are : (sums : Sums) (rows : List Row) → AreSums sums rows → All IsValidRow rows → total FilesUp 0 sums ≡ files_up rows
 files_are sums rows are sound = are FilesUp 0 (omega arith) ∙ counts (part FilesUp 0) (λ (row : Row). in_file row && flies row) rows (λ row one. refl) sound
 
-pub found_are : (sums : Sums) (rows : List Row) → AreSums sums rows → All IsValidRow rows → sums.found_up ≡ found_up rows
+pub found_are : (sums : Sums) (rows : List Row) → AreSums sums rows → All IsValidRow rows → total FoundUp 0 sums ≡ found_up rows
 found_are sums rows are sound = are FoundUp 0 (omega arith) ∙ sizes (part FoundUp 0) (λ (row : Row). is_recovered_row row && flies row) rows (λ row one. refl) sound
 
-pub rows_are : (sums : Sums) (rows : List Row) → AreSums sums rows → sums.rows ≡ length rows
+pub rows_are : (sums : Sums) (rows : List Row) → AreSums sums rows → total Rows 0 sums ≡ length rows
 rows_are sums rows are = are Rows 0 (omega arith) ∙ ones rows
   where
     ones : (rows : List Row) → sum_by (part Rows 0) rows ≡ length rows

@@ -1,7 +1,9 @@
 pub mod Outcomes
-pub mod Routes
-pub mod Rows
-pub mod Changes
-pub mod Usage
-pub mod Sums
-pub mod Slots
+pub mod TableModel
+pub use Rattle.fwd_table_rows.specs.Routes
+pub use Rattle.fwd_table_rows.specs.Rows
+pub use Rattle.fwd_table_rows.specs.Usage
+pub use Rattle.fwd_table_rows.specs.declared.route.Route
+pub use Rattle.fwd_table_rows.specs.declared.row.Row
+pub use Rattle.fwd_table_rows.specs.declared.row.RowChange
+pub use Rattle.fwd_table_rows.specs.declared.row.RowSeen

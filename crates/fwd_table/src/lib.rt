@@ -3,14 +3,10 @@
 #![tactic(auto)]
 
 mod outcome;
-mod route;
-mod row;
-mod slot;
-mod sums;
 mod table;
 mod tally;
 
+pub use fwd_table_rows::{RowSeen, is_file};
 pub use outcome::{Answer, Outcome, may_retry};
-pub use row::RowSeen;
 pub use table::Table;
 pub use tally::{InputTallies, InputTally, OutputTallies, OutputTally, Tally};

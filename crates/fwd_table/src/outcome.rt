@@ -1,7 +1,7 @@
 //! The outcome of a flush, and what happens to its route.
 
 ghost use Rattle.std.specs.Prelude.{◌≡◌};
-ghost use Rattle.fwd_table.specs.Outcomes.{due_after, may_retry, resolved, spent};
+ghost use Rattle.fwd_table.specs.Outcomes.{due_after, may_retry, resolved_outcome, spent_outcome};
 
 use fwd_base::Retries;
 
@@ -30,8 +30,8 @@ pub enum Outcome {
 }
 
 /// Returns the outcome of a resolved route.
-pub fn resolved(is_last: bool) -> Outcome
-    ensures { result ≡ resolved is_last }
+pub fn resolved_outcome(is_last: bool) -> Outcome
+    ensures { result ≡ resolved_outcome is_last }
 {
     if is_last {
         Outcome::Last
@@ -41,8 +41,8 @@ pub fn resolved(is_last: bool) -> Outcome
 }
 
 /// Returns the outcome of a route whose retries are exhausted.
-pub fn spent(is_last: bool) -> Outcome
-    ensures { result ≡ spent is_last }
+pub fn spent_outcome(is_last: bool) -> Outcome
+    ensures { result ≡ spent_outcome is_last }
 {
     if is_last {
         Outcome::SpentLast

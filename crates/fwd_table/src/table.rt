@@ -1,30 +1,35 @@
 //! The table of chunks and their routes.
 
-ghost use Rattle.std.specs.Prelude.{◌≡◌, ◌↔◌, ◌+◌, ◌*◌, ◌<◌, ◌≤◌, [], ◌∷◌, ◌++◌, length, get_or, None, All, filter, option_map, IfOk, IfSome, IsTrue, MatchOption, OnOk, nat_le, option_to_list};
+ghost use Rattle.std.specs.Prelude.{◌≡◌, ◌↔◌, ◌+◌, ◌*◌, ◌<◌, ◌≤◌, [], ◌∷◌, ◌++◌, length, get_or, None, All};
+ghost use Rattle.std.specs.Prelude.{filter, option_map, IfOk, IfSome, IsTrue, MatchOption, OnOk, nat_le};
+ghost use Rattle.std.specs.Prelude.{option_to_list};
 ghost use Rattle.std.specs.Option.{option_map_or};
 ghost use Rattle.fwd_retry.specs.declared.timer.Timer.{Timer};
 ghost use Rattle.fwd_retry.specs.Timer.{first, in_time, is_next, IsFirst};
-ghost use Rattle.fwd_table.specs.declared.row.Row.{Row};
-ghost use Rattle.fwd_table.specs.Outcomes.{due_after, may_retry, is_tried_again, outcome_of, resolved};
-ghost use Rattle.fwd_table.specs.Routes.{flying_of, mask_of, IsMaskOf};
-ghost use Rattle.fwd_table.specs.Changes.{row_changed};
-ghost use Rattle.fwd_table.specs.Usage.{size_of, flying_to, waiting_for, memory_of, files_up, found_up};
+ghost use Rattle.fwd_table_rows.specs.declared.row.Row.{Row};
+ghost use Rattle.fwd_table.specs.Outcomes.{due_after, may_retry, is_tried_again, outcome_of};
+ghost use Rattle.fwd_table.specs.Outcomes.{resolved_outcome};
+ghost use Rattle.fwd_table_rows.specs.Routes.{flying_of, mask_of, IsMaskOf};
+ghost use Rattle.fwd_table_rows.specs.Changes.{row_with_change};
+ghost use Rattle.fwd_table_rows.specs.Usage.{size_of, flying_to, waiting_for, memory_of, files_up, found_up};
 ghost use Rattle.fwd_base.specs.Limits.{most_inputs};
-ghost use Rattle.fwd_table.specs.Rows.{IsIdle, IsOwedToNobody, rows_at, has_row, is_row_of, is_route_idle, flights_to, owed_rows, row_at, routes_at, tries_of, owes_nothing, idle_timers_of, seen_of, opened, on_chunk, without_chunk, grown, shut_at, started_to, stayed_to, answered_by, resolved_to};
+ghost use Rattle.fwd_table_rows.specs.Rows.{IsIdle, IsOwedToNobody, rows_at, has_row, is_row_of};
+ghost use Rattle.fwd_table_rows.specs.Rows.{is_route_idle, flights_to, owed_rows, row_at, routes_at};
+ghost use Rattle.fwd_table_rows.specs.Rows.{tries_of, owes_nothing, idle_timers_of, seen_of, opened};
+ghost use Rattle.fwd_table_rows.specs.Rows.{on_chunk, without_chunk, grown, shut_at, started_to, stayed_to};
+ghost use Rattle.fwd_table_rows.specs.Rows.{answered_by, resolved_to};
 
-use crate::outcome::{due_after, may_retry, resolved, spent};
-use crate::route::{Change, Route, Routes};
-use crate::row::{Row, RowChange};
-use crate::slot::{
-    Slot, change_row, clear_row, close_gaps, drop_first_gaps, drop_unowed_places, due_in, find_row,
-    free_end, make_storage, next_in, soonest_due, sums_of,
-};
-use crate::sums::{Sums, Way};
+use crate::outcome::{due_after, may_retry, resolved_outcome, spent_outcome};
 use crate::{Answer, Outcome, RowSeen};
 use fwd_base::limits::MOST_OUTPUTS;
 use fwd_base::{Bytes, ChunkId, InputId, Memory, OutputId, Retries};
 use fwd_outside::Home;
 use fwd_retry::Timer;
+use fwd_table_rows::{
+    Change, Route, Routes, Row, RowChange, Slot, Sums, Way, change_row, clear_row, close_gaps,
+    drop_first_gaps, drop_unowed_places, due_in, find_row, free_end, make_storage, next_in,
+    soonest_due, sums_of,
+};
 use std::alloc::Global;
 use std::collections::VecDeque;
 use std::marker::Model;
@@ -50,12 +55,16 @@ pub struct Table {
 impl Model for Table {
     ghost use Rattle.std.specs.Prelude.{◌-◌, vec_capacity};
     ghost use Rattle.std.specs.VecDeque.{deque_len, deque_capacity};
-    ghost use Rattle.fwd_table.specs.Slots.{SlotsInvariant, slot_rows, rows_in};
-    ghost use Rattle.fwd_table.specs.Rows.{TableModel, spare_of};
+    ghost use Rattle.fwd_table_rows.specs.Slots.{slot_rows, rows_in};
+    ghost use Rattle.fwd_table.specs.TableModel.{SlotsInvariant, TableModel, spare_of};
 
     ghost Value = { TableModel };
 
-    ghost view = { λ t. record { rows = rows_in t.places.items; places = slot_rows t.places.items; spare = spare_of (vec_capacity t.storage) (deque_capacity t.places - deque_len t.places) } };
+    ghost view = { λ t. record {
+      rows = rows_in t.places.items;
+      places = slot_rows t.places.items;
+      spare = spare_of (vec_capacity t.storage) (deque_capacity t.places - deque_len t.places);
+    } };
 
     ghost invariant = { λ t. SlotsInvariant t.soonest t.sums t.places.items };
 }
@@ -168,7 +177,8 @@ impl Table {
     /// at one route at a time, as the log of a live run does.
     pub fn next_due(&self, now: u64, after: Option<Timer>) -> Option<Timer>
         ensures value { result ≡ first (filter (is_next now after) (idle_timers_of self.now.rows)) }
-        ensures first { let due = filter (is_next now after) (idle_timers_of self.now.rows) in MatchOption result (due ≡ []) (IsFirst due) }
+        ensures first { let due = filter (is_next now after) (idle_timers_of self.now.rows) in
+            MatchOption result (due ≡ []) (IsFirst due) }
     {
         next_in(&self.places, now, after)
     }
@@ -178,7 +188,9 @@ impl Table {
     pub fn due(&mut self, now: u64) -> Result<Vec<Timer>, Memory>
         ensures rows { self.new.rows ≡ self.old.rows }
         ensures spare { self.old.spare ≤ self.new.spare }
-        ensures due { IfOk result (λ timers. timers.items ≡ in_time (filter (λ (t : Timer). nat_le t.due now) (idle_timers_of self.old.rows))) }
+        ensures due { IfOk result
+            (λ timers. timers.items
+            ≡ in_time (filter (λ (t : Timer). nat_le t.due now) (idle_timers_of self.old.rows))) }
     {
         self.update_soonest(now);
         if now < self.soonest {
@@ -239,18 +251,18 @@ impl Table {
         ensures spare { self.old.spare ≤ self.new.spare }
     {
         match answer {
-            Answer::Good | Answer::Bad => resolved(self.resolve(chunk, output)),
-            Answer::Retry => self.failed(chunk, output, limit, due_after(now, wait_s)),
+            Answer::Good | Answer::Bad => resolved_outcome(self.resolve(chunk, output)),
+            Answer::Retry => self.fail(chunk, output, limit, due_after(now, wait_s)),
         }
     }
 
     /// Evicts a route: it is resolved.
     pub fn lose(&mut self, chunk: ChunkId, output: OutputId) -> Outcome
         ensures rows { self.new.rows ≡ on_chunk chunk (resolved_to output) self.old.rows }
-        ensures outcome { result ≡ resolved (owes_nothing chunk self.new.rows) }
+        ensures outcome { result ≡ resolved_outcome (owes_nothing chunk self.new.rows) }
         ensures spare { self.old.spare ≤ self.new.spare }
     {
-        resolved(self.resolve(chunk, output))
+        resolved_outcome(self.resolve(chunk, output))
     }
 
     /// Returns the outputs that a chunk is pending for: bit `i` is output `i`. It is 0 if there is no such
@@ -310,14 +322,14 @@ impl Table {
     pub fn flying_bytes(&self, output: OutputId) -> u128
         ensures { result ≡ size_of (flying_to output self.now.rows) }
     {
-        self.sums.flying(output)
+        self.sums.flying_bytes(output)
     }
 
     /// Returns the bytes of closed chunks in files that wait for an output.
     pub fn waiting_bytes(&self, output: OutputId) -> u128
         ensures { result ≡ size_of (waiting_for output self.now.rows) }
     {
-        self.sums.waiting(output)
+        self.sums.waiting_bytes(output)
     }
 
     /// Returns the bytes of memory that the open and pending chunks of an input use. Requires an input
@@ -348,8 +360,10 @@ impl Table {
     pub fn find(&self, chunk: ChunkId) -> Option<RowSeen>
         ensures value { result ≡ option_map seen_of (row_at chunk self.now.rows) }
         ensures alone { filter (is_row_of chunk) self.now.rows ≡ option_to_list (row_at chunk self.now.rows) }
-        ensures owed { IfSome (row_at chunk self.now.rows) (λ row. IfSome result (λ seen. IsMaskOf row.routes seen.owed)) }
-        ensures flying { IfSome (row_at chunk self.now.rows) (λ row. IfSome result (λ seen. IsMaskOf (flying_of row.routes) seen.flying)) }
+        ensures owed { IfSome (row_at chunk self.now.rows)
+            (λ row. IfSome result (λ seen. IsMaskOf row.routes seen.owed)) }
+        ensures flying { IfSome (row_at chunk self.now.rows)
+            (λ row. IfSome result (λ seen. IsMaskOf (flying_of row.routes) seen.flying)) }
     {
         let row = find_row(&self.places, chunk)?;
         Some(row.seen())
@@ -374,9 +388,12 @@ impl Table {
     /// chunk.
     pub fn row(&self, place: u64) -> Option<RowSeen>
         ensures value { result ≡ option_map seen_of (get_or self.now.places place None) }
-        ensures only { IfSome result (λ seen. get_or self.now.places place None ≡ row_at seen.chunk self.now.rows) }
-        ensures owed { IfSome (get_or self.now.places place None) (λ row. IfSome result (λ seen. IsMaskOf row.routes seen.owed)) }
-        ensures flying { IfSome (get_or self.now.places place None) (λ row. IfSome result (λ seen. IsMaskOf (flying_of row.routes) seen.flying)) }
+        ensures only { IfSome result
+            (λ seen. get_or self.now.places place None ≡ row_at seen.chunk self.now.rows) }
+        ensures owed { IfSome (get_or self.now.places place None)
+            (λ row. IfSome result (λ seen. IsMaskOf row.routes seen.owed)) }
+        ensures flying { IfSome (get_or self.now.places place None)
+            (λ row. IfSome result (λ seen. IsMaskOf (flying_of row.routes) seen.flying)) }
     {
         let place = self.places.get(place as usize)?;
         let row = place.row.as_ref()?;
@@ -425,7 +442,7 @@ impl Table {
 
     /// Changes the row of a chunk, if there is one.
     fn change(&mut self, chunk: ChunkId, change: RowChange)
-        ensures rows { self.new.rows ≡ on_chunk chunk (row_changed change) self.old.rows }
+        ensures rows { self.new.rows ≡ on_chunk chunk (row_with_change change) self.old.rows }
         ensures spare { self.old.spare ≤ self.new.spare }
     {
         self.soonest = self.soonest.min(change.due());
@@ -442,7 +459,7 @@ impl Table {
     }
 
     /// Records that the flush of a route has failed.
-    fn failed(&mut self, chunk: ChunkId, output: OutputId, limit: Retries, due: u64) -> Outcome
+    fn fail(&mut self, chunk: ChunkId, output: OutputId, limit: Retries, due: u64) -> Outcome
         ensures rows { let again = may_retry limit (tries_of chunk output self.old.rows) in
             self.new.rows ≡ on_chunk chunk (answered_by again output due) self.old.rows }
         ensures outcome { let again = may_retry limit (tries_of chunk output self.old.rows) in
@@ -454,7 +471,7 @@ impl Table {
             self.change(chunk, RowChange::Changes { output, change });
             Outcome::Retrying
         } else {
-            spent(self.resolve(chunk, output))
+            spent_outcome(self.resolve(chunk, output))
         }
     }
 

@@ -19,7 +19,7 @@ use Rattle.fwd_chunk.specs.declared.kept.Kept.{Kept as Held}
 use Rattle.fwd_chunk.specs.declared.kept.Kept.TheVariants.{InFile, Adopted, InMemory}
 use Rattle.fwd_chunk.specs.Content.{read_content_program}
 use Rattle.fwd_chunk.proofs.ContentAnswers.{holds_reads}
-use Rattle.fwd_table.specs.declared.row.Row.{Row}
+use Rattle.fwd_table.specs.Row.{Row}
 use Rattle.fwd_table.specs.Rows.{is_row_of, row_at, waits_for}
 use Rattle.fwd_settings.specs.declared.settings_types.AllSettings.{AllSettings}
 use Rattle.fwd_model.specs.Fact.{History, Route, OnRoute, FlushStarted}

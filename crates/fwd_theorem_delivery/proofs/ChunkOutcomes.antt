@@ -3,7 +3,7 @@ use Rattle.std.proofs.Common.{◌≡◌, inl, inr, ⊎_elim, ℕ, not, Bool, tru
 use Rattle.std.specs.Prelude.{Contains, ◌==◌}
 use Rattle.std.proofs.lemmas.Bool.{eqb-true}
 use Rattle.fwd_outside.specs.Loop.{LoopEntry}
-use Rattle.fwd_table.specs.declared.route.Route.{Route as Owed}
+use Rattle.fwd_table.specs.Route.{Route as Owed}
 use Rattle.fwd_settings.specs.declared.settings_types.AllSettings.{AllSettings}
 use Rattle.fwd_model.specs.Fact.{Fact, History, Route, OnRoute, Delivered, Failed, Exhausted, Evicted}
 use Rattle.fwd_model.specs.Chunks.{ChunkInfo, chunks_of}

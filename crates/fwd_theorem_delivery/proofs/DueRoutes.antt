@@ -17,8 +17,8 @@ use Rattle.std.proofs.lemmas.Map.Keys.{sorted_head, sorted_tail}
 use Rattle.fwd_backlog.proofs.Names.{sorted_all}
 use Rattle.fwd_outside.specs.Program.{Return, Execution}
 use Rattle.fwd_retry.specs.declared.timer.Timer.{Timer}
-use Rattle.fwd_table.specs.declared.row.Row.{Row}
-use Rattle.fwd_table.specs.declared.route.Route.{Route as Owed}
+use Rattle.fwd_table.specs.Row.{Row}
+use Rattle.fwd_table.specs.Route.{Route as Owed}
 use Rattle.fwd_table.specs.Routes.{timer_of, idle_timers}
 use Rattle.fwd_table.specs.Rows.{timers_of_row, idle_timers_of}
 use Rattle.fwd_settings.specs.declared.settings_types.AllSettings.{AllSettings}

@@ -10,8 +10,8 @@ use Rattle.fwd_base.specs.declared.ids.OutputId.{OutputId}
 use Rattle.fwd_flush.specs.FlushProgram.{Progress}
 use Rattle.fwd_table.specs.Routes.{is_to, flying_of}
 use Rattle.fwd_table.specs.Rows.{is_row_of, waits_for}
-use Rattle.fwd_table.specs.declared.row.Row.{Row}
-use Rattle.fwd_table.specs.declared.route.Route.{Route as Owed}
+use Rattle.fwd_table.specs.Row.{Row}
+use Rattle.fwd_table.specs.Route.{Route as Owed}
 use Rattle.fwd_table.specs.Usage.{is_file, in_file, is_flying, is_waiting, size_of}
 use Rattle.fwd_limits.specs.Evictions.{fixed, other_waiting, evicted_among, evicted_for}
 use Rattle.fwd_settings.specs.declared.settings_types.AllSettings.{AllSettings}

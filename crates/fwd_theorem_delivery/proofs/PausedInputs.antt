@@ -9,7 +9,7 @@ use Rattle.fwd_outside.specs.Program.{entry, Execution}
 use Rattle.fwd_outside.specs.Loop.{Wait}
 use Rattle.fwd_outside.specs.declared.ends.Ends.{Ends}
 use Rattle.fwd_outside.specs.declared.happening.Happening.{Happening}
-use Rattle.fwd_table.specs.declared.row.Row.{Row}
+use Rattle.fwd_table.specs.Row.{Row}
 use Rattle.fwd_table.specs.Usage.{is_file, in_file, size_of}
 use Rattle.fwd_table.specs.Usage.{memory_of, is_from as row_is_from}
 use Rattle.fwd_limits.specs.Backpressure.{reaches}

@@ -11,8 +11,8 @@ use Rattle.fwd_outside.specs.Program.{entry, Execution}
 use Rattle.fwd_outside.specs.declared.ends.Ends.{Ends}
 use Rattle.fwd_retry.specs.Wait.{longest, wait}
 use Rattle.fwd_table.specs.Outcomes.{may_retry}
-use Rattle.fwd_table.specs.declared.row.Row.{Row}
-use Rattle.fwd_table.specs.declared.route.Route.{Route as Owed}
+use Rattle.fwd_table.specs.Row.{Row}
+use Rattle.fwd_table.specs.Route.{Route as Owed}
 use Rattle.fwd_table.specs.Routes.{is_to}
 use Rattle.fwd_table.specs.Rows.{is_row_of, row_at, waits_for}
 use Rattle.fwd_settings.specs.declared.settings_types.AllSettings.{AllSettings}

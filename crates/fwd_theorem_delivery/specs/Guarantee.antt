@@ -3,7 +3,7 @@ use Rattle.std.specs.Prelude.{◌≡◌, ◌⊎◌, ℕ, true, if◌then◌else�
 use Rattle.fwd_outside.specs.declared.happening.Happening.TheVariants as happening
 use Rattle.fwd_outside.specs.Loop.{LoopEntry}
 use Rattle.fwd_in_tail.specs.Followed.{polled}
-use Rattle.fwd_table.specs.declared.row.Row.{Row}
+use Rattle.fwd_table.specs.Row.{Row}
 use Rattle.fwd_settings.specs.declared.settings_types.AllSettings.{AllSettings}
 use Rattle.fwd_model.specs.Fact.{Fact, History, Stream, LineStream, MessageStream, Standard, Batch, Placement, Reason, Route, Happened, Polled, Disconnected, Malformed, Accepted, Refused, OnRoute, Delivered, Failed, Exhausted, Evicted}
 use Rattle.fwd_model.specs.Settings.{outputs_for, reads_stdin_at}

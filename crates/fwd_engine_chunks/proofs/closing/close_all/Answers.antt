@@ -1,7 +1,7 @@
 use Rattle.std.proofs.Common.{◌≡◌, ℕ, ◌+◌, not, List, None, drop, get_or, map, filter, refl, sym, ◌∙◌, ap, subst, arith}
 use Rattle.std.proofs.lemmas.List.{drop_more, drop_all}
 use Rattle.fwd_base.specs.declared.ids.ChunkId.{ChunkId}
-use Rattle.fwd_table.specs.declared.row.Row.{Row}
+use Rattle.fwd_table.specs.Row.{Row}
 use Rattle.fwd_model.specs.Fact.{History}
 use Rattle.fwd_model.specs.Chunks.{ChunkInfo, open_chunks}
 use Rattle.fwd_model.specs.CloseActions.{shuts, closes_all}

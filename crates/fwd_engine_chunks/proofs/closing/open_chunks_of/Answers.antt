@@ -1,6 +1,6 @@
 use Rattle.std.proofs.Common.{List, [], ◌∷◌, ◌++◌, map, filter, not, sym, ◌∙◌, ap, Vec, Global, arith}
 use Rattle.fwd_base.specs.declared.ids.ChunkId.{ChunkId}
-use Rattle.fwd_table.specs.declared.row.Row.{Row}
+use Rattle.fwd_table.specs.Row.{Row}
 use Rattle.fwd_table.proofs.SlotRows.{all_places}
 use Rattle.fwd_engine_chunks.proofs.Scans.{open_more, open_same, open_none}
 use Rattle.fwd_engine_chunks.proofs.closing.open_chunks_of.Goals as goal

@@ -2,7 +2,7 @@ use Rattle.std.proofs.Common.{◌≡◌, List, [], sym, ◌∙◌, ap, subst}
 use Rattle.std.specs.Option.{option_map_or}
 use Rattle.fwd_flush.specs.FlushProgram.{Delivery}
 use Rattle.fwd_table.specs.Rows.{row_at}
-use Rattle.fwd_table.specs.declared.row.Row.{Row}
+use Rattle.fwd_table.specs.Row.{Row}
 use Rattle.fwd_payload.specs.Reader.{IsFlushTo}
 use Rattle.fwd_model.specs.Settings.{output_at}
 use Rattle.fwd_model.specs.Payloads.{delivery_at, tag_of_chunk}

@@ -5,7 +5,7 @@ use Rattle.fwd_event.specs.declared.event.Event.{Event}
 use Rattle.fwd_event.specs.Event.{AreEvents}
 use Rattle.fwd_flush.specs.FlushProgram.{starts, delivery as delivery_of}
 use Rattle.fwd_table.specs.Rows.{row_at}
-use Rattle.fwd_table.specs.declared.row.Row.{Row}
+use Rattle.fwd_table.specs.Row.{Row}
 use Rattle.fwd_payload.specs.Reader.{wants, judges}
 use Rattle.fwd_outside.specs.Program.{bind}
 use Rattle.fwd_model.specs.Fact.{OnRoute, FlushStarted}

@@ -2,7 +2,7 @@ use Rattle.std.proofs.Common.{◌≡◌, ℕ, ◌<◌, List, Option, Some, None,
 use Rattle.std.specs.Prelude.{IsSomeAnd}
 use Rattle.std.specs.List.{slice_get}
 use Rattle.std.proofs.lemmas.Option.{slice_get-get_or, slice_get_within}
-use Rattle.fwd_table.specs.declared.row.Row.{Row}
+use Rattle.fwd_table.specs.Row.{Row}
 use Rattle.fwd_table.specs.Usage.{memory_of}
 use Rattle.fwd_limits.specs.Backpressure.{IsPaused, reaches}
 use Rattle.fwd_limits.proofs.Masks.{MaskBelow, mask_whole, mask_skip, mask_more}

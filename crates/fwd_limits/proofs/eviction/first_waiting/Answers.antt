@@ -1,5 +1,5 @@
 use Rattle.std.proofs.Common.{◌&&◌, not, List, refl, sym, ap, ◌∙◌, arith}
-use Rattle.fwd_table.specs.declared.row.Row.{Row}
+use Rattle.fwd_table.specs.Row.{Row}
 use Rattle.fwd_table.specs.Rows.{is_row_of}
 use Rattle.fwd_table.specs.Usage.{in_file, is_waiting}
 use Rattle.fwd_table.proofs.SlotRows.{all_places, none_seen}

@@ -1,5 +1,5 @@
 use Rattle.std.proofs.Common.{◌≡◌, ◌/◌, ◌^◌, ◌++◌, drop}
-use Rattle.fwd_table.specs.declared.row.Row.{Row}
+use Rattle.fwd_table.specs.Row.{Row}
 use Rattle.fwd_table.specs.Routes.{IsMaskOf}
 use Rattle.fwd_report.specs.Report.{names_from}
 use Rattle.fwd_report.proofs.pending.push_names.Given as goal

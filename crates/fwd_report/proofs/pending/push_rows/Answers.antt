@@ -1,6 +1,6 @@
 use Rattle.std.proofs.Common.{List, ◌++◌, sym, ◌∙◌, ap, arith}
 use Rattle.std.specs.List.{flat_map}
-use Rattle.fwd_table.specs.declared.row.Row.{Row}
+use Rattle.fwd_table.specs.Row.{Row}
 use Rattle.fwd_table.proofs.SlotRows.{all_places}
 use Rattle.fwd_report.specs.Report.{row_lines}
 use Rattle.fwd_report.proofs.RowLines.{rows_more}

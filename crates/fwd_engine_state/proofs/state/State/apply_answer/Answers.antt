@@ -2,7 +2,7 @@ use Rattle.std.proofs.Common.{◌≡◌, ℕ, ◌<◌, Bool, true, false, inl, i
 use Rattle.std.proofs.lemmas.Bool.{cases_Bool}
 use Rattle.fwd_table.specs.Outcomes.{due_after, is_tried_again}
 use Rattle.fwd_table.specs.Rows.{has_row, on_chunk, retried_to, resolved_to, owed_rows, tries_of}
-use Rattle.fwd_table.specs.declared.row.Row.{Row}
+use Rattle.fwd_table.specs.Row.{Row}
 use Rattle.fwd_model.specs.Fact.{Retries}
 use Rattle.fwd_model.specs.Clock.{clock}
 use Rattle.fwd_model.specs.Routes.{resolves, rows_of}

@@ -1,6 +1,6 @@
 use Rattle.std.proofs.Common.{ℕ, ◌<◌, List, refl, sym, ◌∙◌, ap, subst}
 use Rattle.fwd_table.specs.Rows.{on_chunk, resolved_to, owed_rows}
-use Rattle.fwd_table.specs.declared.row.Row.{Row}
+use Rattle.fwd_table.specs.Row.{Row}
 use Rattle.fwd_model.specs.Fact.{Evicted}
 use Rattle.fwd_engine_state.specs.Views.{chunk_id, output_id, route_of}
 use Rattle.fwd_engine_state.proofs.RowsAddedAndRemoved.{rows_ended}

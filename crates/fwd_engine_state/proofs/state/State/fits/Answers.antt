@@ -1,6 +1,6 @@
 use Rattle.std.proofs.Common.{List, ◌∙◌, ap}
 use Rattle.fwd_table.specs.Rows.{row_at}
-use Rattle.fwd_table.specs.declared.row.Row.{Row}
+use Rattle.fwd_table.specs.Row.{Row}
 use Rattle.fwd_model.specs.Dispatch.{fits_row}
 use Rattle.fwd_engine_state.proofs.state.State.fits.Goals as goal
 

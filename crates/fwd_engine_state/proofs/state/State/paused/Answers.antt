@@ -2,7 +2,7 @@ use Rattle.std.proofs.Common.{◌≡◌, ◌↔◌, ℕ, ◌<◌, List, length, 
 use Rattle.std.specs.Prelude.{IsBitSet}
 use Rattle.std.proofs.lemmas.List.{length-map}
 use Rattle.fwd_settings.specs.declared.settings_types.InputSet.{InputSet}
-use Rattle.fwd_table.specs.declared.row.Row.{Row}
+use Rattle.fwd_table.specs.Row.{Row}
 use Rattle.fwd_limits.specs.Backpressure.{IsPaused}
 use Rattle.fwd_engine_state.proofs.PauseMask.{some_at, none_at, all_paused, some_paused}
 use Rattle.fwd_engine_state.proofs.state.State.paused.Goals as goal

@@ -1,5 +1,5 @@
-use Rattle.fwd_table.proofs.Chunks.{rise-on_chunk}
-use Rattle.fwd_table.proofs.DueTimes.{on_chunk_waits}
+use Rattle.fwd_table_rows.proofs.Chunks.{rise-on_chunk}
+use Rattle.fwd_table_rows.proofs.DueTimes.{on_chunk_waits}
 use Rattle.fwd_table.proofs.table.Table.change.Goals as goal
 
 pub invariant_of-self : goal.invariant_of-self

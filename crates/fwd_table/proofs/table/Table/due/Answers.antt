@@ -1,10 +1,10 @@
 use Rattle.std.proofs.Common.{◌≡◌, [], refl}
 use Rattle.std.specs.Prelude.{filter, nat_le}
 use Rattle.fwd_retry.specs.declared.timer.Timer.{Timer}
-use Rattle.fwd_table.specs.Slots.{rows_in}
-use Rattle.fwd_table.specs.Rows.{idle_timers_of}
-use Rattle.fwd_table.proofs.SlotChanges.{timers_standing}
-use Rattle.fwd_table.proofs.DueTimes.{none_due}
+use Rattle.fwd_table_rows.specs.Slots.{rows_in}
+use Rattle.fwd_table_rows.specs.Rows.{idle_timers_of}
+use Rattle.fwd_table_rows.proofs.SlotChanges.{timers_standing}
+use Rattle.fwd_table_rows.proofs.DueTimes.{none_due}
 use Rattle.fwd_table.proofs.table.Table.due.Goals as goal
 
 pub returns-then-now-self-clause-due : goal.returns-then-now-self-clause-due

@@ -1,10 +1,10 @@
 use Rattle.std.proofs.Common.{◌∙◌, arith}
 use Rattle.std.specs.Prelude.{◌&&◌}
-use Rattle.fwd_table.specs.declared.row.Row.{Row}
-use Rattle.fwd_table.specs.Usage.{in_file, flies}
-use Rattle.fwd_table.specs.Slots.{rows_in}
+use Rattle.fwd_table_rows.specs.declared.row.Row.{Row}
+use Rattle.fwd_table_rows.specs.Usage.{in_file, flies}
+use Rattle.fwd_table_rows.specs.Slots.{rows_in}
 use Rattle.fwd_table.proofs.Usage.{files_are, kept_few}
-use Rattle.fwd_table.proofs.SlotChanges.{few_standing}
+use Rattle.fwd_table_rows.proofs.SlotChanges.{few_standing}
 use Rattle.fwd_table.proofs.table.Table.files_up.Goals as goal
 
 pub overflow_cast-result : goal.overflow_cast-result

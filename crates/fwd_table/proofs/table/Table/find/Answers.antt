@@ -1,5 +1,5 @@
-use Rattle.fwd_table.specs.Slots.{rows_in}
-use Rattle.fwd_table.proofs.ChunkRows.{alone_in}
+use Rattle.fwd_table_rows.specs.Slots.{rows_in}
+use Rattle.fwd_table_rows.proofs.ChunkRows.{alone_in}
 use Rattle.fwd_table.proofs.table.Table.find.Goals as goal
 
 pub returns-in_err-row-clause-alone : goal.returns-in_err-row-clause-alone

@@ -1,8 +1,8 @@
 use Rattle.std.proofs.Common.{arith}
-use Rattle.fwd_table.specs.Rows.{flies_to}
-use Rattle.fwd_table.specs.Slots.{rows_in}
+use Rattle.fwd_table_rows.specs.Rows.{flies_to}
+use Rattle.fwd_table_rows.specs.Slots.{rows_in}
 use Rattle.fwd_table.proofs.Usage.{flights_are, kept_few}
-use Rattle.fwd_table.proofs.SlotChanges.{few_standing}
+use Rattle.fwd_table_rows.proofs.SlotChanges.{few_standing}
 use Rattle.fwd_table.proofs.table.Table.flights_to.Goals as goal
 
 pub returns : goal.returns

@@ -1,10 +1,10 @@
 use Rattle.std.proofs.Common.{◌≡◌, ◌<◌, not, ◌∙◌}
 use Rattle.std.proofs.lemmas.List.Elements.{All-filter}
 use Rattle.std.proofs.lemmas.List.Kept.{AllPairs-filter}
-use Rattle.fwd_table.specs.declared.row.Row.{Row}
-use Rattle.fwd_table.specs.Slots.{rows_in}
-use Rattle.fwd_table.specs.Rows.{IsNotDueBefore, IsOwedToNobody, is_row_of, without_chunk}
-use Rattle.fwd_table.specs.Sums.{IsValidRow}
+use Rattle.fwd_table_rows.specs.declared.row.Row.{Row}
+use Rattle.fwd_table_rows.specs.Slots.{rows_in}
+use Rattle.fwd_table_rows.specs.Rows.{IsNotDueBefore, IsOwedToNobody, is_row_of, without_chunk}
+use Rattle.fwd_table_rows.specs.Sums.{IsValidRow}
 use Rattle.fwd_table.proofs.Usage.{owed_without}
 use Rattle.fwd_table.proofs.table.Table.forget.Goals as goal
 

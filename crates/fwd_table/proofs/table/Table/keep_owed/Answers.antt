@@ -1,5 +1,6 @@
 use Rattle.std.proofs.Common.{◌∙◌, ap}
-use Rattle.fwd_table.specs.Rows.{TableModel, owed_rows}
+use Rattle.fwd_table_rows.specs.Rows.{owed_rows}
+use Rattle.fwd_table.specs.TableModel.{TableModel}
 use Rattle.fwd_table.proofs.table.Table.keep_owed.Goals as goal
 use Rattle.fwd_table.proofs.table.Table.keep_owed.Goals.{then-is_owed_to_nobody, else-is_owed_to_nobody}
 

@@ -1,7 +1,7 @@
 use Rattle.std.proofs.Common.{◌∙◌, arith}
-use Rattle.fwd_table.specs.Slots.{rows_in}
+use Rattle.fwd_table_rows.specs.Slots.{rows_in}
 use Rattle.fwd_table.proofs.Usage.{rows_are}
-use Rattle.fwd_table.proofs.SlotChanges.{few_standing}
+use Rattle.fwd_table_rows.proofs.SlotChanges.{few_standing}
 use Rattle.fwd_table.proofs.table.Table.len.Goals as goal
 
 pub overflow_cast-result : goal.overflow_cast-result

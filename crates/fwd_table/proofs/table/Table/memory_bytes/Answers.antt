@@ -1,5 +1,5 @@
 use Rattle.std.proofs.Common.{◌∙◌}
-use Rattle.fwd_table.specs.Slots.{rows_in}
+use Rattle.fwd_table_rows.specs.Slots.{rows_in}
 use Rattle.fwd_table.proofs.Usage.{memory_is}
 use Rattle.fwd_table.proofs.table.Table.memory_bytes.Goals as goal
 

@@ -2,8 +2,8 @@ use Rattle.std.proofs.Common.{◌≡◌}
 use Rattle.std.specs.Prelude.{filter}
 use Rattle.fwd_retry.specs.Timer.{first, is_next}
 use Rattle.fwd_retry.proofs.Order.{first_is_first}
-use Rattle.fwd_table.specs.Rows.{idle_timers_of}
-use Rattle.fwd_table.proofs.SlotChanges.{timers_standing}
+use Rattle.fwd_table_rows.specs.Rows.{idle_timers_of}
+use Rattle.fwd_table_rows.proofs.SlotChanges.{timers_standing}
 use Rattle.fwd_table.proofs.table.Table.next_due.Goals as goal
 
 pub returns-clause-value : goal.returns-clause-value

@@ -1,6 +1,6 @@
 use Rattle.std.proofs.Common.{◌≡◌, ◌<◌, length, refl, ap, sym}
-use Rattle.fwd_table.specs.declared.row.RowSeen.{RowSeen}
-use Rattle.fwd_table.proofs.SlotChanges.{stands_at}
+use Rattle.fwd_table_rows.specs.declared.row.RowSeen.{RowSeen}
+use Rattle.fwd_table_rows.proofs.SlotChanges.{stands_at}
 use Rattle.fwd_table.proofs.table.Table.row.Goals as goal
 
 pub returns-clause-only : goal.returns-clause-only

@@ -3,10 +3,10 @@ use Rattle.std.specs.Prelude.{◌==◌}
 use Rattle.std.proofs.lemmas.Bool.{eqb-true, not-false}
 use Rattle.std.proofs.lemmas.List.Elements.{All-filter}
 use Rattle.std.proofs.lemmas.List.Kept.{AllPairs-filter}
-use Rattle.fwd_table.specs.declared.row.Row.{Row}
-use Rattle.fwd_table.specs.Slots.{rows_in}
-use Rattle.fwd_table.specs.Rows.{IsNotDueBefore, is_owed_row}
-use Rattle.fwd_table.specs.Sums.{IsValidRow, Unowed}
+use Rattle.fwd_table_rows.specs.declared.row.Row.{Row}
+use Rattle.fwd_table_rows.specs.Slots.{rows_in}
+use Rattle.fwd_table_rows.specs.Rows.{IsNotDueBefore, is_owed_row}
+use Rattle.fwd_table_rows.specs.Sums.{IsValidRow, Unowed, total}
 use Rattle.fwd_table.proofs.Usage.{none_unowed}
 use Rattle.fwd_table.proofs.table.Table.sweep.Goals as goal
 
@@ -30,5 +30,5 @@ returns-then-has_unowed-clause-rows c = rw (← c.self.view_is) c.drop_unowed_pl
 
 pub returns-else-has_unowed-clause-rows : goal.returns-else-has_unowed-clause-rows
 returns-else-has_unowed-clause-rows c =
-    let none : c.self.inside.sums.unowed ≡ 0 = eqb-true c.self.inside.sums.unowed 0 (not-false (c.self.inside.sums.unowed == 0) (sym c.has_unowed.ensures ∙ c.if-has_unowed.false)) in
+    let none : total Unowed 0 c.self.inside.sums ≡ 0 = eqb-true (total Unowed 0 c.self.inside.sums) 0 (not-false (total Unowed 0 c.self.inside.sums == 0) (sym c.has_unowed.ensures ∙ c.if-has_unowed.false)) in
     rw (← c.self.view_is) (sym (none_unowed (rows_in c.self.inside.places.items) (sym (c.self.invariant.kept.summed Unowed 0 (omega arith)) ∙ none)))

@@ -2,13 +2,13 @@ use Rattle.std.proofs.Common.{◌<◌, refl, arith}
 use Rattle.std.specs.Prelude.{All}
 use Rattle.std.proofs.lemmas.List.Quantifiers.{all_pairs_push}
 use Rattle.std.proofs.lemmas.List.Elements.{All-push}
-use Rattle.fwd_table.specs.declared.slot.Slot.{Slot}
-use Rattle.fwd_table.specs.declared.row.Row.{Row}
-use Rattle.fwd_table.specs.Slots.{HasOwnRow, rows_in}
-use Rattle.fwd_table.specs.Rows.{IsNotDueBefore}
-use Rattle.fwd_table.specs.Sums.{IsValidRow}
-use Rattle.fwd_table.proofs.SlotChanges.{few_standing, standing_push}
-use Rattle.fwd_table.proofs.RowSums.{comes_in, opened_sound, sums_pushed}
+use Rattle.fwd_table_rows.specs.declared.slot.Slot.{Slot}
+use Rattle.fwd_table_rows.specs.declared.row.Row.{Row}
+use Rattle.fwd_table_rows.specs.Slots.{HasOwnRow, rows_in}
+use Rattle.fwd_table_rows.specs.Rows.{IsNotDueBefore}
+use Rattle.fwd_table_rows.specs.Sums.{IsValidRow}
+use Rattle.fwd_table_rows.proofs.SlotChanges.{few_standing, standing_push}
+use Rattle.fwd_table_rows.proofs.RowSums.{comes_in, opened_sound, sums_pushed}
 use Rattle.fwd_table.proofs.table.Table.took.Goals as goal
 
 pub free_end-requires-clause-above : goal.free_end-requires-clause-above

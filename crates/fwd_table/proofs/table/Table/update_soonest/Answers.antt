@@ -1,5 +1,5 @@
-use Rattle.fwd_table.specs.Rows.{IsNotDueBefore}
-use Rattle.fwd_table.proofs.SlotChanges.{All-rows_in}
+use Rattle.fwd_table_rows.specs.Rows.{IsNotDueBefore}
+use Rattle.fwd_table_rows.proofs.SlotChanges.{All-rows_in}
 use Rattle.fwd_table.proofs.table.Table.update_soonest.Goals as goal
 
 pub invariant_of-self : goal.invariant_of-self

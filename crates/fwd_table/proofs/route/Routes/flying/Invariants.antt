@@ -1,6 +1,0 @@
-use Rattle.std.proofs.Common.{◌≡◌, take}
-use Rattle.fwd_table.specs.Routes.{mask_of, flying_of}
-use Rattle.fwd_table.proofs.route.Routes.flying.Given as goal
-
-abbrev pub invariant-loop-route : goal.invariant-loop-route
-invariant-loop-route l = l.mask ≡ mask_of (flying_of (take l.route-index l.route-items))

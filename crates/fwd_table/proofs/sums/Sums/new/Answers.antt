@@ -1,5 +1,0 @@
-use Rattle.fwd_table.proofs.RowSums.{none_summed}
-use Rattle.fwd_table.proofs.sums.Sums.new.Goals as goal
-
-pub returns : goal.returns
-returns c = none_summed

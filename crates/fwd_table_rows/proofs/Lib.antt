@@ -1,0 +1,11 @@
+pub mod RouteOrder
+pub mod Masks
+pub mod MaskRoutes
+pub mod Bits
+pub mod Chunks
+pub mod ChunkRows
+pub mod DueTimes
+pub mod RowSums
+pub mod SlotChanges
+pub mod SlotRows
+pub mod SlotSums
