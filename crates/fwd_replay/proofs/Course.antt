@@ -10,17 +10,17 @@ use Rattle.fwd_outside.specs.Program.{entry}
 use Rattle.fwd_outside.specs.declared.happening.Happening.{Happening}
 use Rattle.fwd_outside.specs.Loop.{LoopEntry, Wait}
 use Rattle.fwd_outside.specs.Files.{FilesCall, FilesAnswer, FilesEntry, FilesGiven, Length, ReadAt, Changed, FailAt, found, files_after, files_after_all}
-use Rattle.fwd_script.specs.declared.files.FilesNote.TheVariants as note
+use Rattle.fwd_files_mem.specs.declared.files.FilesNote.TheVariants as note
 use Rattle.fwd_script.specs.declared.schedule.Cut.{Cut}
-use Rattle.fwd_script.specs.declared.schedule.FileChange.{FileChange}
-use Rattle.fwd_script.specs.declared.schedule.FileChange.TheVariants as file_change
+use Rattle.fwd_files_mem.specs.declared.change.FileChange.{FileChange}
+use Rattle.fwd_files_mem.specs.declared.change.FileChange.TheVariants as file_change
 use Rattle.fwd_script.specs.declared.schedule.Planned.{Planned}
 use Rattle.fwd_script.specs.declared.schedule.Planned.TheVariants.{Changes}
-use Rattle.fwd_script.specs.FilesState.{FilesState}
-use Rattle.fwd_script.specs.FilesAnswers.{IsPlayed, answer_behind, fails_of, is_made, made_of, readable_after, to_fail}
-use Rattle.fwd_script.specs.MemFiles.{changed, entries_from, preset_entries, with_note, path_of}
-use Rattle.fwd_script.proofs.FilesInvariant.{entries_push}
-use Rattle.fwd_script.proofs.FilePaths.{has_none}
+use Rattle.fwd_files_mem.specs.FilesState.{FilesState}
+use Rattle.fwd_files_mem.specs.FilesAnswers.{IsPlayed, answer_behind, fails_of, is_made, made_of, readable_after, to_fail}
+use Rattle.fwd_files_mem.specs.MemFiles.{changed, entries_from, preset_entries, with_note, path_of}
+use Rattle.fwd_files_mem.proofs.FilesInvariant.{entries_push}
+use Rattle.fwd_files_mem.proofs.FilePaths.{has_none}
 use Rattle.fwd_script_loop.specs.ScriptRun.{ahead_after_calls, change_in}
 use Rattle.fwd_model.specs.Trace.{Call, Answer, TraceEntry, OnLoop, OnDisk, OnFiles, OnKeeper, Note, loop_entry, loop_part, files_entry, files_part}
 use Rattle.fwd_theorem_trace.proofs.WaitCounts.{is_plain, ArePlain}

@@ -21,9 +21,9 @@ use Rattle.fwd_settings.specs.Endpoints.{ends_of}
 use Rattle.fwd_settings.specs.declared.settings_types.AllSettings.{AllSettings}
 use Rattle.fwd_script.specs.declared.schedule.Cut.{Cut}
 use Rattle.fwd_script.specs.declared.schedule.Life.{Life}
-use Rattle.fwd_script.specs.FilesState.{FilesState}
-use Rattle.fwd_script.specs.FilesAnswers as files_played
-use Rattle.fwd_script.specs.MemFiles.{entries_from, files_now}
+use Rattle.fwd_files_mem.specs.FilesState.{FilesState}
+use Rattle.fwd_files_mem.specs.FilesAnswers as files_played
+use Rattle.fwd_files_mem.specs.MemFiles.{entries_from, files_now}
 use Rattle.fwd_script_loop.specs.ScriptRun.{told_of}
 use Rattle.fwd_script_loop.specs.Lines.{given_in, given_of}
 use Rattle.fwd_script_loop.specs.Place as place

@@ -4,7 +4,7 @@ use Rattle.std.proofs.lemmas.List.{append-nil, drop_all, drop_more}
 use Rattle.fwd_settings.specs.declared.settings_types.AllSettings.{AllSettings}
 use Rattle.fwd_disk_mem.specs.DiskState.{Seen}
 use Rattle.fwd_keeper_mem.specs.KeeperState.{KeeperState}
-use Rattle.fwd_script.specs.FilesState.{FilesState}
+use Rattle.fwd_files_mem.specs.FilesState.{FilesState}
 use Rattle.fwd_script.specs.declared.schedule.Cut.{Cut}
 use Rattle.fwd_script.specs.declared.schedule.Life.{Life}
 use Rattle.fwd_table.specs.declared.tally.Tally.{Tally}

@@ -15,11 +15,11 @@ use Rattle.fwd_disk_mem.specs.Told as disk
 use Rattle.fwd_disk_mem.proofs.CallTrace.{split_told, played_behind}
 use Rattle.fwd_settings.specs.Endpoints.{ends_of}
 use Rattle.fwd_settings.specs.declared.settings_types.AllSettings.{AllSettings}
-use Rattle.fwd_script.specs.FilesState.{FilesState}
-use Rattle.fwd_script.specs.FilesAnswers.{fails_of, made_of}
-use Rattle.fwd_script.specs.MemFiles.{entries_from, files_now}
-use Rattle.fwd_script.specs.declared.files.FilesNote.{FilesNote}
-use Rattle.fwd_script.specs.declared.files.FilesNote.TheVariants as note
+use Rattle.fwd_files_mem.specs.FilesState.{FilesState}
+use Rattle.fwd_files_mem.specs.FilesAnswers.{fails_of, made_of}
+use Rattle.fwd_files_mem.specs.MemFiles.{entries_from, files_now}
+use Rattle.fwd_files_mem.specs.declared.files.FilesNote.{FilesNote}
+use Rattle.fwd_files_mem.specs.declared.files.FilesNote.TheVariants as note
 use Rattle.fwd_script.specs.declared.schedule.Life.{Life}
 use Rattle.fwd_script.specs.declared.schedule.Stored.{Stored}
 use Rattle.fwd_script_loop.specs.ScriptRun.{new_script, told_of}

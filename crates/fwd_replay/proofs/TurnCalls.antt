@@ -16,13 +16,13 @@ use Rattle.fwd_disk_mem.proofs.CallTrace.{split_told}
 use Rattle.fwd_settings.specs.Endpoints.{ends_of}
 use Rattle.fwd_settings.specs.declared.settings_types.AllSettings.{AllSettings}
 use Rattle.fwd_script.specs.declared.schedule.Cut.{Cut}
-use Rattle.fwd_script.specs.declared.schedule.FileChange.{FileChange}
+use Rattle.fwd_files_mem.specs.declared.change.FileChange.{FileChange}
 use Rattle.fwd_script.specs.declared.schedule.Life.{Life}
 use Rattle.fwd_script.specs.declared.schedule.Planned.{Planned}
-use Rattle.fwd_script.specs.FilesState.{FilesState}
-use Rattle.fwd_script.specs.FilesAnswers.{IsPlayed}
-use Rattle.fwd_script.specs.MemFiles.{entries_from}
-use Rattle.fwd_script.specs.MemFiles as files
+use Rattle.fwd_files_mem.specs.FilesState.{FilesState}
+use Rattle.fwd_files_mem.specs.FilesAnswers.{IsPlayed}
+use Rattle.fwd_files_mem.specs.MemFiles.{entries_from}
+use Rattle.fwd_files_mem.specs.MemFiles as files
 use Rattle.fwd_script_loop.specs.declared.queue.Coming.{Coming}
 use Rattle.fwd_script_loop.specs.PauseMask.{hears}
 use Rattle.fwd_script_loop.specs.ScriptRun.{ahead_after_calls, changes_between, next_in as script_next, told_of}

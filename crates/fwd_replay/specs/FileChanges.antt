@@ -5,10 +5,10 @@ use Rattle.std.specs.List.{list_any}
 use Rattle.std.specs.Str.{bytes_eq}
 use Rattle.fwd_outside.specs.Files.{FilesCall, FilesAnswer, Length, ReadAt, Changed, FailAt}
 use Rattle.fwd_outside.specs.Loop.{LoopCall, Wait}
-use Rattle.fwd_script.specs.declared.schedule.FileChange.{FileChange}
+use Rattle.fwd_files_mem.specs.declared.change.FileChange.{FileChange}
 use Rattle.fwd_script.specs.declared.schedule.Planned.{Planned}
-use Rattle.fwd_script.specs.MemFiles.{path_of, changed}
-use Rattle.fwd_script.specs.FilesAnswers.{is_made}
+use Rattle.fwd_files_mem.specs.MemFiles.{path_of, changed}
+use Rattle.fwd_files_mem.specs.FilesAnswers.{is_made}
 use Rattle.fwd_script_loop.specs.declared.queue.Coming.{Coming}
 use Rattle.fwd_script_loop.specs.FirstMatch.{without_first}
 use Rattle.fwd_script_loop.specs.PauseMask.{hears}

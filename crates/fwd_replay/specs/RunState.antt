@@ -18,10 +18,10 @@ use Rattle.fwd_keeper_mem.specs.MemKeeper.{offsets_now}
 use Rattle.fwd_keeper_mem.specs.Offsets.{SameOffsets}
 use Rattle.fwd_settings.specs.Endpoints.{ends_of}
 use Rattle.fwd_settings.specs.declared.settings_types.AllSettings.{AllSettings}
-use Rattle.fwd_script.specs.FilesState.{FilesState}
-use Rattle.fwd_script.specs.FilesAnswers.{fails_of, made_of}
-use Rattle.fwd_script.specs.MemFiles.{SameFiles, entries_from, files_now}
-use Rattle.fwd_script.specs.MemFiles as files
+use Rattle.fwd_files_mem.specs.FilesState.{FilesState}
+use Rattle.fwd_files_mem.specs.FilesAnswers.{fails_of, made_of}
+use Rattle.fwd_files_mem.specs.MemFiles.{SameFiles, entries_from, files_now}
+use Rattle.fwd_files_mem.specs.MemFiles as files
 use Rattle.fwd_script.specs.declared.schedule.Cut.{Cut}
 use Rattle.fwd_script.specs.declared.schedule.Life.{Life}
 use Rattle.fwd_script_loop.specs.ScriptRun.{told_of}

@@ -7,7 +7,7 @@ ghost use Rattle.fwd_engine_run.specs.OffsetRows.{Keeps};
 ghost use Rattle.fwd_settings.specs.Endpoints.{ends_of};
 ghost use Rattle.fwd_settings.specs.Requirements.{MeetsRequirements};
 ghost use Rattle.fwd_settings.specs.declared.settings_types.AllSettings.{AllSettings};
-ghost use Rattle.fwd_script.specs.FilesState.{FilesState};
+ghost use Rattle.fwd_files_mem.specs.FilesState.{FilesState};
 ghost use Rattle.fwd_script.specs.declared.schedule.Life.{Life};
 ghost use Rattle.fwd_script_loop.specs.LinkBytes.{handed};
 ghost use Rattle.fwd_script_loop.specs.Told.{entries_of};

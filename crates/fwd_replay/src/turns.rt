@@ -4,9 +4,9 @@ ghost use Rattle.std.specs.Prelude.{◌≡◌, ◌<◌, ◌≤◌, ◌+◌, ◌-
 ghost use Rattle.fwd_keeper_mem.specs.KeeperState.{KeeperState};
 ghost use Rattle.fwd_settings.specs.declared.settings_types.AllSettings.{AllSettings};
 ghost use Rattle.fwd_disk_mem.specs.DiskState.{Seen};
-ghost use Rattle.fwd_script.specs.FilesState.{FilesState};
-ghost use Rattle.fwd_script.specs.FilesAnswers.{IsPlayed};
-ghost use Rattle.fwd_script.specs.MemFiles.{entries_from};
+ghost use Rattle.fwd_files_mem.specs.FilesState.{FilesState};
+ghost use Rattle.fwd_files_mem.specs.FilesAnswers.{IsPlayed};
+ghost use Rattle.fwd_files_mem.specs.MemFiles.{entries_from};
 ghost use Rattle.fwd_script.specs.declared.schedule.Life.{Life};
 ghost use Rattle.fwd_model.specs.Fact.{History};
 ghost use Rattle.fwd_engine.specs.EngineSteps.{IsAt, TurnOutcome, as_turn};

@@ -1,6 +1,3 @@
-pub mod FilePaths
-pub mod FilesInvariant
-pub mod SinkTrace
 pub mod ByteSearch
 pub mod ByteSplit
 pub mod Escapes

@@ -7,7 +7,7 @@ use Rattle.fwd_script.specs.declared.schedule.Cut.{Cut}
 use Rattle.fwd_script.specs.declared.schedule.Stored.{Stored}
 use Rattle.fwd_script.specs.declared.schedule.Planned.{Planned}
 use Rattle.fwd_script.specs.declared.schedule.Planned.TheVariants.{Happens, Ticks, Changes}
-use Rattle.fwd_script.specs.declared.schedule.FileChange.TheVariants as change
+use Rattle.fwd_files_mem.specs.declared.change.FileChange.TheVariants as change
 use Rattle.fwd_script.specs.declared.schedule.Given.{Given}
 use Rattle.fwd_script.specs.declared.schedule.Given.TheVariants as given
 use Rattle.fwd_script.specs.declared.schedule.PushWord.{PushWord}

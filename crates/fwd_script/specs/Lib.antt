@@ -1,8 +1,3 @@
-pub mod FilesState
-pub mod FilesAnswers
-pub mod MemFiles
-pub mod SinkState
-pub mod MemSink
 pub mod Words
 pub mod Keywords
 pub mod Table

@@ -12,7 +12,7 @@ use Rattle.fwd_script.specs.declared.keywords.Keyword.TheVariants.{Tick, Ticks, 
 use Rattle.fwd_script.specs.declared.meaning.LineMeaning.{LineMeaning}
 use Rattle.fwd_script.specs.declared.meaning.LineMeaning.TheVariants.{Plans, Answers, DiskFails, FileFails, Stores, Crashes}
 use Rattle.fwd_script.specs.declared.schedule.Planned.TheVariants as planned
-use Rattle.fwd_script.specs.declared.schedule.FileChange.TheVariants as change
+use Rattle.fwd_files_mem.specs.declared.change.FileChange.TheVariants as change
 use Rattle.fwd_script.specs.declared.schedule.Given.TheVariants as given
 use Rattle.fwd_script.specs.declared.schedule.PushWord.{PushWord}
 use Rattle.fwd_script.specs.declared.schedule.PushWord.TheVariants as push

@@ -1,9 +1,10 @@
 //! The types of a schedule.
 
-ghost use Rattle.std.specs.Prelude.{◌≡◌, IfOk};
+ghost use Rattle.std.specs.Prelude.{◌≡◌};
 ghost use Rattle.fwd_script.specs.Schedule.{empty_life};
 
-use fwd_base::{Bytes, Items, Memory, OutputId};
+use fwd_base::{Bytes, Items, OutputId};
+use fwd_files_mem::FileChange;
 use fwd_outside::Happening;
 use std::alloc::Global;
 
@@ -74,33 +75,6 @@ pub enum Planned {
     Changes(FileChange),
 }
 
-/// A change of a file in memory.
-#[derive(Debug, Drop, PartialEq, Eq)]
-pub enum FileChange {
-    /// Appends the bytes to the file. It creates a missing file.
-    Append { path: Bytes, bytes: Bytes },
-    /// Truncates the file to `length` bytes. It doesn't create a missing file.
-    Cut { path: Bytes, length: u64 },
-}
-
-impl FileChange {
-    /// Returns a copy of the change.
-    pub fn try_clone(&self, alloc: Global) -> Result<FileChange, Memory>
-        ensures { IfOk result (λ copy. copy ≡ self.now) }
-    {
-        Ok(match self {
-            FileChange::Append { path, bytes } => FileChange::Append {
-                path: path.try_clone(alloc)?,
-                bytes: bytes.try_clone(alloc)?,
-            },
-            FileChange::Cut { path, length } => FileChange::Cut {
-                path: path.try_clone(alloc)?,
-                length: *length,
-            },
-        })
-    }
-}
-
 /// An answer of the platform.
 #[derive(Clone, Copy, Debug, PartialEq, Eq)]
 pub enum Given {
@@ -139,6 +113,3 @@ pub type Calls = Items<u64>;
 
 /// Files on the disk.
 pub type StoredList = Items<Stored>;
-
-/// Changes of files, in order.
-pub type FileChanges = Items<FileChange>;

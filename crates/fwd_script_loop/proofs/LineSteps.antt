@@ -10,7 +10,7 @@ use Rattle.fwd_outside.specs.declared.happening.Happening.{Happening}
 use Rattle.fwd_outside.specs.declared.happening.Happening.TheVariants as happening
 use Rattle.fwd_script.specs.declared.schedule.Planned.{Planned}
 use Rattle.fwd_script.specs.declared.schedule.Planned.TheVariants.{Happens, Ticks, Changes}
-use Rattle.fwd_script.specs.declared.schedule.FileChange.{FileChange}
+use Rattle.fwd_files_mem.specs.declared.change.FileChange.{FileChange}
 use Rattle.fwd_script_loop.specs.declared.queue.Coming.{Coming}
 use Rattle.fwd_script_loop.specs.FirstMatch.{first_in}
 use Rattle.fwd_script_loop.specs.PauseMask.{comes, hears}

@@ -15,9 +15,9 @@ use Rattle.fwd_config.specs.declared.fault.ConfigFault.{ConfigFault}
 use Rattle.fwd_config.proofs.StableFiles.{way_parts, ended}
 use Rattle.fwd_settings.specs.Reading.{Checked}
 use Rattle.fwd_settings.specs.declared.settings_types.AllSettings.{AllSettings}
-use Rattle.fwd_script.specs.FilesState.{FilesState}
-use Rattle.fwd_script.specs.FilesAnswers.{fails_of, made_of, readable_after, to_fail, IsPlayed}
-use Rattle.fwd_script.specs.MemFiles.{entries_from, told_of}
+use Rattle.fwd_files_mem.specs.FilesState.{FilesState}
+use Rattle.fwd_files_mem.specs.FilesAnswers.{fails_of, made_of, readable_after, to_fail, IsPlayed}
+use Rattle.fwd_files_mem.specs.MemFiles.{entries_from, told_of}
 use Rattle.fwd_script.specs.Schedule.{schedule_of}
 use Rattle.fwd_script.specs.declared.schedule.Schedule.{Schedule}
 use Rattle.fwd_script.specs.declared.refusal.ScheduleRefused.{ScheduleRefused}

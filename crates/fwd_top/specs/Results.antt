@@ -15,8 +15,8 @@ use Rattle.fwd_settings.specs.Reading.{Checked, IsResult}
 use Rattle.fwd_settings.specs.Settings.{settings_of}
 use Rattle.fwd_settings.specs.Requirements.{MeetsRequirements}
 use Rattle.fwd_settings.specs.declared.settings_types.AllSettings.{AllSettings}
-use Rattle.fwd_script.specs.FilesState.{FilesState}
-use Rattle.fwd_script.specs.declared.files.FilesNote.TheVariants.{Preset}
+use Rattle.fwd_files_mem.specs.FilesState.{FilesState}
+use Rattle.fwd_files_mem.specs.declared.files.FilesNote.TheVariants.{Preset}
 use Rattle.fwd_script.specs.declared.refusal.ScheduleKind.{ScheduleKind}
 use Rattle.fwd_script.specs.declared.refusal.ScheduleKind.TheVariants as schedule_kind
 use Rattle.fwd_replay.specs.Load.{config_text, schedule_text}

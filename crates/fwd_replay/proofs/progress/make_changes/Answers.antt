@@ -1,7 +1,7 @@
 use Rattle.std.proofs.Common.{ℕ, ◌+◌, ◌-◌, List, [], ◌++◌, length, drop, take, ap, subst, ◌∙◌, arith}
 use Rattle.std.proofs.lemmas.List.{take_rest}
 use Rattle.std.specs.List.{cons_option, filter_map}
-use Rattle.fwd_script.specs.declared.schedule.FileChange.{FileChange}
+use Rattle.fwd_files_mem.specs.declared.change.FileChange.{FileChange}
 use Rattle.fwd_script.specs.declared.schedule.Planned.{Planned}
 use Rattle.fwd_script_loop.specs.ScriptRun.{change_in}
 use Rattle.fwd_script_loop.proofs.ChangesOfLines.{changes_more, changes_whole}

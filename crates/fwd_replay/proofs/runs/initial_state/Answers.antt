@@ -1,8 +1,8 @@
 use Rattle.std.proofs.Common.{ap, refl}
 use Rattle.fwd_outside.specs.Files.{found}
 use Rattle.fwd_keeper_mem.specs.KeeperState.{KeeperState}
-use Rattle.fwd_script.specs.FilesState.{FilesState}
-use Rattle.fwd_script.specs.MemFiles.{files_now}
+use Rattle.fwd_files_mem.specs.FilesState.{FilesState}
+use Rattle.fwd_files_mem.specs.MemFiles.{files_now}
 use Rattle.fwd_replay.proofs.runs.initial_state.Goals as goal
 
 pub returns-clause-first : goal.returns-clause-first

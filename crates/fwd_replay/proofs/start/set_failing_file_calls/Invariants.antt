@@ -1,5 +1,5 @@
 use Rattle.std.proofs.Common.{◌≡◌, ℕ, ◌++◌, take, map}
-use Rattle.fwd_script.specs.declared.files.FilesNote.TheVariants as note
+use Rattle.fwd_files_mem.specs.declared.files.FilesNote.TheVariants as note
 use Rattle.fwd_replay.proofs.start.set_failing_file_calls.Given as goal
 
 abbrev pub invariant-loop-number : goal.invariant-loop-number

@@ -2,7 +2,7 @@ use Rattle.std.proofs.Common.{ℕ, ◌-◌, List, [], ◌++◌, length, drop, ta
 use Rattle.std.proofs.lemmas.List.{take_rest}
 use Rattle.std.specs.List.{cons_option}
 use Rattle.fwd_script_loop.specs.ScriptRun.{change_in, changes_between}
-use Rattle.fwd_script.specs.declared.schedule.FileChange.{FileChange}
+use Rattle.fwd_files_mem.specs.declared.change.FileChange.{FileChange}
 use Rattle.fwd_script.specs.declared.schedule.Planned.{Planned}
 use Rattle.fwd_script_loop.proofs.ChangesOfLines.{changes_more, changes_whole}
 use Rattle.fwd_script_loop.proofs.script.changes_of.Goals as goal

@@ -1,0 +1,3 @@
+pub mod FilePaths
+pub mod FilesInvariant
+pub mod SinkTrace
