@@ -19,11 +19,11 @@ use fwd_theorem_delivery::runs_keep_the_guarantee;
 /// every loop guarantees.
 pub fn all_runs_keep_the_guarantee()
     ensures lives { (s : AllSettings) (turns : ℕ) (start : Start) (planned : Life) (trace : List TraceEntry) (comes : RunResult)
-        → IsLife s turns start planned trace comes → KeepsGuarantee s comes.history (loop_part trace) }
+        → IsLife s turns start planned trace comes → KeepsGuarantee s trace }
     ensures cut { (s : AllSettings) (turns : ℕ) (start : Start) (planned : Life) (c : CutRun)
-        → IsCut s turns start planned c → KeepsGuarantee s c.history (loop_part c.before) }
+        → IsCut s turns start planned c → KeepsGuarantee s c.before }
     ensures live { (s : AllSettings) (ticks : Option ℕ) (turns : ℕ) (old new : CallLogs) (reported : Reported) (is : RunsToEnd s ticks turns old new reported)
-        → AreNewLinks 0 (loop_part is.did.entries) → KeepsGuarantee s is.lived.history (loop_part is.did.entries) }
+        → AreNewLinks 0 (loop_part is.did.entries) → KeepsGuarantee s is.did.entries }
 {
     runs_keep_the_guarantee();
 }

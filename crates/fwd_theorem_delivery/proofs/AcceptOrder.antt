@@ -18,7 +18,7 @@ use Rattle.fwd_model.specs.Notes.{note_then, is_empty}
 use Rattle.fwd_model.specs.CloseActions.{shuts, closes_if_full}
 use Rattle.fwd_model.specs.Acceptance.{Acceptance, taken, refuses, finishes_append, finishes_create, appends, starts_chunk, stores, accepts, ingests}
 use Rattle.fwd_model.specs.InputActions.{hangs_up, after_reply, replies, acknowledges, accepts_messages, accepts_stream, pieces}
-use Rattle.fwd_theorem_delivery.specs.Guarantee.{completed_over}
+use Rattle.fwd_theorem_delivery.specs.BatchOutcomes.{completed_over}
 use Rattle.fwd_theorem_delivery.proofs.Results.{Yields, gives_then, gives_behind, gives_if}
 use Rattle.fwd_theorem_delivery.proofs.FactSuffix.{AddsInner}
 use Rattle.fwd_theorem_delivery.proofs.InnerActions.{calm_shuts, calm_fills}

@@ -3,7 +3,7 @@ use Rattle.std.proofs.Common.{◌⊎◌, inl, inr, ℕ, List, [], ◌∷◌, ◌
 use Rattle.fwd_settings.specs.declared.settings_types.AllSettings.{AllSettings}
 use Rattle.fwd_model.specs.Fact.{Fact, History, Batch, Happened, Polled, Disconnected, Malformed, Accepted, Refused}
 use Rattle.fwd_theorem_trace.proofs.Actions.{IsInnerFact}
-use Rattle.fwd_theorem_delivery.specs.Guarantee.{completed_by, conn_of, ConnectionDropped, BatchOutcome, IsEmpty, IsAccepted, IsRefused, BatchOutcomes, until_next, AllBatchOutcomes}
+use Rattle.fwd_theorem_delivery.specs.BatchOutcomes.{completed_by, conn_of, ConnectionDropped, BatchOutcome, IsEmpty, IsAccepted, IsRefused, BatchOutcomes, until_next, AllBatchOutcomes}
 use Rattle.fwd_theorem_delivery.proofs.FactSuffix.{onto, AreInner, Adds, AddsInner}
 
 -- ---- with more facts after them

@@ -19,7 +19,7 @@ use Rattle.fwd_model.specs.CloseActions.{shuts, closes_if_full}
 use Rattle.fwd_model.specs.Acceptance.{Acceptance, taken, refuses, finishes_append, finishes_create, appends, starts_chunk, stores, accepts, ingests}
 use Rattle.fwd_model.specs.InputActions.{hangs_up, after_reply, replies, acknowledges, accepts_messages, accepts_stream, pieces}
 use Rattle.fwd_theorem_trace.proofs.Streams.{IsOwn, own_stream}
-use Rattle.fwd_theorem_delivery.specs.Guarantee.{completed_over, ConnectionDropped, BatchOutcome, IsEmpty, IsAccepted, IsRefused, BatchOutcomes}
+use Rattle.fwd_theorem_delivery.specs.BatchOutcomes.{completed_over, ConnectionDropped, BatchOutcome, IsEmpty, IsAccepted, IsRefused, BatchOutcomes}
 use Rattle.fwd_theorem_delivery.proofs.Results.{Yields, gives_so, gives_then, gives_behind, gives_if}
 use Rattle.fwd_theorem_delivery.proofs.FactSuffix.{onto, Adds, adds_both, AreInner, inner_both, AddsInner}
 use Rattle.fwd_theorem_delivery.proofs.InnerActions.{calm_shuts, calm_fills}

@@ -5,7 +5,7 @@ use Rattle.fwd_settings.specs.declared.settings_types.AllSettings.{AllSettings}
 use Rattle.fwd_model.specs.Fact.{Fact, History, Batch, Happened, Polled, Accepted, Refused}
 use Rattle.fwd_model.specs.Notes.{is_empty}
 use Rattle.fwd_theorem_trace.proofs.Actions.{IsInnerFact}
-use Rattle.fwd_theorem_delivery.specs.Guarantee.{completed_by}
+use Rattle.fwd_theorem_delivery.specs.BatchOutcomes.{completed_by}
 use Rattle.fwd_theorem_delivery.proofs.FactSuffix.{onto, AreInner, AddsInner}
 use Rattle.fwd_theorem_delivery.specs.Origins.{is_arrival, decided_by, with_events}
 

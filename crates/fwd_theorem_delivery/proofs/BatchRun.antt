@@ -10,7 +10,7 @@ use Rattle.fwd_model.specs.Batches.{end_batch, poll_batch}
 use Rattle.fwd_model.specs.Acceptance.{ingests}
 use Rattle.fwd_model.specs.InputActions.{pieces}
 use Rattle.fwd_model.specs.Run.{RunResult, life}
-use Rattle.fwd_theorem_delivery.specs.Guarantee.{completed_by, conn_of, BatchOutcomes, AllBatchOutcomes}
+use Rattle.fwd_theorem_delivery.specs.BatchOutcomes.{completed_by, conn_of, BatchOutcomes, AllBatchOutcomes}
 use Rattle.fwd_theorem_delivery.proofs.Results.{Yields, gives_so}
 use Rattle.fwd_theorem_delivery.proofs.BatchFacts.{ComeInOrder, each_one, each_later, each_settled}
 use Rattle.fwd_theorem_delivery.proofs.BatchInput.{came_takes, came_pieces}

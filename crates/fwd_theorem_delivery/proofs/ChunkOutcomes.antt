@@ -1,16 +1,18 @@
 -- What became of a chunk for each output.
-use Rattle.std.proofs.Common.{◌≡◌, inl, inr, ⊎_elim, ℕ, not, Bool, true, false, List, [], ◌∷◌, map, filter, length, refl, subst, arith}
-use Rattle.std.specs.Prelude.{Contains, ◌==◌}
+use Rattle.std.proofs.Common.{◌≡◌, inl, inr, ⊎_elim, ⊥, ℕ, not, Bool, true, false, List, [], ◌∷◌, map, filter, length, refl, sym, ◌∙◌, ap, subst, arith}
+use Rattle.std.specs.Prelude.{◌↔◌, Contains, ◌==◌}
 use Rattle.std.proofs.lemmas.Bool.{eqb-true}
 use Rattle.fwd_outside.specs.Loop.{LoopEntry}
+use Rattle.fwd_table.specs.Row.{Row}
 use Rattle.fwd_table.specs.Route.{Route as Owed}
 use Rattle.fwd_settings.specs.declared.settings_types.AllSettings.{AllSettings}
 use Rattle.fwd_model.specs.Fact.{Fact, History, Route, OnRoute, Delivered, Failed, Exhausted, Evicted}
+use Rattle.fwd_model.specs.Settings.{outputs_for}
 use Rattle.fwd_model.specs.Chunks.{ChunkInfo, chunks_of}
 use Rattle.fwd_model.specs.Routes.{route, is_resolved, owed, is_owed, table_route, row_of}
 use Rattle.fwd_theorem_trace.specs.Resolution.{IsResolved}
 use Rattle.fwd_theorem_trace.specs.Resolution.{IsDelivered as WasDelivered, IsFailed as WasFailed, IsExhausted as WasSpent, IsEvicted as WasLost, IsMarkedDone as WasRecorded}
-use Rattle.fwd_theorem_trace.proofs.Members.{here, deeper, either, in_filter}
+use Rattle.fwd_theorem_trace.proofs.Members.{here, deeper, either, in_filter, from_filter, from_map, off_where_not}
 use Rattle.fwd_theorem_delivery.specs.LinkOutcomes.{IsLogged, SendsAll, IsRejected, HasRetryCause}
 use Rattle.fwd_theorem_delivery.specs.Guarantee.{IsReported, IsAccountedFor, IsDelivered, IsFailed, IsExhausted, IsEvicted, IsMarkedDone, IsPending}
 
@@ -65,3 +67,28 @@ kept_by s h es c output ended owes delivered failed spent there = by (is_resolve
     by : (b : Bool) → (b ≡ true → IsResolved s h r) → (b ≡ false → Contains (owed s h c) output) → IsAccountedFor s h es r
     by true ended owes = ends (ended refl)
     by false ended owes = IsPending (reported s h c output there (owes refl))
+
+route_is : (chunk output : ℕ) (r : Route) → chunk ≡ r.chunk → output ≡ r.output → route chunk output ≡ r
+route_is chunk output r chunks outputs = rw (chunks, outputs) refl
+
+-- what is in the report isn't resolved
+unresolved : (s : AllSettings) (h : History) (r : Route) → IsReported s h r → is_resolved s h r ≡ false
+unresolved s h r is =
+    let made = from_map (row_of s h) (filter (is_owed s h) (chunks_of h)) is.row is.among in
+    let has = subst (λ (row : Row). Contains (map (λ (out : Owed). out.output.0) row.routes) r.output) (sym made.2) is.has in
+    let one = from_map (λ (out : Owed). out.output.0) (map (table_route s h made.0.number) (owed s h made.0)) r.output has in
+    let two = from_map (table_route s h made.0.number) (owed s h made.0) one.0 one.1 in
+    let kept = from_filter (λ (output : ℕ). not (is_resolved s h (route made.0.number output))) (outputs_for s made.0.tag) two.0 two.1 in
+    let output : two.0 ≡ r.output = ap (λ (y : Owed). y.output.0) two.2 ∙ one.2 in
+    let number : made.0.number ≡ r.chunk = ap (λ (x : Row). x.chunk.0) made.2 ∙ is.of_chunk in
+    subst (λ (q : Route). is_resolved s h q ≡ false) (route_is made.0.number two.0 r number output) (off_where_not (is_resolved s h (route made.0.number two.0)) kept.1)
+
+-- a chunk is in the report for an output exactly as long as the route isn't resolved
+pub pending_by : (s : AllSettings) (h : History) (c : ChunkInfo) (output : ℕ) → ((is_resolved s h (route c.number output) ≡ true) ↔ IsResolved s h (route c.number output))
+    → (is_resolved s h (route c.number output) ≡ false → Contains (owed s h c) output) → Contains (chunks_of h) c
+    → IsReported s h (route c.number output) ↔ (IsResolved s h (route c.number output) → ⊥)
+pending_by s h c output resolved owes there = (λ reported is. absurd (cc (sym (resolved.1 is) ∙ unresolved s h (route c.number output) reported)), λ never. by (is_resolved s h (route c.number output)) refl never)
+  where
+    by : (b : Bool) → is_resolved s h (route c.number output) ≡ b → (IsResolved s h (route c.number output) → ⊥) → IsReported s h (route c.number output)
+    by true is never = absurd (never (resolved.0 is))
+    by false is never = reported s h c output there (owes is)

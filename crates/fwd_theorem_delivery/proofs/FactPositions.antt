@@ -12,7 +12,7 @@ use Rattle.fwd_model.specs.Notes.{is_empty}
 use Rattle.fwd_model.specs.Run.{RunResult, life}
 use Rattle.fwd_theorem_trace.proofs.Members.{from_filter}
 use Rattle.fwd_theorem_trace.proofs.Run.{noted_of_life}
-use Rattle.fwd_theorem_delivery.specs.Guarantee.{completed_by}
+use Rattle.fwd_theorem_delivery.specs.BatchOutcomes.{completed_by}
 use Rattle.fwd_theorem_delivery.specs.Origins.{is_arrival, decided_by, decided_batches, HasNoArrival, with_events, WasCompleted, AreDecidedInOrder}
 use Rattle.fwd_theorem_delivery.proofs.Completion.{Completes, completes}
 use Rattle.fwd_theorem_delivery.proofs.BatchOrder.{completed_last, decided_last, AreOrdered, Always, always_before}

@@ -17,14 +17,14 @@ use Rattle.fwd_flush.specs.declared.stage.Stage.{Stage}
 use Rattle.fwd_flush.specs.declared.stage.Stage.TheVariants.{Opening, Writing, AwaitingAck, Ended}
 use Rattle.fwd_flush.specs.FlushProgram.{Progress, Delivery, not_started, starts, polls, backs, breaks}
 use Rattle.fwd_settings.specs.declared.settings_types.AllSettings.{AllSettings}
-use Rattle.fwd_model.specs.Fact.{History, Route, Outcome, FlushStarted, InFlight, Retries, Delivered, Failed, Exhausted, Sent, OnRoute, MarkStarted, Marked, Removed, FileLeft, IoFailed}
+use Rattle.fwd_model.specs.Fact.{History, Route, Outcome, FlushStarted, InFlight, Retries, Delivered, Failed, Exhausted, Evicted, Sent, OnRoute, MarkStarted, Marked, Removed, FileLeft, IoFailed}
 use Rattle.fwd_model.specs.Trace.{OnLoop, Note}
 use Rattle.fwd_model.specs.DeviceActions.{on_loop, on_disk}
 use Rattle.fwd_model.specs.Settings.{output_at, retries_at}
 use Rattle.fwd_model.specs.Clock.{clock}
 use Rattle.fwd_model.specs.Chunks.{records as records_of}
 use Rattle.fwd_model.specs.ChunkStorage.{kept_of}
-use Rattle.fwd_model.specs.Routes.{same_route, tries, due, is_idle, flight, route_on_link}
+use Rattle.fwd_model.specs.Routes.{same_route, tries, due, progress_of, is_idle, flight, route_on_link}
 use Rattle.fwd_model.specs.Payloads.{delivery, tag_of_chunk}
 use Rattle.fwd_model.specs.Dispatch.{due_routes, may_start, has_place, fits}
 use Rattle.fwd_model.specs.Notes.{note_then, note}
@@ -32,14 +32,16 @@ use Rattle.fwd_model.specs.ResolveActions.{marks_or_removes}
 use Rattle.fwd_model.specs.FlushActions.{retries, applies_answer, notes_stage, stands, notes_calls, starts_with, is_complete_read, after_read, begins_as, starts_flush, turn, turns, walk, goes_on, resumes, at_room, at_reply, at_break}
 use Rattle.fwd_theorem_trace.specs.Past.{Past, logged}
 use Rattle.fwd_theorem_trace.proofs.Members.{here, deeper}
+use Rattle.fwd_theorem_trace.proofs.RouteResolution.{same_itself}
 use Rattle.fwd_theorem_delivery.specs.DueOrder.{IsDueBefore}
 use Rattle.fwd_theorem_delivery.specs.RetryCounts.{is_begun}
 use Rattle.fwd_theorem_delivery.proofs.DueRoutes.{InOrder, due_in_order, due_by_now}
-use Rattle.fwd_theorem_delivery.proofs.TimedFacts.{just_begun, Calm, IsKeptByTails, calm_tails, calm_outcome, InTime, ReturnsTimed, MayNote, deed, only, nothing, tells_then, tells_behind, tells_if, disk_rests, loop_rests, tells_settles}
+use Rattle.fwd_theorem_delivery.proofs.TimedFacts.{is_on_the_way, on_the_way, just_begun, Calm, IsKeptByTails, calm_tails, calm_outcome, InTime, ReturnsTimed, MayNote, deed, only, nothing, tells_then, tells_behind, tells_if, disk_rests, loop_rests, tells_settles}
 
 module _ (s : AllSettings) where
   -- a flush of q goes on, ends, and establishes L
-  module _ (q : Route) (K L : History → Type 0) (tails : IsKeptByTails K) (settling : IsKeptByTails L) (ends : (outcome : Outcome) (h : History) → is_begun outcome ≡ false → K h → L (OnRoute q outcome ∷ h)) where
+  module _ (q : Route) (K L : History → Type 0) (tails : IsKeptByTails K) (settling : IsKeptByTails L) (ends : (outcome : Outcome) (h : History) → is_begun outcome ≡ false → K h → L (OnRoute q outcome ∷ h))
+      (way : (h : History) → K h → on_the_way h q ≡ true) where
     ends_as : (outcome : Outcome) (past : Past) → is_begun outcome ≡ false → MayNote s (OnRoute q outcome) past → InTime s past → K (logged past) → ReturnsTimed s L past (note_then (OnRoute q outcome) (logged past) (marks_or_removes s q))
     ends_as outcome past not_begun may in_time so =
         deed s L (OnRoute q outcome) past (marks_or_removes s q) may in_time (λ answer later. tells_settles s L settling q (entry (Note (OnRoute q outcome)) answer ∷ past) later (ends outcome (logged past) not_begun so))
@@ -48,8 +50,8 @@ module _ (s : AllSettings) where
     unfolding retries
     tells_retries past in_time so =
         tells_if s L (may_retry (retries_at (output_at s q.output)) (tries (logged past) q)) past (Ask (OnLoop Word) (λ word. note (OnRoute q (Retries word)) (logged past))) (note_then (OnRoute q Exhausted) (logged past) (marks_or_removes s q))
-        (λ yes. (in_time, λ word. only s L (OnRoute q (Retries word)) (entry (OnLoop Word) word ∷ past) (λ _ _. yes) (λ due. in_time due.1) (ends (Retries word) (logged past) refl so)))
-        (λ no. ends_as Exhausted past refl (λ _ _. tt) in_time so)
+        (λ yes. (in_time, λ word. only s L (OnRoute q (Retries word)) (entry (OnLoop Word) word ∷ past) (λ _ _. (yes, way (logged past) so)) (λ due. in_time due.1) (ends (Retries word) (logged past) refl so)))
+        (λ no. ends_as Exhausted past refl (λ _ _. (no, way (logged past) so)) in_time so)
 
     tells_answers_by : (answer : Answered) (past : Past) → InTime s past → K (logged past) → ReturnsTimed s L past (applies_answer s q answer (logged past))
     tells_answers_by Good past in_time so = ends_as Delivered past refl (λ _ _. tt) in_time so
@@ -57,7 +59,7 @@ module _ (s : AllSettings) where
     tells_answers_by Bad past in_time so = ends_as Failed past refl (λ _ _. tt) in_time so
 
     flies_on : (progress : Progress) (past : Past) → InTime s past → K (logged past) → ReturnsTimed s L past (note (OnRoute q (InFlight progress)) (logged past))
-    flies_on progress past in_time so = only s L (OnRoute q (InFlight progress)) past (λ _ _. tt) in_time (ends (InFlight progress) (logged past) refl so)
+    flies_on progress past in_time so = only s L (OnRoute q (InFlight progress)) past (λ _ _. way (logged past) so) in_time (ends (InFlight progress) (logged past) refl so)
 
     tells_stands_in : (progress : Progress) (stage : Stage) (past : Past) → InTime s past → K (logged past) → ReturnsTimed s L past (notes_stage s q progress stage (logged past))
     tells_stands_in progress Opening past in_time so = flies_on progress past in_time so
@@ -80,9 +82,9 @@ module _ (s : AllSettings) where
   abbrev SameDue : Route → History → History → Type 0
   SameDue q old h = (clock h ≡ clock old) × ((r : Route) → same_route q r ≡ false → due s h r ≡ due s old r)
 
-  -- no flush of another route began just now
+  -- its flush is in progress, and no flush of another route began just now
   abbrev Mid : Route → History → History → Type 0
-  Mid q old h = ((r : Route) → same_route q r ≡ false → just_begun h r ≡ false) × SameDue q old h
+  Mid q old h = ((r : Route) → same_route q r ≡ false → just_begun h r ≡ false) × (SameDue q old h × (on_the_way h q ≡ true))
 
   abbrev Turned : Route → History → History → Type 0
   Turned q old h = Calm h × SameDue q old h
@@ -109,7 +111,7 @@ module _ (s : AllSettings) where
   same_due q outcome old h same = (same.0, λ r other. rw other (same.1 r other))
 
   mid_ends : (q : Route) (old : History) (outcome : Outcome) (h : History) → is_begun outcome ≡ false → Mid q old h → Turned q old (OnRoute q outcome ∷ h)
-  mid_ends q old outcome h not_begun so = (calm, same_due q outcome old h so.1)
+  mid_ends q old outcome h not_begun so = (calm, same_due q outcome old h so.1.0)
     where
       calm : (r : Route) → just_begun (OnRoute q outcome ∷ h) r ≡ false
       calm r = by (same_route q r) refl
@@ -119,7 +121,7 @@ module _ (s : AllSettings) where
           by false is = so.0 r is
 
   begins_mid : (q : Route) (events : List Event) (h : History) → Calm h → Mid q h (OnRoute q (FlushStarted events) ∷ h)
-  begins_mid q events h calm = (λ r other. rw other (calm r), same_due q (FlushStarted events) h h (refl, λ r other. refl))
+  begins_mid q events h calm = (λ r other. rw other (calm r), (same_due q (FlushStarted events) h h (refl, λ r other. refl), rw (same_itself q) refl))
 
   module _ (q : Route) (old : History) where
     abbrev Starting : Past → Type 0
@@ -138,7 +140,7 @@ module _ (s : AllSettings) where
         let mid : Mid q old (logged at) = subst (λ (h : History). Mid q old (OnRoute q (FlushStarted events) ∷ h)) (sym starting.0) (begins_mid q events old calm) in
         tells_behind s (Turned q old) at (on_loop (starts (delivery s (logged at) q) q.output (tag_of_chunk (logged at) q.chunk) not_started)) (λ progress h. notes_calls s q 0 progress h)
         (loop_rests s (starts (delivery s (logged at) q) q.output (tag_of_chunk (logged at) q.chunk) not_started) at later)
-        (λ progress now still same. tells_lands q (Mid q old) (Turned q old) (mid_tails q old) (turned_tails q old) (mid_ends q old) 0 progress now still (subst (Mid q old) (sym same) mid)))
+        (λ progress now still same. tells_lands q (Mid q old) (Turned q old) (mid_tails q old) (turned_tails q old) (mid_ends q old) (λ h so. so.1.1) 0 progress now still (subst (Mid q old) (sym same) mid)))
 
     idle_here : (past : Past) → Starting past → Calm old → InTime s past → ReturnsTimed s (Turned q old) past (Return (logged past))
     idle_here past starting calm in_time = nothing s (Turned q old) past in_time (subst (Turned q old) (sym starting.0) (turned_idle calm))
@@ -217,15 +219,48 @@ module _ (s : AllSettings) where
 
   -- ---- events on links
 
-  calm_goes_on : (go : Delivery → Progress → LoopProgram Progress) (r : Route) (past : Past) (at : Option Progress) → InTime s past → Calm (logged past) → ReturnsTimed s Calm past (goes_on s (λ d p. on_loop (go d p)) r at (logged past))
-  calm_goes_on go r past None in_time calm = nothing s Calm past in_time calm
-  calm_goes_on go r past (Some progress) in_time calm =
+  abbrev CalmOn : Route → History → Type 0
+  CalmOn r h = Calm h × (on_the_way h r ≡ true)
+
+  calm_on_tails : (r : Route) → IsKeptByTails (CalmOn r)
+  calm_on_tails r (Sent output bytes) h is so = so
+  calm_on_tails r (MarkStarted q) h is so = so
+  calm_on_tails r (Marked q) h is so = so
+  calm_on_tails r (Removed chunk) h is so = so
+  calm_on_tails r (FileLeft chunk) h is so = so
+  calm_on_tails r IoFailed h is so = so
+  calm_on_tails r fact h is so = absurd is
+
+  -- a flush with progress is in progress
+  flight_on : (h : History) (r : Route) (progress : Progress) → flight h r ≡ Some progress → on_the_way h r ≡ true
+  flight_on [] r progress is = absurd (cc is)
+  flight_on (OnRoute other outcome ∷ h) r progress is = by (same_route other r) outcome is (flight_on h r progress)
+    where
+      on : (outcome : Outcome) → progress_of outcome ≡ Some progress → is_on_the_way outcome ≡ true
+      on (FlushStarted events) is = refl
+      on (InFlight p) is = refl
+      on (Retries word) is = absurd (cc is)
+      on Delivered is = absurd (cc is)
+      on Failed is = absurd (cc is)
+      on Exhausted is = absurd (cc is)
+      on Evicted is = absurd (cc is)
+
+      by : (b : Bool) (outcome : Outcome) → cond b (progress_of outcome) (flight h r) ≡ Some progress → (flight h r ≡ Some progress → on_the_way h r ≡ true) → cond b (is_on_the_way outcome) (on_the_way h r) ≡ true
+      by true outcome is more = on outcome is
+      by false outcome is more = more is
+  flight_on (fact ∷ h) r progress is = flight_on h r progress is
+
+  calm_goes_on : (go : Delivery → Progress → LoopProgram Progress) (r : Route) (past : Past) (at : Option Progress) → flight (logged past) r ≡ at → InTime s past → Calm (logged past)
+      → ReturnsTimed s Calm past (goes_on s (λ d p. on_loop (go d p)) r at (logged past))
+  calm_goes_on go r past None is in_time calm = nothing s Calm past in_time calm
+  calm_goes_on go r past (Some progress) is in_time calm =
       tells_behind s Calm past (on_loop (go (delivery s (logged past) r) progress)) (λ p h. notes_calls s r progress.taken p h) (loop_rests s (go (delivery s (logged past) r) progress) past in_time)
-      (λ p now later same. tells_lands r Calm Calm calm_tails calm_tails (calm_outcome r) progress.taken p now later (subst Calm (sym same) calm))
+      (λ p now later same. tells_lands r (CalmOn r) Calm (calm_on_tails r) calm_tails (λ outcome h not_begun so. calm_outcome r outcome h not_begun so.0) (λ h so. so.1) progress.taken p now later
+      (subst (CalmOn r) (sym same) (calm, flight_on (logged past) r progress is)))
 
   calm_resumes : (go : Delivery → Progress → LoopProgram Progress) (r : Option Route) (past : Past) → InTime s past → Calm (logged past) → ReturnsTimed s Calm past (resumes s (λ d p. on_loop (go d p)) r (logged past))
   calm_resumes go None past in_time calm = nothing s Calm past in_time calm
-  calm_resumes go (Some r) past in_time calm = calm_goes_on go r past (flight (logged past) r) in_time calm
+  calm_resumes go (Some r) past in_time calm = calm_goes_on go r past (flight (logged past) r) refl in_time calm
 
   pub calm_has_room : (link : ℕ) (past : Past) → InTime s past → Calm (logged past) → ReturnsTimed s Calm past (at_room s link (logged past))
   unfolding at_room

@@ -29,7 +29,7 @@ use Rattle.fwd_theorem_trace.specs.Allowed.{IsLoading, Allowed}
 use Rattle.fwd_theorem_trace.proofs.OffsetCalls.{IsOffsetFact}
 use Rattle.fwd_theorem_trace.proofs.Traversal.{traverses_map}
 use Rattle.fwd_theorem_trace.proofs.Run.{due_onward, Lasts as NotedLasts, so_at_end, steps_step}
-use Rattle.fwd_theorem_delivery.specs.Guarantee.{completed_by}
+use Rattle.fwd_theorem_delivery.specs.BatchOutcomes.{completed_by}
 use Rattle.fwd_theorem_delivery.proofs.Results.{Yields, gives_so, gives_then, gives_behind, gives_if, gives_walks}
 use Rattle.fwd_theorem_delivery.proofs.FactSuffix.{AddsInner}
 use Rattle.fwd_theorem_delivery.proofs.InnerActions.{calm_closes_all, calm_walk, calm_has_room, calm_comes_back, calm_has_broken}

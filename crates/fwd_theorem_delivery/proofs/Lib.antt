@@ -21,11 +21,13 @@ pub mod ReplyRun
 pub mod DueRoutes
 pub mod PausedInputs
 pub mod ClosedChunks
+pub mod EvictionCauses
 pub mod TimedFacts
 pub mod FlushTimes
 pub mod InputTimes
 pub mod TimedRun
 pub mod RetryWaits
+pub mod RouteCauses
 pub mod OwnEvents
 pub mod Outcomes
 pub mod LinkCalls

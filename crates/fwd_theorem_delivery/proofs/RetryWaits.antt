@@ -3,9 +3,9 @@ use Rattle.std.proofs.Common.{◌≡◌, ℕ, ◌+◌, ◌-◌, ◌*◌, ◌<◌
 use Prim.Native.Nat.{◌^◌}
 use Rattle.std.specs.Prelude.{◌==◌, nat_le, is_some}
 use Rattle.std.specs.Option.{option_map_or}
-use Rattle.std.proofs.lemmas.Bool.{eqb-true, and_parts, leb-true}
+use Rattle.std.proofs.lemmas.Bool.{eqb-true, and_parts, leb-true, leb-false}
 use Rattle.fwd_base.specs.declared.output_options.Retries.{Retries as Limit}
-use Rattle.fwd_base.specs.declared.output_options.Retries.TheVariants.{Times}
+use Rattle.fwd_base.specs.declared.output_options.Retries.TheVariants.{Times, Unlimited}
 use Rattle.fwd_event.specs.declared.event.Event.{Event}
 use Rattle.fwd_outside.specs.Program.{entry, Execution}
 use Rattle.fwd_outside.specs.declared.ends.Ends.{Ends}
@@ -23,7 +23,7 @@ use Rattle.fwd_model.specs.Settings.{saturating_plus, outputs_for, output_at, ou
 use Rattle.fwd_model.specs.Clock.{clock}
 use Rattle.fwd_model.specs.RecoveredFile.{recovered_chunk, is_marked_done}
 use Rattle.fwd_model.specs.Chunks.{ChunkInfo, chunks_of, is_closed}
-use Rattle.fwd_model.specs.Routes.{route, same_route, tries, due, progress_of, flight, is_resolved, table_route, owed, is_owed, row_of, rows_of, is_idle}
+use Rattle.fwd_model.specs.Routes.{route, same_route, tries, due, progress_of, flight, resolves, is_resolved, table_route, owed, is_owed, row_of, rows_of, is_idle}
 use Rattle.fwd_model.specs.Run.{RunResult, life}
 use Rattle.fwd_theorem_trace.specs.Past.{Past, logged, past_after}
 use Rattle.fwd_theorem_trace.specs.Allowed.{Allowed}
@@ -33,8 +33,9 @@ use Rattle.fwd_theorem_trace.proofs.Run.{due_since}
 use Rattle.fwd_theorem_trace.proofs.Persistence.{shut_still}
 use Rattle.fwd_theorem_trace.proofs.RouteResolution.{same_routes, same_itself}
 use Rattle.fwd_theorem_delivery.specs.RetryCounts.{outcomes, is_begun, begin_count, AwaitsRetry}
+use Rattle.fwd_theorem_delivery.specs.Causes.{AreRetriesUsed}
 use Rattle.fwd_theorem_delivery.proofs.PausedInputs.{since_both, due_in_life}
-use Rattle.fwd_theorem_delivery.proofs.TimedFacts.{just_begun, RouteTimed, FactTimed, Timed}
+use Rattle.fwd_theorem_delivery.proofs.TimedFacts.{is_on_the_way, on_the_way, just_begun, RouteTimed, FactTimed, Timed}
 use Rattle.fwd_theorem_delivery.proofs.InputTimes.{noted_at}
 use Rattle.fwd_theorem_delivery.proofs.TimedRun.{timed_life}
 
@@ -167,39 +168,28 @@ module _ (s : AllSettings) where
     abbrev again : History → ℕ
     again h = length (filter is_again (outcomes h r))
 
-    abbrev is_under_way : Outcome → Bool
-    is_under_way (FlushStarted events) = true
-    is_under_way (InFlight progress) = true
-    is_under_way outcome = false
-
-    -- whether its last outcome is that its flush is in progress
-    abbrev under_way : History → Bool
-    under_way [] = false
-    under_way (OnRoute other outcome ∷ h) = cond (same_route other r) (is_under_way outcome) (under_way h)
-    under_way (fact ∷ h) = under_way h
-
     abbrev one_if : Bool → ℕ
     one_if b = cond b 1 0
 
     abbrev open_or_ended : History → ℕ
-    open_or_ended h = one_if (under_way h || is_resolved s h r)
+    open_or_ended h = one_if (on_the_way h r || is_resolved s h r)
 
     record Limited (h : History) : Type 0 where
       most : begin_count h r ≤ again h + open_or_ended h
       few : again h ≤ n
       counted : min (again h) (2 ^ 64 - 1) ≤ tries h r
 
-    not_under_way : (h : History) → is_some (flight h r) ≡ false → just_begun h r ≡ false → under_way h ≡ false
+    not_under_way : (h : History) → is_some (flight h r) ≡ false → just_begun h r ≡ false → on_the_way h r ≡ false
     not_under_way [] flies begun = refl
     not_under_way (OnRoute other outcome ∷ h) flies begun = by (same_route other r) flies begun (not_under_way h)
       where
-        ended : (o : Outcome) → is_some (progress_of o) ≡ false → is_begun o ≡ false → is_under_way o ≡ false
+        ended : (o : Outcome) → is_some (progress_of o) ≡ false → is_begun o ≡ false → is_on_the_way o ≡ false
         ended (FlushStarted events) flies begun = absurd (cc begun)
         ended (InFlight progress) flies begun = absurd (cc flies)
         ended o flies begun = refl
 
-        by : (b : Bool) → is_some (cond b (progress_of outcome) (flight h r)) ≡ false → cond b (is_begun outcome) (just_begun h r) ≡ false → (is_some (flight h r) ≡ false → just_begun h r ≡ false → under_way h ≡ false)
-            → cond b (is_under_way outcome) (under_way h) ≡ false
+        by : (b : Bool) → is_some (cond b (progress_of outcome) (flight h r)) ≡ false → cond b (is_begun outcome) (just_begun h r) ≡ false → (is_some (flight h r) ≡ false → just_begun h r ≡ false → on_the_way h r ≡ false)
+            → cond b (is_on_the_way outcome) (on_the_way h r) ≡ false
         by true flies begun more = ended outcome flies begun
         by false flies begun more = more flies begun
     not_under_way (fact ∷ h) flies begun = not_under_way h flies begun
@@ -233,32 +223,32 @@ module _ (s : AllSettings) where
             }
         by (InFlight progress) is timed =
             let most = was.most in
-            let one = at_most_one (under_way h || is_resolved s h r) in
+            let one = at_most_one (on_the_way h r || is_resolved s h r) in
             record { most = rw is (omega (arith, most, one)); few = rw is (was.few); counted = rw is (was.counted) }
         by (Retries word) is timed =
             let most = was.most in
-            let one = at_most_one (under_way h || is_resolved s h r) in
+            let one = at_most_one (on_the_way h r || is_resolved s h r) in
             let few = was.few in
             let counted = was.counted in
-            let may : nat_le (saturating_plus (tries h r) 1) n ≡ true = subst (λ (limit : Limit). may_retry limit (tries h r) ≡ true) limited timed in
+            let may : nat_le (saturating_plus (tries h r) 1) n ≡ true = subst (λ (limit : Limit). may_retry limit (tries h r) ≡ true) limited timed.0 in
             let le = leb-true (saturating_plus (tries h r) 1) n may in
             record { most = rw is (omega (arith, most, one)); few = rw is (omega (arith, few, counted, le, small)); counted = rw is (omega (arith, counted)) }
         by Delivered is timed =
             let most = was.most in
-            let one = at_most_one (under_way h || is_resolved s h r) in
+            let one = at_most_one (on_the_way h r || is_resolved s h r) in
             record { most = rw is (omega (arith, most, one)); few = rw is (was.few); counted = rw is (was.counted) }
         by Failed is timed =
             let most = was.most in
-            let one = at_most_one (under_way h || is_resolved s h r) in
+            let one = at_most_one (on_the_way h r || is_resolved s h r) in
             record { most = rw is (omega (arith, most, one)); few = rw is (was.few); counted = rw is (was.counted) }
         by Exhausted is timed =
             let most = was.most in
-            let one = at_most_one (under_way h || is_resolved s h r) in
+            let one = at_most_one (on_the_way h r || is_resolved s h r) in
             let counted = was.counted in
             record { most = rw is (omega (arith, most, one)); few = rw is (was.few); counted = rw is (omega (arith, counted)) }
         by Evicted is timed =
             let most = was.most in
-            let one = at_most_one (under_way h || is_resolved s h r) in
+            let one = at_most_one (on_the_way h r || is_resolved s h r) in
             record { most = rw is (omega (arith, most, one)); few = rw is (was.few); counted = rw is (was.counted) }
 
     others : (other : Route) (outcome : Outcome) (h : History) → same_route other r ≡ false → Limited h → Limited (OnRoute other outcome ∷ h)
@@ -274,7 +264,7 @@ module _ (s : AllSettings) where
         by false is = others other outcome h is was
     limited_fact (Found number stream name bytes) h timed was =
         let most = was.most in
-        let more = grows_with (under_way h) (is_resolved s h r) (number == r.chunk && is_marked_done (output_name s r.output) (recovered_chunk bytes)) in
+        let more = grows_with (on_the_way h r) (is_resolved s h r) (number == r.chunk && is_marked_done (output_name s r.output) (recovered_chunk bytes)) in
         record { most = omega (arith, most, more); few = was.few; counted = was.counted }
     limited_fact fact h timed was = record { most = was.most; few = was.few; counted = was.counted }
 
@@ -287,8 +277,106 @@ module _ (s : AllSettings) where
         let all = limited_all h timed in
         let most = all.most in
         let few = all.few in
-        let one = at_most_one (under_way h || is_resolved s h r) in
+        let one = at_most_one (on_the_way h r || is_resolved s h r) in
         omega (arith, most, few, one)
+
+    -- ---- how often it was begun when its retries are exhausted
+
+    abbrev is_ended : Outcome → Bool
+    is_ended Exhausted = true
+    is_ended outcome = false
+
+    abbrev ended : History → ℕ
+    ended h = length (filter is_ended (outcomes h r))
+
+    record Used (h : History) : Type 0 where
+      least : again h + one_if (on_the_way h r) ≤ begin_count h r
+      used : tries h r ≤ again h + ended h
+      left : on_the_way h r ≡ true → ended h ≡ 0
+
+    or_none : (a b : Bool) → (a || b) ≡ false → (a ≡ false) × (b ≡ false)
+    or_none true b is = absurd (cc is)
+    or_none false b is = (refl, is)
+
+    never_ended : (h : History) → is_resolved s h r ≡ false → ended h ≡ 0
+    never_ended [] is = refl
+    never_ended (Found number stream name bytes ∷ h) is = never_ended h (or_none (number == r.chunk && is_marked_done (output_name s r.output) (recovered_chunk bytes)) (is_resolved s h r) is).1
+    never_ended (OnRoute other outcome ∷ h) is = by (same_route other r) outcome (or_none (same_route other r && resolves outcome) (is_resolved s h r) is) (never_ended h)
+      where
+        own_none : (o : Outcome) → resolves o ≡ false → length (filter is_ended (o ∷ outcomes h r)) ≡ ended h
+        own_none (FlushStarted events) is = refl
+        own_none (InFlight progress) is = refl
+        own_none (Retries word) is = refl
+        own_none Delivered is = refl
+        own_none Failed is = refl
+        own_none Exhausted is = absurd (cc is)
+        own_none Evicted is = refl
+
+        by : (b : Bool) (o : Outcome) → ((b && resolves o) ≡ false) × (is_resolved s h r ≡ false) → (is_resolved s h r ≡ false → ended h ≡ 0) → length (filter is_ended (cond b (o ∷ outcomes h r) (outcomes h r))) ≡ 0
+        by true o none more = own_none o none.0 ∙ more none.1
+        by false o none more = more none.1
+    never_ended (fact ∷ h) is = never_ended h is
+
+    used_own : (outcome : Outcome) (h : History) → RouteTimed s r outcome h → Used h → Used (OnRoute r outcome ∷ h)
+    used_own outcome h timed was = by outcome (same_itself r) timed
+      where
+        at_least_again : again h ≤ begin_count h r
+        at_least_again = let least = was.least in omega (arith, least)
+
+        while_on : on_the_way h r ≡ true → again h + 1 ≤ begin_count h r
+        while_on way = let least = was.least in rw way at least in least
+
+        by : (o : Outcome) → same_route r r ≡ true → RouteTimed s r o h → Used (OnRoute r o ∷ h)
+        by (FlushStarted events) is (by_now, (idle, calm)) =
+            let least = at_least_again in
+            record { least = rw is (omega (arith, least)); used = rw is (was.used); left = λ way. rw is (never_ended h (idle_means h r idle).0) }
+        by (InFlight progress) is timed = record { least = rw is (while_on timed); used = rw is (was.used); left = λ way. rw is (was.left timed) }
+        by (Retries word) is timed =
+            let least = while_on timed.1 in
+            let used = was.used in
+            record { least = rw is (omega (arith, least)); used = rw is (omega (arith, used)); left = λ way. absurd (cc (rw is at way in way)) }
+        by Delivered is timed = let least = at_least_again in record { least = rw is (omega (arith, least)); used = rw is (was.used); left = λ way. absurd (cc (rw is at way in way)) }
+        by Failed is timed = let least = at_least_again in record { least = rw is (omega (arith, least)); used = rw is (was.used); left = λ way. absurd (cc (rw is at way in way)) }
+        by Exhausted is timed =
+            let least = at_least_again in
+            let used = was.used in
+            record { least = rw is (omega (arith, least)); used = rw is (omega (arith, used)); left = λ way. absurd (cc (rw is at way in way)) }
+        by Evicted is timed = let least = at_least_again in record { least = rw is (omega (arith, least)); used = rw is (was.used); left = λ way. absurd (cc (rw is at way in way)) }
+
+    used_fact : (fact : Fact) (h : History) → FactTimed s fact h → Used h → Used (fact ∷ h)
+    used_fact (OnRoute other outcome) h timed was = by (same_route other r) refl
+      where
+        by : (b : Bool) → same_route other r ≡ b → Used (OnRoute other outcome ∷ h)
+        by true is =
+            let same = same_routes other r is in
+            subst (λ (q : Route). Used (OnRoute q outcome ∷ h)) (sym same) (used_own outcome h (subst (λ (q : Route). RouteTimed s q outcome h) same timed) was)
+        by false is = record { least = rw is (was.least); used = rw is (was.used); left = λ way. rw is (was.left (rw is at way in way)) }
+    used_fact fact h timed was = record { least = was.least; used = was.used; left = was.left }
+
+    used_all : (h : History) → Timed s h → Used h
+    used_all [] timed = record { least = omega arith; used = omega arith; left = λ way. refl }
+    used_all (fact ∷ h) timed = used_fact fact h timed.0 (used_all h timed.1)
+
+    begun_exactly : (h : History) → Timed s h → on_the_way h r ≡ true → n < saturating_plus (tries h r) 1 → begin_count h r ≡ n + 1
+    begun_exactly h timed way over =
+        let most = begun_at_most h timed in
+        let used = (used_all h timed).used in
+        let none = (used_all h timed).left way in
+        let least : again h + 1 ≤ begin_count h r = let all = (used_all h timed).least in rw way at all in all in
+        omega (arith, most, used, none, least, over)
+
+  not_unlimited : (tried : ℕ) → may_retry Unlimited tried ≡ false → ⊥
+  not_unlimited tried is = absurd (cc is)
+
+  -- a route whose retries are exhausted was begun once more than its limit
+  pub used_up : (h : History) (r : Route) → Timed s h → RouteTimed s r Exhausted h → AreRetriesUsed s h r
+  used_up h r timed ended = by (retries_at (output_at s r.output)) refl
+    where
+      by : (limit : Limit) → retries_at (output_at s r.output) ≡ limit → AreRetriesUsed s h r
+      by Unlimited is = absurd (not_unlimited (tries h r) (subst (λ (l : Limit). may_retry l (tries h r) ≡ false) is ended.0))
+      by (Times n) is =
+          let over = leb-false (saturating_plus (tries h r) 1) n (subst (λ (l : Limit). may_retry l (tries h r) ≡ false) is ended.0) in
+          record { limit = n; limited = is; flushed = begun_exactly r n is (omega (arith, over)) h timed ended.1 over }
 
   pub limited_in_life : (ends : Ends) (ticks : Option ℕ) (turns : ℕ) (es : List TraceEntry) (left : Action RunResult) (r : Route) (n : ℕ) → Execution (life s ends ticks turns) es left
       → retries_at (output_at s r.output) ≡ Times n → n < 2 ^ 64 - 1 → begin_count (history_after es []) r ≤ n + 1

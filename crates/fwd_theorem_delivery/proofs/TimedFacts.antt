@@ -1,7 +1,8 @@
 -- When closings, beginnings and retries may be logged; resolving and closing keep to it.
-use Rattle.std.proofs.Common.{◌≡◌, ℕ, ◌≤◌, not, Bool, true, false, cond, List, [], ◌∷◌, ◌++◌, filter, Option, Some, None, refl, sym, subst, arith}
-use Rattle.std.specs.Prelude.{Contains, ◌==◌, nat_le}
+use Rattle.std.proofs.Common.{◌≡◌, ℕ, ◌≤◌, not, Bool, true, false, cond, List, [], ◌∷◌, ◌++◌, filter, Option, Some, None, refl, sym, ap, subst, arith}
+use Rattle.std.specs.Prelude.{All, Contains, ◌==◌, nat_le}
 use Rattle.std.proofs.lemmas.Bool.{ne_eqb}
+use Rattle.std.proofs.lemmas.List.Elements.{All-nil, All-cons}
 use Rattle.fwd_base.specs.Limits.{full_chunk}
 use Rattle.fwd_outside.specs.Program.{entry, Return, Ask, bind}
 use Rattle.fwd_outside.specs.Loop.{LoopProgram}
@@ -11,7 +12,7 @@ use Rattle.fwd_table.specs.Outcomes.{may_retry}
 use Rattle.fwd_chunk.specs.declared.kept.Kept.{Kept}
 use Rattle.fwd_store.specs.Store.{drops as removes, settle_for_program}
 use Rattle.fwd_settings.specs.declared.settings_types.AllSettings.{AllSettings}
-use Rattle.fwd_model.specs.Fact.{Fact, History, Route, Outcome, FlushStarted, Retries, Evicted, ChunkClosed, Sent, OnRoute, MarkStarted, Marked, Removed, FileLeft, IoFailed}
+use Rattle.fwd_model.specs.Fact.{Fact, History, Route, Outcome, FlushStarted, InFlight, Retries, Delivered, Failed, Exhausted, Evicted, ChunkClosed, Sent, OnRoute, MarkStarted, Marked, Removed, FileLeft, IoFailed}
 use Rattle.fwd_model.specs.Trace.{Action, TraceEntry, OnLoop, OnDisk, OnFiles, Note}
 use Rattle.fwd_model.specs.DeviceActions.{on_loop, on_disk, on_files}
 use Rattle.fwd_model.specs.Settings.{output_at, output_name, retries_at}
@@ -27,9 +28,11 @@ use Rattle.fwd_theorem_trace.specs.Past.{Past, logged}
 use Rattle.fwd_theorem_trace.specs.Allowed.{FactAllowed, Allowed}
 use Rattle.fwd_theorem_trace.specs.Sound.{NumbersRise}
 use Rattle.fwd_theorem_trace.proofs.Members.{here, deeper, from_filter}
-use Rattle.fwd_theorem_trace.proofs.Traversal.{Traverses, Extends, walks_bind, walks_if}
+use Rattle.fwd_theorem_trace.proofs.Traversal.{Traverses, Extends, traverses_map, walks_bind, walks_if}
 use Rattle.fwd_theorem_trace.proofs.Invariant.{sound}
 use Rattle.fwd_theorem_delivery.specs.RetryCounts.{is_begun}
+use Rattle.fwd_theorem_delivery.specs.Causes.{IsOverLimit}
+use Rattle.fwd_theorem_delivery.proofs.EvictionCauses.{ClosedSince, Follows, evicted_over}
 
 -- whether the last outcome of a route is that it began
 abbrev pub just_begun : History → Route → Bool
@@ -37,12 +40,31 @@ just_begun [] r = false
 just_begun (OnRoute other outcome ∷ h) r = cond (same_route other r) (is_begun outcome) (just_begun h r)
 just_begun (fact ∷ h) r = just_begun h r
 
--- a route begins when it is due and idle, and no flush of it began just now; and it is retried when it
--- may be
+abbrev pub is_on_the_way : Outcome → Bool
+is_on_the_way (FlushStarted events) = true
+is_on_the_way (InFlight progress) = true
+is_on_the_way (Retries word) = false
+is_on_the_way Delivered = false
+is_on_the_way Failed = false
+is_on_the_way Exhausted = false
+is_on_the_way Evicted = false
+
+-- whether its last outcome is that its flush is in progress
+abbrev pub on_the_way : History → Route → Bool
+on_the_way [] r = false
+on_the_way (OnRoute other outcome ∷ h) r = cond (same_route other r) (is_on_the_way outcome) (on_the_way h r)
+on_the_way (fact ∷ h) r = on_the_way h r
+
+-- A route begins when it is due and idle, and no flush of it began just now. Its flush is in progress when it
+-- goes on, is to be retried, which it may be, or has used its retries. It is evicted over its output's limit.
 abbrev pub RouteTimed : AllSettings → Route → Outcome → History → Type 0
 RouteTimed s r (FlushStarted events) h = (due s h r ≤ clock h) × ((is_idle s h r ≡ true) × (just_begun h r ≡ false))
-RouteTimed s r (Retries word) h = may_retry (retries_at (output_at s r.output)) (tries h r) ≡ true
-RouteTimed s r outcome h = Unit {0}
+RouteTimed s r (InFlight progress) h = on_the_way h r ≡ true
+RouteTimed s r (Retries word) h = (may_retry (retries_at (output_at s r.output)) (tries h r) ≡ true) × (on_the_way h r ≡ true)
+RouteTimed s r Delivered h = Unit {0}
+RouteTimed s r Failed h = Unit {0}
+RouteTimed s r Exhausted h = (may_retry (retries_at (output_at s r.output)) (tries h r) ≡ false) × (on_the_way h r ≡ true)
+RouteTimed s r Evicted h = IsOverLimit s h r
 
 -- and a chunk closes while it is open
 abbrev pub FactTimed : AllSettings → Fact → History → Type 0
@@ -184,19 +206,45 @@ module _ (s : AllSettings) where
     -- ---- closing
 
     module _ (losses : (r : Route) (h : History) → K h → K (OnRoute r Evicted ∷ h)) where
-      tells_loses : (rs : List Route) (past : Past) → InTime past → K (logged past) → ReturnsTimed K past (loses s rs (logged past))
-      tells_loses [] past in_time so = nothing K past in_time so
-      tells_loses (r ∷ rs) past in_time so =
-          deed K (OnRoute r Evicted) past (λ at. bind (marks_or_removes s r at) (loses s rs)) (λ _ _. tt) in_time
+      tells_loses : (rs : List Route) (past : Past) → ((r : Route) → Contains rs r → (h : History) → K h → IsOverLimit s h r) → InTime past → K (logged past) → ReturnsTimed K past (loses s rs (logged past))
+      tells_loses [] past over in_time so = nothing K past in_time so
+      tells_loses (r ∷ rs) past over in_time so =
+          deed K (OnRoute r Evicted) past (λ at. bind (marks_or_removes s r at) (loses s rs)) (λ _ _. over r (here r rs) (logged past) so) in_time
           (λ answer later.
           let at : Past = entry (Note (OnRoute r Evicted)) answer ∷ past in
-          tells_then K K at (marks_or_removes s r (logged at)) (loses s rs) (tells_settles r at later (losses r (logged past) so)) (λ now grown still more. tells_loses rs now still more))
+          tells_then K K at (marks_or_removes s r (logged at)) (loses s rs) (tells_settles r at later (losses r (logged past) so))
+          (λ now grown still more. tells_loses rs now (λ q has. over q (deeper r rs q has)) still more))
 
-      tells_shuts : (chunk : ℕ) (past : Past) → (Allowed s past → is_closed (logged past) chunk ≡ false) → InTime past → K (ChunkClosed chunk ∷ logged past) → ReturnsTimed K past (shuts s chunk (logged past))
-      unfolding shuts
-      tells_shuts chunk past off in_time so =
-          deed K (ChunkClosed chunk) past (λ at. loses s (evicted_at s at chunk) at) (λ due _. off due) in_time
-          (λ answer later. tells_loses (evicted_at s (ChunkClosed chunk ∷ logged past) chunk) (entry (Note (ChunkClosed chunk)) answer ∷ past) later so)
+  -- ---- a chunk closes
+
+  closed_before : (closed : ℕ) (before : History) (fact : Fact) (h : History) → Follows fact → ClosedSince closed before h → ClosedSince closed before (fact ∷ h)
+  closed_before closed before fact h follows so = record { since = fact ∷ so.since; is = ap (λ (x : History). fact ∷ x) so.is; last = All-cons Follows fact so.since follows so.last }
+
+  tails_follow : (fact : Fact) → IsTail fact → Follows fact
+  tails_follow (Sent output bytes) is = refl
+  tails_follow (MarkStarted r) is = refl
+  tails_follow (Marked r) is = refl
+  tails_follow (Removed chunk) is = refl
+  tails_follow (FileLeft chunk) is = refl
+  tails_follow IoFailed is = refl
+  tails_follow fact is = absurd is
+
+  closed_tails : (closed : ℕ) (before : History) → IsKeptByTails (ClosedSince closed before)
+  closed_tails closed before fact h is so = closed_before closed before fact h (tails_follow fact is) so
+
+  module _ (K : History → Type 0) (tails : IsKeptByTails K) (losses : (r : Route) (h : History) → K h → K (OnRoute r Evicted ∷ h)) where
+    tells_shuts : (chunk : ℕ) (past : Past) → (Allowed s past → is_closed (logged past) chunk ≡ false) → InTime past → K (ChunkClosed chunk ∷ logged past) → ReturnsTimed K past (shuts s chunk (logged past))
+    unfolding shuts
+    tells_shuts chunk past off in_time so =
+        let Both : History → Type 0 = λ (h : History). K h × ClosedSince chunk (logged past) h in
+        deed K (ChunkClosed chunk) past (λ at. loses s (evicted_at s at chunk) at) (λ due _. off due) in_time
+        (λ answer later.
+        let at : Past = entry (Note (ChunkClosed chunk)) answer ∷ past in
+        traverses_map InTime (λ (h : History) (now : Past). (h ≡ logged now) × Both (logged now)) (λ (h : History) (now : Past). (h ≡ logged now) × K (logged now)) at
+        (loses s (evicted_at s (logged at) chunk) (logged at)) (λ h now grown is. (is.0, is.1.0))
+        (tells_loses Both (λ fact h is both. (tails fact h is both.0, closed_tails chunk (logged past) fact h is both.1))
+        (λ r h both. (losses r h both.0, closed_before chunk (logged past) (OnRoute r Evicted) h refl both.1))
+        (evicted_at s (logged at) chunk) at (λ r has h both. evicted_over s chunk (logged past) r h both.1 has) later (so, record { since = []; is = refl; last = All-nil Follows })))
 
   calm_losses : (r : Route) (h : History) → Calm h → Calm (OnRoute r Evicted ∷ h)
   calm_losses r h calm = calm_outcome r Evicted h refl calm

@@ -1,89 +1,22 @@
 -- The delivery guarantee of one run, in terms of its facts and calls.
-use Rattle.std.specs.Prelude.{◌≡◌, ◌⊎◌, ℕ, true, if◌then◌else◌, List, [], ◌∷◌, ◌++◌, map, Contains, Option, Some, None}
-use Rattle.fwd_outside.specs.declared.happening.Happening.TheVariants as happening
-use Rattle.fwd_outside.specs.Loop.{LoopEntry}
-use Rattle.fwd_in_tail.specs.Followed.{polled}
+use Rattle.std.specs.Prelude.{◌≡◌, ◌↔◌, ℕ, true, List, [], ◌∷◌, ◌++◌, map, Contains, Option}
+use Rattle.fwd_outside.specs.Program.{entry}
+use Rattle.fwd_outside.specs.Loop.{LoopEntry, Reply}
 use Rattle.fwd_table.specs.Row.{Row}
 use Rattle.fwd_settings.specs.declared.settings_types.AllSettings.{AllSettings}
-use Rattle.fwd_model.specs.Fact.{Fact, History, Stream, LineStream, MessageStream, Standard, Batch, Placement, Reason, Route, Happened, Polled, Disconnected, Malformed, Accepted, Refused, OnRoute, Delivered, Failed, Exhausted, Evicted}
-use Rattle.fwd_model.specs.Settings.{outputs_for, reads_stdin_at}
-use Rattle.fwd_model.specs.Streams.{stream_of, said}
-use Rattle.fwd_model.specs.Batches.{piece_batch, end_batch, poll_batch}
-use Rattle.fwd_model.specs.Messages.{completed_messages, message_batch}
+use Rattle.fwd_model.specs.Fact.{Fact, History, Route, OnRoute, Delivered, Failed, Exhausted, Evicted}
+use Rattle.fwd_model.specs.Settings.{outputs_for}
 use Rattle.fwd_model.specs.Chunks.{ChunkInfo, chunks_of}
 use Rattle.fwd_model.specs.Routes.{route, rows_of}
-use Rattle.fwd_model.specs.Notes.{is_empty}
-use Rattle.fwd_theorem_trace.specs.Resolution.{WasRecoveredDone}
+use Rattle.fwd_model.specs.Trace.{TraceEntry, OnLoop, history_after, loop_part}
+use Rattle.fwd_theorem_trace.specs.Past.{past_after}
+use Rattle.fwd_theorem_trace.specs.Resolution.{WasRecoveredDone, IsResolved}
+use Rattle.fwd_theorem_delivery.specs.Causes.{HaveCauses}
+use Rattle.fwd_theorem_delivery.specs.Origins.{is_arrival, HasNoArrival, AreDecidedInOrder}
+use Rattle.fwd_theorem_delivery.specs.Replies.{IsDueReply}
 use Rattle.fwd_theorem_delivery.specs.Links.{DialTarget, WasDialled}
 use Rattle.fwd_theorem_delivery.specs.LinkOutcomes.{IsLogged, SendsPrefix, SendsAll, IsRejected, HasRetryCause}
-
--- ---- complete input
-
--- the batches that a read over a stream completes, in order
-abbrev pub completed_over : AllSettings → History → ℕ → List ℕ → Option Stream → List Batch
-completed_over s before input bytes None = []
-completed_over s before input bytes (Some (LineStream conn)) =
-    piece_batch s before input (LineStream conn) bytes ∷ []
-completed_over s before input bytes (Some (MessageStream conn)) =
-    map (message_batch s input) (completed_messages (said s before (MessageStream conn)) bytes)
-completed_over s before input bytes (Some (Standard reader)) =
-    piece_batch s before input (Standard reader) bytes ∷ []
-
--- the batches that a fact completes, given the history before it: the events that became complete there
--- and passed the filters
-abbrev pub completed_by : AllSettings → History → Fact → List Batch
-completed_by s before (Happened (happening.Piece input conn bytes)) =
-    completed_over s before input.0 bytes (stream_of s before input.0 conn.0)
-completed_by s before (Happened (happening.InputEnd input)) =
-    if reads_stdin_at s input.0 then end_batch s before input.0 (Standard input.0) ∷ [] else []
-completed_by s before (Polled input index length bytes) =
-    poll_batch s before input index (polled length bytes) ∷ []
-completed_by s before fact = []
-
--- the connection of a read
-abbrev pub conn_of : Fact → Option ℕ
-conn_of (Happened (happening.Piece input conn bytes)) = Some conn.0
-conn_of fact = None
-
--- its connection was dropped before any further fact about its input
-abbrev pub ConnectionDropped : Option ℕ → History → Type 0
-ConnectionDropped None during = ⊥
-ConnectionDropped (Some conn) [] = ⊥
-ConnectionDropped (Some conn) (Disconnected other ∷ during) = other ≡ conn
-ConnectionDropped (Some conn) (Malformed input ∷ during) = ⊥
-ConnectionDropped (Some conn) (Accepted b place ∷ during) = ⊥
-ConnectionDropped (Some conn) (Refused b why ∷ during) = ⊥
-ConnectionDropped (Some conn) (fact ∷ during) = ConnectionDropped (Some conn) during
-
--- What became of a batch, by the facts logged after it, the oldest first: it has no events, it was
--- accepted, or it was refused and counted. `rest` are the facts after that.
-pub data BatchOutcome (during : History) (b : Batch) (rest : History) : Type 0 where
-  IsEmpty : is_empty b.events ≡ true → rest ≡ during → BatchOutcome during b rest
-  IsAccepted : (before : History) (place : Placement) → during ≡ before ++ Accepted b place ∷ rest
-      → BatchOutcome during b rest
-  IsRefused : (before : History) (why : Reason) → during ≡ before ++ Refused b why ∷ rest
-      → BatchOutcome during b rest
-
--- For batches in order, each by a fact of its own. What follows the drop of its connection is discarded.
-abbrev pub BatchOutcomes : Option ℕ → History → List Batch → Type 0
-BatchOutcomes conn during [] = Unit {0}
-BatchOutcomes conn during (b ∷ bs) =
-    (rest : History) × BatchOutcome during b rest × (BatchOutcomes conn rest bs ⊎ ConnectionDropped conn rest)
-
--- the facts after a fact, up to the next event or poll, the oldest first
-abbrev pub until_next : Fact → History → History
-until_next (Happened brought) during = []
-until_next (Polled input index length bytes) during = []
-until_next fact during = fact ∷ during
-
--- for each batch that was completed
-abbrev pub AllBatchOutcomes : AllSettings → History → History → Type 0
-AllBatchOutcomes s during [] = Unit {0}
-AllBatchOutcomes s during (fact ∷ before) =
-    BatchOutcomes (conn_of fact) during (completed_by s before fact)
-    × AllBatchOutcomes s (until_next fact during) before
-
--- ---- pending deliveries
+use Rattle.fwd_theorem_delivery.specs.BatchOutcomes.{AllBatchOutcomes}
 
 -- an entry of the report has the route
 pub record IsReported (s : AllSettings) (h : History) (r : Route) : Type 0 where
@@ -105,12 +38,31 @@ pub data IsAccountedFor (s : AllSettings) (h : History) (es : List LoopEntry) (r
 
 -- ---- the guarantee
 
--- Each event that came in complete and passed the filters is in an accepted batch, unless its batch was
--- refused and counted or followed the drop of its connection. Each chunk is kept for each output that it
--- matches. The bytes sent over each link are a prefix of the payload of a flush of a closed chunk for the
--- link's output.
-pub record KeepsGuarantee (s : AllSettings) (h : History) (es : List LoopEntry) : Type 0 where
-  pub became : AllBatchOutcomes s [] h
-  pub kept : (c : ChunkInfo) (output : ℕ) → Contains (chunks_of h) c → Contains (outputs_for s c.tag) output
-      → IsAccountedFor s h es (route c.number output)
-  pub handed : (to : DialTarget) (link : ℕ) → WasDialled to link es → SendsPrefix s h es to link
+-- The guarantee of a run with these calls and facts.
+pub record KeepsGuarantee (s : AllSettings) (trace : List TraceEntry) : Type 0 where
+  -- Each event that came in complete and passed the filters is in an accepted batch, unless its batch was
+  -- refused and counted or followed the drop of its connection.
+  pub became : AllBatchOutcomes s [] (history_after trace [])
+  -- Each batch is decided once: those decided since a read, an event or a poll are the first ones that it
+  -- completed, in order.
+  pub once : (later during before : History) (fact : Fact)
+      → history_after trace [] ≡ later ++ (during ++ fact ∷ before) → is_arrival fact ≡ true
+      → HasNoArrival during → AreDecidedInOrder s during fact before
+  -- Each chunk is kept for each output that it matches.
+  pub kept : (c : ChunkInfo) (output : ℕ) → Contains (chunks_of (history_after trace [])) c
+      → Contains (outputs_for s c.tag) output
+      → IsAccountedFor s (history_after trace []) (loop_part trace) (route c.number output)
+  -- It is pending, and in the report, exactly as long as the route isn't resolved.
+  pub pending : (c : ChunkInfo) (output : ℕ) → Contains (chunks_of (history_after trace [])) c
+      → Contains (outputs_for s c.tag) output
+      → IsReported s (history_after trace []) (route c.number output)
+      ↔ (IsResolved s (history_after trace []) (route c.number output) → ⊥)
+  -- A refusal, the end of retries and an eviction have their causes.
+  pub causes : HaveCauses s (history_after trace [])
+  -- The bytes sent over each link are a prefix of the payload of a flush of a closed chunk for its output.
+  pub handed : (to : DialTarget) (link : ℕ) → WasDialled to link (loop_part trace)
+      → SendsPrefix s (history_after trace []) (loop_part trace) to link
+  -- Each reply is due: its message's batch, and all before it in the read, were taken before.
+  pub replied : (before rest : List TraceEntry) (conn : ℕ) (bytes : List ℕ) (answer : Option (Unit {0}))
+      → trace ≡ before ++ entry (OnLoop (Reply conn bytes)) answer ∷ rest
+      → IsDueReply s (past_after [] before) conn bytes

@@ -1,10 +1,12 @@
 pub mod Origins
+pub mod BatchOutcomes
 pub mod Guarantee
 pub mod Replies
 pub mod Backpressure
 pub mod DueOrder
 pub mod OverdueChunks
 pub mod RetryCounts
+pub mod Causes
 pub mod Links
 pub mod LinkOutcomes
 pub mod TakenBytes

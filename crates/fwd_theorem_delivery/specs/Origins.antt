@@ -3,7 +3,7 @@ use Rattle.std.specs.Prelude.{◌≡◌, Bool, true, false, not, List, [], ◌�
 use Rattle.fwd_settings.specs.declared.settings_types.AllSettings.{AllSettings}
 use Rattle.fwd_model.specs.Fact.{Fact, History, Batch, Happened, Resumed, Saved, Polled, Disconnected, Malformed, Found, Offered, Accepted, Refused, ChunkClosed, Sent, OnRoute, MarkStarted, Marked, Removed, FileLeft, IoFailed}
 use Rattle.fwd_model.specs.Notes.{is_empty}
-use Rattle.fwd_theorem_delivery.specs.Guarantee.{completed_by}
+use Rattle.fwd_theorem_delivery.specs.BatchOutcomes.{completed_by}
 
 -- an event, or a poll of a followed file
 abbrev pub is_arrival : Fact → Bool

@@ -4,10 +4,11 @@
 //! pending, and which bytes were sent. The other theorems say more about its parts. Each link sends a prefix
 //! of one payload, and a route is delivered only if one link took the whole payload. Each accepted or refused
 //! batch was complete, and is decided once. A message of a forward peer is answered only once its batch is
-//! taken. The remaining theorems say when a run closes chunks, pauses inputs, retries and dispatches.
+//! taken. A refusal, the end of retries and an eviction have their causes. The remaining theorems say when a run closes chunks, pauses inputs, retries and dispatches.
 #![tactic(auto)]
 
 mod backpressure;
+mod causes;
 mod close_time;
 mod dispatch_order;
 mod flush_outcomes;
@@ -17,6 +18,7 @@ mod replies;
 mod retries;
 
 pub use backpressure::waits_name_paused_inputs;
+pub use causes::outcomes_have_causes;
 pub use close_time::chunks_close_in_time;
 pub use dispatch_order::earlier_due_first;
 pub use flush_outcomes::{

@@ -13,7 +13,7 @@ use Rattle.fwd_theorem_trace.specs.Allowed.{IsAllowed, Allowed}
 use Rattle.fwd_theorem_trace.proofs.Traversal.{Traverses, traverses_map}
 use Rattle.fwd_theorem_trace.proofs.WaitCounts.{is_plain, ArePlain, step_plain}
 use Rattle.fwd_theorem_trace.proofs.Run.{IsPlain, Lasts, at_each, steps_step}
-use Rattle.fwd_theorem_delivery.specs.Guarantee.{AllBatchOutcomes}
+use Rattle.fwd_theorem_delivery.specs.BatchOutcomes.{AllBatchOutcomes}
 use Rattle.fwd_theorem_delivery.proofs.Results.{gives_walks}
 use Rattle.fwd_theorem_delivery.proofs.HistoryInduction.{each_step, each_loading, each_aside}
 use Rattle.fwd_theorem_delivery.proofs.BatchRun.{each_lasts}

@@ -9,7 +9,7 @@ use Rattle.fwd_model.specs.Trace.{Call, OnKeeper}
 use Rattle.fwd_model.specs.FollowedFiles.{file_at}
 use Rattle.fwd_theorem_trace.specs.Past.{Past, logged}
 use Rattle.fwd_theorem_trace.specs.Allowed.{PutAllowed}
-use Rattle.fwd_theorem_delivery.specs.Guarantee.{AllBatchOutcomes}
+use Rattle.fwd_theorem_delivery.specs.BatchOutcomes.{AllBatchOutcomes}
 
 -- An offset is put after this history. It is the one after the last whole line that was read of a followed
 -- file, and something became of each batch that was complete by then: it was accepted, or refused and

@@ -2,7 +2,7 @@
 use Rattle.std.proofs.Common.{inl, inr, ℕ, ◌-◌, List, [], ◌∷◌, ◌++◌}
 use Rattle.fwd_settings.specs.declared.settings_types.AllSettings.{AllSettings}
 use Rattle.fwd_script.specs.declared.schedule.Life.{Life}
-use Rattle.fwd_model.specs.Trace.{TraceEntry, loop_part}
+use Rattle.fwd_model.specs.Trace.{TraceEntry}
 use Rattle.fwd_model.specs.Run.{RunResult}
 use Rattle.fwd_theorem_trace.specs.Waits.{waits_in}
 use Rattle.fwd_theorem_delivery.specs.Guarantee.{KeepsGuarantee}
@@ -12,10 +12,10 @@ use Rattle.fwd_replay.specs.declared.report.Shown.{Shown}
 use Rattle.fwd_top.specs.Delivery.{EachIsDelivered}
 
 abbrev LifeKeeps : Type 0
-LifeKeeps = (s : AllSettings) (turns : ℕ) (start : Start) (planned : Life) (trace : List TraceEntry) (comes : RunResult) → IsLife s turns start planned trace comes → KeepsGuarantee s comes.history (loop_part trace)
+LifeKeeps = (s : AllSettings) (turns : ℕ) (start : Start) (planned : Life) (trace : List TraceEntry) (comes : RunResult) → IsLife s turns start planned trace comes → KeepsGuarantee s trace
 
 abbrev CutKeeps : Type 0
-CutKeeps = (s : AllSettings) (turns : ℕ) (start : Start) (planned : Life) (c : CutRun) → IsCut s turns start planned c → KeepsGuarantee s c.history (loop_part c.before)
+CutKeeps = (s : AllSettings) (turns : ℕ) (start : Start) (planned : Life) (c : CutRun) → IsCut s turns start planned c → KeepsGuarantee s c.before
 
 pub each_keeps : LifeKeeps → CutKeeps → (shown : Shown) (s : AllSettings) (turns : ℕ) (start : Start) (lives : List Life) (reported : Reported) (is : IsReplayed shown s turns start lives reported) → EachIsDelivered shown s turns start lives reported is
 each_keeps whole cut shown s turns start [] reported is = tt

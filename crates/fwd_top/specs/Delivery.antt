@@ -20,9 +20,9 @@ abbrev pub EachIsDelivered : (shown : Shown) (s : AllSettings) (turns : ℕ) (st
     (reported : Reported) → IsReplayed shown s turns start lives reported → Type 0
 EachIsDelivered shown s turns start [] reported is = Unit {0}
 EachIsDelivered shown s turns start (planned ∷ lives) reported (inl ends) =
-    KeepsGuarantee s ends.comes.history (loop_part ends.trace)
+    KeepsGuarantee s ends.trace
 EachIsDelivered shown s turns start (planned ∷ lives) reported (inr (inl cut)) =
-    KeepsGuarantee s cut.0.history (loop_part cut.0.before)
+    KeepsGuarantee s cut.0.before
     × EachIsDelivered shown s (turns - waits_in (cut.0.before ++ cut.0.turn)) cut.0.next lives cut.2.0 cut.2.1
 EachIsDelivered shown s turns start (planned ∷ lives) reported (inr (inr wanting)) = Unit {0}
 
@@ -30,8 +30,7 @@ EachIsDelivered shown s turns start (planned ∷ lives) reported (inr (inr wanti
 abbrev pub RunIsDelivered : (s : AllSettings) (ticks : Option ℕ) (turns : ℕ) (old new : Platform)
     (reported : Reported) → IsRunLive s ticks turns (world old) (world new) reported → Type 0
 RunIsDelivered s ticks turns old new reported (inl lived) =
-    AreNewLinks 0 (loop_part lived.did.entries)
-    → KeepsGuarantee s lived.lived.history (loop_part lived.did.entries)
+    AreNewLinks 0 (loop_part lived.did.entries) → KeepsGuarantee s lived.did.entries
 RunIsDelivered s ticks turns old new reported (inr wanting) = Unit {0}
 
 -- each run of the outcome of a case

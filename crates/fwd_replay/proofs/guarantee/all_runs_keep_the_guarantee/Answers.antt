@@ -32,6 +32,6 @@ returns-clause-cut c s turns start planned cuts is = by is.cut_in
     new_links : AreNewLinks 0 (loop_part cuts.before)
     new_links = are_new (beginning (given_of planned)) (loop_part cuts.before) first_played
 
-    by : IsCutIn s turns start planned cuts.before cuts.history cuts.turn → KeepsGuarantee s cuts.history (loop_part cuts.before)
+    by : IsCutIn s turns start planned cuts.before cuts.history cuts.turn → KeepsGuarantee s cuts.before
     by (inl cut) = c.runs_keep_the_guarantee.ensures s (ends_of s) None (waits_in cuts.before) cuts.before (lived cuts.history TurnsSpent) cut.1 new_links
     by (inr over) = c.runs_keep_the_guarantee.ensures s (ends_of s) None turns cuts.before (lived cuts.history Over) over.0 new_links
