@@ -5,7 +5,7 @@ use Rattle.fwd_base.specs.declared.pattern.Pattern.{Pattern}
 use Rattle.fwd_outside.specs.Program.{Return, Ask}
 use Rattle.fwd_settings_schema.specs.declared.error_kind.SettingKind.{SettingKind}
 use Rattle.fwd_config.specs.declared.section.Place.{Place}
-use Rattle.fwd_settings.specs.Reading.{Reading, Checked, ◌>>=◌, known, at, each, IsResult}
+use Rattle.fwd_settings_entries.specs.Reading.{Reading, Checked, ◌>>=◌, known, at, each, IsResult}
 
 ok_is : {X : Type 0} {x y : X} → ◌≡◌ {A = Checked X} (Ok x) (Ok y) → x ≡ y
 ok_is is = cc

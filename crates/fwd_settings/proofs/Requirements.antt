@@ -42,9 +42,9 @@ use Rattle.fwd_settings_schema.specs.declared.properties.Property.{Property}
 use Rattle.fwd_settings.specs.declared.sections.PartialSettings.{PartialSettings}
 use Rattle.fwd_settings_schema.specs.Keys.{name_of_input, name_of_output, name_of, table, key_of, input_of, output_of, filter_of, head_of}
 use Rattle.fwd_settings_schema.specs.Property.{last_value, as_number, as_text, as_id, text_at, id_at, id_place_at, header_count}
-use Rattle.fwd_settings.specs.Reading.{Checked, ◌>>=◌, known, fault, IsResult}
-use Rattle.fwd_settings.specs.Values.{entry_property, entry_properties}
-use Rattle.fwd_settings.specs.Parsers.{parser_named, name_entry}
+use Rattle.fwd_settings_entries.specs.Reading.{Checked, ◌>>=◌, known, fault, IsResult}
+use Rattle.fwd_settings_entries.specs.Values.{entry_property, entry_properties}
+use Rattle.fwd_settings_entries.specs.Parsers.{parser_named, name_entry}
 use Rattle.fwd_settings.specs.Inputs.{input_plugin, is_input_of, input_kind, input_name, tag_of, input_set, stored_in, input_by, input_from, has_path, is_path_entry, names_path, is_service_head, tail_by}
 use Rattle.fwd_settings.specs.Outputs.{output_plugin, output_kind, output_set, output_from, output_name, most_headers, is_output_of, has_id}
 use Rattle.fwd_settings.specs.Filters.{filter_from}

@@ -23,8 +23,8 @@ use Rattle.fwd_settings_schema.specs.declared.properties.Value.TheVariants as va
 use Rattle.fwd_settings_schema.specs.declared.properties.Property.{Property}
 use Rattle.fwd_settings_schema.specs.Keys.{name_of, Row, table, covers, is_row_of, row_of, key_of, is_key_named}
 use Rattle.fwd_settings_schema.specs.Property.{value_for, last_value}
-use Rattle.fwd_settings.specs.Reading.{Reading, Checked, known, fault}
-use Rattle.fwd_settings.specs.Values.{or_else, when, value_of, id_value, property_value, key_property, entry_property}
+use Rattle.fwd_settings_entries.specs.Reading.{Reading, Checked, known, fault}
+use Rattle.fwd_settings_entries.specs.Values.{or_else, when, value_of, id_value, property_value, key_property, entry_property}
 use Rattle.fwd_settings.specs.Requirements.{IsTagText, IsIdText}
 use Rattle.fwd_settings.proofs.Always.{Always, always_then, always_known, always_at}
 

@@ -14,7 +14,7 @@ use Rattle.fwd_settings_values.specs.declared.words.Operation.{Operation}
 use Rattle.fwd_settings_values.specs.declared.words.Operation.TheVariants as operation
 use Rattle.fwd_settings_schema.specs.declared.properties.Property.{Property}
 use Rattle.fwd_settings_schema.specs.Property.{operation_at, text_at, grep_in, condition_in, change_in, wildcard_in}
-use Rattle.fwd_settings.specs.Reading.{Checked, fault}
+use Rattle.fwd_settings_entries.specs.Reading.{Checked, fault}
 
 -- a prefix, empty if it isn't given
 abbrev pub prefix : Key → List Property → List ℕ

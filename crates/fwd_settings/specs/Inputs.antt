@@ -24,10 +24,10 @@ use Rattle.fwd_settings_schema.specs.declared.keys.Kind.{Kind}
 use Rattle.fwd_settings_values.specs.declared.words.LineFormat.{LineFormat}
 use Rattle.fwd_settings_values.specs.declared.words.LineFormat.TheVariants as format
 use Rattle.fwd_settings_schema.specs.declared.properties.Property.{Property}
-use Rattle.fwd_settings_schema.specs.Keys.{name_of, name_of_input, key_of, head_of}
+use Rattle.fwd_settings_schema.specs.Keys.{name_of, name_of_input, key_of, head_of, tcp_port, forward_port}
 use Rattle.fwd_settings_schema.specs.Property.{number_at, port_at, truth_at, format_at, text_at, last_in, parser_in}
-use Rattle.fwd_settings.specs.Reading.{Checked, fault}
-use Rattle.fwd_settings.specs.Parsers.{timeless}
+use Rattle.fwd_settings_entries.specs.Reading.{Checked, fault}
+use Rattle.fwd_settings_entries.specs.Parsers.{timeless}
 
 -- the name of an instance: its plugin, a dot and its number
 abbrev pub instance : List ℕ → ℕ → List ℕ
@@ -59,10 +59,10 @@ abbrev pub input_kind : InputPlugin → Place → List Property → Checked Inpu
 input_kind plugin.Tail place properties = tail_by place properties (text_at key.Path properties)
 input_kind plugin.Tcp place properties =
     Ok (input.Tcp (unwrap_or (text_at key.Listen properties) (codes "0.0.0.0"))
-    (unwrap_or (port_at key.Port properties) 5170))
+    (unwrap_or (port_at key.Port properties) tcp_port))
 input_kind plugin.Forward place properties =
     Ok (input.Forward (unwrap_or (text_at key.Listen properties) (codes "0.0.0.0"))
-    (unwrap_or (port_at key.Port properties) 24224))
+    (unwrap_or (port_at key.Port properties) forward_port))
 input_kind plugin.Stdin place properties = Ok input.Stdin
 
 -- without a Tag the instance's name is the tag, except for forward, whose messages bring theirs

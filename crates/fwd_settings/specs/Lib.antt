@@ -1,7 +1,5 @@
 pub mod Reading
-pub mod Values
 pub mod Service
-pub mod Parsers
 pub mod Inputs
 pub mod Filters
 pub mod Outputs

@@ -19,9 +19,9 @@ use Rattle.fwd_settings_schema.specs.declared.plugins.OutputPlugin.{OutputPlugin
 use Rattle.fwd_settings_schema.specs.declared.plugins.OutputPlugin.TheVariants as plugin
 use Rattle.fwd_settings_schema.specs.declared.keys.Key.TheVariants as key
 use Rattle.fwd_settings_schema.specs.declared.properties.Property.{Property}
-use Rattle.fwd_settings_schema.specs.Keys.{name_of_output}
+use Rattle.fwd_settings_schema.specs.Keys.{name_of_output, tcp_port, forward_port, http_port}
 use Rattle.fwd_settings_schema.specs.Property.{number_at, port_at, truth_at, form_at, text_at, id_at, id_place_at, retries_at, header_in, header_count}
-use Rattle.fwd_settings.specs.Reading.{Checked, fault}
+use Rattle.fwd_settings_entries.specs.Reading.{Checked, fault}
 use Rattle.fwd_settings.specs.Inputs.{instance}
 use Rattle.fwd_settings.specs.Filters.{glob_of}
 
@@ -79,14 +79,14 @@ output_kind plugin.File properties =
     output.File (unwrap_or (text_at key.Path properties) (codes ".")) (text_at key.File properties)
     (unwrap_or (form_at key.Format properties) form.OutFile)
 output_kind plugin.Tcp properties =
-    output.Tcp (host_of properties) (unwrap_or (port_at key.Port properties) 5170)
+    output.Tcp (host_of properties) (unwrap_or (port_at key.Port properties) tcp_port)
     (unwrap_or (form_at key.Format properties) form.JsonLines)
 output_kind plugin.Forward properties =
-    output.Forward (host_of properties) (unwrap_or (port_at key.Port properties) 24224)
+    output.Forward (host_of properties) (unwrap_or (port_at key.Port properties) forward_port)
     (unwrap_or (truth_at key.RequireAck properties) false)
     (unwrap_or (truth_at key.TimeAsInteger properties) false)
 output_kind plugin.Http properties =
-    output.Http (host_of properties) (unwrap_or (port_at key.Port properties) 80)
+    output.Http (host_of properties) (unwrap_or (port_at key.Port properties) http_port)
     (unwrap_or (text_at key.Uri properties) (codes "/"))
     (unwrap_or (form_at key.Format properties) form.MsgPack) (options_of properties)
 

@@ -10,7 +10,7 @@ use Rattle.fwd_config.specs.declared.section.Section.{Section}
 use Rattle.fwd_settings.specs.declared.settings_types.InputSet.{InputSet}
 use Rattle.fwd_settings.specs.declared.settings_types.OutputSet.{OutputSet}
 use Rattle.fwd_settings.specs.declared.settings_types.AllSettings.{AllSettings}
-use Rattle.fwd_settings.specs.declared.fault.SettingFault.{SettingFault}
+use Rattle.fwd_settings_schema.specs.declared.fault.SettingFault.{SettingFault}
 use Rattle.fwd_settings_schema.specs.declared.section_kind.SectionKind.{SectionKind}
 use Rattle.fwd_settings_schema.specs.declared.section_kind.SectionKind.TheVariants as head
 use Rattle.fwd_settings_schema.specs.declared.section_kind.Target.{Target}
@@ -18,9 +18,9 @@ use Rattle.fwd_settings_schema.specs.declared.section_kind.Target.TheVariants as
 use Rattle.fwd_settings_schema.specs.declared.properties.Property.{Property}
 use Rattle.fwd_settings.specs.declared.sections.PartialSettings.{PartialSettings}
 use Rattle.fwd_settings_schema.specs.Keys.{head_of, plugin_of}
-use Rattle.fwd_settings.specs.Reading.{Reading, Checked, ◌>>=◌, known, fault, IsResult}
-use Rattle.fwd_settings.specs.Values.{entry_properties}
-use Rattle.fwd_settings.specs.Parsers.{name_entry, parser_named}
+use Rattle.fwd_settings_entries.specs.Reading.{Reading, Checked, ◌>>=◌, known, fault, IsResult}
+use Rattle.fwd_settings_entries.specs.Values.{entry_properties}
+use Rattle.fwd_settings_entries.specs.Parsers.{name_entry, parser_named}
 use Rattle.fwd_settings.specs.Service.{service_of}
 use Rattle.fwd_settings.specs.Inputs.{has_path, input_from}
 use Rattle.fwd_settings.specs.Filters.{filter_from}

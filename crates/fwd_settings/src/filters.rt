@@ -1,23 +1,23 @@
-//! Settings of filters.
+//! Reads the entries of a FILTER section into a step of the filters: a glob of tags, and the rules of its
+//! plugin.
 
 ghost use Rattle.std.specs.Prelude.{◌≡◌, IfOk};
-ghost use Rattle.fwd_settings.specs.Reading.{ReturnsResult, known};
+ghost use Rattle.fwd_settings_entries.specs.Reading.{ReturnsResult, known};
 ghost use Rattle.fwd_settings.specs.Filters.{filter_kind, operation_by, nest_by, lift_by, filter_from, glob_of};
 ghost use Rattle.fwd_settings_schema.specs.Property.{text_at};
 
-use crate::entries::refuse;
-use crate::fault::Stop;
 use fwd_base::{Bytes, Memory};
 use fwd_config::Place;
 use fwd_filters::{FilterKind, FilterStep};
 use fwd_reshape::{LiftRule, NestRule};
+use fwd_settings_entries::{ReadErr, refuse};
 use fwd_settings_schema::{
     FilterPlugin, Key, Operation, Properties, Property, SettingKind, grep_rules, modify_rules,
     operation_at, own_text, text_or, wildcards,
 };
 use std::alloc::Global;
 
-fn nest(alloc: Global, place: &Place, properties: &[Property]) -> Result<FilterKind, Stop>
+fn nest(alloc: Global, place: &Place, properties: &[Property]) -> Result<FilterKind, ReadErr>
     ensures { ReturnsResult (known (nest_by place.now properties.now (text_at Key.NestUnder properties.now))) result }
 {
     let Some(under) = own_text(alloc, properties, Key::NestUnder)? else {
@@ -35,7 +35,7 @@ fn nest(alloc: Global, place: &Place, properties: &[Property]) -> Result<FilterK
     }))
 }
 
-fn lift(alloc: Global, place: &Place, properties: &[Property]) -> Result<FilterKind, Stop>
+fn lift(alloc: Global, place: &Place, properties: &[Property]) -> Result<FilterKind, ReadErr>
     ensures { ReturnsResult (known (lift_by place.now properties.now (text_at Key.NestedUnder properties.now))) result }
 {
     let Some(under) = own_text(alloc, properties, Key::NestedUnder)? else {
@@ -53,7 +53,7 @@ fn nest_kind(
     place: &Place,
     operation: Option<Operation>,
     properties: &[Property],
-) -> Result<FilterKind, Stop>
+) -> Result<FilterKind, ReadErr>
     ensures { ReturnsResult (known (operation_by place.now properties.now operation)) result }
 {
     match operation {
@@ -69,7 +69,7 @@ fn filter_kind(
     plugin: FilterPlugin,
     place: &Place,
     properties: Properties,
-) -> Result<FilterKind, Stop>
+) -> Result<FilterKind, ReadErr>
     ensures { ReturnsResult (known (filter_kind plugin place.now properties)) result }
 {
     match plugin {
@@ -95,7 +95,7 @@ pub fn filter_from(
     plugin: FilterPlugin,
     place: &Place,
     properties: Properties,
-) -> Result<FilterStep, Stop>
+) -> Result<FilterStep, ReadErr>
     ensures { ReturnsResult (known (filter_from plugin place.now properties)) result }
 {
     let glob = glob_of(alloc, properties.as_slice())?;

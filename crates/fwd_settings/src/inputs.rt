@@ -1,22 +1,21 @@
-//! Settings of inputs.
+//! Reads the entries of an INPUT section into the settings of an input: its name, its tag, its parser,
+//! and where its chunks are stored.
 
 ghost use Rattle.std.specs.Prelude.{◌≡◌, ◌<◌, ◌+◌, ◌++◌, ◌∷◌, ◌^◌, ℕ, List, IfOk, codes, decimal, length, count_by};
 ghost use Rattle.std.specs.Option.{option_copied};
 ghost use Rattle.std.specs.List.{list_any};
 ghost use Rattle.fwd_settings_schema.specs.Keys.{head_of};
-ghost use Rattle.fwd_settings.specs.Reading.{ReturnsResult, known};
+ghost use Rattle.fwd_settings_entries.specs.Reading.{ReturnsResult, known};
 ghost use Rattle.fwd_settings.specs.Inputs.{instance, input_plugin, is_input_of, input_name, input_kind, tag_of, lines_shape, input_parser, is_path_entry, is_service_head, has_path, input_from};
 ghost use Rattle.std.specs.Prelude.{unwrap_or};
-ghost use Rattle.fwd_settings.specs.Parsers.{timeless};
+ghost use Rattle.fwd_settings_entries.specs.Parsers.{timeless};
 ghost use Rattle.fwd_settings_schema.specs.Property.{text_at, last_in, parser_in};
 
-use crate::entries::refuse;
-use crate::fault::Stop;
-use crate::parsers::timeless;
 use crate::{InputKind, InputSet};
 use fwd_base::{Bytes, Memory};
 use fwd_config::{Entry, Place, Section};
 use fwd_parser::{Parser, Shape};
+use fwd_settings_entries::{ReadErr, refuse, timeless};
 use fwd_settings_schema::{
     FORWARD_PORT, InputPlugin, Key, LineFormat, Properties, Property, SectionKind, SettingKind,
     TCP_PORT, Target, format_at, key_of, last_parser, number_at, own_text, parts_at, port_at,
@@ -66,7 +65,7 @@ fn input_kind(
     plugin: InputPlugin,
     place: &Place,
     properties: &[Property],
-) -> Result<InputKind, Stop>
+) -> Result<InputKind, ReadErr>
     ensures { ReturnsResult (known (input_kind plugin place.now properties.now)) result }
 {
     match plugin {
@@ -83,7 +82,7 @@ fn input_kind(
     }
 }
 
-fn tail_kind(alloc: Global, place: &Place, properties: &[Property]) -> Result<InputKind, Stop>
+fn tail_kind(alloc: Global, place: &Place, properties: &[Property]) -> Result<InputKind, ReadErr>
     ensures { ReturnsResult (known (input_kind InputPlugin.Tail place.now properties.now)) result }
 {
     match text_at(properties, Key::Path) {
@@ -189,7 +188,7 @@ pub fn input_from(
     place: &Place,
     before: &[InputSet],
     properties: Properties,
-) -> Result<InputSet, Stop>
+) -> Result<InputSet, ReadErr>
     ensures { ReturnsResult (known (input_from path plugin place.now before.now properties)) result }
 {
     let kind = input_kind(alloc, plugin, place, properties.as_slice())?;

@@ -7,22 +7,17 @@
 #![tactic(auto)]
 
 mod endpoints;
-mod entries;
-mod fault;
 mod filters;
 mod inputs;
 mod outputs;
-mod parsers;
 mod sections;
 mod service;
 mod settings_types;
-mod values;
 
 pub use endpoints::ends;
-pub use fault::SettingFault;
 pub use fwd_base::{Form, Retries};
 pub use fwd_outside::{Ends, InEnd, InEnds, OutEnd, OutEnds};
-pub use fwd_settings_schema::SettingKind;
+pub use fwd_settings_schema::{SettingFault, SettingKind};
 pub use sections::settings;
 pub use settings_types::{
     AllSettings, HttpOptions, InputKind, InputSet, InputSets, OutputKind, OutputSet, OutputSets,

@@ -1,14 +1,13 @@
-//! Settings of outputs.
+//! Reads the entries of an OUTPUT section into the settings of an output: its name and id, its glob,
+//! where it delivers, and how often it retries.
 
 ghost use Rattle.std.specs.Prelude.{◌≡◌, IfOk, count_by, unwrap_or};
 ghost use Rattle.std.specs.Option.{option_copied};
 ghost use Rattle.fwd_settings.specs.Outputs.{output_plugin, is_output_of, host_of, statuses_by, basic, authorization, header_fields, options_of, output_kind, output_set, has_id, output_from};
 ghost use Rattle.fwd_settings_schema.specs.Property.{id_at, id_place_at};
 ghost use Rattle.std.specs.List.{list_any};
-ghost use Rattle.fwd_settings.specs.Reading.{ReturnsResult, known};
+ghost use Rattle.fwd_settings_entries.specs.Reading.{ReturnsResult, known};
 
-use crate::entries::refuse;
-use crate::fault::Stop;
 use crate::filters::glob_of;
 use crate::inputs::instance;
 use crate::{HttpOptions, OutputKind, OutputSet};
@@ -16,6 +15,7 @@ use base64::engine::general_purpose::STANDARD;
 use fwd_base::{Bytes, Form, Memory, Retries};
 use fwd_config::Place;
 use fwd_http::{HeaderField, HeaderFields, StatusRanges};
+use fwd_settings_entries::{ReadErr, refuse};
 use fwd_settings_schema::{
     FORWARD_PORT, HTTP_PORT, Key, OutputPlugin, Property, SettingKind, TCP_PORT, form_at,
     header_count, id_at, id_place_at, number_at, own_text, port_at, push_headers, retries_at,
@@ -218,7 +218,7 @@ pub fn output_from(
     place: &Place,
     before: &[OutputSet],
     properties: &[Property],
-) -> Result<OutputSet, Stop>
+) -> Result<OutputSet, ReadErr>
     ensures { ReturnsResult (known (output_from plugin place.now before.now properties.now)) result }
 {
     if header_count(properties) > MOST_HEADERS {

@@ -3,26 +3,24 @@
 ghost use Rattle.std.specs.Prelude.{◌≡◌, ◌++◌, ℕ, List, Bool, IfOk, OnOk};
 ghost use Rattle.std.specs.List.{list_any};
 ghost use Rattle.fwd_settings_schema.specs.Keys.{head_of};
-ghost use Rattle.fwd_settings.specs.Reading.{ReturnsResult, known};
+ghost use Rattle.fwd_settings_entries.specs.Reading.{ReturnsResult, known};
 ghost use Rattle.fwd_settings.specs.Inputs.{has_path, input_from};
 ghost use Rattle.fwd_settings.specs.Filters.{filter_from};
 ghost use Rattle.fwd_settings.specs.Outputs.{output_from};
-ghost use Rattle.fwd_settings.specs.Parsers.{name_entry};
+ghost use Rattle.fwd_settings_entries.specs.Parsers.{name_entry};
 ghost use Rattle.fwd_settings.specs.Settings.{nothing, is_full, by_name, of_header, part_of, entries_here, with_target, with_input, with_filter, with_output, with_section, with_sections, all_of, settings_of, AreSettingsOf};
 ghost use Rattle.fwd_settings.specs.Requirements.{MeetsRequirements};
 
-use crate::entries::{read_entries, refuse};
-use crate::fault::Stop;
 use crate::filters::filter_from;
 use crate::inputs::{any_path, input_from};
 use crate::outputs::output_from;
-use crate::parsers::name_entry;
 use crate::service::service_of;
 use crate::{AllSettings, InputSets, OutputSets, SettingFault};
 use fwd_base::Memory;
 use fwd_base::limits::{MOST_INPUTS, MOST_OUTPUTS};
 use fwd_config::{Entry, Place, Section, Sections};
 use fwd_filters::FilterSteps;
+use fwd_settings_entries::{ReadErr, name_entry, read_entries, refuse};
 use fwd_settings_schema::{
     FilterPlugin, InputPlugin, OutputPlugin, Properties, SectionKind, SettingKind, Target,
 };
@@ -62,7 +60,7 @@ impl PartialSettings {
     }
 
     /// Returns what a section configures, by its header and its Name.
-    fn part_of(&self, alloc: Global, section: &Section) -> Result<Target, Stop>
+    fn part_of(&self, alloc: Global, section: &Section) -> Result<Target, ReadErr>
         ensures { ReturnsResult (known (part_of self.now section.now)) result }
     {
         let Some(head) = SectionKind::of(section.name.as_slice()) else {
@@ -85,7 +83,7 @@ impl PartialSettings {
         target: Target,
         place: &Place,
         properties: Properties,
-    ) -> Result<PartialSettings, Stop>
+    ) -> Result<PartialSettings, ReadErr>
         ensures { ReturnsResult (known (with_target path self target place.now properties)) result }
     {
         match target {
@@ -97,7 +95,7 @@ impl PartialSettings {
         }
     }
 
-    fn with_service(self, properties: Properties) -> Result<PartialSettings, Stop>
+    fn with_service(self, properties: Properties) -> Result<PartialSettings, ReadErr>
         ensures { ReturnsResult (known (Ok (record self { service = self.service ++ properties }))) result }
     {
         let mut partial = self;
@@ -114,7 +112,7 @@ impl PartialSettings {
         plugin: InputPlugin,
         place: &Place,
         properties: Properties,
-    ) -> Result<PartialSettings, Stop>
+    ) -> Result<PartialSettings, ReadErr>
         ensures { ReturnsResult (known (with_input self (input_from path plugin place.now self.inputs properties))) result }
     {
         let mut partial = self;
@@ -136,7 +134,7 @@ impl PartialSettings {
         plugin: FilterPlugin,
         place: &Place,
         properties: Properties,
-    ) -> Result<PartialSettings, Stop>
+    ) -> Result<PartialSettings, ReadErr>
         ensures { ReturnsResult (known (with_filter self (filter_from plugin place.now properties))) result }
     {
         let mut partial = self;
@@ -151,7 +149,7 @@ impl PartialSettings {
         plugin: OutputPlugin,
         place: &Place,
         properties: Properties,
-    ) -> Result<PartialSettings, Stop>
+    ) -> Result<PartialSettings, ReadErr>
         ensures { ReturnsResult (known (with_output self (output_from plugin place.now self.outputs properties))) result }
     {
         let mut partial = self;
@@ -186,7 +184,7 @@ impl PartialSettings {
 }
 
 /// Returns what a section configures whose kind requires a Name.
-fn by_name(alloc: Global, head: SectionKind, section: &Section) -> Result<Target, Stop>
+fn by_name(alloc: Global, head: SectionKind, section: &Section) -> Result<Target, ReadErr>
     ensures { ReturnsResult (known (by_name head section.now.place (name_entry section.now.entries))) result }
 {
     let Some(name) = name_entry(section.entries.as_slice()) else {
@@ -217,7 +215,7 @@ fn take_section(
     path: bool,
     partial: PartialSettings,
     section: &Section,
-) -> Result<PartialSettings, Stop>
+) -> Result<PartialSettings, ReadErr>
     ensures { ReturnsResult (with_section all.now path partial section.now) result }
 {
     let target = partial.part_of(alloc, section)?;
@@ -226,7 +224,7 @@ fn take_section(
     partial.with_target(alloc, path, target, &section.place, properties)
 }
 
-fn take_sections(alloc: Global, all: &[Section], path: bool) -> Result<PartialSettings, Stop>
+fn take_sections(alloc: Global, all: &[Section], path: bool) -> Result<PartialSettings, ReadErr>
     ensures { ReturnsResult (with_sections all.now path nothing all.now) result }
 {
     let mut partial = PartialSettings::new(alloc);
@@ -236,7 +234,7 @@ fn take_sections(alloc: Global, all: &[Section], path: bool) -> Result<PartialSe
     Ok(partial)
 }
 
-fn all_settings(alloc: Global, sections: &[Section]) -> Result<AllSettings, Stop>
+fn all_settings(alloc: Global, sections: &[Section]) -> Result<AllSettings, ReadErr>
     ensures { ReturnsResult (settings_of sections.now) result }
 {
     let partial = take_sections(alloc, sections, any_path(sections))?;
@@ -252,7 +250,7 @@ pub fn settings(alloc: Global, sections: &Sections) -> Result<AllSettings, Setti
 {
     match all_settings(alloc, sections.as_slice()) {
         Ok(all) => Ok(all),
-        Err(Stop::Memory) => Err(SettingFault::out_of_memory(alloc)),
-        Err(Stop::Refused(refusal)) => Err(refusal),
+        Err(ReadErr::Memory) => Err(SettingFault::out_of_memory(alloc)),
+        Err(ReadErr::Refused(refusal)) => Err(refusal),
     }
 }

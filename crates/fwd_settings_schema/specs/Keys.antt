@@ -62,6 +62,16 @@ name_of_output output.Http = codes "http"
 abbrev pub output_plugins : List OutputPlugin
 output_plugins = output.Stdout ∷ output.File ∷ output.Tcp ∷ output.Forward ∷ output.Http ∷ []
 
+-- the ports by default
+abbrev pub tcp_port : ℕ
+tcp_port = 5170
+
+abbrev pub forward_port : ℕ
+forward_port = 24224
+
+abbrev pub http_port : ℕ
+http_port = 80
+
 -- the name of each key
 abbrev pub name_of : Key → List ℕ
 name_of key.Name = codes "name"

@@ -6,6 +6,7 @@
 #![tactic(auto)]
 
 mod error_kind;
+mod fault;
 mod keys;
 mod plugins;
 mod properties;
@@ -13,6 +14,7 @@ mod section_kind;
 mod table;
 
 pub use error_kind::SettingKind;
+pub use fault::SettingFault;
 pub use fwd_settings_values::{
     ChangeWord, LineFormat, Operation, change, condition, field_types, file_form, flush_ms, header,
     is_false, is_id, is_plain, is_tag, is_uri, is_visible, key_and_rest, line_format,

@@ -18,7 +18,7 @@ use Rattle.fwd_settings_schema.specs.declared.error_kind.SettingKind.{SettingKin
 use Rattle.fwd_settings_schema.specs.declared.error_kind.SettingKind.TheVariants as setting_kind
 use Rattle.fwd_settings.specs.Reading.{Checked, IsResult}
 use Rattle.fwd_settings.specs.Settings.{AreSettingsOf, settings_of}
-use Rattle.fwd_settings.specs.declared.fault.SettingFault.{SettingFault}
+use Rattle.fwd_settings_schema.specs.declared.fault.SettingFault.{SettingFault}
 use Rattle.fwd_settings.specs.declared.settings_types.AllSettings.{AllSettings}
 use Rattle.fwd_top.specs.Cases.{Case, Runs, Lists, Refuses, Wanted, ToRun, ToReplay, Asked, asked, of_file, of_load, wanted_by, of_config, of_command, with_sections}
 use Rattle.fwd_top.specs.Answers.{Asks}

@@ -13,7 +13,7 @@ use Rattle.fwd_config.specs.declared.fault.ConfigKind.TheVariants as config_kind
 use Rattle.fwd_settings.specs.Reading.{Checked, IsResult}
 use Rattle.fwd_settings.specs.Settings.{settings_of}
 use Rattle.fwd_settings.specs.declared.settings_types.AllSettings.{AllSettings}
-use Rattle.fwd_settings.specs.declared.fault.SettingFault.{SettingFault}
+use Rattle.fwd_settings_schema.specs.declared.fault.SettingFault.{SettingFault}
 use Rattle.fwd_script.specs.declared.schedule.Schedule.{Schedule}
 use Rattle.fwd_script.specs.declared.schedule.Life.{Life}
 use Rattle.fwd_script.specs.declared.refusal.ScheduleRefused.{ScheduleRefused}

@@ -1,10 +1,10 @@
 use Rattle.std.proofs.Common.{Bool, Ok, Err, ap, subst}
 use Rattle.std.specs.List.{list_any}
 use Rattle.fwd_settings.specs.declared.sections.PartialSettings.{PartialSettings}
-use Rattle.fwd_settings.specs.Reading.{ReturnsResult, known}
+use Rattle.fwd_settings_entries.specs.Reading.{ReturnsResult, known}
 use Rattle.fwd_settings.specs.Inputs.{has_path}
 use Rattle.fwd_settings.specs.Settings.{nothing, with_sections, all_of, settings_of}
-use Rattle.fwd_settings.proofs.Readings.{result_then, returns_refused, stopped}
+use Rattle.fwd_settings_entries.proofs.Readings.{result_then, returns_refused, stopped}
 use Rattle.fwd_settings.proofs.sections.all_settings.Goals as goal
 
 pub returns-in_err-partial : goal.returns-in_err-partial

@@ -1,11 +1,11 @@
 use Rattle.std.proofs.Common.{List, Err, subst, ap, ◌∙◌}
 use Rattle.fwd_config.specs.declared.section.Entry.{Entry}
-use Rattle.fwd_settings.specs.Parsers.{parser_named}
-use Rattle.fwd_settings.specs.Reading.{ReturnsResult}
+use Rattle.fwd_settings_entries.specs.Parsers.{parser_named}
+use Rattle.fwd_settings_entries.specs.Reading.{ReturnsResult}
 use Rattle.fwd_settings.specs.Settings.{entries_here, with_section}
-use Rattle.fwd_settings.specs.Values.{entry_properties}
-use Rattle.fwd_settings.proofs.Readings.{stopped}
-use Rattle.fwd_settings.proofs.EntryLemmas.{no_part, no_entries, with_entries}
+use Rattle.fwd_settings_entries.specs.Values.{entry_properties}
+use Rattle.fwd_settings_entries.proofs.Readings.{stopped}
+use Rattle.fwd_settings.proofs.SectionSteps.{no_part, no_entries, with_entries}
 use Rattle.fwd_settings.proofs.sections.take_section.Goals as goal
 
 pub returns-in_err-target : goal.returns-in_err-target

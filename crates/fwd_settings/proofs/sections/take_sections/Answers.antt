@@ -1,6 +1,6 @@
 use Rattle.std.proofs.Common.{arith}
 use Rattle.fwd_settings.specs.Settings.{nothing, with_sections}
-use Rattle.fwd_settings.proofs.Readings.{stopped}
+use Rattle.fwd_settings_entries.proofs.Readings.{stopped}
 use Rattle.fwd_settings.proofs.SectionSteps.{checked_from_start, checked_from_next, checked_from_refused, checked_from_end}
 use Rattle.fwd_settings.proofs.sections.take_sections.Goals as goal
 

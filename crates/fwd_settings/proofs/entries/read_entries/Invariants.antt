@@ -1,7 +1,0 @@
-use Rattle.fwd_settings.specs.Values.{entry_property}
-use Rattle.fwd_settings.specs.Parsers.{parser_named}
-use Rattle.fwd_settings.proofs.Readings.{ReadFrom}
-use Rattle.fwd_settings.proofs.entries.read_entries.Given as goal
-
-abbrev pub invariant-loop-entry : goal.invariant-loop-entry
-invariant-loop-entry l = ReadFrom (entry_property (parser_named l.all) l.target) l.entries l.entry-index l.properties

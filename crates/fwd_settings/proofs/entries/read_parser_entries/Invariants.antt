@@ -1,8 +1,0 @@
-use Rattle.fwd_settings_schema.specs.declared.section_kind.Target.TheVariants as target
-use Rattle.fwd_settings.specs.Values.{entry_property}
-use Rattle.fwd_settings.specs.Parsers.{no_parser}
-use Rattle.fwd_settings.proofs.Readings.{ReadFrom}
-use Rattle.fwd_settings.proofs.entries.read_parser_entries.Given as goal
-
-abbrev pub invariant-loop-entry : goal.invariant-loop-entry
-invariant-loop-entry l = ReadFrom (entry_property no_parser target.Parser) l.entries l.entry-index l.properties
