@@ -3,7 +3,7 @@
 ghost use Rattle.std.specs.Prelude.{◌≡◌, ◌++◌, ◌∷◌, [], IfOk, OnOk, unwrap_or, count_by};
 ghost use Rattle.std.specs.Option.{option_copied};
 ghost use Rattle.std.specs.List.{filter_map, last_or};
-ghost use Rattle.fwd_settings_schema.specs.Property.{last_value, number_at, port_at, truth_at, format_at, form_at, operation_at, text_at, id_at, id_place_at, retries_at, last_in, pattern_in, parser_in, grep_in, condition_in, change_in, wildcard_in, header_in, is_header};
+ghost use Rattle.fwd_settings_schema.specs.Property.{as_number, as_port, as_truth, as_format, as_form, as_operation, as_retries, as_text, as_id, as_id_place, last_value, number_at, port_at, truth_at, format_at, form_at, operation_at, text_at, id_at, id_place_at, retries_at, last_in, pattern_in, parser_in, grep_in, condition_in, change_in, wildcard_in, header_in, is_header};
 
 use crate::keys::Key;
 use fwd_base::{Bytes, Form, Items, Memory, Names, Pattern, Retries};
@@ -38,6 +38,108 @@ pub enum Value {
     Id { name: Bytes, place: Place },
 }
 
+impl Value {
+    fn as_number(&self) -> Option<u64>
+        ensures { result ≡ as_number (Some self.now) }
+    {
+        if let Value::Number(number) = self {
+            Some(*number)
+        } else {
+            None
+        }
+    }
+
+    fn as_port(&self) -> Option<u16>
+        ensures { result ≡ as_port (Some self.now) }
+    {
+        if let Value::Port(port) = self {
+            Some(*port)
+        } else {
+            None
+        }
+    }
+
+    fn as_truth(&self) -> Option<bool>
+        ensures { result ≡ as_truth (Some self.now) }
+    {
+        if let Value::Truth(truth) = self {
+            Some(*truth)
+        } else {
+            None
+        }
+    }
+
+    fn as_format(&self) -> Option<LineFormat>
+        ensures { result ≡ as_format (Some self.now) }
+    {
+        if let Value::Format(format) = self {
+            Some(*format)
+        } else {
+            None
+        }
+    }
+
+    fn as_form(&self) -> Option<Form>
+        ensures { result ≡ as_form (Some self.now) }
+    {
+        if let Value::Form(form) = self {
+            Some(*form)
+        } else {
+            None
+        }
+    }
+
+    fn as_operation(&self) -> Option<Operation>
+        ensures { result ≡ as_operation (Some self.now) }
+    {
+        if let Value::Operation(operation) = self {
+            Some(*operation)
+        } else {
+            None
+        }
+    }
+
+    fn as_retries(&self) -> Option<Retries>
+        ensures { result ≡ as_retries (Some self.now) }
+    {
+        if let Value::Retries(retries) = self {
+            Some(*retries)
+        } else {
+            None
+        }
+    }
+
+    fn as_text(&self) -> Option<&[u8]>
+        ensures { option_copied result ≡ as_text (Some self.now) }
+    {
+        if let Value::Text(text) = self {
+            Some(text.as_slice())
+        } else {
+            None
+        }
+    }
+
+    fn as_id(&self) -> Option<&[u8]>
+        ensures { option_copied result ≡ as_id (Some self.now) }
+    {
+        if let Value::Id { name, .. } = self {
+            Some(name.as_slice())
+        } else {
+            None
+        }
+    }
+
+    fn as_id_place(&self) -> Option<&Place>
+        ensures { option_copied result ≡ as_id_place (Some self.now) }
+    {
+        if let Value::Id { place, .. } = self {
+            Some(place)
+        } else {
+            None
+        }
+    }
+}
+
 /// An entry: its key and the value read for it.
 #[derive(Drop)]
 pub struct Property {
@@ -61,97 +163,74 @@ fn last_value(properties: &[Property], key: Key) -> Option<&Value>
     last
 }
 
+/// Returns the number of the last entry with a key.
 pub fn number_at(properties: &[Property], key: Key) -> Option<u64>
     ensures { result ≡ number_at key properties.now }
 {
-    match last_value(properties, key) {
-        Some(Value::Number(number)) => Some(*number),
-        _ => None,
-    }
+    last_value(properties, key)?.as_number()
 }
 
+/// Returns the port of the last entry with a key.
 pub fn port_at(properties: &[Property], key: Key) -> Option<u16>
     ensures { result ≡ port_at key properties.now }
 {
-    match last_value(properties, key) {
-        Some(Value::Port(port)) => Some(*port),
-        _ => None,
-    }
+    last_value(properties, key)?.as_port()
 }
 
+/// Returns the truth value of the last entry with a key.
 pub fn truth_at(properties: &[Property], key: Key) -> Option<bool>
     ensures { result ≡ truth_at key properties.now }
 {
-    match last_value(properties, key) {
-        Some(Value::Truth(truth)) => Some(*truth),
-        _ => None,
-    }
+    last_value(properties, key)?.as_truth()
 }
 
+/// Returns the format of the last entry with a key.
 pub fn format_at(properties: &[Property], key: Key) -> Option<LineFormat>
     ensures { result ≡ format_at key properties.now }
 {
-    match last_value(properties, key) {
-        Some(Value::Format(format)) => Some(*format),
-        _ => None,
-    }
+    last_value(properties, key)?.as_format()
 }
 
+/// Returns the form of the last entry with a key.
 pub fn form_at(properties: &[Property], key: Key) -> Option<Form>
     ensures { result ≡ form_at key properties.now }
 {
-    match last_value(properties, key) {
-        Some(Value::Form(form)) => Some(*form),
-        _ => None,
-    }
+    last_value(properties, key)?.as_form()
 }
 
+/// Returns the operation of the last entry with a key.
 pub fn operation_at(properties: &[Property], key: Key) -> Option<Operation>
     ensures { result ≡ operation_at key properties.now }
 {
-    match last_value(properties, key) {
-        Some(Value::Operation(operation)) => Some(*operation),
-        _ => None,
-    }
+    last_value(properties, key)?.as_operation()
 }
 
+/// Returns the retries of the last entry with a key.
 pub fn retries_at(properties: &[Property], key: Key) -> Option<Retries>
     ensures { result ≡ retries_at key properties.now }
 {
-    match last_value(properties, key) {
-        Some(Value::Retries(retries)) => Some(*retries),
-        _ => None,
-    }
+    last_value(properties, key)?.as_retries()
 }
 
 /// Returns the text of the last entry with a key.
 pub fn text_at(properties: &[Property], key: Key) -> Option<&[u8]>
     ensures { option_copied result ≡ text_at key properties.now }
 {
-    match last_value(properties, key) {
-        Some(Value::Text(text)) => Some(text.as_slice()),
-        _ => None,
-    }
+    last_value(properties, key)?.as_text()
 }
 
 /// Returns the id of the last entry with a key.
 pub fn id_at(properties: &[Property], key: Key) -> Option<&[u8]>
     ensures { option_copied result ≡ id_at key properties.now }
 {
-    match last_value(properties, key) {
-        Some(Value::Id { name, .. }) => Some(name.as_slice()),
-        _ => None,
-    }
+    last_value(properties, key)?.as_id()
 }
 
 /// Returns the place of the id of the last entry with a key.
 pub fn id_place_at(properties: &[Property], key: Key) -> Option<&Place>
     ensures { option_copied result ≡ id_place_at key properties.now }
 {
-    match last_value(properties, key) {
-        Some(Value::Id { place, .. }) => Some(place),
-        _ => None,
-    }
+    last_value(properties, key)?.as_id_place()
 }
 
 /// Returns a copy of the text of the last entry with a key.
@@ -183,16 +262,10 @@ pub fn text_or(
 fn later_pattern(before: Option<Pattern>, item: Property) -> Option<Pattern>
     ensures { result ≡ last_or before (filter_map pattern_in (item ∷ [])) }
 {
-    let Property { key: _, value } = item;
-    match value {
-        Value::Pattern(pattern) => {
-            drop(before);
-            Some(pattern)
-        }
-        other => {
-            drop(other);
-            before
-        }
+    if let Value::Pattern(pattern) = item.value {
+        Some(pattern)
+    } else {
+        before
     }
 }
 
@@ -211,16 +284,10 @@ pub fn last_pattern(properties: Properties) -> Option<Pattern>
 fn later_parser(before: Option<Parser>, item: Property) -> Option<Parser>
     ensures { result ≡ last_or before (filter_map parser_in (item ∷ [])) }
 {
-    let Property { key: _, value } = item;
-    match value {
-        Value::Parser(parser) => {
-            drop(before);
-            Some(parser)
-        }
-        other => {
-            drop(other);
-            before
-        }
+    if let Value::Parser(parser) = item.value {
+        Some(parser)
+    } else {
+        before
     }
 }
 
@@ -235,17 +302,24 @@ pub fn last_parser(properties: Properties) -> Option<Parser>
     parser
 }
 
+/// Returns the rule of an entry, if it has one.
+fn grep_in(item: Property) -> Option<GrepRule>
+    ensures { result ≡ grep_in item }
+{
+    if let Value::Grep(rule) = item.value {
+        Some(rule)
+    } else {
+        None
+    }
+}
+
 /// Appends the rule of an entry, if it has one.
 fn push_grep(rules: &mut GrepRules, item: Property) -> Result<(), Memory>
     ensures { OnOk result (rules.new ≡ rules.old ++ filter_map grep_in (item ∷ [])) }
 {
-    let Property { key: _, value } = item;
-    match value {
-        Value::Grep(rule) => rules.push(rule),
-        other => {
-            drop(other);
-            Ok(())
-        }
+    match grep_in(item) {
+        Some(rule) => rules.push(rule),
+        None => Ok(()),
     }
 }
 
@@ -295,13 +369,13 @@ pub fn modify_rules(alloc: Global, properties: Properties) -> Result<ModifyRules
 fn push_header(alloc: Global, fields: &mut HeaderFields, item: &Property) -> Result<(), Memory>
     ensures { OnOk result (fields.new ≡ fields.old ++ filter_map header_in (item.now ∷ [])) }
 {
-    match &item.value {
-        Value::Header(field) => fields.push(HeaderField {
+    if let Value::Header(field) = &item.value {
+        fields.push(HeaderField {
             name: field.name.try_clone(alloc)?,
             value: field.value.try_clone(alloc)?,
-        }),
-        _ => Ok(()),
+        })?;
     }
+    Ok(())
 }
 
 /// Appends the header fields of an http output, in order.
@@ -342,10 +416,10 @@ pub fn header_count(properties: &[Property]) -> usize
 fn push_wildcard(alloc: Global, names: &mut Names, item: &Property) -> Result<(), Memory>
     ensures { OnOk result (names.new ≡ names.old ++ filter_map wildcard_in (item.now ∷ [])) }
 {
-    match &item.value {
-        Value::Wildcard(name) => names.push(name.try_clone(alloc)?),
-        _ => Ok(()),
+    if let Value::Wildcard(name) = &item.value {
+        names.push(name.try_clone(alloc)?)?;
     }
+    Ok(())
 }
 
 /// Returns the wildcards of `nest`, in order.
