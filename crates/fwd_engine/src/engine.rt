@@ -7,7 +7,7 @@ ghost use Rattle.fwd_settings.specs.Requirements.{MeetsRequirements};
 ghost use Rattle.fwd_settings.specs.declared.settings_types.AllSettings.{AllSettings};
 ghost use Rattle.fwd_model.specs.Fact.{History};
 ghost use Rattle.fwd_model.specs.CallLogs.{CallLogs};
-ghost use Rattle.fwd_model.specs.Clock.{stopped, ticked};
+ghost use Rattle.fwd_model.specs.Clock.{stopped, tick_count};
 ghost use Rattle.fwd_model.specs.Limits.{paused};
 ghost use Rattle.fwd_model.specs.Routes.{rows_of};
 ghost use Rattle.fwd_model.specs.Counters.{tally_of};
@@ -258,9 +258,9 @@ impl Engine {
 
     /// The number of ticks that were handled.
     pub fn ticks(&self) -> u64
-        ensures { EngineAnswers self.now (λ s h. result ≡ ticked h) }
+        ensures { EngineAnswers self.now (λ s h. result ≡ tick_count h) }
     {
-        self.parts.state.ticked()
+        self.parts.state.ticks()
     }
 
     /// Returns the offset after the last whole line that was read from a followed file, by the index of its
