@@ -13,7 +13,7 @@ ghost use Rattle.fwd_model.specs.Routes.{rows_of};
 ghost use Rattle.fwd_model.specs.Counters.{tally_of};
 ghost use Rattle.fwd_model.specs.FollowedFiles.{settled_at};
 ghost use Rattle.fwd_model.specs.Settings.{paths_at};
-ghost use Rattle.fwd_engine_inputs.specs.FilesRepresent.{resumed_history};
+ghost use Rattle.fwd_engine_state.specs.FilesRepresent.{resumed_history};
 ghost use Rattle.fwd_theorem_trace.specs.Allowed.{EventAllowed};
 ghost use Rattle.fwd_theorem_crash.specs.CrashPoint.{CrashPoint};
 ghost use Rattle.fwd_engine_state.specs.RefinesAction.{with_disk, with_all};
@@ -26,8 +26,8 @@ ghost use Rattle.fwd_engine.specs.declared.engine.EngineStop.TheVariants as stop
 use crate::{is_finished, step};
 use fwd_base::limits::LONGEST_WAIT;
 use fwd_base::{InputId, Memory, Names};
+use fwd_engine_flush::RunSettings;
 use fwd_engine_recovery::{LoadErr, load, strangers_of};
-use fwd_engine_settings::RunSettings;
 use fwd_engine_state::Parts;
 use fwd_outside::{Disk, Files, Happening, Loop};
 use fwd_settings::AllSettings;

@@ -41,8 +41,8 @@ use Rattle.fwd_engine_state.specs.declared.state.State.{State}
 use Rattle.fwd_engine_state.proofs.ChunksAndAttempts.{open_is, open_given}
 use Rattle.fwd_engine_state.proofs.ChunkOrder.{next_least}
 use Rattle.fwd_engine_state.proofs.OtherFacts.{state_after_other_fact as state_stays}
-use Rattle.fwd_engine_inputs.proofs.StreamSteps as input_streams
-use Rattle.fwd_engine_inputs.proofs.FileSteps as followed_files
+use Rattle.fwd_engine_state.proofs.StreamSteps as input_streams
+use Rattle.fwd_engine_state.proofs.FileSteps as followed_files
 use Rattle.fwd_engine_state.specs.StoreRepresents.{StoreRepresents}
 use Rattle.fwd_engine_state.proofs.OpenChunks.{numbered, opened_without_shut}
 use Rattle.fwd_engine_state.proofs.ChunkMap.{same_number}

@@ -6,9 +6,11 @@ ghost use Rattle.fwd_engine_state.specs.Views.{route_of};
 ghost use Rattle.fwd_engine_state.specs.RefinesAction.{with_disk, RefinesAction, RefinesActionWhere};
 
 use fwd_base::{ChunkId, Memory};
-use fwd_engine_inputs::{lemma_other_facts_keep_files, lemma_other_facts_keep_streams};
 use fwd_engine_settings::RunSettings;
-use fwd_engine_state::{Parts, RouteId, lemma_other_facts_keep_state};
+use fwd_engine_state::{
+    Parts, RouteId, lemma_other_facts_keep_files, lemma_other_facts_keep_state,
+    lemma_other_facts_keep_streams,
+};
 use fwd_outside::{Disk, DiskErr};
 
 /// Drops a closed chunk, and removes its file if it has one. A file that can't be removed stays. A chunk that the

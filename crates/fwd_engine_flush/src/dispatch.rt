@@ -9,7 +9,7 @@ ghost use Rattle.fwd_engine_state.specs.LoopCounters.{NoEventTaken};
 use crate::outcome::record_progress;
 use crate::start::begin;
 use fwd_base::{LinkId, Memory};
-use fwd_engine_settings::RunSettings;
+use fwd_engine_chunks::RunSettings;
 use fwd_engine_state::{InFlightLimits, Parts, RouteId};
 use fwd_outside::{Disk, Loop};
 use fwd_payload::Content;

@@ -13,7 +13,7 @@ ghost use Rattle.fwd_engine_state.specs.LoopCounters.{NoEventTaken};
 use crate::outcome::record_progress;
 use fwd_base::{Bytes, Memory, OutputId};
 use fwd_chunk::PartErr;
-use fwd_engine_settings::RunSettings;
+use fwd_engine_chunks::RunSettings;
 use fwd_engine_state::{
     FlushAttempt, Parts, RouteId, State, lemma_begun_events, lemma_begun_route_is_out,
     lemma_idle_route_is_closed, lemma_idle_route_is_pending,

@@ -28,8 +28,7 @@ ghost use Rattle.fwd_engine_ingest.specs.Continuation.{with_loop, RefinesContinu
 use crate::batches::tag_or;
 use fwd_base::limits::LONGEST_TAG;
 use fwd_base::{Bytes, ConnId, InputId, Memory};
-use fwd_engine_chunks::accept;
-use fwd_engine_settings::RunSettings;
+use fwd_engine_chunks::{RunSettings, accept};
 use fwd_engine_state::Parts;
 use fwd_event::{Events, Value};
 use fwd_filters::filter;

@@ -4,8 +4,8 @@ use Rattle.fwd_model.specs.Fact.{ChunkClosed}
 use Rattle.fwd_model.specs.CloseActions.{closes_chunk, loses}
 use Rattle.fwd_model.specs.Limits.{evicted_at}
 use Rattle.fwd_model.proofs.Refinement.{refines_note_then}
-use Rattle.fwd_engine_inputs.proofs.StreamSteps as input_streams
-use Rattle.fwd_engine_inputs.proofs.FileSteps as followed_files
+use Rattle.fwd_engine_state.proofs.StreamSteps as input_streams
+use Rattle.fwd_engine_state.proofs.FileSteps as followed_files
 use Rattle.fwd_engine_state.specs.PartsRepresent.{PartsRepresentIdle}
 use Rattle.fwd_engine_state.proofs.InvariantSteps.{sound_shut}
 use Rattle.fwd_engine_chunks.specs.Evictions.{IsClosedAtRest}

@@ -9,8 +9,8 @@ use Rattle.fwd_model.proofs.Refinement.{completes_note_then, completes_idle, ref
 use Rattle.fwd_model.specs.Chunks.{next}
 use Rattle.fwd_engine_state.specs.StateRepresents.{is_open}
 use Rattle.fwd_engine_state.proofs.OtherFacts.{state_after_other_fact as state_stays}
-use Rattle.fwd_engine_inputs.proofs.StreamSteps as input_streams
-use Rattle.fwd_engine_inputs.proofs.FileSteps as followed_files
+use Rattle.fwd_engine_state.proofs.StreamSteps as input_streams
+use Rattle.fwd_engine_state.proofs.FileSteps as followed_files
 use Rattle.fwd_engine_state.proofs.OtherStoreFacts.{store_after_other_fact}
 use Rattle.fwd_engine_state.specs.PartsRepresent.{PartsRepresentIdle, IsClosing}
 use Rattle.fwd_engine_state.proofs.InvariantSteps.{sound_after_fact}

@@ -5,7 +5,7 @@ use Rattle.fwd_engine_settings.proofs.run_settings.RunSettings.names_of.Goals as
 use Rattle.fwd_engine_settings.proofs.run_settings.RunSettings.names_of.Goals.{then-is_set+in_ok-from_slice+in_ok-push, else-is_set}
 
 pub loop-output-init : goal.loop-output-init
-loop-output-init c = names_none (output_name c.args.self.now) c.args.routes
+loop-output-init c = c.new-names.ensures ∙ names_none (output_name c.args.self.now) c.args.routes
 
 pub loop-output-preserved : goal.loop-output-preserved
 loop-output-preserved c =
