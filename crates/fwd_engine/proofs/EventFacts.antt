@@ -8,7 +8,7 @@ use Rattle.fwd_outside.specs.declared.happening.Happening.{Happening}
 use Rattle.fwd_outside.specs.declared.happening.Happening.TheVariants as happening
 use Rattle.fwd_settings.specs.declared.settings_types.AllSettings.{AllSettings}
 use Rattle.fwd_engine_state.specs.StateRepresents.{StateRepresents, is_not_state_event}
-use Rattle.fwd_engine_inputs.specs.StreamFacts.{is_stream_event}
+use Rattle.fwd_engine_state.specs.StreamFacts.{is_stream_event}
 use Rattle.fwd_model.specs.Fact.{History, Happened}
 use Rattle.fwd_model.specs.Settings.{reads_stdin_at}
 use Rattle.fwd_model.specs.Clock.{stopped}

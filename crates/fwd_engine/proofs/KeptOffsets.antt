@@ -4,10 +4,10 @@ use Rattle.std.specs.Prelude.{if◌then◌else◌, slice_get}
 use Rattle.fwd_settings.specs.declared.settings_types.AllSettings.{AllSettings}
 use Rattle.fwd_model.specs.Fact.{History, Resumed, Saved}
 use Rattle.fwd_model.specs.Settings.{paths_at}
-use Rattle.fwd_engine_inputs.specs.FileRepresents.{is_path}
-use Rattle.fwd_engine_inputs.specs.FilesRepresent.{FilesRepresent, resumed_history}
-use Rattle.fwd_engine_inputs.specs.StreamsRepresent.{StreamsRepresent}
-use Rattle.fwd_engine_inputs.proofs.StreamSteps.{streams_after_other_fact}
+use Rattle.fwd_engine_state.specs.FileRepresents.{is_path}
+use Rattle.fwd_engine_state.specs.FilesRepresent.{FilesRepresent, resumed_history}
+use Rattle.fwd_engine_state.specs.StreamsRepresent.{StreamsRepresent}
+use Rattle.fwd_engine_state.proofs.StreamSteps.{streams_after_other_fact}
 use Rattle.fwd_engine_state.specs.StateRepresents.{StateRepresents}
 use Rattle.fwd_engine_state.specs.StoreRepresents.{StoreRepresents}
 use Rattle.fwd_engine_state.specs.HistoryInvariant.{IsSound}

@@ -6,10 +6,8 @@ ghost use Rattle.fwd_engine_state.specs.RefinesAction.{with_both, with_all, Refi
 ghost use Rattle.fwd_engine_state.specs.LoopCounters.{NoEventTaken};
 
 use fwd_base::{InputId, Memory};
-use fwd_engine_chunks::close_all;
-use fwd_engine_flush::{back, broken, room, walk};
+use fwd_engine_flush::{RunSettings, back, broken, close_all, room, walk};
 use fwd_engine_ingest::{end_input, join, poll_inputs, receive_bytes, remove_peer};
-use fwd_engine_settings::RunSettings;
 use fwd_engine_state::Parts;
 use fwd_outside::{Disk, Files, Happening, Loop};
 use std::thread::Threads;

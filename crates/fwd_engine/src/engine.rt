@@ -7,13 +7,13 @@ ghost use Rattle.fwd_settings.specs.Requirements.{MeetsRequirements};
 ghost use Rattle.fwd_settings.specs.declared.settings_types.AllSettings.{AllSettings};
 ghost use Rattle.fwd_model.specs.Fact.{History};
 ghost use Rattle.fwd_model.specs.CallLogs.{CallLogs};
-ghost use Rattle.fwd_model.specs.Clock.{stopped, ticked};
+ghost use Rattle.fwd_model.specs.Clock.{stopped, tick_count};
 ghost use Rattle.fwd_model.specs.Limits.{paused};
 ghost use Rattle.fwd_model.specs.Routes.{rows_of};
 ghost use Rattle.fwd_model.specs.Counters.{tally_of};
 ghost use Rattle.fwd_model.specs.FollowedFiles.{settled_at};
 ghost use Rattle.fwd_model.specs.Settings.{paths_at};
-ghost use Rattle.fwd_engine_inputs.specs.FilesRepresent.{resumed_history};
+ghost use Rattle.fwd_engine_state.specs.FilesRepresent.{resumed_history};
 ghost use Rattle.fwd_theorem_trace.specs.Allowed.{EventAllowed};
 ghost use Rattle.fwd_theorem_crash.specs.CrashPoint.{CrashPoint};
 ghost use Rattle.fwd_engine_state.specs.RefinesAction.{with_disk, with_all};
@@ -26,8 +26,8 @@ ghost use Rattle.fwd_engine.specs.declared.engine.EngineStop.TheVariants as stop
 use crate::{is_finished, step};
 use fwd_base::limits::LONGEST_WAIT;
 use fwd_base::{InputId, Memory, Names};
+use fwd_engine_flush::RunSettings;
 use fwd_engine_recovery::{LoadErr, load, strangers_of};
-use fwd_engine_settings::RunSettings;
 use fwd_engine_state::Parts;
 use fwd_outside::{Disk, Files, Happening, Loop};
 use fwd_settings::AllSettings;
@@ -258,9 +258,9 @@ impl Engine {
 
     /// The number of ticks that were handled.
     pub fn ticks(&self) -> u64
-        ensures { EngineAnswers self.now (λ s h. result ≡ ticked h) }
+        ensures { EngineAnswers self.now (λ s h. result ≡ tick_count h) }
     {
-        self.parts.state.ticked()
+        self.parts.state.ticks()
     }
 
     /// Returns the offset after the last whole line that was read from a followed file, by the index of its

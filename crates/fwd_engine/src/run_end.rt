@@ -5,7 +5,7 @@ ghost use Rattle.fwd_model.specs.Run.{is_over, is_end, is_tick};
 ghost use Rattle.fwd_engine_state.specs.StateRepresents.{StateAnswers};
 ghost use Rattle.fwd_engine_state.specs.PartsRepresent.{PartsRepresentIdle};
 
-use fwd_engine_settings::RunSettings;
+use fwd_engine_flush::RunSettings;
 use fwd_engine_state::{Parts, State};
 use fwd_outside::Happening;
 

@@ -12,7 +12,7 @@ use Rattle.fwd_model.specs.Trace.{Action}
 use Rattle.fwd_model.specs.Chunks.{ChunkInfo, chunks_of, next, is_closed, open_chunks}
 use Rattle.fwd_model.specs.Routes.{is_owed, row_of, rows_of}
 use Rattle.fwd_model.specs.Limits.{evicted_at}
-use Rattle.fwd_model.specs.CloseActions.{shuts, closes_each, closes_all, loses}
+use Rattle.fwd_model.specs.CloseActions.{closes_chunk, closes_each, closes_all, loses}
 use Rattle.fwd_engine_state.specs.Views.{chunk_id}
 use Rattle.fwd_engine_state.specs.StateRepresents.{NumbersRise, is_open}
 use Rattle.fwd_engine_state.proofs.PendingRows.{no_row}
@@ -28,11 +28,11 @@ use Rattle.fwd_engine_chunks.proofs.ResolutionFrame.{Kept, loses_kept}
 -- the chunks by their numbers
 abbrev pub closes_by : AllSettings → List ℕ → History → Action History
 closes_by s [] h = Return h
-closes_by s (n ∷ ns) h = bind (shuts s n h) (closes_by s ns)
+closes_by s (n ∷ ns) h = bind (closes_chunk s n h) (closes_by s ns)
 
 pub closes_is : (s : AllSettings) (cs : List ChunkInfo) (h : History) → closes_each s cs h ≡ closes_by s (map (λ (c : ChunkInfo). c.number) cs) h
 closes_is s [] h = refl
-closes_is s (c ∷ cs) h = λ i. bind (shuts s c.number h) (λ g. closes_is s cs g i)
+closes_is s (c ∷ cs) h = λ i. bind (closes_chunk s c.number h) (λ g. closes_is s cs g i)
 
 -- each is open, and they are distinct
 abbrev pub AreOpen : History → List ℕ → Type 0
@@ -44,8 +44,8 @@ pub record Closed (n : ℕ) (h g : History) : Type 0 where
   pub number : next g ≡ next h
   pub shut : (q : ℕ) → (n == q) ≡ false → is_closed g q ≡ is_closed h q
 
-pub shuts_closed : (s : AllSettings) (n : ℕ) (h : History) → Ends (Closed n h) (shuts s n h)
-unfolding shuts
+pub shuts_closed : (s : AllSettings) (n : ℕ) (h : History) → Ends (Closed n h) (closes_chunk s n h)
+unfolding closes_chunk
 shuts_closed s n h = λ _. ends_more (Kept (ChunkClosed n ∷ h)) (Closed n h) (loses s (evicted_at s (ChunkClosed n ∷ h) n) (ChunkClosed n ∷ h))
     (λ g kept. record { number = kept.number; shut = λ q apart. kept.shut q ∙ rw apart refl }) (loses_kept s (evicted_at s (ChunkClosed n ∷ h) n) (ChunkClosed n ∷ h))
 

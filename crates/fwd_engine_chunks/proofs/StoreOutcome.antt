@@ -41,8 +41,8 @@ use Rattle.fwd_engine_state.specs.declared.state.State.{State}
 use Rattle.fwd_engine_state.proofs.ChunksAndAttempts.{open_is, open_given}
 use Rattle.fwd_engine_state.proofs.ChunkOrder.{next_least}
 use Rattle.fwd_engine_state.proofs.OtherFacts.{state_after_other_fact as state_stays}
-use Rattle.fwd_engine_inputs.proofs.StreamSteps as input_streams
-use Rattle.fwd_engine_inputs.proofs.FileSteps as followed_files
+use Rattle.fwd_engine_state.proofs.StreamSteps as input_streams
+use Rattle.fwd_engine_state.proofs.FileSteps as followed_files
 use Rattle.fwd_engine_state.specs.StoreRepresents.{StoreRepresents}
 use Rattle.fwd_engine_state.proofs.OpenChunks.{numbered, opened_without_shut}
 use Rattle.fwd_engine_state.proofs.ChunkMap.{same_number}
@@ -205,7 +205,7 @@ pub record IsGiven (s : AllSettings) (h : History) (b : Batch) (state : State) (
   pub sound : IsSound s h None
   pub store_sound : IsStoreSound old
   pub handed : IsHanded s b stream home bytes outputs
-  pub is_spelled : IsEncoded b.events bytes
+  pub is_encoded : IsEncoded b.events bytes
   pub number : has_no_number old b.input b.tag ≡ false
 
 -- the calls of the store's `accept`
@@ -225,13 +225,13 @@ calls_new s h b state old stream home bytes outputs is none =
     let at : chunk_for old b.input b.tag ≡ None = chunk_is s old h b.input b.tag is.held ∙ ap (option_map numbered) none in
     let failed_history : (next h == numbers_end) ≡ false = ap (λ (n : ℕ). n == numbers_end) (sym is.held.next) ∙ new_number old.next (chunk_for old b.input b.tag) at is.number in
     let below : nat_lt (next h) numbers_end ≡ true = below_past (next h) (subst (λ (n : ℕ). n ≤ numbers_end) is.held.next is.store_sound.numbers) failed_history in
-    let calls = calls_begins s old h b stream home bytes outputs is.handed (short_enough bytes is.is_spelled.short) none failed_history is.held in
+    let calls = calls_begins s old h b stream home bytes outputs is.handed (short_enough bytes is.is_encoded.short) none failed_history is.held in
     record { course = rw calls (course_new s h b none below) }
 
 calls_open : (s : AllSettings) (h : History) (b : Batch) (state : State) (old : Stored) (stream : List ℕ) (home : Home) (bytes : List ℕ) (outputs : List (List ℕ)) (c : ChunkInfo)
     → IsGiven s h b state old stream home bytes outputs → open_chunk h b.input b.tag ≡ Some c → Calls s h b c.number (calls_of old b stream home bytes outputs) (finishes_append s b c.number)
 calls_open s h b state old stream home bytes outputs c is found =
-    let calls = calls_appends s old h b stream home bytes outputs c is.handed (short_enough bytes is.is_spelled.short) found is.held in
+    let calls = calls_appends s old h b stream home bytes outputs c is.handed (short_enough bytes is.is_encoded.short) found is.held in
     record { course = rw calls (course_open s h b c found) }
 
 -- they were made, with this result
@@ -267,11 +267,11 @@ took_new s h b state old stream home bytes outputs others before now is none did
       leads = led s h b (next h) (calls_of old b stream home bytes outputs) (finishes_create s b (next h)) others before now (Some tt) (calls_new s h b state old stream home bytes outputs is none) did;
       holds = store_after_begin s old h b (new_kept (new_name old stream) b.tag home bytes outputs) fresh (kept_new s old h b stream home bytes outputs is.handed is.held) is.held;
       has = record {
-        sound = sound_after_begin s h b (next h) (omega arith) (subst (AreEvents b.events) is.is_spelled.encoding is.is_spelled.are) is.sound;
-        bytes = rw (eq-eqb (next h) (next h) refl, (is.sound.untouched (next h) (omega arith)).1) (ap length is.is_spelled.encoding);
+        sound = sound_after_begin s h b (next h) (omega arith) (subst (AreEvents b.events) is.is_encoded.encoding is.is_encoded.are) is.sound;
+        bytes = rw (eq-eqb (next h) (next h) refl, (is.sound.untouched (next h) (omega arith)).1) (ap length is.is_encoded.encoding);
         still = fresh;
         given = omega arith;
-        sizes = (record { first = next_least h; behind = is.stands.numbers; given = omega arith; fresh = is.stands.fresh (next h) (omega arith) }, ap length (sym is.is_spelled.encoding));
+        sizes = (record { first = next_least h; behind = is.stands.numbers; given = omega arith; fresh = is.stands.fresh (next h) (omega arith) }, ap length (sym is.is_encoded.encoding));
       };
     })
   where
@@ -284,7 +284,7 @@ took_open : (s : AllSettings) (h : History) (b : Batch) (state : State) (old : S
 took_open s h b state old stream home bytes outputs others before now c kept is found did got =
     record {
       leads = led s h b n (calls_of old b stream home bytes outputs) (finishes_append s b n) others before now (Some tt) (calls_open s h b state old stream home bytes outputs c is found) did;
-      holds = rw is.is_spelled.encoding (store_after_append s old h b n kept below got is.held);
+      holds = rw is.is_encoded.encoding (store_after_append s old h b n kept below got is.held);
       has = record {
         sound = sound;
         bytes = long;
@@ -307,10 +307,10 @@ took_open s h b state old stream home bytes outputs others before now c kept is 
     can = subst CanGrow (is.held.chunks n) (open_grows old b.input b.tag n is.store_sound (chunk_is s old h b.input b.tag is.held ∙ ap (option_map numbered) found))
 
     sound : IsSound s (Accepted b (AppendedTo n) ∷ Offered n b ∷ h) (Some n)
-    sound = sound_after_append s h b n below (not_adopted (kept_of s h n) can) (subst (AreEvents b.events) is.is_spelled.encoding is.is_spelled.are) is.sound
+    sound = sound_after_append s h b n below (not_adopted (kept_of s h n) can) (subst (AreEvents b.events) is.is_encoded.encoding is.is_encoded.are) is.sound
 
     long : size_of (after_append kept bytes) ≡ size (Accepted b (AppendedTo n) ∷ Offered n b ∷ h) n
-    long = ap (λ (l : List ℕ). size_of (after_append kept l)) is.is_spelled.encoding ∙ sound.sized n (after_append kept (encoded b.events)) (rw (eq-eqb n n refl, sym (is.held.chunks n) ∙ got) refl)
+    long = ap (λ (l : List ℕ). size_of (after_append kept l)) is.is_encoded.encoding ∙ sound.sized n (after_append kept (encoded b.events)) (rw (eq-eqb n n refl, sym (is.held.chunks n) ∙ got) refl)
 
 pub took : (s : AllSettings) (h : History) (b : Batch) (state : State) (old new : Stored) (stream : List ℕ) (home : Home) (bytes : List ℕ) (outputs : List (List ℕ)) (others : CallLogs) (before now : DiskLog) (a : Answer)
     → IsGiven s h b state old stream home bytes outputs → DidOne before now (calls_of old b stream home bytes outputs) (Some tt)
@@ -360,7 +360,7 @@ failed s h b state old new stream home bytes outputs others before now closed is
         let opened : is_open h n ≡ true = open_found h b.input b.tag c found in
         let below : n < next h = open_given h n is.stands.numbers opened in
         let can = open_grows old b.input b.tag n is.store_sound (chunk_is s old h b.input b.tag is.held ∙ ap (option_map numbered) found) in
-        let calls = calls_appends s old h b stream home bytes outputs c is.handed (short_enough bytes is.is_spelled.short) found is.held in
+        let calls = calls_appends s old h b stream home bytes outputs c is.handed (short_enough bytes is.is_encoded.short) found is.held in
         let can_now : CanGrow (kept_of s h n) = subst CanGrow (is.held.chunks n) can in
         let closes : after_failed_append old n (map.get old.chunks n) ≡ sealed old n =
         ap (after_failed_append old n) (is.held.chunks n) ∙ in_file old n (encoded b.events) s.service.full before now (kept_of s h n) can_now (subst (λ (p : DiskProgram (Option (Unit {0}))). DidOne before now p None) calls did) in

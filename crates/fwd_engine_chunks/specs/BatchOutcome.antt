@@ -16,8 +16,8 @@ use Rattle.fwd_model.specs.Notes.{note_then}
 use Rattle.fwd_model.specs.CloseActions.{closes_if_full}
 use Rattle.fwd_model.specs.Acceptance.{Acceptance, taken, finishes_create, finishes_append}
 use Rattle.fwd_engine_state.specs.StateRepresents.{StateRepresents, IsNew, is_open}
-use Rattle.fwd_engine_inputs.specs.StreamsRepresent.{StreamsRepresent}
-use Rattle.fwd_engine_inputs.specs.FilesRepresent.{FilesRepresent}
+use Rattle.fwd_engine_state.specs.StreamsRepresent.{StreamsRepresent}
+use Rattle.fwd_engine_state.specs.FilesRepresent.{FilesRepresent}
 use Rattle.fwd_engine_state.specs.StoreRepresents.{StoreRepresents}
 use Rattle.fwd_engine_state.specs.HistoryInvariant.{IsSound}
 use Rattle.fwd_engine_state.specs.PartsRepresent.{PartsRepresentIdle}

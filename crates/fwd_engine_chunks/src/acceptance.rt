@@ -32,12 +32,22 @@ pub fn accept<D: Disk>(
     if events.is_empty() {
         return Ok(true);
     }
-    if run.is_unrouted(tag) {
+    let routes = run.routes_for(tag);
+    if routes == 0 {
         parts.state.accept_unrouted(input, events.len());
         return Ok(true);
     }
     match encoding(parts.state.alloc(), events)? {
-        Some(bytes) => store(run, parts, disk, input, tag, events, bytes.as_slice()),
+        Some(bytes) => store(
+            run,
+            parts,
+            disk,
+            input,
+            tag,
+            routes,
+            events,
+            bytes.as_slice(),
+        ),
         None => {
             parts.state.count_refused(input);
             Ok(false)

@@ -1,6 +1,6 @@
 ghost use Rattle.std.specs.Prelude.{◌≡◌, ◌≤◌, IfOk, map, filter, not};
 ghost use Rattle.fwd_model.specs.Fact.{History};
-ghost use Rattle.fwd_model.specs.CloseActions.{shuts, closes_all};
+ghost use Rattle.fwd_model.specs.CloseActions.{closes_chunk, closes_all};
 ghost use Rattle.fwd_model.specs.Refines.{Refines};
 ghost use Rattle.fwd_model.specs.CallLogs.{CallLogs};
 ghost use Rattle.fwd_engine_state.specs.PartsRepresent.{IsClosing, PartsRepresentIdle};
@@ -23,7 +23,7 @@ pub fn close<D: Disk>(
     chunk: ChunkId,
 ) -> Result<(), Memory>
     ensures acts { (others : CallLogs) (h : History) → IsClosing run.now parts.old h chunk.0
-        → Refines (λ _ now. PartsRepresentIdle run.now parts.new now) (with_disk (D.call_log disk.old) others) (with_disk (D.call_log disk.new) others) (shuts run.now chunk.0 h) result }
+        → Refines (λ _ now. PartsRepresentIdle run.now parts.new now) (with_disk (D.call_log disk.old) others) (with_disk (D.call_log disk.new) others) (closes_chunk run.now chunk.0 h) result }
     ensures later { D.faults disk.old ≤ D.faults disk.new }
 {
     parts.store.shut(chunk);

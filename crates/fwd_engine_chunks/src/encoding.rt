@@ -6,17 +6,17 @@ ghost use Rattle.fwd_model.specs.Chunks.{is_storable, encoded};
 use fwd_base::limits::LARGEST_BATCH;
 use fwd_base::{Bytes, Memory};
 use fwd_event::{Events, can_write, write_event};
-use fwd_theorem_depth::spelled_length_decides;
+use fwd_theorem_depth::lemma_encoded_length_decides;
 use std::alloc::Global;
 
 /// Returns the encodings of the events of a batch, one after another, or `None` if they are too large to be
 /// stored.
 pub fn encoding(alloc: Global, events: &Events) -> Result<Option<Bytes>, Memory>
     requires shallow { are_shallow events.now ≡ true }
-    ensures spelled { IfOk result (λ bytes. bytes ≡ (if is_storable events.now then Some (encoded events.now) else None)) }
+    ensures encoded { IfOk result (λ bytes. bytes ≡ (if is_storable events.now then Some (encoded events.now) else None)) }
     ensures are { IfOk result (λ bytes. IfSome bytes (λ b. AreEvents events.now b)) }
 {
-    spelled_length_decides();
+    lemma_encoded_length_decides();
     let mut bytes = Bytes::new(alloc);
     for event in events.as_slice() {
         if !can_write(event) {

@@ -1,20 +1,15 @@
-ghost use Rattle.std.specs.Prelude.{◌≡◌, ◌≤◌, ◌<◌, ◌∷◌, ℕ, true, false, length, Option, None, Some, IsTrue, IsSome};
+ghost use Rattle.std.specs.Prelude.{◌≡◌, ◌≤◌, ◌<◌, ◌∷◌, false, length, Option, None, Some, IsSome};
 ghost use Rattle.fwd_base.specs.Limits.{longest_tag};
 ghost use Rattle.fwd_outside.specs.declared.home.Home.TheVariants as home_of;
-ghost use Rattle.fwd_settings.specs.declared.settings_types.AllSettings.{AllSettings};
-ghost use Rattle.fwd_settings.specs.Requirements.{MeetsRequirements};
-ghost use Rattle.fwd_store.specs.Store.{has_room, chunk_for};
 ghost use Rattle.fwd_model.specs.Fact.{History, Route, Batch, Accepted as Taken};
 ghost use Rattle.fwd_model.specs.Settings.{outputs_for, home_at};
 ghost use Rattle.fwd_model.specs.Chunks.{next, is_closed, size as size_of, open_chunk};
-ghost use Rattle.fwd_model.specs.Notes.{is_empty};
 ghost use Rattle.fwd_model.specs.CloseActions.{closes_if_full};
 ghost use Rattle.fwd_model.specs.Acceptance.{stores};
 ghost use Rattle.fwd_model.specs.Refines.{Refines};
 ghost use Rattle.fwd_model.specs.CallLogs.{CallLogs};
-ghost use Rattle.fwd_engine_state.specs.StateRepresents.{StateRepresents};
+ghost use Rattle.fwd_engine_state.specs.StateRepresents.{StateRepresents, IsMaskOf};
 ghost use Rattle.fwd_engine_state.specs.StoreRepresents.{StoreRepresents};
-ghost use Rattle.fwd_engine_state.specs.HistoryInvariant.{IsSound};
 ghost use Rattle.fwd_engine_state.specs.PartsRepresent.{PartsRepresent, PartsRepresentIdle};
 ghost use Rattle.fwd_engine_state.specs.RefinesAction.{with_disk, RefinesAccepting};
 ghost use Rattle.fwd_engine_chunks.specs.BatchOutcome.{IsEncoded, AcceptsAs, StoreIsAhead, place_of, behind, SizesMatch, StoreHasTaken, goes_on, failed_history, WasOpen, refuses_after_fault};
@@ -47,24 +42,25 @@ fn close_if_full<D: Disk>(
     }
 }
 
-/// Records in the state a batch that the store accepted.
+/// Records in the state a batch that the store accepted. `routes` is the mask of the outputs whose glob matches
+/// its tag.
 fn note(
     run: &RunSettings,
     state: &mut State,
     input: InputId,
     place: Place,
+    routes: u64,
     events: &Events,
     accepted: Accepted,
 )
     requires room { 1 ≤ state.old.chunks.spare }
-    requires owed { is_empty (outputs_for run.now place.tag) ≡ false }
+    requires routes { IsMaskOf (outputs_for run.now place.tag) routes }
     ensures { (b : Batch) (h : History) (out : Option Route) → b.input ≡ input.0 → b.tag ≡ place.tag → b.events ≡ events.now
         → StateRepresents run.now state.old h out → SizesMatch run.now h b accepted.chunk.0 accepted.size accepted.fresh
         → StateRepresents run.now state.new (Taken b (place_of accepted) ∷ h) out }
 {
     if accepted.fresh {
         let home = run.home(input);
-        let owed = run.owed(place.tag.as_slice());
         state.begin_chunk(
             place,
             accepted.chunk,
@@ -72,7 +68,7 @@ fn note(
             home,
             accepted.size,
             events.len(),
-            owed,
+            routes,
         );
     } else {
         state.grow_chunk(accepted.chunk, input, events.len(), accepted.size);
@@ -86,17 +82,26 @@ fn take<D: Disk>(
     disk: &mut D,
     input: InputId,
     place: Place,
+    routes: u64,
     events: &Events,
     accepted: Accepted,
 ) -> Result<bool, Memory>
     requires room { 1 ≤ parts.old.state.chunks.spare }
-    requires owed { is_empty (outputs_for run.now place.tag) ≡ false }
+    requires routes { IsMaskOf (outputs_for run.now place.tag) routes }
     ensures acts { (others : CallLogs) (h : History) (b : Batch) → b.input ≡ input.0 → b.tag ≡ place.tag → b.events ≡ events.now
         → StoreIsAhead run.now parts.old h (behind b h accepted) → StoreHasTaken run.now h b accepted
         → AcceptsAs run.now parts.new (with_disk (D.call_log disk.old) others) (with_disk (D.call_log disk.new) others) (goes_on run.now b h accepted) result }
     ensures later { D.faults disk.old ≤ D.faults disk.new }
 {
-    note(run, &mut parts.state, input, place, events, accepted);
+    note(
+        run,
+        &mut parts.state,
+        input,
+        place,
+        routes,
+        events,
+        accepted,
+    );
     close_if_full(run, parts, disk, accepted.chunk, accepted.size)?;
     Ok(true)
 }
@@ -122,44 +127,33 @@ fn refuse_after_fault<D: Disk>(
     Ok(false)
 }
 
-/// Returns whether the store has a folder if one is needed. This is true of each store that represents a
-/// history.
-fn has_folder(store: &Store, home: Home) -> bool
-    ensures needed { result ≡ true → home ≡ home_of.Disk → IsSome store.now.root }
-    ensures always { (s : AllSettings) (h : History) (input : ℕ) → MeetsRequirements s → home ≡ home_at s input → StoreRepresents s store.now h → result ≡ true }
+/// Returns where a new chunk of an input is kept: where the settings say, but in memory if the store has no
+/// folder. The store has a folder if any input keeps its chunks in files.
+fn home_for(run: &RunSettings, store: &Store, input: InputId) -> Home
+    ensures root { result ≡ home_of.Disk → IsSome store.now.root }
+    ensures home { (h : History) → StoreRepresents run.now store.now h → result ≡ home_at run.now input.0 }
 {
-    match home {
-        Home::Disk => store.has_root(),
-        Home::Ram => true,
-    }
+    run.lemma_settings_are_sound();
+    let home = run.home(input);
+    if store.has_root() { home } else { Home::Ram }
 }
 
-/// Returns whether the store can accept a batch: it has a folder if one is needed, and the open chunk has
-/// room. This is true of each store that represents a history.
-fn can_accept(store: &Store, input: InputId, tag: &[u8], home: Home) -> bool
-    ensures root { result ≡ true → home ≡ home_of.Disk → IsSome store.now.root }
-    ensures room { result ≡ true → IsTrue (has_room store.now (chunk_for store.now input.0 tag.now)) }
-    ensures always { (s : AllSettings) (h : History) → MeetsRequirements s → home ≡ home_at s input.0 → StoreRepresents s store.now h → IsSound s h None → result ≡ true }
-{
-    if !has_folder(store, home) {
-        return false;
-    }
-    store.has_room(input, tag)
-}
-
-/// Puts a batch that matches an output into the open chunk of its input and tag, or into a new one.
+/// Puts a batch into the open chunk of its input and tag, or into a new one. `routes` is the mask of the outputs
+/// whose glob matches the tag, and `bytes` are the encodings of the events. Refuses the batch if the open chunk
+/// has no room, if no chunk number is left, or if the disk failed.
 pub fn store<D: Disk>(
     run: &RunSettings,
     parts: &mut Parts,
     disk: &mut D,
     input: InputId,
     tag: &[u8],
+    routes: u64,
     events: &Events,
     bytes: &[u8],
 ) -> Result<bool, Memory>
     requires tag { length tag.now ≤ longest_tag }
-    requires owed { is_empty (outputs_for run.now tag.now) ≡ false }
-    requires spelled { IsEncoded events.now bytes.now }
+    requires routes { IsMaskOf (outputs_for run.now tag.now) routes }
+    requires encoded { IsEncoded events.now bytes.now }
     ensures acts { RefinesAccepting run.now (with_disk (D.call_log disk.old)) (with_disk (D.call_log disk.new)) parts.old parts.new
         (λ h. stores run.now (record { input = input.0; tag = tag.now; events = events.now }) (open_chunk h input.0 tag.now) h) result }
     ensures later { D.faults disk.old ≤ D.faults disk.new }
@@ -167,14 +161,14 @@ pub fn store<D: Disk>(
     lemma_output_names_fit();
     run.lemma_settings_are_sound();
     parts.store.is_sound();
-    let home = run.home(input);
-    if !can_accept(&parts.store, input, tag, home) {
-        // Unreachable: the store represents a history.
+    if !parts.store.has_room(input, tag) {
+        // A chunk that is full has closed, so an open one has room.
         parts.state.count_refused(input);
         return Ok(false);
     }
+    let home = home_for(run, &parts.store, input);
     let alloc = parts.state.alloc();
-    let names = run.names(alloc, tag)?;
+    let names = run.names_of(alloc, routes)?;
     let place = parts.state.reserve(tag)?;
     match parts.store.accept(
         alloc,
@@ -186,7 +180,7 @@ pub fn store<D: Disk>(
         bytes,
         &names,
     ) {
-        Ok(accepted) => take(run, parts, disk, input, place, events, accepted),
+        Ok(accepted) => take(run, parts, disk, input, place, routes, events, accepted),
         Err(StoreRefusal::DiskFailed { sealed }) => refuse_after_fault(
             run, parts, disk, input, sealed,
         ),

@@ -20,4 +20,5 @@ mod resolution;
 
 pub use acceptance::accept;
 pub use closing::{close, close_all};
+pub use fwd_engine_settings::RunSettings;
 pub use resolution::settle;

@@ -6,13 +6,15 @@ ghost use Rattle.fwd_engine_state.specs.Views.{route_of};
 ghost use Rattle.fwd_engine_state.specs.RefinesAction.{with_disk, RefinesAction, RefinesActionWhere};
 
 use fwd_base::{ChunkId, Memory};
-use fwd_engine_inputs::{lemma_other_facts_keep_files, lemma_other_facts_keep_streams};
 use fwd_engine_settings::RunSettings;
-use fwd_engine_state::{Parts, RouteId, lemma_other_facts_keep_state};
+use fwd_engine_state::{
+    Parts, RouteId, lemma_other_facts_keep_files, lemma_other_facts_keep_state,
+    lemma_other_facts_keep_streams,
+};
 use fwd_outside::{Disk, DiskErr};
 
-/// Drops a closed chunk, and removes its file if it has one. A file that can't be removed stays. The model
-/// drops only chunks that the store holds; for another one this does nothing.
+/// Drops a closed chunk, and removes its file if it has one. A file that can't be removed stays. A chunk that the
+/// store doesn't hold is dropped already, in the reference model too.
 fn drop_chunk<D: Disk>(parts: &mut Parts, disk: &mut D, chunk: ChunkId) -> Result<(), Memory>
     ensures acts { (s : AllSettings) → RefinesActionWhere s (with_disk (D.call_log disk.old)) (with_disk (D.call_log disk.new)) parts.old parts.new (λ h. is_closed h chunk.0 ≡ true) (λ h. drops s chunk.0 h) result }
     ensures later { D.faults disk.old ≤ D.faults disk.new }
@@ -34,8 +36,8 @@ fn drop_chunk<D: Disk>(parts: &mut Parts, disk: &mut D, chunk: ChunkId) -> Resul
     }
 }
 
-/// Marks a route done in the file of its chunk, if the file has a slot for it. A failed mark isn't retried.
-/// For a chunk that the store doesn't hold this does nothing.
+/// Marks a route done in the file of its chunk, if the file has a slot for it. A failed mark isn't retried. A chunk
+/// that the store doesn't hold has no file to mark, in the reference model too.
 fn record<D: Disk>(
     run: &RunSettings,
     parts: &mut Parts,
@@ -74,7 +76,7 @@ pub fn settle<D: Disk>(
     ensures later { D.faults disk.old ≤ D.faults disk.new }
     ensures damaged { parts.new.state.damaged ≡ parts.old.state.damaged }
 {
-    if parts.state.owes(route.chunk) {
+    if parts.state.is_pending(route.chunk) {
         record(run, parts, disk, route)
     } else {
         drop_chunk(parts, disk, route.chunk)

@@ -11,8 +11,8 @@ use Rattle.fwd_model.specs.Chunks.{is_closed}
 use Rattle.fwd_model.specs.Notes.{note}
 use Rattle.fwd_model.specs.FlushActions.{applies_answer, stands, notes_stage}
 use Rattle.fwd_engine_state.specs.StateRepresents.{StateRepresents}
-use Rattle.fwd_engine_inputs.proofs.StreamSteps as input_streams
-use Rattle.fwd_engine_inputs.proofs.FileSteps as followed_files
+use Rattle.fwd_engine_state.proofs.StreamSteps as input_streams
+use Rattle.fwd_engine_state.proofs.FileSteps as followed_files
 use Rattle.fwd_engine_state.proofs.OtherStoreFacts.{store_after_other_fact}
 use Rattle.fwd_engine_state.specs.PartsRepresent.{PartsRepresent}
 use Rattle.fwd_engine_state.specs.declared.parts.Parts.{Parts}

@@ -1,7 +1,7 @@
 //! Starts due routes, and handles events of connections.
 
 ghost use Rattle.std.specs.Prelude.{◌≤◌};
-ghost use Rattle.fwd_model.specs.FlushActions.{turn, walk, at_room, at_reply, at_break};
+ghost use Rattle.fwd_model.specs.FlushActions.{starts_if_allowed, walk, at_room, at_reply, at_break};
 ghost use Rattle.fwd_engine_state.specs.Views.{route_of};
 ghost use Rattle.fwd_engine_state.specs.RefinesAction.{with_both, RefinesAction};
 ghost use Rattle.fwd_engine_state.specs.LoopCounters.{NoEventTaken};
@@ -9,7 +9,7 @@ ghost use Rattle.fwd_engine_state.specs.LoopCounters.{NoEventTaken};
 use crate::outcome::record_progress;
 use crate::start::begin;
 use fwd_base::{LinkId, Memory};
-use fwd_engine_settings::RunSettings;
+use fwd_engine_chunks::RunSettings;
 use fwd_engine_state::{InFlightLimits, Parts, RouteId};
 use fwd_outside::{Disk, Loop};
 use fwd_payload::Content;
@@ -23,7 +23,7 @@ fn start_if_allowed<L: Loop, D: Disk>(
     route: RouteId,
     content: &mut Content,
 ) -> Result<(), Memory>
-    ensures acts { RefinesAction run.now (with_both (L.call_log outside.old) (D.call_log disk.old)) (with_both (L.call_log outside.new) (D.call_log disk.new)) parts.old parts.new (λ h. turn run.now (route_of route) h) result }
+    ensures acts { RefinesAction run.now (with_both (L.call_log outside.old) (D.call_log disk.old)) (with_both (L.call_log outside.new) (D.call_log disk.new)) parts.old parts.new (λ h. starts_if_allowed run.now (route_of route) h) result }
     ensures unheard { NoEventTaken (L.counts outside.old) (L.counts outside.new) }
     ensures later { L.faults outside.old ≤ L.faults outside.new }
     ensures damaged { parts.old.state.damaged ≤ parts.new.state.damaged }

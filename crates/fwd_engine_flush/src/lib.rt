@@ -11,3 +11,4 @@ mod outcome;
 mod start;
 
 pub use dispatch::{back, broken, room, walk};
+pub use fwd_engine_chunks::{RunSettings, close_all};

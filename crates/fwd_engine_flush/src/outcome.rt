@@ -13,8 +13,7 @@ ghost use Rattle.fwd_engine_state.specs.LoopCounters.{NoEventTaken};
 ghost use Rattle.fwd_engine_flush.specs.LoopWorld.{with_loop};
 
 use fwd_base::Memory;
-use fwd_engine_chunks::settle;
-use fwd_engine_settings::RunSettings;
+use fwd_engine_chunks::{RunSettings, settle};
 use fwd_engine_state::{FlushAttempt, Parts, RouteId};
 use fwd_flush::{Answer, Poll};
 use fwd_outside::{Disk, Loop};

@@ -13,7 +13,7 @@ ghost use Rattle.fwd_engine_state.specs.LoopCounters.{NoEventTaken};
 use crate::outcome::record_progress;
 use fwd_base::{Bytes, Memory, OutputId};
 use fwd_chunk::PartErr;
-use fwd_engine_settings::RunSettings;
+use fwd_engine_chunks::RunSettings;
 use fwd_engine_state::{
     FlushAttempt, Parts, RouteId, State, lemma_begun_events, lemma_begun_route_is_out,
     lemma_idle_route_is_closed, lemma_idle_route_is_pending,
@@ -123,7 +123,8 @@ fn start_flush<L: Loop, D: Disk>(
 }
 
 /// Reads the content of a chunk, and starts a flush of an idle route with it. If the content can't be read,
-/// or is damaged, that is counted, and the route stays idle. The count of damaged reads never falls.
+/// or is damaged, that is counted, and the route stays idle. The count of damaged reads never falls. A route whose
+/// chunk the store doesn't hold stays idle, in the reference model too (`begins_as`).
 pub fn begin<L: Loop, D: Disk>(
     run: &RunSettings,
     parts: &mut Parts,

@@ -18,10 +18,10 @@ use Rattle.fwd_model.proofs.Actions.{leads_inside}
 use Rattle.fwd_model.proofs.DeviceActions.{files_leads}
 use Rattle.fwd_engine_state.specs.StateRepresents.{StateRepresents, is_not_state_fact}
 use Rattle.fwd_engine_state.proofs.OtherFacts.{state_after_other_fact as others_stay}
-use Rattle.fwd_engine_inputs.specs.StreamFacts.{is_stream_fact}
-use Rattle.fwd_engine_inputs.proofs.StreamSteps as input_streams
-use Rattle.fwd_engine_inputs.specs.FilesRepresent.{FilesRepresent}
-use Rattle.fwd_engine_inputs.proofs.FileSteps as followed_files
+use Rattle.fwd_engine_state.specs.StreamFacts.{is_stream_fact}
+use Rattle.fwd_engine_state.proofs.StreamSteps as input_streams
+use Rattle.fwd_engine_state.specs.FilesRepresent.{FilesRepresent}
+use Rattle.fwd_engine_state.proofs.FileSteps as followed_files
 use Rattle.fwd_engine_state.specs.StoreRepresents.{is_store_fact}
 use Rattle.fwd_engine_state.proofs.OtherStoreFacts.{store_after_other_fact}
 use Rattle.fwd_engine_state.specs.RefinesAction.{with_files}

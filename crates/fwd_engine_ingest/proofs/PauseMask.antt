@@ -5,11 +5,11 @@ use Rattle.std.specs.Int.{bit_at}
 use Rattle.fwd_settings.specs.declared.settings_types.AllSettings.{AllSettings}
 use Rattle.fwd_model.specs.Fact.{History}
 use Rattle.fwd_model.specs.Limits.{is_paused, paused}
-use Rattle.fwd_model.proofs.Masks.{call_log}
+use Rattle.fwd_model.proofs.Masks.{bit_in_mask}
 
 pub paused_at : (s : AllSettings) (h : History) (i : ℕ) → i < length s.inputs → bit_at (paused s h) i ≡ (if is_paused s h i then 1 else 0)
 unfolding paused
-paused_at s h i below = call_log (is_paused s h) (length s.inputs) i below
+paused_at s h i below = bit_in_mask (is_paused s h) (length s.inputs) i below
 
 bit_tells : (bit : ℕ) (p : Bool) → bit ≡ (if p then 1 else 0) → nat_eq bit 1 ≡ p
 bit_tells bit true is = ap (λ (n : ℕ). nat_eq n 1) is

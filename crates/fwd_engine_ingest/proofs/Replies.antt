@@ -19,7 +19,7 @@ use Rattle.fwd_model.specs.Notes.{note}
 use Rattle.fwd_model.specs.InputActions.{hangs_up, replies, after_reply}
 use Rattle.fwd_model.proofs.Actions.{goes_on, begun_trans}
 use Rattle.fwd_model.proofs.Refinement.{completes_after, completes_note, loop_called, loop_uncalled}
-use Rattle.fwd_engine_inputs.specs.StreamsRepresent.{StreamsRepresent}
+use Rattle.fwd_engine_state.specs.StreamsRepresent.{StreamsRepresent}
 use Rattle.fwd_engine_state.specs.PartsRepresent.{PartsRepresentIdle}
 use Rattle.fwd_engine_state.specs.declared.parts.Parts.{Parts}
 use Rattle.fwd_engine_ingest.specs.Continuation.{with_loop, ContinuedWith}

@@ -18,9 +18,9 @@ use Rattle.fwd_model.proofs.Refinement.{completes_note, refines_err}
 use Rattle.fwd_engine_state.specs.StateRepresents.{StateRepresents, is_not_state_fact}
 use Rattle.fwd_engine_state.proofs.OtherFacts.{state_after_other_fact}
 use Rattle.fwd_model.specs.Settings.{accepts_connections_at}
-use Rattle.fwd_engine_inputs.specs.StreamsRepresent.{StreamsRepresent, StreamsNoteWhere}
-use Rattle.fwd_engine_inputs.specs.FileFacts.{is_file_fact}
-use Rattle.fwd_engine_inputs.proofs.FileSteps as followed_files
+use Rattle.fwd_engine_state.specs.StreamsRepresent.{StreamsRepresent, StreamsNoteWhere}
+use Rattle.fwd_engine_state.specs.FileFacts.{is_file_fact}
+use Rattle.fwd_engine_state.proofs.FileSteps as followed_files
 use Rattle.fwd_engine_state.specs.StoreRepresents.{is_store_fact}
 use Rattle.fwd_engine_state.proofs.OtherStoreFacts.{store_after_other_fact}
 use Rattle.fwd_engine_state.specs.PartsRepresent.{PartsRepresentIdle}

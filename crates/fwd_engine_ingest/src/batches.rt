@@ -8,8 +8,7 @@ ghost use Rattle.fwd_model.specs.Acceptance.{ingests};
 ghost use Rattle.fwd_engine_state.specs.RefinesAction.{with_disk, RefinesAction};
 
 use fwd_base::{Bytes, InputId, Memory};
-use fwd_engine_chunks::accept;
-use fwd_engine_settings::RunSettings;
+use fwd_engine_chunks::{RunSettings, accept};
 use fwd_engine_state::Parts;
 use fwd_event::Events;
 use fwd_filters::filter;

@@ -8,7 +8,7 @@ ghost use Rattle.fwd_engine_state.specs.RefinesAction.{with_files, RefinesAction
 
 use crate::batches::accept_lines;
 use fwd_base::{InputId, Memory, is_set};
-use fwd_engine_settings::RunSettings;
+use fwd_engine_chunks::RunSettings;
 use fwd_engine_state::{Parts, State};
 use fwd_in_tail::TailErr;
 use fwd_outside::{Disk, Files};

@@ -10,9 +10,8 @@ ghost use Rattle.fwd_engine_ingest.specs.EndOfInput.{ends_input};
 use crate::batches::accept_lines;
 use crate::messages::receive_messages;
 use fwd_base::{ConnId, InputId, Memory};
-use fwd_engine_inputs::StreamKind;
-use fwd_engine_settings::RunSettings;
-use fwd_engine_state::Parts;
+use fwd_engine_chunks::RunSettings;
+use fwd_engine_state::{Parts, StreamKind};
 use fwd_outside::{Disk, Loop};
 use std::thread::Threads;
 

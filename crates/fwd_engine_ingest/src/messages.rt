@@ -28,8 +28,7 @@ ghost use Rattle.fwd_engine_ingest.specs.Continuation.{with_loop, RefinesContinu
 use crate::batches::tag_or;
 use fwd_base::limits::LONGEST_TAG;
 use fwd_base::{Bytes, ConnId, InputId, Memory};
-use fwd_engine_chunks::accept;
-use fwd_engine_settings::RunSettings;
+use fwd_engine_chunks::{RunSettings, accept};
 use fwd_engine_state::Parts;
 use fwd_event::{Events, Value};
 use fwd_filters::filter;
@@ -134,7 +133,7 @@ fn receive_batch<L: Loop, D: Disk>(
 }
 
 /// Handles a message: a batch under the input's tag, or under its own. Returns whether the messages after
-/// it are handled.
+/// it are handled. A tag of more than `LONGEST_TAG` bytes, which no message has, breaks the stream.
 fn receive_message<L: Loop, D: Disk>(
     rt: &(impl Threads + Sync),
     run: &RunSettings,
@@ -157,7 +156,7 @@ fn receive_message<L: Loop, D: Disk>(
         Message::Batch { tag, events, chunk } => {
             let own = tag_or(run, input, tag.as_slice());
             if own.len() > LONGEST_TAG {
-                // Unreachable: messages have no tag of more than `LONGEST_TAG` bytes.
+                reject_stream(parts, outside, input, conn)?;
                 return Ok(false);
             }
             let asked = ack_for(parts.state.alloc(), chunk.as_ref())?;

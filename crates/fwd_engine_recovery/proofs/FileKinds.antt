@@ -90,5 +90,5 @@ is_loaded s bytes brief whole tag owed same is =
       found = whole.found;
       of_tag = sym (same ∙ ap (λ (b : Brief). b.tag) whole.kept);
       of_size = sym (ap (λ (b : Brief). b.size) whole.kept);
-      owes = record { routes = owes.0; some = owes.1 };
+      mask = record { routes = owes.0; some = owes.1 };
     }

@@ -9,7 +9,7 @@ use Rattle.fwd_chunk.specs.declared.chunk.Chunk.{Chunk}
 use Rattle.fwd_settings.specs.declared.settings_types.AllSettings.{AllSettings}
 use Rattle.fwd_table.specs.declared.tally.Tally.{Tally}
 use Rattle.fwd_model.specs.Fact.{History, Route, Found}
-use Rattle.fwd_model.specs.Clock.{clock, ticked, stopped, next_close}
+use Rattle.fwd_model.specs.Clock.{clock, tick_count, stopped, next_close}
 use Rattle.fwd_model.specs.RecoveredFile.{recovered_chunk, is_marked_done, recovered_content}
 use Rattle.fwd_model.specs.Settings.{saturating_plus, outputs_for, output_name}
 use Rattle.fwd_model.specs.Chunks.{ChunkInfo, chunks_of, recovered_info, next, is_closed, open_chunks, content}
@@ -34,7 +34,7 @@ pub record IsPlain (s : AllSettings) (g h : History) : Type 0 where
   pub grounded : (link : ℕ) → route_on_link g link ≡ None
   pub on_ground : (link : ℕ) → route_on_link h link ≡ None
   pub time : clock g ≡ clock h
-  pub ticks : ticked g ≡ ticked h
+  pub ticks : tick_count g ≡ tick_count h
   pub closing : next_close s g ≡ next_close s h
   pub stopped : stopped s g ≡ stopped s h
   pub tally : tally_of s g ≡ tally_of s h

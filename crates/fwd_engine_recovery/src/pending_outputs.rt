@@ -1,10 +1,10 @@
-ghost use Rattle.std.specs.Prelude.{◌≡◌, ◌≢◌, ◌<◌, ◌==◌, ◌&&◌, [], not, map, MatchOption, OnOk};
+ghost use Rattle.std.specs.Prelude.{◌≡◌, ◌≢◌, ◌<◌, ◌==◌, ◌&&◌, ℕ, List, [], not, map, MatchOption, OnOk};
 ghost use Rattle.std.specs.Int.{bit_at};
 ghost use Rattle.std.specs.List.{list_any};
 ghost use Rattle.std.specs.Str.{bytes_eq};
 ghost use Rattle.fwd_table.specs.Routes.{idle_at, routes_to};
 ghost use Rattle.fwd_chunk.specs.declared.chunk.Seen.TheVariants.{Whole};
-ghost use Rattle.fwd_model.specs.Settings.{output_name};
+ghost use Rattle.fwd_model.specs.Settings.{outputs_for, output_name};
 ghost use Rattle.fwd_engine_recovery.specs.Adoption.{remaining_outputs, StateNotesFile};
 
 use fwd_base::limits::MOST_OUTPUTS;
@@ -22,24 +22,24 @@ pub fn is_among(names: &Names, name: &[u8]) -> bool
         .any(|other| other.as_slice() == name)
 }
 
-/// Whether an output is in the mask `owed` and not among the names `done`, whose outcomes are recorded.
-fn is_remaining(run: &RunSettings, owed: u64, done: &Names, output: usize) -> bool
+/// Whether an output is in the mask `routes` and not among the names `done`, whose outcomes are recorded.
+fn is_remaining(run: &RunSettings, routes: u64, done: &Names, output: usize) -> bool
     requires { output < 64 }
-    ensures { result ≡ ((bit_at owed output == 1) && not (list_any (λ other. bytes_eq other (output_name run.now output)) done.now)) }
+    ensures { result ≡ ((bit_at routes output == 1) && not (list_any (λ other. bytes_eq other (output_name run.now output)) done.now)) }
 {
-    is_set(owed, output as u32) && !is_among(done, run.output_name(OutputId(output as u32)))
+    is_set(routes, output as u32) && !is_among(done, run.output_name(OutputId(output as u32)))
 }
 
-/// Returns the mask of the outputs that match a tag and aren't among these names: bit `i` is set for output
-/// `i`. Returns `None` if there are none.
-fn remaining_outputs(run: &RunSettings, tag: &[u8], done: &Names) -> Option<u64>
-    ensures { MatchOption result (remaining_outputs run.now tag.now done.now ≡ [])
-        (λ owed. (routes_to owed ≡ map (λ output. idle_at 0 (record { 0 = output })) (remaining_outputs run.now tag.now done.now)) × (remaining_outputs run.now tag.now done.now ≢ [])) }
+/// Returns those outputs of the mask `routes` that aren't among these names, as a mask. Returns `None` if there
+/// are none.
+fn remaining_outputs(run: &RunSettings, routes: u64, done: &Names) -> Option<u64>
+    ensures { (tag : List ℕ) → routes_to routes ≡ map (λ output. idle_at 0 (record { 0 = output })) (outputs_for run.now tag)
+        → MatchOption result (remaining_outputs run.now tag done.now ≡ [])
+        (λ left. (routes_to left ≡ map (λ output. idle_at 0 (record { 0 = output })) (remaining_outputs run.now tag done.now)) × (remaining_outputs run.now tag done.now ≢ [])) }
 {
-    let owed = run.owed(tag);
     let mut left: u64 = 0;
     for output in 0..MOST_OUTPUTS {
-        if is_remaining(run, owed, done, output) {
+        if is_remaining(run, routes, done, output) {
             left |= 1 << output;
         }
     }
@@ -57,15 +57,16 @@ pub fn add_pending(
     ensures { OnOk result (StateNotesFile run.now state.old state.new chunk.0 (Whole brief.now)) }
 {
     let tag = brief.tag.as_slice();
-    if run.is_unrouted(tag) {
+    let routes = run.routes_for(tag);
+    if routes == 0 {
         state.count_unrouted();
         return Ok(());
     }
-    match remaining_outputs(run, tag, &brief.done) {
+    match remaining_outputs(run, routes, &brief.done) {
         None => state.count_left(),
-        Some(owed) => {
+        Some(left) => {
             let place = state.reserve(tag)?;
-            state.add_recovered(place, chunk, brief.size, owed);
+            state.add_recovered(place, chunk, brief.size, left);
         }
     }
     Ok(())

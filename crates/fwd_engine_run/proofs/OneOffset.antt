@@ -17,7 +17,7 @@ use Rattle.fwd_model.specs.KeptOffsets.{Tracked, kept_at, to_put, got, after_put
 use Rattle.fwd_model.specs.Run.{RunResult, is_over, is_over_after}
 use Rattle.fwd_model.proofs.Actions.{stays, fact_noted, goes_on}
 use Rattle.fwd_model.proofs.CallLogs.{logs_grew_none}
-use Rattle.fwd_engine_inputs.specs.FilesRepresent.{resumed_history}
+use Rattle.fwd_engine_state.specs.FilesRepresent.{resumed_history}
 use Rattle.fwd_theorem_trace.specs.Allowed.{IsStart}
 use Rattle.fwd_engine.specs.EngineSteps.{IsAt, EngineAnswers}
 use Rattle.fwd_engine.specs.declared.engine.Engine.{Engine}

@@ -10,8 +10,8 @@ use Rattle.fwd_model.specs.CallLogs.{CallLogs, Leads}
 use Rattle.fwd_model.specs.FollowedFiles.{resumed_by, file_at, settled}
 use Rattle.fwd_model.specs.KeptOffsets.{kept_by, kept_at, indexes_from, resumes}
 use Rattle.fwd_model.proofs.Actions.{stays, fact_noted, goes_on}
-use Rattle.fwd_engine_inputs.specs.FileRepresents.{is_path}
-use Rattle.fwd_engine_inputs.specs.FilesRepresent.{resumed_history}
+use Rattle.fwd_engine_state.specs.FileRepresents.{is_path}
+use Rattle.fwd_engine_state.specs.FilesRepresent.{resumed_history}
 use Rattle.fwd_theorem_trace.specs.Allowed.{IsStart}
 use Rattle.fwd_theorem_trace.proofs.Run.{loading_is_start}
 use Rattle.fwd_engine_run.proofs.TrackedFiles.{drop_first}

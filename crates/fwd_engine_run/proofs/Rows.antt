@@ -13,7 +13,7 @@ use Rattle.fwd_model.specs.FollowedFiles.{settled}
 use Rattle.fwd_model.specs.KeptOffsets.{Tracked, tracked, kept_by, kept_at, to_put, gets, puts_by, puts}
 use Rattle.fwd_model.specs.Run.{RunResult}
 use Rattle.fwd_model.proofs.Actions.{goes_on, begun_trans}
-use Rattle.fwd_engine_inputs.proofs.FileLists.{set_here, set_other}
+use Rattle.fwd_engine_state.proofs.FileLists.{set_here, set_other}
 use Rattle.fwd_theorem_trace.specs.Allowed.{IsStart}
 use Rattle.fwd_engine.specs.EngineSteps.{IsAt}
 use Rattle.fwd_engine.specs.declared.engine.Engine.{Engine}

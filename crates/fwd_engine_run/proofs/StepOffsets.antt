@@ -38,9 +38,9 @@ use Rattle.fwd_model.specs.Limits.{evicted_at, is_paused}
 use Rattle.fwd_model.specs.Dispatch.{due_routes, may_start}
 use Rattle.fwd_model.specs.Notes.{note_then, note, is_empty}
 use Rattle.fwd_model.specs.ResolveActions.{dropped, drops, after_mark, marks_at, records, marks_or_removes}
-use Rattle.fwd_model.specs.CloseActions.{loses, shuts, closes_if_full, closes_each, closes_all}
+use Rattle.fwd_model.specs.CloseActions.{loses, closes_chunk, closes_if_full, closes_each, closes_all}
 use Rattle.fwd_model.specs.Acceptance.{Acceptance, taken, ends_refused, refuses, finishes_append, finishes_create, appends, starts_chunk, stores, accepts, ingests}
-use Rattle.fwd_model.specs.FlushActions.{retries, applies_answer, notes_stage, stands, notes_calls, starts_with, is_complete_read, after_read, begins_as, starts_flush, turn, turns, walk, goes_on, resumes, at_room, at_reply, at_break}
+use Rattle.fwd_model.specs.FlushActions.{retries, applies_answer, notes_stage, stands, notes_calls, starts_with, is_complete_read, after_read, begins_as, starts_flush, starts_if_allowed, starts_each, walk, goes_on, resumes, at_room, at_reply, at_break}
 use Rattle.fwd_model.specs.InputActions.{hangs_up, after_reply, replies, acknowledges, accepts_messages, accepts_stream, pieces, polled, polls_file, polls_files, polls_input, polls_inputs, polls_all}
 use Rattle.fwd_model.specs.StepActions.{closes_and_dispatches, ticks, stops, at_input_end, handles, step}
 use Rattle.fwd_model.specs.KeptOffsets.{kept_at}
@@ -115,17 +115,17 @@ module _ (s : AllSettings) (first : History) where
   keeps_loses [] h same = same
   keeps_loses (r ∷ rs) h same = λ _. keeps_bind (marks_or_removes s r _) (loses s rs) (keeps_settles r _ same) (keeps_loses rs)
 
-  keeps_shuts : (chunk : ℕ) (h : History) → Same h → Keeps (shuts s chunk h)
-  unfolding shuts
+  keeps_shuts : (chunk : ℕ) (h : History) → Same h → Keeps (closes_chunk s chunk h)
+  unfolding closes_chunk
   keeps_shuts chunk h same = λ _. keeps_loses (evicted_at s (ChunkClosed chunk ∷ h) chunk) (ChunkClosed chunk ∷ h) same
 
   keeps_fills : (chunk : ℕ) (h : History) → Same h → Keeps (closes_if_full s chunk h)
   unfolding closes_if_full
-  keeps_fills chunk h same = ends_if Same (nat_le full_chunk (size h chunk)) (shuts s chunk h) (Return h) (keeps_shuts chunk h same) same
+  keeps_fills chunk h same = ends_if Same (nat_le full_chunk (size h chunk)) (closes_chunk s chunk h) (Return h) (keeps_shuts chunk h same) same
 
   keeps_closes : (cs : List ChunkInfo) (h : History) → Same h → Keeps (closes_each s cs h)
   keeps_closes [] h same = same
-  keeps_closes (c ∷ cs) h same = keeps_bind (shuts s c.number h) (closes_each s cs) (keeps_shuts c.number h same) (keeps_closes cs)
+  keeps_closes (c ∷ cs) h same = keeps_bind (closes_chunk s c.number h) (closes_each s cs) (keeps_shuts c.number h same) (keeps_closes cs)
 
   keeps_closes_all : (h : History) → Same h → Keeps (closes_all s h)
   unfolding closes_all
@@ -135,7 +135,7 @@ module _ (s : AllSettings) (first : History) where
 
   takes_appended : (b : Batch) (chunk : ℕ) (h : History) (answer : Option (Unit {0})) → Same h → Takes (finishes_append s b chunk h answer)
   takes_appended b chunk h (Some done) same = λ _. takes_bind (closes_if_full s chunk _) taken (keeps_fills chunk _ same) (λ now so. so)
-  takes_appended b chunk h None same = λ _. λ _. takes_bind (shuts s chunk _) ends_refused (keeps_shuts chunk _ same) (λ now so. so)
+  takes_appended b chunk h None same = λ _. λ _. takes_bind (closes_chunk s chunk _) ends_refused (keeps_shuts chunk _ same) (λ now so. so)
 
   takes_created : (b : Batch) (chunk : ℕ) (h : History) (answer : Option (Unit {0})) → Same h → Takes (finishes_create s b chunk h answer)
   takes_created b chunk h (Some done) same = λ _. takes_bind (closes_if_full s chunk _) taken (keeps_fills chunk _ same) (λ now so. so)
@@ -199,13 +199,13 @@ module _ (s : AllSettings) (first : History) where
   keeps_begins r (Some (InFile head)) h same = ends_after Same (on_disk (read_content_program (InFile head))) (after_read s r (size_of (InFile head)) h) (λ bytes. keeps_read r (size_of (InFile head)) h bytes same)
   keeps_begins r (Some (Adopted head)) h same = ends_after Same (on_disk (read_content_program (Adopted head))) (after_read s r (size_of (Adopted head)) h) (λ bytes. keeps_read r (size_of (Adopted head)) h bytes same)
 
-  keeps_turn : (r : Route) (h : History) → Same h → Keeps (turn s r h)
-  unfolding turn starts_flush
+  keeps_turn : (r : Route) (h : History) → Same h → Keeps (starts_if_allowed s r h)
+  unfolding starts_if_allowed starts_flush
   keeps_turn r h same = ends_if Same (may_start s h r) (starts_flush s r h) (Return h) (keeps_begins r (kept_of s h r.chunk) h same) same
 
-  keeps_turns : (rs : List Route) (h : History) → Same h → Keeps (turns s rs h)
+  keeps_turns : (rs : List Route) (h : History) → Same h → Keeps (starts_each s rs h)
   keeps_turns [] h same = same
-  keeps_turns (r ∷ rs) h same = keeps_bind (turn s r h) (turns s rs) (keeps_turn r h same) (keeps_turns rs)
+  keeps_turns (r ∷ rs) h same = keeps_bind (starts_if_allowed s r h) (starts_each s rs) (keeps_turn r h same) (keeps_turns rs)
 
   keeps_walk : (h : History) → Same h → Keeps (walk s h)
   unfolding walk

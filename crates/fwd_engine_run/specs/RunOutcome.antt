@@ -1,17 +1,22 @@
 -- What the run loop does.
 use Rattle.std.specs.Prelude.{ℕ, Result, Ok, Err, MatchResult}
+use Rattle.fwd_outside.specs.Loop.{LoopLog}
+use Rattle.fwd_outside.specs.Disk.{DiskLog}
+use Rattle.fwd_outside.specs.Files.{FilesLog}
+use Rattle.fwd_keeper.specs.Keeper.{KeeperLog}
 use Rattle.fwd_settings.specs.declared.settings_types.AllSettings.{AllSettings}
 use Rattle.fwd_model.specs.Fact.{History}
 use Rattle.fwd_model.specs.Trace.{Action}
 use Rattle.fwd_model.specs.CallLogs.{CallLogs, Leads, Completes, IsBegun}
 use Rattle.fwd_model.specs.Run.{End, Over, KeeperFailed, LoopFailed, TurnsSpent, RunResult, lived}
+use Rattle.fwd_engine_state.specs.RefinesAction.{with_all}
 use Rattle.fwd_engine.specs.EngineSteps.{IsAt}
 use Rattle.fwd_engine.specs.declared.engine.Engine.{Engine}
 use Rattle.fwd_engine.specs.declared.engine.EngineStop.{EngineStop}
 use Rattle.fwd_engine.specs.declared.engine.EngineStop.TheVariants as stop
 use Rattle.fwd_engine.specs.declared.engine.Turn.{Turn}
 use Rattle.fwd_engine.specs.declared.engine.Turn.TheVariants as turn
-use Rattle.fwd_engine_run.specs.OffsetRows.{Keeps}
+use Rattle.fwd_engine_run.specs.OffsetRows.{Keeps, with_keeper}
 use Rattle.fwd_engine_run.specs.declared.kept_offsets.KeptOffsets.{KeptOffsets}
 use Rattle.fwd_engine_run.specs.declared.run_loop.RunEnd.{RunEnd}
 use Rattle.fwd_engine_run.specs.declared.run_loop.RunEnd.TheVariants as run_end
@@ -58,3 +63,23 @@ abbrev pub RunOutcome : {E : Type 0} → CallLogs → CallLogs → AllSettings �
     → Result RunEnd E → Type 0
 RunOutcome a b s run after result =
     MatchResult result (λ end. RanToEnd a b s run after end) (λ _. IsBegun a b run)
+
+-- the world in which the four devices have these call logs
+abbrev pub with_devices : LoopLog → DiskLog → FilesLog → KeeperLog → CallLogs → CallLogs
+with_devices loop disk files keeper others = with_all loop disk files (with_keeper keeper others)
+
+-- For each history that the engine represents and whose offsets are kept, in every world: the calls are those
+-- of a run from there.
+abbrev pub RunsFrom : {E : Type 0} → (CallLogs → CallLogs) → (CallLogs → CallLogs) → Engine → KeptOffsets
+    → (AllSettings → History → Action RunResult) → Engine → Result RunEnd E → Type 0
+RunsFrom old new before offsets run after result =
+    (others : CallLogs) (s : AllSettings) (h : History) → IsAt before s h → Keeps s offsets h
+    → RunOutcome (old others) (new others) s (run s h) after result
+
+-- the same for a part of a run, up to what follows it
+abbrev pub ContinuesFrom : (CallLogs → CallLogs) → (CallLogs → CallLogs) → Engine → KeptOffsets
+    → (AllSettings → History → Action RunResult) → (AllSettings → History → Action RunResult) → Engine
+    → KeptOffsets → Result Turn EngineStop → Type 0
+ContinuesFrom old new before offsets part next after kept result =
+    (others : CallLogs) (s : AllSettings) (h : History) → IsAt before s h → Keeps s offsets h
+    → RunContinues (old others) (new others) s (part s h) (next s) after kept result

@@ -9,5 +9,6 @@
 mod kept_offsets;
 mod run_loop;
 
+pub use fwd_engine::{BeginErr, Engine, EngineStop, Turn};
 pub use kept_offsets::{Got, KeptOffsets};
 pub use run_loop::{RunEnd, run, show_begun, shown_of};

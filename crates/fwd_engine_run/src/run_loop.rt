@@ -14,9 +14,9 @@ ghost use Rattle.fwd_engine_state.specs.RefinesAction.{with_all};
 ghost use Rattle.fwd_engine_state.specs.LoopCounters.{EventsTaken, NoEventTaken};
 ghost use Rattle.fwd_engine.specs.EngineSteps.{IsAt, EngineAnswers, events_in_turn};
 ghost use Rattle.fwd_engine.specs.declared.engine.EngineStop.TheVariants as stop;
-ghost use Rattle.fwd_engine_run.specs.OffsetRows.{Keeps, with_keeper};
+ghost use Rattle.fwd_engine_run.specs.OffsetRows.{Keeps};
 ghost use Rattle.fwd_engine_run.specs.declared.kept_offsets.KeptOffsets.{KeptOffsets};
-ghost use Rattle.fwd_engine_run.specs.RunOutcome.{RunContinues, RunOutcome, heard_in};
+ghost use Rattle.fwd_engine_run.specs.RunOutcome.{RunContinues, RunOutcome, RunsFrom, ContinuesFrom, with_devices, heard_in};
 ghost use Rattle.fwd_theorem_trace.specs.Allowed.{IsLoading};
 ghost use Rattle.fwd_engine_run.specs.declared.run_loop.RunEnd.TheVariants as run_end;
 
@@ -115,8 +115,8 @@ fn take<L: Loop, D: Disk, F: Files, K: Keeper>(
     keeper: &mut K,
     watch: &mut impl Watch,
 ) -> Result<Turn, EngineStop>
-    ensures goes { (others : CallLogs) (s : AllSettings) (h : History) (next : History → Action RunResult) → IsAt engine.old s h → Keeps s offsets.old h
-        → RunContinues (with_all (L.call_log outside.old) (D.call_log disk.old) (F.call_log files.old) (with_keeper (K.call_log keeper.old) others)) (with_all (L.call_log outside.new) (D.call_log disk.new) (F.call_log files.new) (with_keeper (K.call_log keeper.new) others)) s (written.brought s ticks next h happening) next engine.new offsets.new result }
+    ensures goes { (next : History → Action RunResult) → ContinuesFrom (with_devices (L.call_log outside.old) (D.call_log disk.old) (F.call_log files.old) (K.call_log keeper.old)) (with_devices (L.call_log outside.new) (D.call_log disk.new) (F.call_log files.new) (K.call_log keeper.new))
+        engine.old offsets.old (λ s h. written.brought s ticks next h happening) (λ _. next) engine.new offsets.new result }
     ensures unheard { NoEventTaken (L.counts outside.old) (L.counts outside.new) }
     ensures later { L.faults outside.old ≤ L.faults outside.new }
     ensures failed { result ≡ Err stop.LoopFault → happening ≡ happens.Failed }
@@ -152,8 +152,8 @@ fn turn<L: Loop, D: Disk, F: Files, K: Keeper>(
     keeper: &mut K,
     watch: &mut impl Watch,
 ) -> Result<Turn, EngineStop>
-    ensures goes { (others : CallLogs) (s : AllSettings) (h : History) (more : ℕ) → IsAt engine.old s h → Keeps s offsets.old h
-        → RunContinues (with_all (L.call_log outside.old) (D.call_log disk.old) (F.call_log files.old) (with_keeper (K.call_log keeper.old) others)) (with_all (L.call_log outside.new) (D.call_log disk.new) (F.call_log files.new) (with_keeper (K.call_log keeper.new) others)) s (written.run s ticks (suc more) h) (written.run s ticks more) engine.new offsets.new result }
+    ensures goes { (more : ℕ) → ContinuesFrom (with_devices (L.call_log outside.old) (D.call_log disk.old) (F.call_log files.old) (K.call_log keeper.old)) (with_devices (L.call_log outside.new) (D.call_log disk.new) (F.call_log files.new) (K.call_log keeper.new))
+        engine.old offsets.old (λ s h. written.run s ticks (suc more) h) (λ s. written.run s ticks more) engine.new offsets.new result }
     ensures heard { EventsTaken (events_in_turn result) (L.counts outside.old) (L.counts outside.new) }
     ensures cause { HasCause (L.faults outside.old) (L.faults outside.new) (result ≡ Err stop.LoopFault) }
     ensures disk_later { D.faults disk.old ≤ D.faults disk.new }
@@ -181,8 +181,8 @@ fn turns<L: Loop, D: Disk, F: Files, K: Keeper>(
     most: u64,
     watch: &mut impl Watch,
 ) -> Result<RunEnd, Memory>
-    ensures runs { (others : CallLogs) (s : AllSettings) (h : History) → IsAt engine.old s h → Keeps s offsets.old h
-        → RunOutcome (with_all (L.call_log outside.old) (D.call_log disk.old) (F.call_log files.old) (with_keeper (K.call_log keeper.old) others)) (with_all (L.call_log outside.new) (D.call_log disk.new) (F.call_log files.new) (with_keeper (K.call_log keeper.new) others)) s (written.run s ticks most h) engine.new result }
+    ensures runs { RunsFrom (with_devices (L.call_log outside.old) (D.call_log disk.old) (F.call_log files.old) (K.call_log keeper.old)) (with_devices (L.call_log outside.new) (D.call_log disk.new) (F.call_log files.new) (K.call_log keeper.new))
+        engine.old offsets.old (λ s h. written.run s ticks most h) engine.new result }
     ensures heard { EventsTaken (heard_in most result) (L.counts outside.old) (L.counts outside.new) }
     ensures cause { HasCause (L.faults outside.old) (L.faults outside.new) (result ≡ Ok run_end.LoopFailed) }
     ensures got { result ≡ Ok run_end.KeeperFailed → ⊥ }
@@ -217,8 +217,8 @@ fn start<L: Loop, D: Disk, F: Files, K: Keeper>(
     most: u64,
     watch: &mut impl Watch,
 ) -> Result<RunEnd, Memory>
-    ensures runs { (others : CallLogs) (s : AllSettings) (h : History) → IsAt engine.old s h → Keeps s offsets.old h
-        → RunOutcome (with_all (L.call_log outside.old) (D.call_log disk.old) (F.call_log files.old) (with_keeper (K.call_log keeper.old) others)) (with_all (L.call_log outside.new) (D.call_log disk.new) (F.call_log files.new) (with_keeper (K.call_log keeper.new) others)) s (written.starts s ends.now ticks most h) engine.new result }
+    ensures runs { RunsFrom (with_devices (L.call_log outside.old) (D.call_log disk.old) (F.call_log files.old) (K.call_log keeper.old)) (with_devices (L.call_log outside.new) (D.call_log disk.new) (F.call_log files.new) (K.call_log keeper.new))
+        engine.old offsets.old (λ s h. written.starts s ends.now ticks most h) engine.new result }
     ensures heard { EventsTaken (heard_in most result) (L.counts outside.old) (L.counts outside.new) }
     ensures cause { HasCause (L.faults outside.old) (L.faults outside.new) (result ≡ Ok run_end.LoopFailed) }
     ensures disk_later { D.faults disk.old ≤ D.faults disk.new }
@@ -255,7 +255,7 @@ pub fn run<L: Loop, D: Disk, F: Files, K: Keeper>(
     watch: &mut impl Watch,
 ) -> Result<RunEnd, Memory>
     ensures runs { (others : CallLogs) (s : AllSettings) (h : History) → IsAt engine.old s h → IsLoading h → Keeps s offsets.old []
-        → RunOutcome (with_all (L.call_log outside.old) (D.call_log disk.old) (F.call_log files.old) (with_keeper (K.call_log keeper.old) others)) (with_all (L.call_log outside.new) (D.call_log disk.new) (F.call_log files.new) (with_keeper (K.call_log keeper.new) others)) s (written.after_recovery s ends.now ticks most (Some h)) engine.new result }
+        → RunOutcome (with_devices (L.call_log outside.old) (D.call_log disk.old) (F.call_log files.old) (K.call_log keeper.old) others) (with_devices (L.call_log outside.new) (D.call_log disk.new) (F.call_log files.new) (K.call_log keeper.new) others) s (written.after_recovery s ends.now ticks most (Some h)) engine.new result }
     ensures heard { EventsTaken (heard_in most result) (L.counts outside.old) (L.counts outside.new) }
     ensures cause { HasCause (L.faults outside.old) (L.faults outside.new) (result ≡ Ok run_end.LoopFailed) }
     ensures disk_later { D.faults disk.old ≤ D.faults disk.new }

@@ -1,15 +1,15 @@
-ghost use Rattle.std.specs.Prelude.{◌≡◌, ◌≤◌, length, map, option_copied, IfOk};
+ghost use Rattle.std.specs.Prelude.{◌≡◌, ◌≤◌, ◌==◌, length, map, option_copied, IfOk};
 ghost use Rattle.fwd_base.specs.Limits.{most_inputs};
 ghost use Rattle.fwd_route.specs.GlobTest.{globs};
 ghost use Rattle.fwd_table.specs.Routes.{idle_at, routes_to};
 ghost use Rattle.fwd_settings.specs.Requirements.{MeetsRequirements};
 ghost use Rattle.fwd_settings.specs.declared.settings_types.AllSettings.{AllSettings};
 ghost use Rattle.fwd_settings.specs.declared.settings_types.InputSet.{InputSet};
-ghost use Rattle.fwd_model.specs.Settings.{input_at, output_at, outputs_for, slots_at, places_of, retries_at, home_at, input_name, output_name, names_for, total_limit_at, hears_peers, accepts_connections_at, reads_standard, reads_stdin_at};
+ghost use Rattle.fwd_model.specs.Settings.{input_at, output_at, outputs_for, slots_at, places_of, retries_at, home_at, input_name, output_name, total_limit_at, hears_peers, accepts_connections_at, reads_standard, reads_stdin_at};
 ghost use Rattle.fwd_model.specs.Notes.{is_empty};
 
-use fwd_base::limits::MOST_PEER_FLUSHES;
-use fwd_base::{Bytes, InputId, Memory, Names, OutputId, Retries};
+use fwd_base::limits::{MOST_OUTPUTS, MOST_PEER_FLUSHES};
+use fwd_base::{Bytes, InputId, Memory, Names, OutputId, Retries, is_set};
 use fwd_filters::FilterSteps;
 use fwd_limits::MemLimits;
 use fwd_outside::Home;
@@ -151,9 +151,11 @@ impl RunSettings {
         &self.settings.filters
     }
 
-    /// Returns the mask of the outputs whose glob matches a tag: bit `i` is set for output `i`.
-    pub fn owed(&self, tag: &[u8]) -> u64
+    /// Returns the mask of the outputs whose glob matches a tag: bit `i` is set for output `i`. It is 0 exactly
+    /// if no glob matches.
+    pub fn routes_for(&self, tag: &[u8]) -> u64
         ensures routes { routes_to result ≡ map (λ output. idle_at 0 (record { 0 = output })) (outputs_for self.now tag.now) }
+        ensures none { (result == 0) ≡ is_empty (outputs_for self.now tag.now) }
     {
         let mut mask: u64 = 0;
         for (i, output) in self.settings.outputs.as_slice().iter().enumerate() {
@@ -162,18 +164,6 @@ impl RunSettings {
             }
         }
         mask
-    }
-
-    /// Whether no output's glob matches a tag.
-    pub fn is_unrouted(&self, tag: &[u8]) -> bool
-        ensures { result ≡ is_empty (outputs_for self.now tag.now) }
-    {
-        for output in self.settings.outputs.as_slice() {
-            if glob_matches(output, tag) {
-                return false;
-            }
-        }
-        true
     }
 
     /// Returns how many flushes to an output may be in flight at once, 0 if there is no such output.
@@ -254,14 +244,15 @@ impl RunSettings {
         }
     }
 
-    /// Returns the names that stand in chunk files for the outputs whose glob matches a tag, in the order of the configuration.
-    pub fn names(&self, alloc: Global, tag: &[u8]) -> Result<Names, Memory>
-        ensures { IfOk result (λ names. names ≡ names_for self.now tag.now) }
+    /// Returns the names that stand in chunk files for the outputs of a mask, in the order of the configuration.
+    pub fn names_of(&self, alloc: Global, routes: u64) -> Result<Names, Memory>
+        ensures { IfOk result (λ names. names ≡ map (λ route. output_name self.now route.output.0) (routes_to routes)) }
     {
         let mut names = Names::new(alloc);
-        for output in self.settings.outputs.as_slice() {
-            if glob_matches(output, tag) {
-                names.push(Bytes::from_slice(alloc, output.id.as_slice())?)?;
+        for output in 0..MOST_OUTPUTS {
+            if is_set(routes, output as u32) {
+                let name = self.output_name(OutputId(output as u32));
+                names.push(Bytes::from_slice(alloc, name)?)?;
             }
         }
         Ok(names)

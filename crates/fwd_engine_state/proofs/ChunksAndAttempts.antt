@@ -306,8 +306,8 @@ pub carried_begun : (s : AllSettings) (r : Route) (o : Outcome) (h : History) (l
     → LinkHolds s h None link f (route_on_link h link) → LinkHolds s (OnRoute r o ∷ h) (Some r) link f (route_on_link (OnRoute r o ∷ h) link)
 carried_begun s r o h link f none idle is = rw none (begun_on s r o h link f (route_on_link h link) idle is)
 
-pub landed_on : (s : AllSettings) (g : History) (link : ℕ) (now call_log : Option FlushAttempt) → now ≡ call_log → LinkHolds s g None link call_log (route_on_link g link) → LinkHolds s g None link now (route_on_link g link)
-landed_on s g link now call_log is carried = subst (λ (f : Option FlushAttempt). LinkHolds s g None link f (route_on_link g link)) (sym is) carried
+pub landed_on : (s : AllSettings) (g : History) (link : ℕ) (now expected : Option FlushAttempt) → now ≡ expected → LinkHolds s g None link expected (route_on_link g link) → LinkHolds s g None link now (route_on_link g link)
+landed_on s g link now expected is carried = subst (λ (f : Option FlushAttempt). LinkHolds s g None link f (route_on_link g link)) (sym is) carried
 
 -- an open chunk has a number that was given out
 given_in : (k least past : ℕ) (p : ChunkInfo → Bool) (cs : List ChunkInfo) → NumbersRise least past cs → list_any (λ (c : ChunkInfo). c.number == k) (filter p cs) ≡ true → k < past

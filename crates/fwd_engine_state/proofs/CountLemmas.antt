@@ -94,8 +94,8 @@ pub input_counted : (change : InputChange) (fact : Fact) (s : AllSettings) (h : 
     → old ≡ tally_of s h
     → ((tally : ℕ → InputTally) (n : ℕ) → old.inputs ≡ each_from tally 0 n → new ≡ record old { inputs = each_from (changed_at input (input_changed change) tally) 0 n })
     → new ≡ tally_of s (fact ∷ h)
-input_counted change fact s h input old new moved stays files is call_log =
-    call_log (input_tally h) (length s.inputs) (ap (λ (t : Tally). t.inputs) is)
+input_counted change fact s h input old new moved stays files is counted =
+    counted (input_tally h) (length s.inputs) (ap (λ (t : Tally). t.inputs) is)
     ∙ ap (λ (t : Tally). record t { inputs = each_from (changed_at input (input_changed change) (input_tally h)) 0 (length s.inputs) }) is
     ∙ (λ i. record (tally_of s h) { inputs = each-same _ _ 0 (length s.inputs) moved i; outputs = each-same _ _ 0 (length s.outputs) stays i })
     ∙ files
@@ -108,8 +108,8 @@ pub output_counted : (change : OutputChange) (fact : Fact) (s : AllSettings) (h 
     → old ≡ tally_of s h
     → ((tally : ℕ → OutputTally) (n : ℕ) → old.outputs ≡ each_from tally 0 n → new ≡ record old { outputs = each_from (changed_at output (output_changed change) tally) 0 n })
     → new ≡ tally_of s (fact ∷ h)
-output_counted change fact s h output old new moved stays files is call_log =
-    call_log (output_tally h) (length s.outputs) (ap (λ (t : Tally). t.outputs) is)
+output_counted change fact s h output old new moved stays files is counted =
+    counted (output_tally h) (length s.outputs) (ap (λ (t : Tally). t.outputs) is)
     ∙ ap (λ (t : Tally). record t { outputs = each_from (changed_at output (output_changed change) (output_tally h)) 0 (length s.outputs) }) is
     ∙ (λ i. record (tally_of s h) { inputs = each-same _ _ 0 (length s.inputs) stays i; outputs = each-same _ _ 0 (length s.outputs) moved i })
     ∙ files
@@ -191,9 +191,9 @@ pub route_counted : (change : OutputChange) (outcome : Outcome) (s : AllSettings
     → old ≡ tally_of s h
     → ((tally : ℕ → OutputTally) (n : ℕ) → old.outputs ≡ each_from tally 0 n → new ≡ record old { outputs = each_from (changed_at output (output_changed change) tally) 0 n })
     → new ≡ tally_of s (OnRoute r outcome ∷ h)
-route_counted change outcome s h r output old new moved to is call_log =
+route_counted change outcome s h r output old new moved to is counted =
     let P : ℕ → Type 0 = λ o. ((j : ℕ) → changed_at o (output_changed change) (output_tally h) j ≡ output_tally (OnRoute r outcome ∷ h) j) in
-    output_counted change (OnRoute r outcome) s h output old new (subst P to moved) (λ j. refl) refl is call_log
+    output_counted change (OnRoute r outcome) s h output old new (subst P to moved) (λ j. refl) refl is counted
 
 -- a batch of an input
 pub batch_counted : (change : InputChange) (fact : Fact) (s : AllSettings) (h : History) (of input : ℕ) (old new : Tally)
@@ -204,6 +204,6 @@ pub batch_counted : (change : InputChange) (fact : Fact) (s : AllSettings) (h : 
     → old ≡ tally_of s h
     → ((tally : ℕ → InputTally) (n : ℕ) → old.inputs ≡ each_from tally 0 n → new ≡ record old { inputs = each_from (changed_at input (input_changed change) tally) 0 n })
     → new ≡ tally_of s (fact ∷ h)
-batch_counted change fact s h of input old new same moved stays files is call_log =
+batch_counted change fact s h of input old new same moved stays files is counted =
     let P : ℕ → Type 0 = λ o. ((j : ℕ) → changed_at o (input_changed change) (input_tally h) j ≡ input_tally (fact ∷ h) j) in
-    input_counted change fact s h input old new (subst P same moved) stays files is call_log
+    input_counted change fact s h input old new (subst P same moved) stays files is counted

@@ -25,3 +25,6 @@ pub mod Evictions
 pub mod EvictionIndependence
 pub mod EvictionsByOutput
 pub mod EvictedRoutes
+pub use Rattle.fwd_engine_inputs.proofs.FileSteps
+pub use Rattle.fwd_engine_inputs.proofs.StreamSteps
+pub use Rattle.fwd_engine_inputs.proofs.FileLists

@@ -9,3 +9,8 @@ pub mod Views
 pub mod StateRepresents
 pub mod Capacity
 pub mod Evictions
+pub use Rattle.fwd_engine_inputs.specs.FilesRepresent
+pub use Rattle.fwd_engine_inputs.specs.StreamsRepresent
+pub use Rattle.fwd_engine_inputs.specs.FileRepresents
+pub use Rattle.fwd_engine_inputs.specs.FileFacts
+pub use Rattle.fwd_engine_inputs.specs.StreamFacts

@@ -11,7 +11,7 @@ use Rattle.fwd_table.specs.Routes.{idle_at, routes_to}
 use Rattle.fwd_table.specs.Rows.{has_row}
 use Rattle.fwd_model.specs.Fact.{Fact, History, Route, Happened, Resumed, Saved, Polled, Disconnected, Malformed, Found, Offered, Accepted, Refused, ChunkClosed, Sent, OnRoute, MarkStarted, Marked, Removed, FileLeft, IoFailed}
 use Rattle.fwd_model.specs.Settings.{outputs_for, output_name, reads_stdin_at}
-use Rattle.fwd_model.specs.Clock.{clock, ticked, stopped, next_close}
+use Rattle.fwd_model.specs.Clock.{clock, tick_count, stopped, next_close}
 use Rattle.fwd_model.specs.RecoveredFile.{recovered_chunk, is_marked_done}
 use Rattle.fwd_model.specs.Chunks.{ChunkInfo, chunks_of, chunk_at, next, is_closed, open_chunks, content}
 use Rattle.fwd_model.specs.Routes.{route, tries, due, flight, is_resolved, rows_of, route_on_link}
@@ -66,7 +66,7 @@ pub record IsLoaded (s : AllSettings) (tag : List ℕ) (size owed : ℕ) (bytes 
   pub found : recovered_chunk bytes ≡ Some chunk
   pub of_tag : chunk.tag ≡ tag
   pub of_size : length chunk.content ≡ size
-  pub owes : IsMaskOf (remaining_for s chunk) owed
+  pub mask : IsMaskOf (remaining_for s chunk) owed
 
 -- ---- flush attempts
 
@@ -110,7 +110,7 @@ pub record StateRepresents (s : AllSettings) (state : State) (h : History) (out 
   pub top : (n : ℕ) → 1 ≤ n → NumbersRise 0 n (chunks_of h) → state.chunks.top < n
   pub flights : (link : ℕ) → LinkHolds s h out link (attempt_over link state.flights) (route_on_link h link)
   pub time : state.clock ≡ clock h
-  pub ticks : state.ticked ≡ ticked h
+  pub ticks : state.ticks ≡ tick_count h
   pub closing : state.closing ≡ next_close s h
   pub stopped : state.stopped ≡ stopped s h
   pub tally : state.counts ≡ tally_of s h

@@ -101,7 +101,7 @@ impl Counts {
     }
 
     /// Counts a failed flush that has no retry left.
-    fn add_spent(&mut self, output: OutputId)
+    fn add_exhausted(&mut self, output: OutputId)
         ensures { (s : AllSettings) (h : History) (r : Route) → r.output ≡ output.0 → self.old ≡ tally_of s h → self.new ≡ tally_of s (OnRoute r Exhausted ∷ h) }
     {
         self.change_output(output, OutputChange::Exhausted);
@@ -118,14 +118,14 @@ impl Counts {
                 if again {
                     self.add_retried(output);
                 } else {
-                    self.add_spent(output);
+                    self.add_exhausted(output);
                 }
             }
         }
     }
 
     /// Counts a route that a limit evicted.
-    pub fn add_lost(&mut self, output: OutputId)
+    pub fn add_evicted(&mut self, output: OutputId)
         ensures { (s : AllSettings) (h : History) (r : Route) → r.output ≡ output.0 → self.old ≡ tally_of s h → self.new ≡ tally_of s (OnRoute r Evicted ∷ h) }
     {
         self.change_output(output, OutputChange::Evicted);

@@ -22,6 +22,9 @@ mod state;
 
 pub use capacity::InFlightLimits;
 pub use flush_attempts::{FlushAttempt, RouteId};
+pub use fwd_engine_inputs::{
+    StreamKind, lemma_other_facts_keep_files, lemma_other_facts_keep_streams,
+};
 pub use fwd_payload::Reader;
 pub use lemmas::{
     lemma_begun_events, lemma_begun_route_is_out, lemma_evicted_route_is_idle,

@@ -6,7 +6,7 @@ ghost use Rattle.fwd_settings.specs.declared.settings_types.InputSet.{InputSet};
 ghost use Rattle.fwd_limits.specs.Evictions.{next_eviction};
 ghost use Rattle.fwd_model.specs.Fact.{History, Batch, NoChunk, NewChunk, AppendedTo, Reason, Happened, Malformed, Found, Accepted, Refused, ChunkClosed, Sent, OnRoute, InFlight, Evicted, IoFailed};
 ghost use Rattle.fwd_model.specs.Settings.{saturating_plus, outputs_for, home_at, reads_stdin_at, output_at, slots_at};
-ghost use Rattle.fwd_model.specs.Clock.{clock, ticked, stopped, is_close_due};
+ghost use Rattle.fwd_model.specs.Clock.{clock, tick_count, stopped, is_close_due};
 ghost use Rattle.fwd_model.specs.RecoveredFile.{recovered_chunk};
 ghost use Rattle.fwd_model.specs.Chunks.{next, size as size_of, encoded};
 ghost use Rattle.fwd_model.specs.Routes.{tries, wait_for, is_idle, flights_to, owes, rows_of};
@@ -44,7 +44,7 @@ pub struct State {
     chunks: Chunks,
     flights: FlushAttempts,
     clock: u64,
-    ticked: u64,
+    ticks: u64,
     closing: u64,
     stopped: Option<u64>,
     counts: Counts,
@@ -63,7 +63,7 @@ impl State {
             chunks: Chunks::new(alloc),
             flights: FlushAttempts::new(alloc),
             clock: 0,
-            ticked: 0,
+            ticks: 0,
             closing: 0,
             stopped: None,
             counts: Counts::new(alloc, inputs, outputs)?,
@@ -81,7 +81,7 @@ impl State {
         ensures closing { StateAnswers self.old (λ s h. result ≡ is_close_due s h now) }
     {
         self.clock = self.clock.max(now.min(LATEST_TIME));
-        self.ticked = self.ticked.saturating_add(1);
+        self.ticks = self.ticks.saturating_add(1);
         let closes = self.closing <= self.clock;
         if closes {
             self.closing = self.clock.saturating_add(flush_ms);
@@ -225,7 +225,7 @@ impl State {
         ensures { StateNotesWhere self.old self.new (λ s h. is_idle s h (route_of route) ≡ true) (OnRoute (route_of route) Evicted) }
     {
         self.chunks.resolve(route.chunk, route.output);
-        self.counts.add_lost(route.output);
+        self.counts.add_evicted(route.output);
     }
 
     /// Removes and returns the flush attempt over a connection.
@@ -274,10 +274,10 @@ impl State {
     }
 
     /// The number of ticks so far.
-    pub fn ticked(&self) -> u64
-        ensures { StateAnswers self.now (λ s h. result ≡ ticked h) }
+    pub fn ticks(&self) -> u64
+        ensures { StateAnswers self.now (λ s h. result ≡ tick_count h) }
     {
-        self.ticked
+        self.ticks
     }
 
     /// The clock at the stop, if there was one.
@@ -356,7 +356,7 @@ impl State {
     }
 
     /// Whether a chunk is pending for an output.
-    pub fn owes(&self, chunk: ChunkId) -> bool
+    pub fn is_pending(&self, chunk: ChunkId) -> bool
         ensures { StateAnswers self.now (λ s h. result ≡ owes s h chunk.0) }
     {
         self.chunks.table().has(chunk)

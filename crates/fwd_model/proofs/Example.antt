@@ -12,9 +12,9 @@ use Rattle.fwd_model.specs.Example.{settings, first_piece, second_piece, stored,
 use Rattle.fwd_model.specs.KeptOffsets.{tracked}
 use Rattle.fwd_model.specs.Run.{Over, lived}
 use Rattle.fwd_model.specs.Acceptance.{appends, starts_chunk, accepts, ingests}
-use Rattle.fwd_model.specs.CloseActions.{shuts, closes_if_full, closes_all}
+use Rattle.fwd_model.specs.CloseActions.{closes_chunk, closes_if_full, closes_all}
 use Rattle.fwd_model.specs.InputActions.{hangs_up, pieces, polls_file, polls_input, polls_all}
-use Rattle.fwd_model.specs.FlushActions.{retries, stands, notes_calls, starts_with, starts_flush, turn, walk, at_room, at_reply, at_break}
+use Rattle.fwd_model.specs.FlushActions.{retries, stands, notes_calls, starts_with, starts_flush, starts_if_allowed, walk, at_room, at_reply, at_break}
 use Rattle.fwd_model.specs.Limits.{paused}
 use Rattle.fwd_model.specs.RecoveryActions.{recovers}
 use Rattle.fwd_model.specs.Run.{is_over, run, life}
@@ -39,9 +39,9 @@ use Rattle.std.specs.Char.{encode_utf8}
 use Rattle.base64.specs.Rfc4648.{encode_symbols}
 
 pub is_lived : (ends : Ends) → Execution (life settings ends None 7) (trace ends) (Return (lived (history_after (trace ends) []) Over))
-unfolding appends starts_chunk accepts ingests shuts closes_if_full closes_all hangs_up pieces polls_file polls_input polls_all retries stands notes_calls starts_with starts_flush turn walk at_room at_reply at_break paused recovers is_over run life drops records marks_or_removes closes_and_dispatches ticks stops at_input_end step number_bytes minus_bytes text_head bin_head ext_head list_head map_head number_at bytes_at byte_at count_at counted_at many_at entries_at after value_by inner number size form_of next_in event_split events_in escaped outputs_in parse_named stands_stands digits_name routes_below wait confirms_payload writes starts polls backs breaks body_of clock_moment moment_in field_moment without timed_event parsed is_utf8 chars encode_utf8 digits encode_symbols tracked
+unfolding appends starts_chunk accepts ingests closes_chunk closes_if_full closes_all hangs_up pieces polls_file polls_input polls_all retries stands notes_calls starts_with starts_flush starts_if_allowed walk at_room at_reply at_break paused recovers is_over run life drops records marks_or_removes closes_and_dispatches ticks stops at_input_end step number_bytes minus_bytes text_head bin_head ext_head list_head map_head number_at bytes_at byte_at count_at counted_at many_at entries_at after value_by inner number size form_of next_in event_split events_in escaped outputs_in parse_named stands_stands digits_name routes_below wait confirms_payload writes starts polls backs breaks body_of clock_moment moment_in field_moment without timed_event parsed is_utf8 chars encode_utf8 digits encode_symbols tracked
 is_lived ends = (Some [], refl, (Some tt, refl, (happening.Joined input_0 peer, refl, (tt, refl, (happening.Piece input_0 peer first_piece, refl, (tt, refl, (happening.Piece input_0 peer second_piece, refl, (tt, refl, (tt, refl, (Some tt, refl, (tt, refl, (Some tt, refl, (happening.Tick 1000, refl, (tt, refl, (Some 4, refl, (Some (codes "aa\nb"), refl, (tt, refl, (tt, refl, (tt, refl, (tt, refl, (tt, refl, (Some stored, refl, (tt, refl, (Some 1, refl, (Took 28, refl, (tt, refl, (tt, refl, (tt, refl, (tt, refl, (Some tt, refl, (Some tt, refl, (tt, refl, (Some stored, refl, (tt, refl, (Some 2, refl, (Took 58, refl, (tt, refl, (tt, refl, (tt, refl, (Some 3, refl, (Took 32, refl, (tt, refl, (tt, refl, (tt, refl, (tt, refl, (happening.Back link_2 reply, refl, (tt, refl, (tt, refl, (tt, refl, (tt, refl, (Some tt, refl, (tt, refl, (happening.Stop, refl, (tt, refl, refl))))))))))))))))))))))))))))))))))))))))))))))))))))))
 
 pub is_lived_later : (ends : Ends) → Execution (life settings ends None 5) (later_trace ends) (Return (lived (history_after (later_trace ends) []) Over))
-unfolding appends starts_chunk accepts ingests shuts closes_if_full closes_all hangs_up pieces polls_file polls_input polls_all retries stands notes_calls starts_with starts_flush turn walk at_room at_reply at_break paused recovers is_over run life drops records marks_or_removes closes_and_dispatches ticks stops at_input_end step number_bytes minus_bytes text_head bin_head ext_head list_head map_head number_at bytes_at byte_at count_at counted_at many_at entries_at after value_by inner number size form_of next_in event_split events_in escaped outputs_in parse_named stands_stands digits_name routes_below wait confirms_payload writes starts polls backs breaks body_of clock_moment moment_in field_moment without timed_event parsed is_utf8 chars encode_utf8 digits encode_symbols tracked
+unfolding appends starts_chunk accepts ingests closes_chunk closes_if_full closes_all hangs_up pieces polls_file polls_input polls_all retries stands notes_calls starts_with starts_flush starts_if_allowed walk at_room at_reply at_break paused recovers is_over run life drops records marks_or_removes closes_and_dispatches ticks stops at_input_end step number_bytes minus_bytes text_head bin_head ext_head list_head map_head number_at bytes_at byte_at count_at counted_at many_at entries_at after value_by inner number size form_of next_in event_split events_in escaped outputs_in parse_named stands_stands digits_name routes_below wait confirms_payload writes starts polls backs breaks body_of clock_moment moment_in field_moment without timed_event parsed is_utf8 chars encode_utf8 digits encode_symbols tracked
 is_lived_later ends = (Some (codes "forward.0" ∷ []), refl, (Some (codes "00000000000000000001.flb" ∷ []), refl, (Some tt, refl, (Some recorded_file, refl, (tt, refl, (Some tt, refl, (happening.Tick 1500, refl, (tt, refl, (Some 4, refl, (Some (codes "aa\nb"), refl, (tt, refl, (tt, refl, (tt, refl, (tt, refl, (Some stored, refl, (tt, refl, (None, refl, (tt, refl, (0, refl, (tt, refl, (tt, refl, (Some 1, refl, (Took 32, refl, (tt, refl, (tt, refl, (tt, refl, (tt, refl, (happening.Tick 6500, refl, (tt, refl, (Some 4, refl, (Some [], refl, (tt, refl, (Some stored, refl, (tt, refl, (Some 2, refl, (Took 58, refl, (tt, refl, (tt, refl, (happening.Back link_2 reply, refl, (tt, refl, (tt, refl, (tt, refl, (tt, refl, (Some tt, refl, (tt, refl, (happening.Stop, refl, (tt, refl, refl)))))))))))))))))))))))))))))))))))))))))))))))

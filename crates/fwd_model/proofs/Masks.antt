@@ -73,12 +73,12 @@ module _ (p : ℕ → Bool) where
         ap (λ (m : ℕ). bit_at m n) sum ∙ bit_at_above (whole n) n n (small n) (omega arith) ∙ rw isnt refl
   ]
 
-  pub call_log : (n i : ℕ) → i < n → bit_at (whole n) i ≡ (if p i then 1 else 0)
-  call_log zero i below = absurd (omega (arith, below))
-  call_log (suc n) i below =
+  pub bit_in_mask : (n i : ℕ) → i < n → bit_at (whole n) i ≡ (if p i then 1 else 0)
+  bit_in_mask zero i below = absurd (omega (arith, below))
+  bit_in_mask (suc n) i below =
       let same : suc n ≡ n + 1 = omega arith in
       let up : whole (suc n) ≡ whole (n + 1) = ap whole same in
-      let again = call_log n i in
+      let again = bit_in_mask n i in
       ap (λ (m : ℕ). bit_at m i) up ∙ elim (cases_lt i n) [
         | inl less ↦ step_low n i less ∙ again less
         | inr beyond ↦ let last : n ≡ i = omega (arith, below, beyond) in subst (λ (k : ℕ). bit_at (whole (n + 1)) k ≡ (if p k then 1 else 0)) last (step_own n)
@@ -103,8 +103,8 @@ module _ (p : ℕ → Bool) where
       each : (i : ℕ) → bit_at mask i ≡ bit_at (whole n) i
       each i = elim (cases_lt i n) [
         | inl less ↦ elim (cases_Bool (p i)) [
-          | inl is ↦ from_bit mask i ((means i).1 (less, is)) ∙ sym (call_log n i less ∙ rw is refl)
-          | inr isnt ↦ unset mask i (λ set. let is = ((means i).0 set).1 in absurd (cc (sym isnt ∙ is))) ∙ sym (call_log n i less ∙ rw isnt refl)
+          | inl is ↦ from_bit mask i ((means i).1 (less, is)) ∙ sym (bit_in_mask n i less ∙ rw is refl)
+          | inr isnt ↦ unset mask i (λ set. let is = ((means i).0 set).1 in absurd (cc (sym isnt ∙ is))) ∙ sym (bit_in_mask n i less ∙ rw isnt refl)
         ]
         | inr beyond ↦ unset mask i (λ set. let less : i < n = ((means i).0 set).0 in absurd (omega (arith, less, beyond))) ∙ sym (bit_at_above (whole n) n i (small n) beyond)
       ]
@@ -113,9 +113,9 @@ module _ (p : ℕ → Bool) where
   pub bit_means : (n i : ℕ) → IsBitSet (sum_by (λ i. if p i then 2 ^ i else 0) (range_with_len 0 n)) i ↔ ((i < n) × (p i ≡ true))
   bit_means n i = elim (cases_lt i n) [
     | inl less ↦ elim (cases_Bool (p i)) [
-      | inl is ↦ (λ set. (less, is), λ below. to_bit (whole n) i (call_log n i less ∙ rw is refl))
+      | inl is ↦ (λ set. (less, is), λ below. to_bit (whole n) i (bit_in_mask n i less ∙ rw is refl))
       | inr isnt ↦
-          (λ set. let one = from_bit (whole n) i set in let none : bit_at (whole n) i ≡ 0 = call_log n i less ∙ rw isnt refl in absurd (omega (arith, one, none)), λ below. absurd (cc (sym isnt ∙ below.1)))
+          (λ set. let one = from_bit (whole n) i set in let none : bit_at (whole n) i ≡ 0 = bit_in_mask n i less ∙ rw isnt refl in absurd (omega (arith, one, none)), λ below. absurd (cc (sym isnt ∙ below.1)))
     ]
     | inr beyond ↦
         (λ set. let one = from_bit (whole n) i set in let none = bit_at_above (whole n) n i (small n) beyond in absurd (omega (arith, one, none)), λ below. let less : i < n = below.0 in absurd (omega (arith, less, beyond)))

@@ -120,7 +120,7 @@ no_name (o ∷ outputs) (suc n) le = no_name outputs n (omega (arith, le))
 -- the name of an output determines it among all numbers
 pub apart_output : (s : AllSettings) → MeetsRequirements s → (tag : List ℕ) (one other : ℕ) → Contains (outputs_for s tag) one → name_of_output s one ≡ name_of_output s other → one ≡ other
 apart_output s sound tag one other has same = elim (cases_Bool (nat_lt other (length s.outputs))) [
-  | inl is ↦ call_log (ltb-true other (length s.outputs) is)
+  | inl is ↦ same_output (ltb-true other (length s.outputs) is)
   | inr isnt ↦ absurd (none (ltb-false other (length s.outputs) isnt))
 ]
   where
@@ -130,8 +130,8 @@ apart_output s sound tag one other has same = elim (cases_Bool (nat_lt other (le
     in_one : one < length s.outputs
     in_one = output_within s tag one has
 
-    call_log : other < length s.outputs → one ≡ other
-    call_log in_other = told_apart s.outputs one other (some_output s.outputs one in_one) sound.ids_differ in_one in_other same
+    same_output : other < length s.outputs → one ≡ other
+    same_output in_other = told_apart s.outputs one other (some_output s.outputs one in_one) sound.ids_differ in_one in_other same
 
     none : length s.outputs ≤ other → ⊥
     none le =

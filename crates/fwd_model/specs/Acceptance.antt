@@ -12,7 +12,7 @@ use Rattle.fwd_model.specs.Settings.{home_at, names_for, outputs_for}
 use Rattle.fwd_model.specs.Chunks.{ChunkInfo, next, open_chunk, encoded, is_storable}
 use Rattle.fwd_model.specs.ChunkStorage.{kept_of, name_for}
 use Rattle.fwd_model.specs.Notes.{note_then, is_empty}
-use Rattle.fwd_model.specs.CloseActions.{closes_if_full, shuts}
+use Rattle.fwd_model.specs.CloseActions.{closes_if_full, closes_chunk}
 
 -- the history after the action, and whether the batch was accepted
 pub record Acceptance : Type 0 where
@@ -34,7 +34,7 @@ finishes_append s b chunk h (Some done) =
     note_then (Accepted b (AppendedTo chunk)) h (λ at. bind (closes_if_full s chunk at) taken)
 finishes_append s b chunk h None =
     note_then IoFailed h
-    (λ at. note_then (Refused b NotStored) at (λ last. bind (shuts s chunk last) ends_refused))
+    (λ at. note_then (Refused b NotStored) at (λ last. bind (closes_chunk s chunk last) ends_refused))
 
 -- what follows the atomic create of a chunk's file
 abbrev pub finishes_create : AllSettings → Batch → ℕ → History → Option (Unit {0}) → Action Acceptance

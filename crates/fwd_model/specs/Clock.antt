@@ -17,10 +17,10 @@ clock (Happened (happening.Tick now) ∷ h) = clock_after (clock h) now
 clock (_ ∷ h) = clock h
 
 -- the number of ticks so far
-abbrev pub ticked : History → ℕ
-ticked [] = 0
-ticked (Happened (happening.Tick now) ∷ h) = saturating_plus (ticked h) 1
-ticked (_ ∷ h) = ticked h
+abbrev pub tick_count : History → ℕ
+tick_count [] = 0
+tick_count (Happened (happening.Tick now) ∷ h) = saturating_plus (tick_count h) 1
+tick_count (_ ∷ h) = tick_count h
 
 -- only the first stop counts
 abbrev pub stopped_by : Bool → ℕ → Option ℕ → Option ℕ

@@ -16,17 +16,17 @@ loses s [] h = Return h
 loses s (r ∷ rs) h = note_then (OnRoute r Evicted) h (λ at. bind (marks_or_removes s r at) (loses s rs))
 
 -- close a chunk
-unfoldable pub shuts : AllSettings → ℕ → History → Action History
-shuts s chunk h = note_then (ChunkClosed chunk) h (λ at. loses s (evicted_at s at chunk) at)
+unfoldable pub closes_chunk : AllSettings → ℕ → History → Action History
+closes_chunk s chunk h = note_then (ChunkClosed chunk) h (λ at. loses s (evicted_at s at chunk) at)
 
 -- close a chunk at once if it has `full_chunk` bytes (2,048,000) or more
 unfoldable pub closes_if_full : AllSettings → ℕ → History → Action History
-closes_if_full s chunk h = if nat_le full_chunk (size h chunk) then shuts s chunk h else Return h
+closes_if_full s chunk h = if nat_le full_chunk (size h chunk) then closes_chunk s chunk h else Return h
 
 -- close these chunks, in this order
 abbrev pub closes_each : AllSettings → List ChunkInfo → History → Action History
 closes_each s [] h = Return h
-closes_each s (c ∷ cs) h = bind (shuts s c.number h) (closes_each s cs)
+closes_each s (c ∷ cs) h = bind (closes_chunk s c.number h) (closes_each s cs)
 
 -- close all open chunks, the oldest first
 unfoldable pub closes_all : AllSettings → History → Action History

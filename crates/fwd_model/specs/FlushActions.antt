@@ -86,17 +86,17 @@ unfoldable pub starts_flush : AllSettings → Route → History → Action Histo
 starts_flush s r h = begins_as s r (kept_of s h r.chunk) h
 
 -- start a flush of a due route, if it may start now
-unfoldable pub turn : AllSettings → Route → History → Action History
-turn s r h = if may_start s h r then starts_flush s r h else Return h
+unfoldable pub starts_if_allowed : AllSettings → Route → History → Action History
+starts_if_allowed s r h = if may_start s h r then starts_flush s r h else Return h
 
-abbrev pub turns : AllSettings → List Route → History → Action History
-turns s [] h = Return h
-turns s (r ∷ rs) h = bind (turn s r h) (turns s rs)
+abbrev pub starts_each : AllSettings → List Route → History → Action History
+starts_each s [] h = Return h
+starts_each s (r ∷ rs) h = bind (starts_if_allowed s r h) (starts_each s rs)
 
 -- The routes of a dispatch are those that are due when it begins. It skips one that isn't idle any more at
 -- its turn.
 unfoldable pub walk : AllSettings → History → Action History
-walk s h = turns s (due_routes s h) h
+walk s h = starts_each s (due_routes s h) h
 
 -- continue a flush at an event of its link
 abbrev pub goes_on : AllSettings → (Delivery → Progress → Action Progress) → Route → Option Progress → History

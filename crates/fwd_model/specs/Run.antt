@@ -10,7 +10,7 @@ use Rattle.fwd_settings.specs.declared.settings_types.AllSettings.{AllSettings}
 use Rattle.fwd_model.specs.Fact.{History}
 use Rattle.fwd_model.specs.Trace.{Action, OnLoop}
 use Rattle.fwd_model.specs.Settings.{saturating_plus}
-use Rattle.fwd_model.specs.Clock.{clock, stopped, ticked}
+use Rattle.fwd_model.specs.Clock.{clock, stopped, tick_count}
 use Rattle.fwd_model.specs.Routes.{rows_of}
 use Rattle.fwd_model.specs.Limits.{paused}
 use Rattle.fwd_model.specs.Notes.{is_empty}
@@ -65,7 +65,7 @@ steps_on s next happens h = bind (step s happens h) (goes_on s next happens)
 -- whether a tick was the last one, if their number is given and the run isn't stopped yet
 abbrev pub is_last_tick : AllSettings → Option ℕ → Happening → History → Bool
 is_last_tick s None happened h = false
-is_last_tick s (Some ticks) happened h = is_tick happened && (ticked h == ticks && is_none (stopped s h))
+is_last_tick s (Some ticks) happened h = is_tick happened && (tick_count h == ticks && is_none (stopped s h))
 
 -- after the last tick the run stops, without waiting for that event
 abbrev pub unless_last : AllSettings → Option ℕ → (History → Action RunResult) → Happening → History

@@ -1,11 +1,11 @@
 -- What is read of a section, from what is read of its parts; and sections, one after another.
-use Rattle.std.proofs.Common.{◌≡◌, ℕ, suc, ◌+◌, ◌<◌, ◌≤◌, Bool, List, ◌∷◌, length, drop, get_or, Ok, Err, refl, sym, ap, subst, ◌∙◌, add-one, drop-cons}
+use Rattle.std.proofs.Common.{◌≡◌, ℕ, suc, ◌+◌, ◌<◌, ◌≤◌, Bool, List, ◌∷◌, length, drop, get_or, Result, Ok, Err, refl, sym, ap, subst, ◌∙◌, add-one, drop-cons}
 use Rattle.std.proofs.lemmas.List.{drop_all}
 use Rattle.fwd_config.specs.declared.section.Section.{Section}
 use Rattle.fwd_settings_entries.specs.declared.read_err.ReadErr.{ReadErr}
 use Rattle.fwd_settings_entries.specs.declared.read_err.ReadErr.TheVariants as read_err
 use Rattle.fwd_settings.specs.declared.sections.PartialSettings.{PartialSettings}
-use Rattle.fwd_settings_entries.specs.Reading.{Checked, ◌>>=◌, known, IsResult, ReturnsResult}
+use Rattle.fwd_settings_entries.specs.Reading.{Reading, Checked, ◌>>=◌, known, IsResult, ReturnsResult}
 use Rattle.fwd_settings.specs.Settings.{nothing, part_of, entries_here, with_target, with_section, with_sections}
 use Rattle.fwd_settings_entries.proofs.Readings.{result_then, result_refused, returns_then, returns_refused}
 use Rattle.fwd_settings_schema.specs.declared.section_kind.Target.{Target}

@@ -1,8 +1,8 @@
 //! Reads the entries of a section by the table of keys, and the PARSER sections that they name.
 //!
-//! `read_entries` returns the entries with their values, or the first error with its place.
-//! `parser_named` returns the parser that an entry names. The definitions leave one thing open: whether a
-//! text is a pattern.
+//! `read_entries` returns the entries with their values, or the first error with its place. An entry that
+//! names a parser has the parser of that PARSER section as its value. The definitions leave one thing open:
+//! whether a text is a pattern.
 #![tactic(auto)]
 
 mod entries;
@@ -11,5 +11,5 @@ mod read_err;
 mod values;
 
 pub use entries::{read_entries, refuse};
-pub use parsers::{name_entry, parser_named, timeless};
+pub use parsers::{name_entry, timeless};
 pub use read_err::ReadErr;

@@ -302,14 +302,25 @@ pub fn last_parser(properties: Properties) -> Option<Parser>
     parser
 }
 
+/// Returns the rule of an entry, if it has one.
+fn grep_in(item: Property) -> Option<GrepRule>
+    ensures { result ≡ grep_in item }
+{
+    if let Value::Grep(rule) = item.value {
+        Some(rule)
+    } else {
+        None
+    }
+}
+
 /// Appends the rule of an entry, if it has one.
 fn push_grep(rules: &mut GrepRules, item: Property) -> Result<(), Memory>
     ensures { OnOk result (rules.new ≡ rules.old ++ filter_map grep_in (item ∷ [])) }
 {
-    if let Value::Grep(rule) = item.value {
-        rules.push(rule)?;
+    match grep_in(item) {
+        Some(rule) => rules.push(rule),
+        None => Ok(()),
     }
-    Ok(())
 }
 
 /// Returns the rules of `grep`, in order.
@@ -328,12 +339,15 @@ fn push_modify(rules: &mut ModifyRules, item: Property) -> Result<(), Memory>
     ensures conditions { OnOk result (rules.new.conditions ≡ rules.old.conditions ++ filter_map condition_in (item ∷ [])) }
     ensures changes { OnOk result (rules.new.rules ≡ rules.old.rules ++ filter_map change_in (item ∷ [])) }
 {
-    if let Value::Condition(condition) = item.value {
-        rules.conditions.push(condition)?;
-    } else if let Value::Change(change) = item.value {
-        rules.rules.push(change)?;
+    let Property { key: _, value } = item;
+    match value {
+        Value::Condition(condition) => rules.conditions.push(condition),
+        Value::Change(change) => rules.rules.push(change),
+        other => {
+            drop(other);
+            Ok(())
+        }
     }
-    Ok(())
 }
 
 /// Returns the conditions and the changes of `modify`, in order.

@@ -34,7 +34,7 @@ use Rattle.fwd_model.specs.Chunks.{ChunkInfo, chunks_of, open_chunks, open_chunk
 use Rattle.fwd_model.specs.ChunkStorage.{kept_of}
 use Rattle.fwd_model.specs.Routes.{route, home_of}
 use Rattle.fwd_model.specs.Notes.{note_then}
-use Rattle.fwd_model.specs.CloseActions.{closes_if_full, shuts}
+use Rattle.fwd_model.specs.CloseActions.{closes_if_full, closes_chunk}
 use Rattle.fwd_model.specs.Acceptance.{Acceptance, taken, ends_refused, finishes_append, appends}
 use Rattle.fwd_theorem_trace.specs.Past.{Past, logged}
 use Rattle.fwd_theorem_trace.specs.Allowed.{Allowed, IsToStore}
@@ -81,7 +81,7 @@ module _ (s : AllSettings) (settings : MeetsRequirements s) (full : s.service.fu
       → Taken end (bind (closes_if_full s n (logged end.past)) taken)
 
   abbrev Shuts : Type 0
-  Shuts = (end : CrashPoint) → Safe s first end → ((answer : Unit {0}) → Kept s first (after end (Note (ChunkClosed n)) answer)) → Taken end (bind (shuts s n (logged end.past)) ends_refused)
+  Shuts = (end : CrashPoint) → Safe s first end → ((answer : Unit {0}) → Kept s first (after end (Note (ChunkClosed n)) answer)) → Taken end (bind (closes_chunk s n (logged end.past)) ends_refused)
 
   among_open : Contains (open_chunks h) c
   among_open = (from_find _ (open_chunks h) c found).0
@@ -229,11 +229,11 @@ module _ (s : AllSettings) (settings : MeetsRequirements s) (full : s.service.fu
           let x = here_now is.0.1 in
           (is.0.1, grown_order s first settings h b c m.files end.files head x.sound x.was.order found writable.text writable.short (writable_are b writable store.fits) in_it is.1.going.1 (is.1.ended refl) is.1.sound))
       behind None end came =
-          notes s first Took IoFailed g end (λ k. note_then (Refused b NotStored) k (λ last. bind (shuts s n last) ends_refused)) came.0 (λ due. let is = came.1 due in offers_safe is.0.1 end.past end.files came.0 is.1.going)
+          notes s first Took IoFailed g end (λ k. note_then (Refused b NotStored) k (λ last. bind (closes_chunk s n last) ends_refused)) came.0 (λ due. let is = came.1 due in offers_safe is.0.1 end.past end.files came.0 is.1.going)
           (λ answer.
           let faulted : CrashPoint = after end (Note IoFailed) answer in
           let faulted_is : logged faulted.past ≡ IoFailed ∷ g = ap (λ (y : History). IoFailed ∷ y) came.0 in
-          notes s first Took (Refused b NotStored) (logged faulted.past) faulted (λ last. bind (shuts s n last) ends_refused) refl
+          notes s first Took (Refused b NotStored) (logged faulted.past) faulted (λ last. bind (closes_chunk s n last) ends_refused) refl
           (λ due.
           let is = came.1 due.1 in
           let x = here_now is.0.1 in

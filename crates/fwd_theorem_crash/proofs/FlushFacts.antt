@@ -32,8 +32,8 @@ use Rattle.fwd_model.specs.Limits.{evicted_at}
 use Rattle.fwd_model.specs.Dispatch.{due_routes, may_start}
 use Rattle.fwd_model.specs.Notes.{note_then, note}
 use Rattle.fwd_model.specs.ResolveActions.{dropped, drops, after_mark, marks_at, records, marks_or_removes}
-use Rattle.fwd_model.specs.CloseActions.{loses, shuts, closes_if_full, closes_each, closes_all}
-use Rattle.fwd_model.specs.FlushActions.{retries, applies_answer, notes_stage, stands, notes_calls, starts_with, is_complete_read, after_read, begins_as, starts_flush, turn, turns, walk, goes_on, resumes, at_room, at_reply, at_break}
+use Rattle.fwd_model.specs.CloseActions.{loses, closes_chunk, closes_if_full, closes_each, closes_all}
+use Rattle.fwd_model.specs.FlushActions.{retries, applies_answer, notes_stage, stands, notes_calls, starts_with, is_complete_read, after_read, begins_as, starts_flush, starts_if_allowed, starts_each, walk, goes_on, resumes, at_room, at_reply, at_break}
 use Rattle.fwd_theorem_trace.specs.Past.{Past, logged, past_after}
 use Rattle.fwd_theorem_trace.specs.Allowed.{Allowed}
 use Rattle.fwd_theorem_trace.specs.Sound.{Sound}
@@ -178,7 +178,7 @@ module _ (s : AllSettings) where
         let then = lasts_fact s (OnRoute r outcome) h (may_resolve r outcome h is) lasts in
         runs_bind (λ (x : History) (now : History). (x ≡ now) × ((q : Route) → is_resolved s now q ≡ is_resolved s at q)) Q at (marks_or_removes s r at) next
         (settled r at (resolved_now s r outcome h is) (not_recorded s h r lasts off) then)
-        (λ x now last call_log. subst (λ (y : History). Runs s Q now (next y)) (sym call_log.0) (more now call_log.1 last)),
+        (λ x now last reached. subst (λ (y : History). Runs s Q now (next y)) (sym reached.0) (more now reached.1 last)),
   )
 
   told_settles : (old h : History) (p : Action History) → ResolvesNothing old h p → RunsToHistory h p
@@ -205,8 +205,8 @@ module _ (s : AllSettings) where
       other_off : (q : Route) → Contains rs q → is_resolved s (OnRoute r Evicted ∷ h) q ≡ false
       other_off q has = open_still s r q Evicted h (rw (apart.0 q has) refl) (off q (deeper r rs q has))
 
-  pub tells_shuts : (chunk : ℕ) (h : History) → RecordedLasts s h → RunsToHistory h (shuts s chunk h)
-  unfolding shuts
+  pub tells_shuts : (chunk : ℕ) (h : History) → RecordedLasts s h → RunsToHistory h (closes_chunk s chunk h)
+  unfolding closes_chunk
   tells_shuts chunk h lasts =
       notes (λ (x : History) (now : History). x ≡ now) (ChunkClosed chunk) h (λ at. loses s (evicted_at s at chunk) at) tt lasts
       (λ sound then. tells_loses (evicted_at s (ChunkClosed chunk ∷ h) chunk) (ChunkClosed chunk ∷ h) (lost_apart s (ChunkClosed chunk ∷ h) chunk sound) (lost_open s (ChunkClosed chunk ∷ h) chunk) then)
@@ -214,12 +214,12 @@ module _ (s : AllSettings) where
   pub tells_fills : (chunk : ℕ) (h : History) → RecordedLasts s h → RunsToHistory h (closes_if_full s chunk h)
   unfolding closes_if_full
   tells_fills chunk h lasts =
-      runs_if (λ (x : History) (now : History). x ≡ now) (nat_le full_chunk (size h chunk)) h (shuts s chunk h) (Return h) (λ yes. tells_shuts chunk h lasts) (λ no. (lasts, refl))
+      runs_if (λ (x : History) (now : History). x ≡ now) (nat_le full_chunk (size h chunk)) h (closes_chunk s chunk h) (Return h) (λ yes. tells_shuts chunk h lasts) (λ no. (lasts, refl))
 
   tells_closes : (cs : List ChunkInfo) (h : History) → RecordedLasts s h → RunsToHistory h (closes_each s cs h)
   tells_closes [] h lasts = (lasts, refl)
   tells_closes (c ∷ cs) h lasts =
-      runs_then (λ (x : History) (now : History). x ≡ now) h (shuts s c.number h) (closes_each s cs) (tells_shuts c.number h lasts) (λ now then. tells_closes cs now then)
+      runs_then (λ (x : History) (now : History). x ≡ now) h (closes_chunk s c.number h) (closes_each s cs) (tells_shuts c.number h lasts) (λ now then. tells_closes cs now then)
 
   pub tells_closes_all : (h : History) → RecordedLasts s h → RunsToHistory h (closes_all s h)
   unfolding closes_all
@@ -285,14 +285,14 @@ module _ (s : AllSettings) where
   unfolding starts_flush
   tells_begins r h off lasts = tells_begins_as r (kept_of s h r.chunk) h off lasts
 
-  tells_turn : (r : Route) (h : History) → RecordedLasts s h → RunsToHistory h (turn s r h)
-  unfolding turn
+  tells_turn : (r : Route) (h : History) → RecordedLasts s h → RunsToHistory h (starts_if_allowed s r h)
+  unfolding starts_if_allowed
   tells_turn r h lasts =
       runs_if (λ (x : History) (now : History). x ≡ now) (may_start s h r) h (starts_flush s r h) (Return h) (λ may. tells_begins r h (may_open s h r may) lasts) (λ no. (lasts, refl))
 
-  tells_turns : (rs : List Route) (h : History) → RecordedLasts s h → RunsToHistory h (turns s rs h)
+  tells_turns : (rs : List Route) (h : History) → RecordedLasts s h → RunsToHistory h (starts_each s rs h)
   tells_turns [] h lasts = (lasts, refl)
-  tells_turns (r ∷ rs) h lasts = runs_then (λ (x : History) (now : History). x ≡ now) h (turn s r h) (turns s rs) (tells_turn r h lasts) (λ now then. tells_turns rs now then)
+  tells_turns (r ∷ rs) h lasts = runs_then (λ (x : History) (now : History). x ≡ now) h (starts_if_allowed s r h) (starts_each s rs) (tells_turn r h lasts) (λ now then. tells_turns rs now then)
 
   pub tells_walk : (h : History) → RecordedLasts s h → RunsToHistory h (walk s h)
   unfolding walk

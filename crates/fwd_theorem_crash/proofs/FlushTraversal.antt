@@ -31,8 +31,8 @@ use Rattle.fwd_model.specs.Limits.{evicted_at}
 use Rattle.fwd_model.specs.Dispatch.{due_routes, may_start}
 use Rattle.fwd_model.specs.Notes.{note_then, note}
 use Rattle.fwd_model.specs.ResolveActions.{drops, records, marks_or_removes}
-use Rattle.fwd_model.specs.CloseActions.{loses, shuts, closes_if_full, closes_each, closes_all}
-use Rattle.fwd_model.specs.FlushActions.{retries, applies_answer, notes_stage, stands, notes_calls, starts_with, is_complete_read, after_read, begins_as, starts_flush, turn, turns, walk, goes_on, resumes, at_room, at_reply, at_break}
+use Rattle.fwd_model.specs.CloseActions.{loses, closes_chunk, closes_if_full, closes_each, closes_all}
+use Rattle.fwd_model.specs.FlushActions.{retries, applies_answer, notes_stage, stands, notes_calls, starts_with, is_complete_read, after_read, begins_as, starts_flush, starts_if_allowed, starts_each, walk, goes_on, resumes, at_room, at_reply, at_break}
 use Rattle.fwd_theorem_trace.specs.Past.{logged}
 use Rattle.fwd_theorem_crash.specs.CrashPoint.{CrashPoint, LeadsTo}
 use Rattle.fwd_theorem_crash.proofs.SimpleFacts.{IsSimple}
@@ -81,8 +81,8 @@ module _ (s : AllSettings) (P K : CrashPoint → Type 0) (can : CanTraverse s P 
       (λ end last. tells_loses rs end last))
 
   -- a chunk closes if the order invariant holds once that is logged
-  pub tells_shuts : (chunk : ℕ) (m : CrashPoint) → P m → ((answer : Unit {0}) → K (after m (Note (ChunkClosed chunk)) answer)) → FlushReturnsHistory m (shuts s chunk (logged m.past))
-  unfolding shuts
+  pub tells_shuts : (chunk : ℕ) (m : CrashPoint) → P m → ((answer : Unit {0}) → K (after m (Note (ChunkClosed chunk)) answer)) → FlushReturnsHistory m (closes_chunk s chunk (logged m.past))
+  unfolding closes_chunk
   tells_shuts chunk m safe shut =
       holds_ask P Told m (Note (ChunkClosed chunk)) (λ _. loses s (evicted_at s (ChunkClosed chunk ∷ logged m.past) chunk) (ChunkClosed chunk ∷ logged m.past)) tt safe
       (λ answer. tells_loses (evicted_at s (ChunkClosed chunk ∷ logged m.past) chunk) (after m (Note (ChunkClosed chunk)) answer) (shut answer))
@@ -90,13 +90,13 @@ module _ (s : AllSettings) (P K : CrashPoint → Type 0) (can : CanTraverse s P 
   pub tells_fills : (chunk : ℕ) (m : CrashPoint) → P m → (nat_le full_chunk (size (logged m.past) chunk) ≡ false → K m) → ((answer : Unit {0}) → K (after m (Note (ChunkClosed chunk)) answer)) → FlushReturnsHistory m (closes_if_full s chunk (logged m.past))
   unfolding closes_if_full
   tells_fills chunk m safe small shut =
-      holds_if P Told (nat_le full_chunk (size (logged m.past) chunk)) m (shuts s chunk (logged m.past)) (Return (logged m.past))
+      holds_if P Told (nat_le full_chunk (size (logged m.past) chunk)) m (closes_chunk s chunk (logged m.past)) (Return (logged m.past))
       (λ full. tells_shuts chunk m safe shut) (λ room. (safe, (refl, small room)))
 
   tells_closes : (cs : List ChunkInfo) (m : CrashPoint) → K m → FlushReturnsHistory m (closes_each s cs (logged m.past))
   tells_closes [] m kept = nothing s P K can m kept
   tells_closes (c ∷ cs) m kept =
-      tells_then s P K can Told m (shuts s c.number (logged m.past)) (closes_each s cs)
+      tells_then s P K can Told m (closes_chunk s c.number (logged m.past)) (closes_each s cs)
       (tells_shuts c.number m (can.now m kept) (λ answer. can.plain (ChunkClosed c.number) answer m tt kept)) (λ end then. tells_closes cs end then)
 
   pub tells_closes_all : (m : CrashPoint) → K m → FlushReturnsHistory m (closes_all s (logged m.past))
@@ -168,14 +168,14 @@ module _ (s : AllSettings) (P K : CrashPoint → Type 0) (can : CanTraverse s P 
   unfolding starts_flush
   tells_begins r m may kept = tells_begins_as r (kept_of s (logged m.past) r.chunk) m refl may kept
 
-  tells_turn : (r : Route) (m : CrashPoint) → K m → FlushReturnsHistory m (turn s r (logged m.past))
-  unfolding turn
+  tells_turn : (r : Route) (m : CrashPoint) → K m → FlushReturnsHistory m (starts_if_allowed s r (logged m.past))
+  unfolding starts_if_allowed
   tells_turn r m kept =
       holds_if P Told (may_start s (logged m.past) r) m (starts_flush s r (logged m.past)) (Return (logged m.past)) (λ may. tells_begins r m may kept) (λ no. nothing s P K can m kept)
 
-  tells_turns : (rs : List Route) (m : CrashPoint) → K m → FlushReturnsHistory m (turns s rs (logged m.past))
+  tells_turns : (rs : List Route) (m : CrashPoint) → K m → FlushReturnsHistory m (starts_each s rs (logged m.past))
   tells_turns [] m kept = nothing s P K can m kept
-  tells_turns (r ∷ rs) m kept = tells_then s P K can Told m (turn s r (logged m.past)) (turns s rs) (tells_turn r m kept) (λ end then. tells_turns rs end then)
+  tells_turns (r ∷ rs) m kept = tells_then s P K can Told m (starts_if_allowed s r (logged m.past)) (starts_each s rs) (tells_turn r m kept) (λ end then. tells_turns rs end then)
 
   pub tells_walk : (m : CrashPoint) → K m → FlushReturnsHistory m (walk s (logged m.past))
   unfolding walk

@@ -26,7 +26,7 @@ use Rattle.fwd_model.specs.Messages.{completed_messages, becomes_malformed, mess
 use Rattle.fwd_model.specs.Chunks.{ChunkInfo, open_chunk, next, is_storable}
 use Rattle.fwd_model.specs.Limits.{is_paused}
 use Rattle.fwd_model.specs.Notes.{note_then, note, is_empty}
-use Rattle.fwd_model.specs.CloseActions.{shuts, closes_if_full, closes_all}
+use Rattle.fwd_model.specs.CloseActions.{closes_chunk, closes_if_full, closes_all}
 use Rattle.fwd_model.specs.Acceptance.{Acceptance, taken, ends_refused, refuses, starts_chunk, stores, accepts, ingests}
 use Rattle.fwd_model.specs.FlushActions.{walk}
 use Rattle.fwd_model.specs.InputActions.{hangs_up, after_reply, replies, acknowledges, accepts_messages, accepts_stream, pieces, polled, polls_file, polls_files, polls_input, polls_inputs, polls_all}
@@ -69,7 +69,7 @@ module _ (s : AllSettings) (sound : MeetsRequirements s) (P K : CrashPoint → T
   taken_stores b (Some c) m is store writable kept =
       can.appends b c m store writable is kept
       (λ end safe small shut. ends_taken true end (closes_if_full s c.number (logged end.past)) (tells_fills s P K can c.number end safe small shut))
-      (λ end safe shut. ends_taken false end (shuts s c.number (logged end.past)) (tells_shuts s P K can c.number end safe shut))
+      (λ end safe shut. ends_taken false end (closes_chunk s c.number (logged end.past)) (tells_shuts s P K can c.number end safe shut))
   taken_stores b None m is store writable kept =
       holds_if P Took (nat_lt (next (logged m.past)) numbers_end) m (starts_chunk s b (next (logged m.past)) (logged m.past)) (refuses b NoNumber (logged m.past))
       (λ left. can.begins b m store writable is left kept

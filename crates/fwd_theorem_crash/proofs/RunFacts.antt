@@ -27,7 +27,7 @@ use Rattle.fwd_model.specs.ChunkStorage.{kept_of, name_for}
 use Rattle.fwd_model.specs.Routes.{flight}
 use Rattle.fwd_model.specs.Limits.{is_paused}
 use Rattle.fwd_model.specs.Notes.{note_then, is_empty}
-use Rattle.fwd_model.specs.CloseActions.{shuts, closes_if_full, closes_all}
+use Rattle.fwd_model.specs.CloseActions.{closes_chunk, closes_if_full, closes_all}
 use Rattle.fwd_model.specs.Acceptance.{Acceptance, taken, ends_refused, refuses, finishes_append, finishes_create, appends, starts_chunk, stores, accepts, ingests}
 use Rattle.fwd_model.specs.FlushActions.{walk}
 use Rattle.fwd_model.specs.InputActions.{hangs_up, after_reply, replies, acknowledges, accepts_messages, accepts_stream, pieces, polled, polls_file, polls_files, polls_input, polls_inputs, polls_all}
@@ -64,12 +64,12 @@ module _ (s : AllSettings) where
       let at : History = Accepted b (AppendedTo chunk) ∷ h in
       runs_then s ToldBy at (closes_if_full s chunk at) taken (tells_fills s chunk at then) (λ now last. (last, refl)))
   takes_appended b chunk h None lasts =
-      notes s ToldBy IoFailed h (λ at. note_then (Refused b NotStored) at (λ last. bind (shuts s chunk last) ends_refused)) tt lasts
+      notes s ToldBy IoFailed h (λ at. note_then (Refused b NotStored) at (λ last. bind (closes_chunk s chunk last) ends_refused)) tt lasts
       (λ sound then.
-      notes s ToldBy (Refused b NotStored) (IoFailed ∷ h) (λ last. bind (shuts s chunk last) ends_refused) tt then
+      notes s ToldBy (Refused b NotStored) (IoFailed ∷ h) (λ last. bind (closes_chunk s chunk last) ends_refused) tt then
       (λ sound2 then2.
       let at : History = Refused b NotStored ∷ IoFailed ∷ h in
-      runs_then s ToldBy at (shuts s chunk at) ends_refused (tells_shuts s chunk at then2) (λ now last. (last, refl))))
+      runs_then s ToldBy at (closes_chunk s chunk at) ends_refused (tells_shuts s chunk at then2) (λ now last. (last, refl))))
 
   takes_placed : (b : Batch) (chunk : ℕ) (h : History) (answer : Option (Unit {0})) → RecordedLasts s h → Takes h (finishes_create s b chunk h answer)
   takes_placed b chunk h (Some done) lasts =

@@ -24,7 +24,7 @@ use Rattle.fwd_model.specs.Chunks.{ChunkInfo, open_chunk, next, size, records as
 use Rattle.fwd_model.specs.Routes.{owes, is_resolved}
 use Rattle.fwd_model.specs.Notes.{note_then, note}
 use Rattle.fwd_model.specs.ResolveActions.{drops, records}
-use Rattle.fwd_model.specs.CloseActions.{shuts, closes_if_full}
+use Rattle.fwd_model.specs.CloseActions.{closes_chunk, closes_if_full}
 use Rattle.fwd_model.specs.Acceptance.{Acceptance, taken, ends_refused, appends, starts_chunk}
 use Rattle.fwd_theorem_trace.specs.Past.{logged}
 use Rattle.fwd_theorem_trace.specs.Allowed.{IsToStore}
@@ -99,7 +99,7 @@ pub record CanTraverse (s : AllSettings) (P K : CrashPoint → Type 0) : Type 0 
   pub records : (r : Route) (m : CrashPoint) → owes s (logged m.past) r.chunk ≡ true → is_resolved s (logged m.past) r ≡ true → K m → ReturnsHistoryBy P K m (records s r (logged m.past))
   pub appends : (b : Batch) (c : ChunkInfo) (m : CrashPoint) → IsToStore s b → IsWritable b → open_chunk (logged m.past) b.input b.tag ≡ Some c → K m
       → ((end : CrashPoint) → P end → (nat_le full_chunk (size (logged end.past) c.number) ≡ false → K end) → ((answer : Unit {0}) → K (after end (Note (ChunkClosed c.number)) answer)) → TakenBy P K end (bind (closes_if_full s c.number (logged end.past)) taken))
-      → ((end : CrashPoint) → P end → ((answer : Unit {0}) → K (after end (Note (ChunkClosed c.number)) answer)) → TakenBy P K end (bind (shuts s c.number (logged end.past)) ends_refused))
+      → ((end : CrashPoint) → P end → ((answer : Unit {0}) → K (after end (Note (ChunkClosed c.number)) answer)) → TakenBy P K end (bind (closes_chunk s c.number (logged end.past)) ends_refused))
       → TakenBy P K m (appends s b c.number (logged m.past))
   pub begins : (b : Batch) (m : CrashPoint) → IsToStore s b → IsWritable b → open_chunk (logged m.past) b.input b.tag ≡ None → nat_lt (next (logged m.past)) numbers_end ≡ true → K m
       → ((end : CrashPoint) → P end → (nat_le full_chunk (size (logged end.past) (next (logged m.past))) ≡ false → K end) → ((answer : Unit {0}) → K (after end (Note (ChunkClosed (next (logged m.past)))) answer)) → TakenBy P K end (bind (closes_if_full s (next (logged m.past)) (logged end.past)) taken))

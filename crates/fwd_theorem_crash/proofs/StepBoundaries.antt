@@ -73,8 +73,8 @@ module _ (s : AllSettings) (settings : MeetsRequirements s) (full : s.service.fu
   stepped : (before m : CrashPoint) (brought : Happening) (es : List TraceEntry) (h : History) → IsInOrder before → EventAllowed s brought before.past
       → Execution (step s brought (logged before.past)) es (Return h) → Ends LeadsTo before es m → (h ≡ logged m.past) × IsInOrder m
   stepped before m brought es h was due way ends =
-      let call_log : Told h m = holds_end LeadsTo (Safe s first) Told before (step s brought (logged before.past)) (tells_step s settings full first brought before was.kept) es h m way ends in
-      (call_log.0, record { due = subst (Allowed s) (sym (past_is before m es ends)) (step_due before brought es (Return h) was due way); kept = call_log.1 })
+      let reached : Told h m = holds_end LeadsTo (Safe s first) Told before (step s brought (logged before.past)) (tells_step s settings full first brought before was.kept) es h m way ends in
+      (reached.0, record { due = subst (Allowed s) (sym (past_is before m es ends)) (step_due before brought es (Return h) was due way); kept = reached.1 })
 
   pub in_order : {m : CrashPoint} → HasReached s first m → IsInOrder m
   in_order (IsLoaded es h m way ends) = loaded es h m way ends

@@ -14,7 +14,7 @@ use Rattle.fwd_model.specs.Settings.{home_at, names_for, outputs_for}
 use Rattle.fwd_model.specs.Chunks.{ChunkInfo, next, open_chunk, encoded, is_storable}
 use Rattle.fwd_model.specs.ChunkStorage.{kept_of, name_for}
 use Rattle.fwd_model.specs.Notes.{note_then, is_empty}
-use Rattle.fwd_model.specs.CloseActions.{closes_if_full, shuts}
+use Rattle.fwd_model.specs.CloseActions.{closes_if_full, closes_chunk}
 use Rattle.fwd_model.specs.Acceptance.{Acceptance, taken, refuses, finishes_append, finishes_create, appends, starts_chunk, stores, accepts}
 use Rattle.fwd_theorem_delivery.specs.Replies.{facts_in, WasTaken, IsEmpty, IsAccepted}
 use Rattle.fwd_theorem_delivery.proofs.SilentActions.{is_silent, AreSilent, IsSilent, still_shuts, still_fills}
@@ -99,7 +99,7 @@ module _ (s : AllSettings) (P : List TraceEntry → Call → Type 0) (holds : (b
           λ more.
               let f : TraceEntry = entry (Note (Refused b NotStored)) more in
               let last : History = Refused b NotStored ∷ IoFailed ∷ h in
-              makes_ends b false es (at ++ f ∷ []) (mid ++ f ∷ []) (shuts s chunk last) (grows_by es mid (f ∷ []) at (grows_by es own (e ∷ []) now is))
+              makes_ends b false es (at ++ f ∷ []) (mid ++ f ∷ []) (closes_chunk s chunk last) (grows_by es mid (f ∷ []) at (grows_by es own (e ∷ []) now is))
               (still_both mid (f ∷ []) (still_both own (e ∷ []) are (refl, tt)) (refl, tt)) (refused_last b NotStored mid more) (still_shuts s chunk last),
         ),
   )

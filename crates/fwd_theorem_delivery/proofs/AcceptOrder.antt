@@ -15,7 +15,7 @@ use Rattle.fwd_model.specs.Messages.{completed_messages, becomes_malformed, mess
 use Rattle.fwd_model.specs.Chunks.{ChunkInfo, next, open_chunk, encoded, is_storable}
 use Rattle.fwd_model.specs.ChunkStorage.{kept_of, name_for}
 use Rattle.fwd_model.specs.Notes.{note_then, is_empty}
-use Rattle.fwd_model.specs.CloseActions.{shuts, closes_if_full}
+use Rattle.fwd_model.specs.CloseActions.{closes_chunk, closes_if_full}
 use Rattle.fwd_model.specs.Acceptance.{Acceptance, taken, refuses, finishes_append, finishes_create, appends, starts_chunk, stores, accepts, ingests}
 use Rattle.fwd_model.specs.InputActions.{hangs_up, after_reply, replies, acknowledges, accepts_messages, accepts_stream, pieces}
 use Rattle.fwd_theorem_delivery.specs.BatchOutcomes.{completed_over}
@@ -52,7 +52,7 @@ module _ (s : AllSettings) where
         λ _. paid_ends true at (closes_if_full s chunk at) (paid_accepted (AppendedTo chunk) h owed) (calm_fills s chunk at)
     paid_appended chunk h None owed =
         let at : History = Refused b NotStored ∷ IoFailed ∷ h in
-        λ _ _. paid_ends false at (shuts s chunk at) (paid_refused NotStored (IoFailed ∷ h) (faulted h owed)) (calm_shuts s chunk at)
+        λ _ _. paid_ends false at (closes_chunk s chunk at) (paid_refused NotStored (IoFailed ∷ h) (faulted h owed)) (calm_shuts s chunk at)
 
     paid_placed : (chunk : ℕ) (h : History) (answer : Option (Unit {0})) → Owed h → Yields (StillAwaited bs) (finishes_create s b chunk h answer)
     paid_placed chunk h (Some done) owed =

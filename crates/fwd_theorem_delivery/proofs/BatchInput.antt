@@ -15,7 +15,7 @@ use Rattle.fwd_model.specs.Messages.{completed_messages, becomes_malformed, mess
 use Rattle.fwd_model.specs.Chunks.{ChunkInfo, next, open_chunk, encoded, is_storable}
 use Rattle.fwd_model.specs.ChunkStorage.{kept_of, name_for}
 use Rattle.fwd_model.specs.Notes.{note_then, is_empty}
-use Rattle.fwd_model.specs.CloseActions.{shuts, closes_if_full}
+use Rattle.fwd_model.specs.CloseActions.{closes_chunk, closes_if_full}
 use Rattle.fwd_model.specs.Acceptance.{Acceptance, taken, refuses, finishes_append, finishes_create, appends, starts_chunk, stores, accepts, ingests}
 use Rattle.fwd_model.specs.InputActions.{hangs_up, after_reply, replies, acknowledges, accepts_messages, accepts_stream, pieces}
 use Rattle.fwd_theorem_trace.proofs.Streams.{IsOwn, own_stream}
@@ -64,7 +64,7 @@ module _ (s : AllSettings) where
       λ _. came_ends b true h (onto new h) (closes_if_full s chunk (onto new h)) (new, refl, ((tt, (tt, tt)), ([], tt, IsAccepted (Offered chunk b ∷ []) (AppendedTo chunk) refl))) (calm_fills s chunk (onto new h))
   came_appended b chunk h None =
       let new : History = Offered chunk b ∷ IoFailed ∷ Refused b NotStored ∷ [] in
-      λ _ _. came_ends b false h (onto new h) (shuts s chunk (onto new h)) (new, refl, ((tt, (tt, (tt, tt))), ([], tt, IsRefused (Offered chunk b ∷ IoFailed ∷ []) NotStored refl))) (calm_shuts s chunk (onto new h))
+      λ _ _. came_ends b false h (onto new h) (closes_chunk s chunk (onto new h)) (new, refl, ((tt, (tt, (tt, tt))), ([], tt, IsRefused (Offered chunk b ∷ IoFailed ∷ []) NotStored refl))) (calm_shuts s chunk (onto new h))
 
   came_placed : (b : Batch) (chunk : ℕ) (h : History) (answer : Option (Unit {0})) → Yields (ComesTo b h) (finishes_create s b chunk (Offered chunk b ∷ h) answer)
   came_placed b chunk h (Some done) =

@@ -158,7 +158,7 @@ none_in [] is = refl
 none_in (r ∷ rs) is = absurd (omega (arith, is))
 
 in_vain : (es : List TraceEntry) (h : History) → (history_after es h ≡ h) ⊎ (history_after es h ≡ IoFailed ∷ h) → flushes_begun es ≡ []
-in_vain es h call_log = none_in (flushes_begun es) (by call_log)
+in_vain es h none_begun = none_in (flushes_begun es) (by none_begun)
   where
     by : (history_after es h ≡ h) ⊎ (history_after es h ≡ IoFailed ∷ h) → length (flushes_begun es) ≡ 0
     by (inl is) = let now = begun_behind es h in let same = ap begun_facts is in omega (arith, now, same)

@@ -116,7 +116,7 @@ module _ (s : AllSettings) (es es2 : List LoopEntry) (h : History) (r : Route) (
     shut = flown.shut;
     stands = subst (λ (l : List Event). ProgressRepresents (delivers s h r2 events) l p2) (sym owned) flown.stands;
     at = at_other (link_in p2.stage) refl flown.at;
-    call_log = told_stays (OnRoute r outcome) h r2 (answer_in p2.stage) flown.call_log;
+    logged = told_stays (OnRoute r outcome) h r2 (answer_in p2.stage) flown.logged;
   }
     where
       at_other : (o : Option LinkId) → link_in p2.stage ≡ o → IsAtLink h link r2 events p2 o → IsAtLink (OnRoute r outcome ∷ h) link r2 events p2 o
@@ -141,7 +141,7 @@ module _ (s : AllSettings) (es es2 : List LoopEntry) (h : History) (r : Route) (
     shut = shut;
     stands = stands;
     at = own_at (link_in q.stage) refl comes.flying stays;
-    call_log = told_by h r q outcome comes q.stage refl;
+    logged = told_by h r q outcome comes q.stage refl;
   }
     where
       own_at : (o : Option LinkId) → link_in q.stage ≡ o → progress_of outcome ≡ progress_after q o → StaysOn link o → IsAtLink (OnRoute r outcome ∷ h) link r events q o

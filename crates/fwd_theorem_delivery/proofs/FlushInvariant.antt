@@ -42,7 +42,7 @@ pub record FlushState (s : AllSettings) (es : List LoopEntry) (h : History) (lin
   pub shut : is_closed h r.chunk ≡ true
   pub stands : ProgressRepresents (delivers s h r events) (since_dial link es) p
   pub at : IsAtLink h link r events p (link_in p.stage)
-  pub call_log : OutcomeIsLoggedIn h r (answer_in p.stage)
+  pub logged : OutcomeIsLoggedIn h r (answer_in p.stage)
 
 -- a flush of the route has ended with this outcome
 pub record EndedBy (s : AllSettings) (es : List LoopEntry) (h : History) (r : Route) (answer : Answer) : Type 0 where
@@ -130,14 +130,14 @@ at_same g h link r events p (Some other) same_flight same_on same_begun at = (at
 
 -- logged facts stay
 told_still : (fact : Fact) (h : History) (r : Route) (answer : Answer) → OutcomeIsLogged h r answer → OutcomeIsLogged (fact ∷ h) r answer
-told_still fact h r Good call_log = inr call_log
-told_still fact h r Retry (inl call_log) = inl (call_log.0, inr call_log.1)
-told_still fact h r Retry (inr call_log) = inr (inr call_log)
-told_still fact h r Bad call_log = inr call_log
+told_still fact h r Good logged = inr logged
+told_still fact h r Retry (inl logged) = inl (logged.0, inr logged.1)
+told_still fact h r Retry (inr logged) = inr (inr logged)
+told_still fact h r Bad logged = inr logged
 
 pub told_stays : (fact : Fact) (h : History) (r : Route) (answer : Option Answer) → OutcomeIsLoggedIn h r answer → OutcomeIsLoggedIn (fact ∷ h) r answer
-told_stays fact h r None call_log = tt
-told_stays fact h r (Some answer) call_log = told_still fact h r answer call_log
+told_stays fact h r None logged = tt
+told_stays fact h r (Some answer) logged = told_still fact h r answer logged
 
 turned_away_fact : (fact : Fact) (es : List LoopEntry) (h : History) (r : Route) → WasTurnedAway es h r → WasTurnedAway es (fact ∷ h) r
 turned_away_fact fact es h r was = (opened_stays fact h r.chunk was.0, subst (λ (to : DialTarget). DialWasRefused to es) (sym (aim_same fact h r was.0)) was.1)
@@ -150,7 +150,7 @@ flown_fact s fact es h may link r events p flown = record {
   shut = shut_stays fact h r.chunk flown.shut;
   stands = subst (λ (d : Delivery). ProgressRepresents d (since_dial link es) p) (sym (delivers_same s fact h r events flown.opened)) flown.stands;
   at = at_same (fact ∷ h) h link r events p (link_in p.stage) (flight_same fact h r may) (on_same fact h link may) (begun_same fact h r may) flown.at;
-  call_log = told_stays fact h r (answer_in p.stage) flown.call_log;
+  logged = told_stays fact h r (answer_in p.stage) flown.logged;
 }
 
 noted_before : (fact : Fact) (h : History) (r : Route) (outcome : Outcome) → MayNote fact h → IsLogged (OnRoute r outcome) (fact ∷ h) → IsLogged (OnRoute r outcome) h
@@ -184,7 +184,7 @@ module _ (s : AllSettings) (n : Now) (kept : Kept s n) (ys : List LoopEntry) (no
     shut = flown.shut;
     stands = subst (λ (l : List Event). ProgressRepresents (delivers s n.history r events) l p) (sym (own_more (dial_target n.history r) link n.calls ys flown.given)) (stood link r events p flown);
     at = flown.at;
-    call_log = flown.call_log;
+    logged = flown.logged;
   }
 
   before : (to : DialTarget) (link : ℕ) → WasDialled to link (n.calls ++ ys) → WasDialled to link n.calls

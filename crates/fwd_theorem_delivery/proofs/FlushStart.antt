@@ -27,7 +27,7 @@ use Rattle.fwd_model.specs.ChunkStorage.{kept_of}
 use Rattle.fwd_model.specs.Routes.{begun as begun_by, progress_of, route_on_link, is_idle}
 use Rattle.fwd_model.specs.Payloads.{delivery, tag_of_chunk}
 use Rattle.fwd_model.specs.Dispatch.{due_routes, may_start, has_place, fits}
-use Rattle.fwd_model.specs.FlushActions.{notes_calls, starts_with, is_complete_read, after_read, begins_as, starts_flush, turn, turns, walk}
+use Rattle.fwd_model.specs.FlushActions.{notes_calls, starts_with, is_complete_read, after_read, begins_as, starts_flush, starts_if_allowed, starts_each, walk}
 use Rattle.fwd_outside.specs.Program.{Ask, bind}
 use Rattle.fwd_theorem_delivery.specs.Links.{DialTarget, WasDialled, DialWasRefused, ReturnsLink, RefusesDial, AreNewLinks, all_on_link, since_dial, close_count}
 use Rattle.fwd_theorem_delivery.specs.LinkOutcomes.{IsLogged, dial_target}
@@ -246,16 +246,16 @@ module _ (s : AllSettings) where
   unfolding starts_flush
   safe_begins r n whole idle = safe_begins_as r (kept_of s n.history r.chunk) n whole idle
 
-  safe_turn : (r : Route) (n : Now) → RunInvariant s n → Safe s n (turn s r n.history)
-  unfolding turn
+  safe_turn : (r : Route) (n : Now) → RunInvariant s n → Safe s n (starts_if_allowed s r n.history)
+  unfolding starts_if_allowed
   safe_turn r n whole =
       safe_test s (may_start s n.history r) n (starts_flush s r n.history) (Return n.history)
       (λ is. safe_begins r n whole (idle_route s n.history r (and_parts (is_idle s n.history r) (has_place s n.history r && fits s n.history r) is).0))
       (λ isnt. (refl, whole))
 
-  safe_turns : (rs : List Route) (n : Now) → RunInvariant s n → Safe s n (turns s rs n.history)
+  safe_turns : (rs : List Route) (n : Now) → RunInvariant s n → Safe s n (starts_each s rs n.history)
   safe_turns [] n whole = (refl, whole)
-  safe_turns (r ∷ rs) n whole = safe_then s n (turn s r n.history) (turns s rs) (safe_turn r n whole) (λ m whole_m. safe_turns rs m whole_m)
+  safe_turns (r ∷ rs) n whole = safe_then s n (starts_if_allowed s r n.history) (starts_each s rs) (safe_turn r n whole) (λ m whole_m. safe_turns rs m whole_m)
 
   pub safe_walk : (n : Now) → RunInvariant s n → Safe s n (walk s n.history)
   unfolding walk

@@ -29,7 +29,7 @@ use Rattle.fwd_model.specs.Payloads.{delivery, tag_of_chunk}
 use Rattle.fwd_model.specs.Dispatch.{due_routes, may_start, has_place, fits}
 use Rattle.fwd_model.specs.Notes.{note_then, note}
 use Rattle.fwd_model.specs.ResolveActions.{marks_or_removes}
-use Rattle.fwd_model.specs.FlushActions.{retries, applies_answer, notes_stage, stands, notes_calls, starts_with, is_complete_read, after_read, begins_as, starts_flush, turn, turns, walk, goes_on, resumes, at_room, at_reply, at_break}
+use Rattle.fwd_model.specs.FlushActions.{retries, applies_answer, notes_stage, stands, notes_calls, starts_with, is_complete_read, after_read, begins_as, starts_flush, starts_if_allowed, starts_each, walk, goes_on, resumes, at_room, at_reply, at_break}
 use Rattle.fwd_theorem_trace.specs.Past.{Past, logged}
 use Rattle.fwd_theorem_trace.proofs.Members.{here, deeper}
 use Rattle.fwd_theorem_trace.proofs.RouteResolution.{same_itself}
@@ -163,8 +163,8 @@ module _ (s : AllSettings) where
     tells_begins_as (Some (InFile head)) past starting calm in_time = tells_begins_read (InFile head) past starting calm in_time
     tells_begins_as (Some (Adopted head)) past starting calm in_time = tells_begins_read (Adopted head) past starting calm in_time
 
-  tells_turn : (q : Route) (past : Past) → due s (logged past) q ≤ clock (logged past) → Calm (logged past) → InTime s past → ReturnsTimed s (Turned q (logged past)) past (turn s q (logged past))
-  unfolding turn starts_flush
+  tells_turn : (q : Route) (past : Past) → due s (logged past) q ≤ clock (logged past) → Calm (logged past) → InTime s past → ReturnsTimed s (Turned q (logged past)) past (starts_if_allowed s q (logged past))
+  unfolding starts_if_allowed starts_flush
   tells_turn q past by_now calm in_time =
       tells_if s (Turned q (logged past)) (may_start s (logged past) q) past (starts_flush s q (logged past)) (Return (logged past))
       (λ may.
@@ -186,10 +186,10 @@ module _ (s : AllSettings) where
       let le = are.0 in
       (omega (arith, at, now, le), (are.1.0, still_due q old h rs same (λ x has. apart x (deeper r rs x has)) are.1.1))
 
-  tells_turns : (rs : List Route) (past : Past) → AreDue (logged past) rs → Calm (logged past) → InTime s past → ReturnsTimed s Calm past (turns s rs (logged past))
+  tells_turns : (rs : List Route) (past : Past) → AreDue (logged past) rs → Calm (logged past) → InTime s past → ReturnsTimed s Calm past (starts_each s rs (logged past))
   tells_turns [] past are calm in_time = nothing s Calm past in_time calm
   tells_turns (q ∷ rs) past are calm in_time =
-      tells_then s (Turned q (logged past)) Calm past (turn s q (logged past)) (turns s rs) (tells_turn q past are.0 calm in_time)
+      tells_then s (Turned q (logged past)) Calm past (starts_if_allowed s q (logged past)) (starts_each s rs) (tells_turn q past are.0 calm in_time)
       (λ now grown later so. tells_turns rs now (still_due q (logged past) (logged now) rs so.1 are.1.0 are.1.1) so.0 later)
 
   not_sooner : (h : History) (q r : Route) → q.chunk ≡ r.chunk → q.output ≡ r.output → due s h q ≡ due s h r → IsDueBefore s h q r → ⊥

@@ -29,8 +29,8 @@ use Rattle.fwd_model.specs.Limits.{evicted_at}
 use Rattle.fwd_model.specs.Dispatch.{due_routes, may_start}
 use Rattle.fwd_model.specs.Notes.{note_then, note}
 use Rattle.fwd_model.specs.ResolveActions.{dropped, drops, after_mark, marks_at, records, marks_or_removes}
-use Rattle.fwd_model.specs.CloseActions.{loses, shuts, closes_if_full, closes_each, closes_all}
-use Rattle.fwd_model.specs.FlushActions.{retries, applies_answer, notes_stage, stands, notes_calls, starts_with, is_complete_read, after_read, begins_as, starts_flush, turn, turns, walk, goes_on, resumes, at_room, at_reply, at_break}
+use Rattle.fwd_model.specs.CloseActions.{loses, closes_chunk, closes_if_full, closes_each, closes_all}
+use Rattle.fwd_model.specs.FlushActions.{retries, applies_answer, notes_stage, stands, notes_calls, starts_with, is_complete_read, after_read, begins_as, starts_flush, starts_if_allowed, starts_each, walk, goes_on, resumes, at_room, at_reply, at_break}
 use Rattle.fwd_theorem_delivery.proofs.Results.{Yields, gives_behind, gives_if}
 use Rattle.fwd_theorem_delivery.proofs.FactSuffix.{AddsInner, later_nothing, later_only, later_note, later_then}
 
@@ -71,17 +71,17 @@ module _ (s : AllSettings) where
       let at : History = OnRoute r Evicted ∷ h in
       later_note (OnRoute r Evicted) h (λ at. bind (marks_or_removes s r at) (loses s rs)) tt (later_then at (marks_or_removes s r at) (loses s rs) (calm_settles r at) (calm_loses rs))
 
-  pub calm_shuts : (chunk : ℕ) (h : History) → Yields (AddsInner h) (shuts s chunk h)
-  unfolding shuts
+  pub calm_shuts : (chunk : ℕ) (h : History) → Yields (AddsInner h) (closes_chunk s chunk h)
+  unfolding closes_chunk
   calm_shuts chunk h = later_note (ChunkClosed chunk) h (λ at. loses s (evicted_at s at chunk) at) tt (calm_loses (evicted_at s (ChunkClosed chunk ∷ h) chunk) (ChunkClosed chunk ∷ h))
 
   pub calm_fills : (chunk : ℕ) (h : History) → Yields (AddsInner h) (closes_if_full s chunk h)
   unfolding closes_if_full
-  calm_fills chunk h = gives_if (AddsInner h) (nat_le full_chunk (size h chunk)) (shuts s chunk h) (Return h) (λ _. calm_shuts chunk h) (λ _. later_nothing h)
+  calm_fills chunk h = gives_if (AddsInner h) (nat_le full_chunk (size h chunk)) (closes_chunk s chunk h) (Return h) (λ _. calm_shuts chunk h) (λ _. later_nothing h)
 
   calm_closes : (cs : List ChunkInfo) (h : History) → Yields (AddsInner h) (closes_each s cs h)
   calm_closes [] h = later_nothing h
-  calm_closes (c ∷ cs) h = later_then h (shuts s c.number h) (closes_each s cs) (calm_shuts c.number h) (calm_closes cs)
+  calm_closes (c ∷ cs) h = later_then h (closes_chunk s c.number h) (closes_each s cs) (calm_shuts c.number h) (calm_closes cs)
 
   pub calm_closes_all : (h : History) → Yields (AddsInner h) (closes_all s h)
   unfolding closes_all
@@ -139,13 +139,13 @@ module _ (s : AllSettings) where
   unfolding starts_flush
   calm_begins r h = calm_begins_as r (kept_of s h r.chunk) h
 
-  calm_turn : (r : Route) (h : History) → Yields (AddsInner h) (turn s r h)
-  unfolding turn
+  calm_turn : (r : Route) (h : History) → Yields (AddsInner h) (starts_if_allowed s r h)
+  unfolding starts_if_allowed
   calm_turn r h = gives_if (AddsInner h) (may_start s h r) (starts_flush s r h) (Return h) (λ _. calm_begins r h) (λ _. later_nothing h)
 
-  calm_turns : (rs : List Route) (h : History) → Yields (AddsInner h) (turns s rs h)
+  calm_turns : (rs : List Route) (h : History) → Yields (AddsInner h) (starts_each s rs h)
   calm_turns [] h = later_nothing h
-  calm_turns (r ∷ rs) h = later_then h (turn s r h) (turns s rs) (calm_turn r h) (calm_turns rs)
+  calm_turns (r ∷ rs) h = later_then h (starts_if_allowed s r h) (starts_each s rs) (calm_turn r h) (calm_turns rs)
 
   pub calm_walk : (h : History) → Yields (AddsInner h) (walk s h)
   unfolding walk

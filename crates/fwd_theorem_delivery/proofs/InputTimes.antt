@@ -23,7 +23,7 @@ use Rattle.fwd_model.specs.Chunks.{ChunkInfo, chunks_of, open_chunks, open_chunk
 use Rattle.fwd_model.specs.ChunkStorage.{kept_of, name_for}
 use Rattle.fwd_model.specs.Limits.{is_paused}
 use Rattle.fwd_model.specs.Notes.{note_then, is_empty}
-use Rattle.fwd_model.specs.CloseActions.{shuts, closes_if_full, closes_all}
+use Rattle.fwd_model.specs.CloseActions.{closes_chunk, closes_if_full, closes_all}
 use Rattle.fwd_model.specs.Acceptance.{Acceptance, taken, refuses, finishes_append, finishes_create, appends, starts_chunk, stores, accepts, ingests}
 use Rattle.fwd_model.specs.FlushActions.{walk}
 use Rattle.fwd_model.specs.InputActions.{hangs_up, after_reply, replies, acknowledges, accepts_messages, accepts_stream, pieces, polled, polls_file, polls_files, polls_input, polls_inputs, polls_all}
@@ -115,7 +115,7 @@ module _ (s : AllSettings) where
       λ due. (tt, in_time due.1),
       λ more.
           let last : Past = entry (Note (Refused b NotStored)) more ∷ entry (Note IoFailed) answer ∷ past in
-          ends_taken false last (shuts s chunk (logged last)) (calm_shuts s chunk last (λ due. offered_open b chunk past before due.1.1 is) (λ due. (tt, (tt, in_time due.1.1))) calm),
+          ends_taken false last (closes_chunk s chunk (logged last)) (calm_shuts s chunk last (λ due. offered_open b chunk past before due.1.1 is) (λ due. (tt, (tt, in_time due.1.1))) calm),
     ),
   )
 

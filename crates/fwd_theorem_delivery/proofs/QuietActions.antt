@@ -18,7 +18,7 @@ use Rattle.fwd_model.specs.Routes.{route, same_route, flight, owes}
 use Rattle.fwd_model.specs.Limits.{evicted_at}
 use Rattle.fwd_model.specs.Notes.{note_then, is_empty}
 use Rattle.fwd_model.specs.ResolveActions.{dropped, drops, after_mark, marks_at, records, marks_or_removes}
-use Rattle.fwd_model.specs.CloseActions.{loses, shuts, closes_if_full, closes_each, closes_all}
+use Rattle.fwd_model.specs.CloseActions.{loses, closes_chunk, closes_if_full, closes_each, closes_all}
 use Rattle.fwd_model.specs.Acceptance.{Acceptance, taken, refuses, finishes_append, finishes_create, appends, starts_chunk, stores, accepts}
 use Rattle.fwd_theorem_delivery.proofs.ChunkFacts.{MayBegin}
 use Rattle.fwd_theorem_delivery.proofs.OpenChunks.{AreOpen, open_are_open, open_is, HaveNoFlush, HasNoFlush, lost_grounded}
@@ -151,13 +151,13 @@ module _ (s : AllSettings) where
             (λ now later. quietly_loses rs now (grounded_later at now rs later (grounded_later h at rs (later_lost r h) are.1))),
       )
 
-  quietly_shuts : (chunk : ℕ) (h : History) → HasNoFlush h chunk → TouchesNoFlush Same h (shuts s chunk h)
-  unfolding shuts
+  quietly_shuts : (chunk : ℕ) (h : History) → HasNoFlush h chunk → TouchesNoFlush Same h (closes_chunk s chunk h)
+  unfolding closes_chunk
   quietly_shuts chunk h rest = (tt, λ _. quietly_loses (evicted_at s (ChunkClosed chunk ∷ h) chunk) (ChunkClosed chunk ∷ h) (lost_grounded s (ChunkClosed chunk ∷ h) chunk rest))
 
   quietly_fills : (chunk : ℕ) (h : History) → HasNoFlush h chunk → TouchesNoFlush Same h (closes_if_full s chunk h)
   unfolding closes_if_full
-  quietly_fills chunk h rest = quietly_if Same (nat_le full_chunk (size h chunk)) h (shuts s chunk h) (Return h) (λ _. quietly_shuts chunk h rest) (λ _. refl)
+  quietly_fills chunk h rest = quietly_if Same (nat_le full_chunk (size h chunk)) h (closes_chunk s chunk h) (Return h) (λ _. quietly_shuts chunk h rest) (λ _. refl)
 
   abbrev AllAtRest : History → List ChunkInfo → Type 0
   AllAtRest h [] = Unit {0}
@@ -169,7 +169,7 @@ module _ (s : AllSettings) where
 
   quietly_closes : (cs : List ChunkInfo) (h : History) → AllAtRest h cs → TouchesNoFlush Same h (closes_each s cs h)
   quietly_closes [] h are = refl
-  quietly_closes (c ∷ cs) h are = quietly_then h (shuts s c.number h) (closes_each s cs) (quietly_shuts c.number h are.0) (λ now later. quietly_closes cs now (all_later h now cs later are.1))
+  quietly_closes (c ∷ cs) h are = quietly_then h (closes_chunk s c.number h) (closes_each s cs) (quietly_shuts c.number h are.0) (λ now later. quietly_closes cs now (all_later h now cs later are.1))
 
   open_at_rest : (h : History) (cs : List ChunkInfo) → OpenHaveNoFlush h → AreOpen h cs → AllAtRest h cs
   open_at_rest h [] rest are = tt
@@ -188,7 +188,7 @@ module _ (s : AllSettings) where
   quietly_appended b chunk h (Some done) rest = (tt, λ _. ends_taken true (Accepted b (AppendedTo chunk) ∷ h) (closes_if_full s chunk (Accepted b (AppendedTo chunk) ∷ h)) (quietly_fills chunk (Accepted b (AppendedTo chunk) ∷ h) rest))
   quietly_appended b chunk h None rest =
       let last : History = Refused b NotStored ∷ IoFailed ∷ h in
-      (tt, λ _. (tt, λ _. ends_taken false last (shuts s chunk last) (quietly_shuts chunk last rest)))
+      (tt, λ _. (tt, λ _. ends_taken false last (closes_chunk s chunk last) (quietly_shuts chunk last rest)))
 
   quietly_placed : (b : Batch) (chunk : ℕ) (h : History) (answer : Option (Unit {0})) → chunk < next h → HasNoFlush h chunk → TouchesNoFlush SameTaken h (finishes_create s b chunk h answer)
   quietly_placed b chunk h (Some done) below rest = (below, λ _. ends_taken true (Accepted b (NewChunk chunk) ∷ h) (closes_if_full s chunk (Accepted b (NewChunk chunk) ∷ h)) (quietly_fills chunk (Accepted b (NewChunk chunk) ∷ h) rest))

@@ -57,7 +57,7 @@ module _ (s : AllSettings) (greatest : ℕ) (es : List LoopEntry) (h : History) 
   followed_at link r events p flown Opening is = absurd (subst (λ (x : Stage). IsAt (delivers s h r events) (since_dial link es) p x) is flown.stands.at)
   followed_at link r events p flown (Writing other) is = let at = subst (λ (x : Stage). IsAtLink h link r events p (link_in x)) is flown.at in rw is at.2
   followed_at link r events p flown (AwaitingAck other) is = let at = subst (λ (x : Stage). IsAtLink h link r events p (link_in x)) is flown.at in rw is at.2
-  followed_at link r events p flown (Ended answer) is = let call_log = subst (λ (x : Stage). OutcomeIsLoggedIn h r (answer_in x)) is flown.call_log in rw is call_log
+  followed_at link r events p flown (Ended answer) is = let logged = subst (λ (x : Stage). OutcomeIsLoggedIn h r (answer_in x)) is flown.logged in rw is logged
 
   closed_in : (link : ℕ) (r : Route) (events : List LogEvent) (p : Progress) → FlushState s es h link r events p → (stage : Stage) → p.stage ≡ stage → closes_in (link_in stage) ≡ closed_for (answer_in stage)
   closed_in link r events p flown Opening is = absurd (subst (λ (x : Stage). IsAt (delivers s h r events) (since_dial link es) p x) is flown.stands.at)

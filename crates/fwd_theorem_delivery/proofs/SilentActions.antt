@@ -43,9 +43,9 @@ use Rattle.fwd_model.specs.Limits.{evicted_at, is_paused}
 use Rattle.fwd_model.specs.Dispatch.{due_routes, may_start}
 use Rattle.fwd_model.specs.Notes.{note_then, note, is_empty}
 use Rattle.fwd_model.specs.ResolveActions.{dropped, drops, after_mark, marks_at, records, marks_or_removes}
-use Rattle.fwd_model.specs.CloseActions.{loses, shuts, closes_if_full, closes_each, closes_all}
+use Rattle.fwd_model.specs.CloseActions.{loses, closes_chunk, closes_if_full, closes_each, closes_all}
 use Rattle.fwd_model.specs.Acceptance.{Acceptance, taken, ends_refused, refuses, finishes_append, finishes_create, appends, starts_chunk, stores, accepts, ingests}
-use Rattle.fwd_model.specs.FlushActions.{retries, applies_answer, notes_stage, stands, notes_calls, starts_with, is_complete_read, after_read, begins_as, starts_flush, turn, turns, walk, goes_on, resumes, at_room, at_reply, at_break}
+use Rattle.fwd_model.specs.FlushActions.{retries, applies_answer, notes_stage, stands, notes_calls, starts_with, is_complete_read, after_read, begins_as, starts_flush, starts_if_allowed, starts_each, walk, goes_on, resumes, at_room, at_reply, at_break}
 use Rattle.fwd_model.specs.InputActions.{polled, polls_file, polls_files, polls_input, polls_inputs, polls_all}
 use Rattle.fwd_model.specs.StepActions.{closes_and_dispatches, ticks, stops, at_input_end, handles}
 use Rattle.fwd_model.specs.RecoveryActions.{notes_files, loaded, loads_from, recovers}
@@ -119,17 +119,17 @@ module _ (s : AllSettings) where
   still_loses [] h = tt
   still_loses (r ∷ rs) h = (refl, λ _. still_act_bind (marks_or_removes s r _) (loses s rs) (still_settles r _) (still_loses rs))
 
-  pub still_shuts : (chunk : ℕ) (h : History) → IsSilent (shuts s chunk h)
-  unfolding shuts
+  pub still_shuts : (chunk : ℕ) (h : History) → IsSilent (closes_chunk s chunk h)
+  unfolding closes_chunk
   still_shuts chunk h = (refl, λ _. still_loses (evicted_at s (ChunkClosed chunk ∷ h) chunk) (ChunkClosed chunk ∷ h))
 
   pub still_fills : (chunk : ℕ) (h : History) → IsSilent (closes_if_full s chunk h)
   unfolding closes_if_full
-  still_fills chunk h = still_act_if (nat_le full_chunk (size h chunk)) (shuts s chunk h) (Return h) (still_shuts chunk h) tt
+  still_fills chunk h = still_act_if (nat_le full_chunk (size h chunk)) (closes_chunk s chunk h) (Return h) (still_shuts chunk h) tt
 
   still_closes : (cs : List ChunkInfo) (h : History) → IsSilent (closes_each s cs h)
   still_closes [] h = tt
-  still_closes (c ∷ cs) h = still_act_bind (shuts s c.number h) (closes_each s cs) (still_shuts c.number h) (still_closes cs)
+  still_closes (c ∷ cs) h = still_act_bind (closes_chunk s c.number h) (closes_each s cs) (still_shuts c.number h) (still_closes cs)
 
   still_closes_all : (h : History) → IsSilent (closes_all s h)
   unfolding closes_all
@@ -139,7 +139,7 @@ module _ (s : AllSettings) where
 
   still_appended : (b : Batch) (chunk : ℕ) (h : History) (answer : Option (Unit {0})) → IsSilent (finishes_append s b chunk h answer)
   still_appended b chunk h (Some done) = (refl, λ _. still_act_bind (closes_if_full s chunk _) taken (still_fills chunk _) (λ _. tt))
-  still_appended b chunk h None = (refl, λ _. (refl, λ _. still_act_bind (shuts s chunk _) ends_refused (still_shuts chunk _) (λ _. tt)))
+  still_appended b chunk h None = (refl, λ _. (refl, λ _. still_act_bind (closes_chunk s chunk _) ends_refused (still_shuts chunk _) (λ _. tt)))
 
   still_placed : (b : Batch) (chunk : ℕ) (h : History) (answer : Option (Unit {0})) → IsSilent (finishes_create s b chunk h answer)
   still_placed b chunk h (Some done) = (refl, λ _. still_act_bind (closes_if_full s chunk _) taken (still_fills chunk _) (λ _. tt))
@@ -204,13 +204,13 @@ module _ (s : AllSettings) where
   still_begins_as r (Some (InFile head)) h = still_act_disk (read_content_program (InFile head)) _ (still_read_behind r (size_of (InFile head)) h)
   still_begins_as r (Some (Adopted head)) h = still_act_disk (read_content_program (Adopted head)) _ (still_read_behind r (size_of (Adopted head)) h)
 
-  still_turn : (r : Route) (h : History) → IsSilent (turn s r h)
-  unfolding turn starts_flush
+  still_turn : (r : Route) (h : History) → IsSilent (starts_if_allowed s r h)
+  unfolding starts_if_allowed starts_flush
   still_turn r h = still_act_if (may_start s h r) (starts_flush s r h) (Return h) (still_begins_as r (kept_of s h r.chunk) h) tt
 
-  still_turns : (rs : List Route) (h : History) → IsSilent (turns s rs h)
+  still_turns : (rs : List Route) (h : History) → IsSilent (starts_each s rs h)
   still_turns [] h = tt
-  still_turns (r ∷ rs) h = still_act_bind (turn s r h) (turns s rs) (still_turn r h) (still_turns rs)
+  still_turns (r ∷ rs) h = still_act_bind (starts_if_allowed s r h) (starts_each s rs) (still_turn r h) (still_turns rs)
 
   still_walk : (h : History) → IsSilent (walk s h)
   unfolding walk

@@ -23,7 +23,7 @@ use Rattle.fwd_model.specs.Routes.{same_route, owes, tries, due, is_idle}
 use Rattle.fwd_model.specs.Limits.{evicted_at}
 use Rattle.fwd_model.specs.Notes.{note_then, note}
 use Rattle.fwd_model.specs.ResolveActions.{dropped, drops, after_mark, marks_at, records, marks_or_removes}
-use Rattle.fwd_model.specs.CloseActions.{loses, shuts, closes_if_full, closes_each, closes_all}
+use Rattle.fwd_model.specs.CloseActions.{loses, closes_chunk, closes_if_full, closes_each, closes_all}
 use Rattle.fwd_theorem_trace.specs.Past.{Past, logged}
 use Rattle.fwd_theorem_trace.specs.Allowed.{FactAllowed, Allowed}
 use Rattle.fwd_theorem_trace.specs.Sound.{NumbersRise}
@@ -233,8 +233,8 @@ module _ (s : AllSettings) where
   closed_tails closed before fact h is so = closed_before closed before fact h (tails_follow fact is) so
 
   module _ (K : History → Type 0) (tails : IsKeptByTails K) (losses : (r : Route) (h : History) → K h → K (OnRoute r Evicted ∷ h)) where
-    tells_shuts : (chunk : ℕ) (past : Past) → (Allowed s past → is_closed (logged past) chunk ≡ false) → InTime past → K (ChunkClosed chunk ∷ logged past) → ReturnsTimed K past (shuts s chunk (logged past))
-    unfolding shuts
+    tells_shuts : (chunk : ℕ) (past : Past) → (Allowed s past → is_closed (logged past) chunk ≡ false) → InTime past → K (ChunkClosed chunk ∷ logged past) → ReturnsTimed K past (closes_chunk s chunk (logged past))
+    unfolding closes_chunk
     tells_shuts chunk past off in_time so =
         let Both : History → Type 0 = λ (h : History). K h × ClosedSince chunk (logged past) h in
         deed K (ChunkClosed chunk) past (λ at. loses s (evicted_at s at chunk) at) (λ due _. off due) in_time
@@ -249,13 +249,13 @@ module _ (s : AllSettings) where
   calm_losses : (r : Route) (h : History) → Calm h → Calm (OnRoute r Evicted ∷ h)
   calm_losses r h calm = calm_outcome r Evicted h refl calm
 
-  pub calm_shuts : (chunk : ℕ) (past : Past) → (Allowed s past → is_closed (logged past) chunk ≡ false) → InTime past → Calm (logged past) → ReturnsTimed Calm past (shuts s chunk (logged past))
+  pub calm_shuts : (chunk : ℕ) (past : Past) → (Allowed s past → is_closed (logged past) chunk ≡ false) → InTime past → Calm (logged past) → ReturnsTimed Calm past (closes_chunk s chunk (logged past))
   calm_shuts chunk past off in_time calm = tells_shuts Calm calm_tails calm_losses chunk past off in_time calm
 
   pub calm_fills : (chunk : ℕ) (past : Past) → (Allowed s past → is_closed (logged past) chunk ≡ false) → InTime past → Calm (logged past) → ReturnsTimed Calm past (closes_if_full s chunk (logged past))
   unfolding closes_if_full
   calm_fills chunk past off in_time calm =
-      tells_if Calm (nat_le full_chunk (size (logged past) chunk)) past (shuts s chunk (logged past)) (Return (logged past)) (λ yes. calm_shuts chunk past off in_time calm) (λ no. nothing Calm past in_time calm)
+      tells_if Calm (nat_le full_chunk (size (logged past) chunk)) past (closes_chunk s chunk (logged past)) (Return (logged past)) (λ yes. calm_shuts chunk past off in_time calm) (λ no. nothing Calm past in_time calm)
 
   -- ---- several chunks close
 
@@ -310,7 +310,7 @@ module _ (s : AllSettings) where
   tells_closes : (cs : List ChunkInfo) (past : Past) → (Allowed s past → AreOpen (logged past) cs) → InTime past → Calm (logged past) → ReturnsTimed Calm past (closes_each s cs (logged past))
   tells_closes [] past are in_time calm = nothing Calm past in_time calm
   tells_closes (c ∷ cs) past are in_time calm =
-      tells_then (CalmOthers c.number (logged past)) Calm past (shuts s c.number (logged past)) (closes_each s cs)
+      tells_then (CalmOthers c.number (logged past)) Calm past (closes_chunk s c.number (logged past)) (closes_each s cs)
       (tells_shuts (CalmOthers c.number (logged past)) (others_tails c.number (logged past)) (λ r h so. (calm_losses r h so.0, so.1)) c.number past (λ due. (are due).0) in_time (calm, others_now c.number (logged past)))
       (λ now grown later so.
       tells_closes cs now (λ due. let was = are (due_grown past now grown due) in still_open c.number (logged past) (logged now) cs so.1 was.1.0 was.1.1) later so.0)

@@ -4,13 +4,13 @@
 //!
 //! A value may be nested 64 deep, so metadata 62 and a record 63. The theorems are
 //! `parsed_events_are_shallow`, `messages_are_shallow` and `filtered_events_stay_shallow`, for any parser,
-//! clock and filters, and `spelled_length_decides`: such events can each be encoded if their encodings have
+//! clock and filters, and `lemma_encoded_length_decides`: such events can each be encoded if their encodings have
 //! at most 16,777,216 bytes.
 #![tactic(auto)]
 
 mod theorems;
 
 pub use theorems::{
-    filtered_events_stay_shallow, messages_are_shallow, parsed_events_are_shallow,
-    spelled_length_decides,
+    filtered_events_stay_shallow, lemma_encoded_length_decides, messages_are_shallow,
+    parsed_events_are_shallow,
 };

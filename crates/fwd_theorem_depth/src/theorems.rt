@@ -33,6 +33,6 @@ pub fn filtered_events_stay_shallow()
 
 /// Shallow events can all be encoded if their encodings have no more bytes than a batch may: a length of
 /// 2^32 or more in one of them would take as many bytes.
-pub fn spelled_length_decides()
+pub fn lemma_encoded_length_decides()
     ensures { (events : List Event) → are_shallow events ≡ true → length (encodings events) ≤ largest_batch → All EventFits events }
 {}

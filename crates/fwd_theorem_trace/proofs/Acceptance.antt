@@ -15,7 +15,7 @@ use Rattle.fwd_model.specs.Settings.{outputs_for, home_at, names_for}
 use Rattle.fwd_model.specs.Chunks.{ChunkInfo, chunks_of, open_chunks, open_chunk, next, records, encoded, is_storable}
 use Rattle.fwd_model.specs.ChunkStorage.{kept_of, name_for}
 use Rattle.fwd_model.specs.Notes.{note_then, is_empty}
-use Rattle.fwd_model.specs.CloseActions.{shuts, closes_if_full}
+use Rattle.fwd_model.specs.CloseActions.{closes_chunk, closes_if_full}
 use Rattle.fwd_model.specs.Acceptance.{Acceptance, taken, ends_refused, refuses, finishes_append, finishes_create, appends, starts_chunk, stores, accepts}
 use Rattle.fwd_model.specs.Run.{RunResult, life}
 use Rattle.fwd_theorem_trace.specs.Past.{Past, logged, past_after}
@@ -91,7 +91,7 @@ module _ (s : AllSettings) where
           let last : Past = entry (Note (Refused b NotStored)) more ∷ entry (Note IoFailed) answer ∷ past in
           let one = open_one b chunk h grows in
           let due : Allowed s last = (record { chunk = chunk; before = h; is = ap (λ (x : History). IoFailed ∷ x) is }, (tt, ready)) in
-          walks_bind (Allowed s) (λ (x : History) (now : Past). (x ≡ logged now) × Keeps (Refused b NotStored) (logged past) now) (λ (a : Acceptance) (now : Past). AcceptanceOutcome s b h a) last (shuts s chunk (logged last)) ends_refused
+          walks_bind (Allowed s) (λ (x : History) (now : Past). (x ≡ logged now) × Keeps (Refused b NotStored) (logged past) now) (λ (a : Acceptance) (now : Past). AcceptanceOutcome s b h a) last (closes_chunk s chunk (logged last)) ends_refused
           (tells_shuts s (Keeps (Refused b NotStored) (logged past)) (keeps_call s (Refused b NotStored) (logged past)) chunk last
           (record { chunk = one.chunk; stands = subst (λ (x : History). Contains (chunks_of x) one.chunk) (sym is) one.stands; is = one.is })
           (due, (here (Refused b NotStored) (IoFailed ∷ logged past), λ n. refl)))

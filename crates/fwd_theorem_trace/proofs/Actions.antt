@@ -36,8 +36,8 @@ use Rattle.fwd_model.specs.Limits.{evicted_at}
 use Rattle.fwd_model.specs.Dispatch.{due_routes, may_start, has_place, fits}
 use Rattle.fwd_model.specs.Notes.{note_then, note}
 use Rattle.fwd_model.specs.ResolveActions.{dropped, drops, after_mark, marks_at, records, marks_or_removes}
-use Rattle.fwd_model.specs.CloseActions.{loses, shuts, closes_if_full, closes_each, closes_all}
-use Rattle.fwd_model.specs.FlushActions.{retries, applies_answer, notes_stage, stands, notes_calls, starts_with, is_complete_read, after_read, begins_as, starts_flush, turn, turns, walk, goes_on, resumes, at_room, at_reply, at_break}
+use Rattle.fwd_model.specs.CloseActions.{loses, closes_chunk, closes_if_full, closes_each, closes_all}
+use Rattle.fwd_model.specs.FlushActions.{retries, applies_answer, notes_stage, stands, notes_calls, starts_with, is_complete_read, after_read, begins_as, starts_flush, starts_if_allowed, starts_each, walk, goes_on, resumes, at_room, at_reply, at_break}
 use Rattle.fwd_theorem_trace.specs.Past.{Past, logged}
 use Rattle.fwd_theorem_trace.specs.Allowed.{IsChunk, IsFinished, FactAllowed, IsAllowed, Allowed}
 use Rattle.fwd_theorem_trace.proofs.Members.{here, deeper}
@@ -248,8 +248,8 @@ module _ (s : AllSettings) (K : Past → Type 0) (stable : IsKept s IsInner K) w
       tells_then at (marks_or_removes s r (logged at)) (loses s rs) (tells_settles r at (shut r (here r rs)) then)
       (λ later grown still. tells_loses rs later (λ q has. shut_since at later q.chunk grown (shut q (deeper r rs q has))) still))
 
-  pub tells_shuts : (chunk : ℕ) (past : Past) → IsChunk (logged past) chunk → Now past → ReturnsHistory past (shuts s chunk (logged past))
-  unfolding shuts
+  pub tells_shuts : (chunk : ℕ) (past : Past) → IsChunk (logged past) chunk → Now past → ReturnsHistory past (closes_chunk s chunk (logged past))
+  unfolding closes_chunk
   tells_shuts chunk past is now =
       deed (ChunkClosed chunk) past (λ at. loses s (evicted_at s at chunk) at) tt is now
       (λ answer then.
@@ -259,12 +259,12 @@ module _ (s : AllSettings) (K : Past → Type 0) (stable : IsKept s IsInner K) w
   pub tells_fills : (chunk : ℕ) (past : Past) → IsChunk (logged past) chunk → Now past → ReturnsHistory past (closes_if_full s chunk (logged past))
   unfolding closes_if_full
   tells_fills chunk past is now =
-      tells_if (nat_le full_chunk (size (logged past) chunk)) past (shuts s chunk (logged past)) (Return (logged past)) (λ yes. tells_shuts chunk past is now) (λ no. nothing past now)
+      tells_if (nat_le full_chunk (size (logged past) chunk)) past (closes_chunk s chunk (logged past)) (Return (logged past)) (λ yes. tells_shuts chunk past is now) (λ no. nothing past now)
 
   tells_closes : (cs : List ChunkInfo) (past : Past) → ((c : ChunkInfo) → Contains cs c → IsChunk (logged past) c.number) → Now past → ReturnsHistory past (closes_each s cs (logged past))
   tells_closes [] past are now = nothing past now
   tells_closes (c ∷ cs) past are now =
-      tells_then past (shuts s c.number (logged past)) (closes_each s cs) (tells_shuts c.number past (are c (here c cs)) now)
+      tells_then past (closes_chunk s c.number (logged past)) (closes_each s cs) (tells_shuts c.number past (are c (here c cs)) now)
       (λ later grown then. tells_closes cs later (λ d has. chunk_later past later d grown (are d (deeper c cs d has))) then)
     where
       chunk_later : (past now : Past) (d : ChunkInfo) → Extends past now → IsChunk (logged past) d.number → IsChunk (logged now) d.number
@@ -340,15 +340,15 @@ module _ (s : AllSettings) (K : Past → Type 0) (stable : IsKept s IsInner K) w
   unfolding starts_flush
   tells_begins r past shut may now = tells_begins_as r (kept_of s (logged past) r.chunk) past shut may now
 
-  tells_turn : (r : Route) (past : Past) → Now past → ReturnsHistory past (turn s r (logged past))
-  unfolding turn
+  tells_turn : (r : Route) (past : Past) → Now past → ReturnsHistory past (starts_if_allowed s r (logged past))
+  unfolding starts_if_allowed
   tells_turn r past now =
       tells_if (may_start s (logged past) r) past (starts_flush s r (logged past)) (Return (logged past))
       (λ may. tells_begins r past (idle_is_shut s (logged past) r (and_parts (is_idle s (logged past) r) (has_place s (logged past) r && fits s (logged past) r) may).0) may now) (λ no. nothing past now)
 
-  tells_turns : (rs : List Route) (past : Past) → Now past → ReturnsHistory past (turns s rs (logged past))
+  tells_turns : (rs : List Route) (past : Past) → Now past → ReturnsHistory past (starts_each s rs (logged past))
   tells_turns [] past now = nothing past now
-  tells_turns (r ∷ rs) past now = tells_then past (turn s r (logged past)) (turns s rs) (tells_turn r past now) (λ later grown then. tells_turns rs later then)
+  tells_turns (r ∷ rs) past now = tells_then past (starts_if_allowed s r (logged past)) (starts_each s rs) (tells_turn r past now) (λ later grown then. tells_turns rs later then)
 
   pub tells_walk : (past : Past) → Now past → ReturnsHistory past (walk s (logged past))
   unfolding walk

@@ -13,7 +13,7 @@ use Rattle.fwd_model.specs.Clock.{stopped, is_close_due}
 use Rattle.fwd_model.specs.Batches.{end_batch}
 use Rattle.fwd_model.specs.Chunks.{ChunkInfo, chunks_of, open_chunks, is_closed}
 use Rattle.fwd_model.specs.Limits.{evicted_at}
-use Rattle.fwd_model.specs.CloseActions.{shuts, closes_each, closes_all}
+use Rattle.fwd_model.specs.CloseActions.{closes_chunk, closes_each, closes_all}
 use Rattle.fwd_model.specs.Acceptance.{ingests}
 use Rattle.fwd_model.specs.FlushActions.{walk}
 use Rattle.fwd_model.specs.InputActions.{polls_all}
@@ -57,8 +57,8 @@ module _ (s : AllSettings) where
   stays_shut K n stable call answer past is due kept = (stable call answer past is due kept.0, shut_call call answer past n kept.1)
 
   shuts_shut : (K : Past → Type 0) (n : ℕ) (past : Past) → IsKept s IsInner K → IsChunk (logged past) n → Allowed s past → K past
-      → Traverses (Allowed s) (λ (h : History) (now : Past). (h ≡ logged now) × (K now × (is_closed (logged now) n ≡ true))) past (shuts s n (logged past))
-  unfolding shuts
+      → Traverses (Allowed s) (λ (h : History) (now : Past). (h ≡ logged now) × (K now × (is_closed (logged now) n ≡ true))) past (closes_chunk s n (logged past))
+  unfolding closes_chunk
   shuts_shut K n past stable is ready kept = (
     ready,
     λ answer.
@@ -78,7 +78,7 @@ module _ (s : AllSettings) where
   closes_shut (c ∷ cs) K past stable are ready kept =
       let K2 : Past → Type 0 = λ (now : Past). K now × (is_closed (logged now) c.number ≡ true) in
       let Q : History → Past → Type 0 = λ (h : History) (now : Past). (h ≡ logged now) × (K now × AreClosed (c ∷ cs) now) in
-      walks_bind (Allowed s) (λ (h : History) (now : Past). (h ≡ logged now) × K2 now) Q past (shuts s c.number (logged past)) (closes_each s cs) (shuts_shut K c.number past stable (are c (here c cs)) ready kept)
+      walks_bind (Allowed s) (λ (h : History) (now : Past). (h ≡ logged now) × K2 now) Q past (closes_chunk s c.number (logged past)) (closes_each s cs) (shuts_shut K c.number past stable (are c (here c cs)) ready kept)
       (λ h now grown then is.
       subst (λ (x : History). Traverses (Allowed s) Q now (closes_each s cs x)) (sym is.0)
       (traverses_map (Allowed s) (λ (h : History) (now : Past). (h ≡ logged now) × (K2 now × AreClosed cs now)) Q now (closes_each s cs (logged now))

@@ -15,7 +15,7 @@ use Rattle.fwd_model.specs.Fact.{Fact, History, Happened, Resumed, Saved, Found}
 use Rattle.fwd_model.specs.Trace.{Answer, Action, TraceEntry, OnLoop, OnDisk, OnFiles, OnKeeper, Note, history_after}
 use Rattle.fwd_model.specs.DeviceActions.{on_disk}
 use Rattle.fwd_model.specs.Settings.{saturating_plus}
-use Rattle.fwd_model.specs.Clock.{clock, clock_after, stopped, ticked}
+use Rattle.fwd_model.specs.Clock.{clock, clock_after, stopped, tick_count}
 use Rattle.fwd_model.specs.Limits.{paused}
 use Rattle.fwd_model.specs.StepActions.{step}
 use Rattle.fwd_model.specs.RecoveryActions.{notes_files, loaded, loads_from, recovers}
@@ -31,7 +31,7 @@ use Rattle.fwd_theorem_trace.proofs.OffsetCalls.{IsOffsetFact, StaysAside, all_t
 use Rattle.fwd_theorem_trace.proofs.Run.{last_due, loading_is_start}
 
 -- the last tick is determined by the events alone
-ticked_same : (h : History) → ticked (events_only h) ≡ ticked h
+ticked_same : (h : History) → tick_count (events_only h) ≡ tick_count h
 ticked_same [] = refl
 ticked_same (Happened (happening.Tick now) ∷ h) = ap (λ n. saturating_plus n 1) (ticked_same h)
 ticked_same (Happened other ∷ h) = ticked_same h
@@ -67,8 +67,8 @@ last_not_over : (s : AllSettings) (ticks : Option ℕ) (x : Happening) (h : Hist
 unfolding is_over
 last_not_over s None x h is = absurd (cc is)
 last_not_over s (Some n) x h is =
-    let parts = and_parts (is_tick x) (ticked h == n && is_none (stopped s h)) is in
-    let none = is_none_at (stopped s h) (and_parts (ticked h == n) (is_none (stopped s h)) parts.1).1 in
+    let parts = and_parts (is_tick x) (tick_count h == n && is_none (stopped s h)) is in
+    let none = is_none_at (stopped s h) (and_parts (tick_count h == n) (is_none (stopped s h)) parts.1).1 in
     subst (λ (at : Option ℕ). is_over_after s x at h ≡ false) (sym none) (not_end s x h parts.0)
 
 -- exactly these events were returned and logged

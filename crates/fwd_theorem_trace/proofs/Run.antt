@@ -15,7 +15,7 @@ use Rattle.fwd_model.specs.Fact.{Fact, History, Happened, Found}
 use Rattle.fwd_model.specs.Trace.{Call, Answer, Action, TraceEntry, OnLoop, OnDisk, OnKeeper, Note, history_after}
 use Rattle.fwd_model.specs.DeviceActions.{on_disk}
 use Rattle.fwd_model.specs.Settings.{saturating_plus}
-use Rattle.fwd_model.specs.Clock.{clock, stopped, ticked}
+use Rattle.fwd_model.specs.Clock.{clock, stopped, tick_count}
 use Rattle.fwd_model.specs.Limits.{paused}
 use Rattle.fwd_model.specs.StepActions.{step}
 use Rattle.fwd_model.specs.RecoveryActions.{notes_files, loaded, loads_from, recovers}
@@ -36,7 +36,7 @@ not_stopped (Some at) is = absurd (cc is)
 
 pub last_due : (s : AllSettings) (n : ℕ) (brings : Happening) (past : Past) → is_last_tick s (Some n) brings (logged past) ≡ true → EventAllowed s happening.Stop past
 last_due s n brings past is =
-    inr (refl, not_stopped (stopped s (logged past)) (and_parts (ticked (logged past) == n) (is_none (stopped s (logged past))) (and_parts (is_tick brings) _ is).1).1)
+    inr (refl, not_stopped (stopped s (logged past)) (and_parts (tick_count (logged past) == n) (is_none (stopped s (logged past))) (and_parts (is_tick brings) _ is).1).1)
 
 -- ---- what holds at each point
 

@@ -27,7 +27,7 @@ use Rattle.fwd_model.specs.Chunks.{ChunkInfo, chunks_of, open_chunks, open_chunk
 use Rattle.fwd_model.specs.ChunkStorage.{kept_of, name_for}
 use Rattle.fwd_model.specs.Limits.{is_paused, paused}
 use Rattle.fwd_model.specs.Notes.{note_then, is_empty}
-use Rattle.fwd_model.specs.CloseActions.{shuts, closes_if_full, closes_all}
+use Rattle.fwd_model.specs.CloseActions.{closes_chunk, closes_if_full, closes_all}
 use Rattle.fwd_model.specs.Acceptance.{Acceptance, taken, refuses, finishes_append, finishes_create, appends, starts_chunk, stores, accepts, ingests}
 use Rattle.fwd_model.specs.FlushActions.{walk}
 use Rattle.fwd_model.specs.InputActions.{hangs_up, after_reply, replies, acknowledges, accepts_messages, accepts_stream, pieces, polled, polls_file, polls_files, polls_input, polls_inputs, polls_all}
@@ -152,7 +152,7 @@ module _ (s : AllSettings) (K : Past → Type 0) (stable : IsKept s IsOuter K) w
               let due : FactAllowed s (Refused b NotStored) at = record { chunk = chunk; before = before; is = ap (λ (h : History). IoFailed ∷ h) is } in
               let ready_last = on (Note (Refused b NotStored)) more at tt due then in
               let one = open_one b chunk before grows in
-              ends_taken false last (shuts s chunk (logged last))
+              ends_taken false last (closes_chunk s chunk (logged last))
               (tells_shuts s K inner chunk last (record { chunk = one.chunk; stands = subst (λ (h : History). Contains (chunks_of h) one.chunk) (sym is) one.stands; is = one.is }) ready_last),
         ),
   )

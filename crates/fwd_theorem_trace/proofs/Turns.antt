@@ -28,7 +28,7 @@ use Rattle.fwd_model.specs.Payloads.{delivery, tag_of_chunk}
 use Rattle.fwd_model.specs.Dispatch.{due_routes, may_start}
 use Rattle.fwd_model.specs.Notes.{note_then, note}
 use Rattle.fwd_model.specs.ResolveActions.{dropped, drops, after_mark, marks_at, records, marks_or_removes}
-use Rattle.fwd_model.specs.FlushActions.{retries, applies_answer, notes_stage, stands, notes_calls, starts_with, is_complete_read, after_read, begins_as, starts_flush, turn, turns, walk}
+use Rattle.fwd_model.specs.FlushActions.{retries, applies_answer, notes_stage, stands, notes_calls, starts_with, is_complete_read, after_read, begins_as, starts_flush, starts_if_allowed, starts_each, walk}
 use Rattle.fwd_theorem_trace.specs.Dispatch.{dialled_by, dials, begun_by, flushes_begun, IsInFile, StartsOnce, IsTurn, MayNot, Starts, InVain, NotHeld, IsDispatched}
 use Rattle.fwd_theorem_trace.proofs.Actions.{OnLinks, links_dialed_on}
 
@@ -206,8 +206,8 @@ module _ (s : AllSettings) where
   turned_by false r h new [] may way = let same : h ≡ new = cc way in (sym same, MayNot may (record { none = refl; same = sym same }))
   turned_by false r h new (e ∷ es) may way = absurd way
 
-  turned : (r : Route) (h new : History) (es : List TraceEntry) → Execution (turn s r h) es (Return new) → Turned h new r es
-  unfolding turn
+  turned : (r : Route) (h new : History) (es : List TraceEntry) → Execution (starts_if_allowed s r h) es (Return new) → Turned h new r es
+  unfolding starts_if_allowed
   turned r h new es way = turned_by (may_start s h r) r h new es refl way
 
 -- a way through an action and its continuation has a part for each
@@ -219,11 +219,11 @@ way_parts (Ask call go) next (e ∷ es) y way =
     let rest = way_parts (go way.0) next es y way.2 in
     (rest.0, e ∷ rest.1, rest.2, ap (λ (l : List TraceEntry). e ∷ l) rest.3, (way.0, way.1, rest.4), rest.5)
 
-turns_walk : (s : AllSettings) (rs : List Route) (h new : History) (es : List TraceEntry) → Execution (turns s rs h) es (Return new) → IsDispatched s rs h es new
+turns_walk : (s : AllSettings) (rs : List Route) (h new : History) (es : List TraceEntry) → Execution (starts_each s rs h) es (Return new) → IsDispatched s rs h es new
 turns_walk s [] h new [] way = let is : h ≡ new = cc way in (refl, sym is)
 turns_walk s [] h new (e ∷ es) way = absurd way
 turns_walk s (r ∷ rs) h new es way =
-    let parts = way_parts (turn s r h) (turns s rs) es new way in
+    let parts = way_parts (starts_if_allowed s r h) (starts_each s rs) es new way in
     let now = turned s r h parts.0 parts.1 parts.4 in (
       parts.1,
       parts.2,

@@ -44,9 +44,9 @@ use Rattle.fwd_model.specs.Limits.{evicted_at, is_paused}
 use Rattle.fwd_model.specs.Dispatch.{due_routes, may_start}
 use Rattle.fwd_model.specs.Notes.{note_then, note, is_empty}
 use Rattle.fwd_model.specs.ResolveActions.{dropped, drops, after_mark, marks_at, records, marks_or_removes}
-use Rattle.fwd_model.specs.CloseActions.{loses, shuts, closes_if_full, closes_each, closes_all}
+use Rattle.fwd_model.specs.CloseActions.{loses, closes_chunk, closes_if_full, closes_each, closes_all}
 use Rattle.fwd_model.specs.Acceptance.{Acceptance, taken, ends_refused, refuses, finishes_append, finishes_create, appends, starts_chunk, stores, accepts, ingests}
-use Rattle.fwd_model.specs.FlushActions.{retries, applies_answer, notes_stage, stands, notes_calls, starts_with, is_complete_read, after_read, begins_as, starts_flush, turn, turns, walk, goes_on, resumes, at_room, at_reply, at_break}
+use Rattle.fwd_model.specs.FlushActions.{retries, applies_answer, notes_stage, stands, notes_calls, starts_with, is_complete_read, after_read, begins_as, starts_flush, starts_if_allowed, starts_each, walk, goes_on, resumes, at_room, at_reply, at_break}
 use Rattle.fwd_model.specs.InputActions.{hangs_up, after_reply, replies, acknowledges, accepts_messages, accepts_stream, pieces, polled, polls_file, polls_files, polls_input, polls_inputs, polls_all}
 use Rattle.fwd_model.specs.StepActions.{closes_and_dispatches, ticks, stops, at_input_end, handles, step}
 use Rattle.fwd_model.specs.RecoveryActions.{notes_files, loaded, loads_from, recovers}
@@ -185,17 +185,17 @@ module _ (s : AllSettings) where
   no_wait_loses [] h = tt
   no_wait_loses (r ∷ rs) h = (refl, λ _. waitless_bind (marks_or_removes s r _) (loses s rs) (no_wait_settles r _) (no_wait_loses rs))
 
-  no_wait_shuts : (chunk : ℕ) (h : History) → IsWaitless (shuts s chunk h)
-  unfolding shuts
+  no_wait_shuts : (chunk : ℕ) (h : History) → IsWaitless (closes_chunk s chunk h)
+  unfolding closes_chunk
   no_wait_shuts chunk h = (refl, λ _. no_wait_loses (evicted_at s (ChunkClosed chunk ∷ h) chunk) (ChunkClosed chunk ∷ h))
 
   no_wait_fills : (chunk : ℕ) (h : History) → IsWaitless (closes_if_full s chunk h)
   unfolding closes_if_full
-  no_wait_fills chunk h = waitless_if (nat_le full_chunk (size h chunk)) (shuts s chunk h) (Return h) (no_wait_shuts chunk h) tt
+  no_wait_fills chunk h = waitless_if (nat_le full_chunk (size h chunk)) (closes_chunk s chunk h) (Return h) (no_wait_shuts chunk h) tt
 
   no_wait_closes : (cs : List ChunkInfo) (h : History) → IsWaitless (closes_each s cs h)
   no_wait_closes [] h = tt
-  no_wait_closes (c ∷ cs) h = waitless_bind (shuts s c.number h) (closes_each s cs) (no_wait_shuts c.number h) (no_wait_closes cs)
+  no_wait_closes (c ∷ cs) h = waitless_bind (closes_chunk s c.number h) (closes_each s cs) (no_wait_shuts c.number h) (no_wait_closes cs)
 
   no_wait_closes_all : (h : History) → IsWaitless (closes_all s h)
   unfolding closes_all
@@ -205,7 +205,7 @@ module _ (s : AllSettings) where
 
   no_wait_appended : (b : Batch) (chunk : ℕ) (h : History) (answer : Option (Unit {0})) → IsWaitless (finishes_append s b chunk h answer)
   no_wait_appended b chunk h (Some done) = (refl, λ _. waitless_bind (closes_if_full s chunk _) taken (no_wait_fills chunk _) (λ _. tt))
-  no_wait_appended b chunk h None = (refl, λ _. (refl, λ _. waitless_bind (shuts s chunk _) ends_refused (no_wait_shuts chunk _) (λ _. tt)))
+  no_wait_appended b chunk h None = (refl, λ _. (refl, λ _. waitless_bind (closes_chunk s chunk _) ends_refused (no_wait_shuts chunk _) (λ _. tt)))
 
   no_wait_placed : (b : Batch) (chunk : ℕ) (h : History) (answer : Option (Unit {0})) → IsWaitless (finishes_create s b chunk h answer)
   no_wait_placed b chunk h (Some done) = (refl, λ _. waitless_bind (closes_if_full s chunk _) taken (no_wait_fills chunk _) (λ _. tt))
@@ -270,13 +270,13 @@ module _ (s : AllSettings) where
   no_wait_begins_as r (Some (InFile head)) h = waitless_disk (read_content_program (InFile head)) _ (no_wait_read_behind r (size_of (InFile head)) h)
   no_wait_begins_as r (Some (Adopted head)) h = waitless_disk (read_content_program (Adopted head)) _ (no_wait_read_behind r (size_of (Adopted head)) h)
 
-  no_wait_turn : (r : Route) (h : History) → IsWaitless (turn s r h)
-  unfolding turn starts_flush
+  no_wait_turn : (r : Route) (h : History) → IsWaitless (starts_if_allowed s r h)
+  unfolding starts_if_allowed starts_flush
   no_wait_turn r h = waitless_if (may_start s h r) (starts_flush s r h) (Return h) (no_wait_begins_as r (kept_of s h r.chunk) h) tt
 
-  no_wait_turns : (rs : List Route) (h : History) → IsWaitless (turns s rs h)
+  no_wait_turns : (rs : List Route) (h : History) → IsWaitless (starts_each s rs h)
   no_wait_turns [] h = tt
-  no_wait_turns (r ∷ rs) h = waitless_bind (turn s r h) (turns s rs) (no_wait_turn r h) (no_wait_turns rs)
+  no_wait_turns (r ∷ rs) h = waitless_bind (starts_if_allowed s r h) (starts_each s rs) (no_wait_turn r h) (no_wait_turns rs)
 
   no_wait_walk : (h : History) → IsWaitless (walk s h)
   unfolding walk

@@ -1,18 +1,18 @@
 use Rattle.std.proofs.Common.{◌∷◌, None, refl}
 use Rattle.std.proofs.lemmas.Bool.{eq-eqb}
 use Rattle.fwd_model.specs.Fact.{ChunkClosed}
-use Rattle.fwd_model.specs.CloseActions.{shuts, loses}
+use Rattle.fwd_model.specs.CloseActions.{closes_chunk, loses}
 use Rattle.fwd_model.specs.Limits.{evicted_at}
 use Rattle.fwd_model.proofs.Refinement.{refines_note_then}
-use Rattle.fwd_engine_inputs.proofs.StreamSteps as input_streams
-use Rattle.fwd_engine_inputs.proofs.FileSteps as followed_files
+use Rattle.fwd_engine_state.proofs.StreamSteps as input_streams
+use Rattle.fwd_engine_state.proofs.FileSteps as followed_files
 use Rattle.fwd_engine_state.specs.PartsRepresent.{PartsRepresentIdle}
 use Rattle.fwd_engine_state.proofs.InvariantSteps.{sound_shut}
 use Rattle.fwd_engine_chunks.specs.Evictions.{IsClosedAtRest}
 use Rattle.fwd_engine_chunks.proofs.closing.close.Goals as goal
 
 pub returns-clause-acts : goal.returns-clause-acts
-unfolding shuts
+unfolding closes_chunk
 returns-clause-acts g c others h closing =
     let s = c.args.run.now in
     let n = c.args.chunk.0 in

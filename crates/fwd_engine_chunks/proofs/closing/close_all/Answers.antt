@@ -4,7 +4,7 @@ use Rattle.fwd_base.specs.declared.ids.ChunkId.{ChunkId}
 use Rattle.fwd_table.specs.Row.{Row}
 use Rattle.fwd_model.specs.Fact.{History}
 use Rattle.fwd_model.specs.Chunks.{ChunkInfo, open_chunks}
-use Rattle.fwd_model.specs.CloseActions.{shuts, closes_all}
+use Rattle.fwd_model.specs.CloseActions.{closes_chunk, closes_all}
 use Rattle.fwd_model.proofs.Actions.{stays, goes_on, leads_bind, begun_bind, begun_trans}
 use Rattle.fwd_model.proofs.Refinement.{refines_err}
 use Rattle.fwd_engine_state.proofs.RowChanges.{mapped_twice}
@@ -22,15 +22,15 @@ loop-chunk-init g c = (
   omega arith,
   λ others h shows.
       let s = c.args.run.now in
-      let call_log : map (λ (chunk : ChunkId). chunk.0) c.deref-chunk-items.result.now ≡ map (λ (c : ChunkInfo). c.number) (open_chunks h) =
+      let numbers_are : map (λ (chunk : ChunkId). chunk.0) c.deref-chunk-items.result.now ≡ map (λ (c : ChunkInfo). c.number) (open_chunks h) =
       ap (map (λ (chunk : ChunkId). chunk.0)) (c.deref-chunk-items.ensures.value ∙ c.in_ok-chunks.ensures)
       ∙ mapped_twice (λ (chunk : ChunkId). chunk.0) (λ (row : Row). row.chunk) (λ (row : Row). row.chunk.0) (λ row. refl) (filter (λ (row : Row). not row.shut) c.table.result.now.rows)
       ∙ ap (λ (rows : List Row). map (λ (row : Row). row.chunk.0) (filter (λ (row : Row). not row.shut) rows)) (c.table.ensures s h None shows.state)
       ∙ rows_open s h shows.state.numbers shows.state.open_owed in (
         h,
         shows,
-        subst (λ (ns : List ℕ). AreOpen h ns) (sym call_log) (all_open h shows.state.numbers),
-        leads_same (with_disk (g.D.Disk.call_log c.args.disk.now) others) _ _ (all_is s h ∙ ap (λ (ns : List ℕ). closes_by s ns h) (sym call_log)),
+        subst (λ (ns : List ℕ). AreOpen h ns) (sym numbers_are) (all_open h shows.state.numbers),
+        leads_same (with_disk (g.D.Disk.call_log c.args.disk.now) others) _ _ (all_is s h ∙ ap (λ (ns : List ℕ). closes_by s ns h) (sym numbers_are)),
       ),
 )
 
@@ -45,7 +45,7 @@ returns-in_err-close-clause-acts g c others h shows =
     let each = rw more at so_far.2 in
     let left = rw more at so_far.3 in
     refines_err _ (closes_all s h) c.from_residual-in_err-close.result c.from_residual-in_err-close.ensures.0
-    (begun_trans left (begun_bind {p = shuts s n so_far.0} (closes_by s ns) (c.in_err-close.ensures.acts others so_far.0 (may_close s c.loop-chunk.parts so_far.0 n so_far.1 each.0 each.1))))
+    (begun_trans left (begun_bind {p = closes_chunk s n so_far.0} (closes_by s ns) (c.in_err-close.ensures.acts others so_far.0 (may_close s c.loop-chunk.parts so_far.0 n so_far.1 each.0 each.1))))
 
 pub loop-chunk-preserved : goal.loop-chunk-preserved
 loop-chunk-preserved g c = (
@@ -61,11 +61,11 @@ loop-chunk-preserved g c = (
       let each = rw more at so_far.2 in
       let left = rw more at so_far.3 in
       let acted = c.in_ok-close.ensures.acts others now (may_close s c.loop-chunk.parts now n so_far.1 each.0 each.1) in
-      let closed : Closed n now acted.result = ended (Closed n now) (shuts s n now) acted.result acted.did (shuts_closed s n now) in (
+      let closed : Closed n now acted.result = ended (Closed n now) (closes_chunk s n now) acted.result acted.did (shuts_closed s n now) in (
         acted.result,
         acted.shows,
         open_still n now acted.result ns closed each.2 each.3,
-        goes_on left (leads_bind {p = shuts s n now} (closes_by s ns) acted.did (stays (with_disk (g.D.Disk.call_log c.close.new.disk) others) (closes_by s ns acted.result))),
+        goes_on left (leads_bind {p = closes_chunk s n now} (closes_by s ns) acted.did (stays (with_disk (g.D.Disk.call_log c.close.new.disk) others) (closes_by s ns acted.result))),
       ),
 )
 

@@ -2,8 +2,8 @@ use Rattle.std.proofs.Common.{arith}
 use Rattle.fwd_engine_chunks.proofs.EncodingLemmas.{encoded_more, events_more, too_long}
 use Rattle.fwd_engine_chunks.proofs.encoding.encoding.Goals as goal
 
-pub returns-then-len-gt-LARGEST_BATCH-clause-spelled : goal.returns-then-len-gt-LARGEST_BATCH-clause-spelled
-returns-then-len-gt-LARGEST_BATCH-clause-spelled c =
+pub returns-then-len-gt-LARGEST_BATCH-clause-encoded : goal.returns-then-len-gt-LARGEST_BATCH-clause-encoded
+returns-then-len-gt-LARGEST_BATCH-clause-encoded c =
     let items = c.as_slice-event-items.result.now in
     let i = c.loop-event.event-index in
     let e = c.event-item.result in

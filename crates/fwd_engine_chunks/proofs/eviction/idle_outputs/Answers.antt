@@ -11,7 +11,7 @@ pub loop-number-preserved : goal.loop-number-preserved
 loop-number-preserved c h out stands =
     let s = c.args.run.now in
     let p : ℕ → Bool = λ output. is_idle s h (route c.args.chunk.0 output) in
-    let call_log = c.is_idle.ensures s h out stands in
+    let answered = c.is_idle.ensures s h out stands in
     let before = c.loop-number.invariant h out stands in
     elim c.if-is_idle.branch [
       | then-is_idle+in_ok-push w ↦
@@ -19,11 +19,11 @@ loop-number-preserved c h out stands =
           ∙ ap (map (λ (output : OutputId). output.0)) w.in_ok-push.ensures.items
           ∙ map_push (λ (output : OutputId). output.0) c.loop-number.outputs.items _
           ∙ ap (λ (l : List ℕ). l ++ c.loop-number.number ∷ []) before
-          ∙ sym (number_more p c.loop-number.number (sym call_log ∙ w.if-is_idle.true))
+          ∙ sym (number_more p c.loop-number.number (sym answered ∙ w.if-is_idle.true))
       | else-is_idle w ↦
           ap (λ (v : Vec OutputId Global). map (λ (output : OutputId). output.0) v.items) w.outputs-is
           ∙ before
-          ∙ sym (number_same p c.loop-number.number (sym call_log ∙ w.if-is_idle.false))
+          ∙ sym (number_same p c.loop-number.number (sym answered ∙ w.if-is_idle.false))
     ]
 
 pub returns : goal.returns

@@ -2,15 +2,15 @@ use Rattle.std.proofs.Common.{◌≡◌, true, false, ◌∷◌, Some, None, ref
 use Rattle.fwd_outside.specs.Program.{bind}
 use Rattle.fwd_model.specs.Fact.{History, Offered, IoFailed, Refused, NotStored}
 use Rattle.fwd_model.specs.Notes.{note_then}
-use Rattle.fwd_model.specs.CloseActions.{shuts}
+use Rattle.fwd_model.specs.CloseActions.{closes_chunk}
 use Rattle.fwd_model.specs.Acceptance.{ends_refused, refuses}
 use Rattle.fwd_model.proofs.Actions.{fact_noted, begun_bind, begun_trans}
 use Rattle.fwd_model.proofs.Refinement.{completes_note_then, completes_idle, refines_err}
 use Rattle.fwd_model.specs.Chunks.{next}
 use Rattle.fwd_engine_state.specs.StateRepresents.{is_open}
 use Rattle.fwd_engine_state.proofs.OtherFacts.{state_after_other_fact as state_stays}
-use Rattle.fwd_engine_inputs.proofs.StreamSteps as input_streams
-use Rattle.fwd_engine_inputs.proofs.FileSteps as followed_files
+use Rattle.fwd_engine_state.proofs.StreamSteps as input_streams
+use Rattle.fwd_engine_state.proofs.FileSteps as followed_files
 use Rattle.fwd_engine_state.proofs.OtherStoreFacts.{store_after_other_fact}
 use Rattle.fwd_engine_state.specs.PartsRepresent.{PartsRepresentIdle, IsClosing}
 use Rattle.fwd_engine_state.proofs.InvariantSteps.{sound_after_fact}
@@ -30,8 +30,8 @@ returns-in_err-close-clause-acts g c others h b input ahead was_open =
     let closing : IsClosing s _ last n = closing_failed s c.args.parts.now _ h b n is_ahead opened refl refl refl state in
     rw c.in-Some.is
     (refines_err (RepresentsBatch s _) _ c.from_residual.result c.from_residual.ensures.0
-    (begun_trans (fact_noted _ IoFailed (λ _. note_then (Refused b NotStored) (IoFailed ∷ offered) (λ (at : History). bind (shuts s n at) ends_refused)))
-    (begun_trans (fact_noted _ (Refused b NotStored) (λ _. bind (shuts s n last) ends_refused)) (begun_bind ends_refused (c.in_err-close.ensures.acts others last closing)))))
+    (begun_trans (fact_noted _ IoFailed (λ _. note_then (Refused b NotStored) (IoFailed ∷ offered) (λ (at : History). bind (closes_chunk s n at) ends_refused)))
+    (begun_trans (fact_noted _ (Refused b NotStored) (λ _. bind (closes_chunk s n last) ends_refused)) (begun_bind ends_refused (c.in_err-close.ensures.acts others last closing)))))
 
 pub returns-in_ok-close-clause-acts : goal.returns-in_ok-close-clause-acts
 returns-in_ok-close-clause-acts g c others h b input ahead was_open =
@@ -44,9 +44,9 @@ returns-in_ok-close-clause-acts g c others h b input ahead was_open =
     let state = c.count_refused.ensures.batch b NotStored input s (IoFailed ∷ offered) None (c.count_fault.ensures.notes s offered None (state_stays s _ h None (Offered n b) refl is_ahead.state)) in
     let closing : IsClosing s _ last n = closing_failed s c.args.parts.now _ h b n is_ahead opened refl refl refl state in
     rw c.in-Some.is
-    (completes_note_then (RepresentsBatch s _ false) _ _ IoFailed offered (λ (at : History). note_then (Refused b NotStored) at (λ (at : History). bind (shuts s n at) ends_refused))
-    (completes_note_then (RepresentsBatch s _ false) _ _ (Refused b NotStored) (IoFailed ∷ offered) (λ (at : History). bind (shuts s n at) ends_refused)
-    (given_up_behind s _ _ _ (shuts s n last) (c.in_ok-close.ensures.acts others last closing))))
+    (completes_note_then (RepresentsBatch s _ false) _ _ IoFailed offered (λ (at : History). note_then (Refused b NotStored) at (λ (at : History). bind (closes_chunk s n at) ends_refused))
+    (completes_note_then (RepresentsBatch s _ false) _ _ (Refused b NotStored) (IoFailed ∷ offered) (λ (at : History). bind (closes_chunk s n at) ends_refused)
+    (given_up_behind s _ _ _ (closes_chunk s n last) (c.in_ok-close.ensures.acts others last closing))))
 
 pub returns-in_default-clause-acts : goal.returns-in_default-clause-acts
 returns-in_default-clause-acts g c others h b input ahead was_open =

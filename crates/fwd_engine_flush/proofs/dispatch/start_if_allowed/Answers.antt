@@ -4,7 +4,7 @@ use Rattle.fwd_settings.specs.declared.settings_types.AllSettings.{AllSettings}
 use Rattle.fwd_model.specs.Fact.{History, Route}
 use Rattle.fwd_model.specs.Routes.{is_idle}
 use Rattle.fwd_model.specs.Dispatch.{may_start}
-use Rattle.fwd_model.specs.FlushActions.{turn}
+use Rattle.fwd_model.specs.FlushActions.{starts_if_allowed}
 use Rattle.fwd_model.proofs.Refinement.{completes_idle}
 use Rattle.fwd_engine_state.specs.Views.{route_of}
 use Rattle.fwd_engine_state.proofs.CounterSteps.{no_event_first}
@@ -14,7 +14,7 @@ idle_first : (s : AllSettings) (h : History) (r : Route) → may_start s h r ≡
 idle_first s h r may = elim (cases_Bool (is_idle s h r)) [ inl is ↦ is | inr isnt ↦ absurd (cc (rw isnt at may)) ]
 
 pub returns-then-may_start-clause-acts : goal.returns-then-may_start-clause-acts
-unfolding turn
+unfolding starts_if_allowed
 returns-then-may_start-clause-acts g c others h shows =
     let s = c.args.run.now in
     let r = route_of c.args.route in
@@ -22,7 +22,7 @@ returns-then-may_start-clause-acts g c others h shows =
     rw may (c.begin.ensures.acts others h shows (idle_first s h r may))
 
 pub returns-else-may_start-clause-acts : goal.returns-else-may_start-clause-acts
-unfolding turn
+unfolding starts_if_allowed
 returns-else-may_start-clause-acts g c others h shows =
     let s = c.args.run.now in
     let r = route_of c.args.route in

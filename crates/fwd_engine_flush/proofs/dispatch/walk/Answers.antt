@@ -1,6 +1,6 @@
 use Rattle.std.proofs.Common.{None, ◌∙◌, ◌+◌, drop, map, ap, arith}
 use Rattle.std.proofs.lemmas.List.{drop_more, drop_all}
-use Rattle.fwd_model.specs.FlushActions.{walk, turns}
+use Rattle.fwd_model.specs.FlushActions.{walk, starts_each}
 use Rattle.fwd_model.proofs.Actions.{goes_on, leads_bind, stays, begun_bind, begun_trans}
 use Rattle.fwd_model.proofs.Refinement.{refines_err}
 use Rattle.fwd_engine_state.specs.Views.{route_of}
@@ -23,8 +23,8 @@ loop-route-init g c = (
   as_many (g.L.Loop.faults c.args.outside.now),
   as_many (g.D.Disk.faults c.args.disk.now),
   λ others h shows.
-      let call_log = ap (map route_of) c.deref-route-items.ensures.value ∙ c.in_ok-routes.ensures.routes c.args.run.now h None shows.state in
-      (h, record { state = c.in_ok-routes.ensures.keeps c.args.run.now h None shows.state; input_streams = shows.input_streams; followed_files = shows.followed_files; store = shows.store; sound = shows.sound }, rw (walk_is c.args.run.now h _ call_log) (stays (with_both (g.L.Loop.call_log c.args.outside.now) (g.D.Disk.call_log c.args.disk.now) others) _)),
+      let are_due = ap (map route_of) c.deref-route-items.ensures.value ∙ c.in_ok-routes.ensures.routes c.args.run.now h None shows.state in
+      (h, record { state = c.in_ok-routes.ensures.keeps c.args.run.now h None shows.state; input_streams = shows.input_streams; followed_files = shows.followed_files; store = shows.store; sound = shows.sound }, rw (walk_is c.args.run.now h _ are_due) (stays (with_both (g.L.Loop.call_log c.args.outside.now) (g.D.Disk.call_log c.args.disk.now) others) _)),
   omega (arith, c.in_ok-routes.ensures.damaged),
 )
 
@@ -35,7 +35,7 @@ returns-in_err-start_if_allowed-clause-acts g c others h shows =
     let none : RouteId = record { chunk = record { 0 = 0 }; output = record { 0 = 0 } } in
     let left = rw (drop_more c.deref-route-items.result.now c.loop-route.route-index none c.loop-route-test.true) at so_far.2 in
     refines_err _ _ c.from_residual-in_err-start_if_allowed.result c.from_residual-in_err-start_if_allowed.ensures.0
-    (begun_trans left (begun_bind (turns s (map route_of (drop (c.loop-route.route-index + 1) c.deref-route-items.result.now))) (c.in_err-start_if_allowed.ensures.acts others so_far.0 so_far.1)))
+    (begun_trans left (begun_bind (starts_each s (map route_of (drop (c.loop-route.route-index + 1) c.deref-route-items.result.now))) (c.in_err-start_if_allowed.ensures.acts others so_far.0 so_far.1)))
 
 pub loop-route-preserved : goal.loop-route-preserved
 loop-route-preserved g c = (
@@ -48,7 +48,7 @@ loop-route-preserved g c = (
       let none : RouteId = record { chunk = record { 0 = 0 }; output = record { 0 = 0 } } in
       let left = rw (drop_more c.deref-route-items.result.now c.loop-route.route-index none c.loop-route-test.true) at so_far.2 in
       let acted = c.in_ok-start_if_allowed.ensures.acts others so_far.0 so_far.1 in
-      (acted.result, acted.shows, goes_on left (leads_bind (turns s (map route_of (drop (c.loop-route.route-index + 1) c.deref-route-items.result.now))) acted.did (stays _ _))),
+      (acted.result, acted.shows, goes_on left (leads_bind (starts_each s (map route_of (drop (c.loop-route.route-index + 1) c.deref-route-items.result.now))) acted.did (stays _ _))),
   omega arith,
 )
 

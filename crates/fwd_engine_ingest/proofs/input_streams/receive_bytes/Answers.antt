@@ -4,8 +4,8 @@ use Rattle.fwd_model.specs.Fact.{History, LineStream, MessageStream, Standard, H
 use Rattle.fwd_model.specs.Streams.{stream_of}
 use Rattle.fwd_model.specs.InputActions.{accepts_stream}
 use Rattle.fwd_model.proofs.Refinement.{completes_note_then, completes_idle}
-use Rattle.fwd_engine_inputs.proofs.StreamSteps.{streams_after_unread_bytes}
-use Rattle.fwd_engine_inputs.specs.StreamsRepresent.{stream_of_kind}
+use Rattle.fwd_engine_state.proofs.StreamSteps.{streams_after_unread_bytes}
+use Rattle.fwd_engine_state.specs.StreamsRepresent.{stream_of_kind}
 use Rattle.fwd_engine_state.specs.PartsRepresent.{PartsRepresentIdle}
 use Rattle.fwd_engine_ingest.proofs.StreamFactSteps.{represents_by_streams, step_piece}
 use Rattle.fwd_engine_ingest.proofs.input_streams.receive_bytes.Goals as goal

@@ -7,7 +7,7 @@ use Rattle.fwd_engine_recovery.proofs.pending_outputs.remaining_outputs.Goals as
 use Rattle.fwd_engine_recovery.proofs.pending_outputs.remaining_outputs.Goals.{then-is_remaining, else-is_remaining}
 
 pub loop-output-init : goal.loop-output-init
-loop-output-init c = left_none (λ output. not (list_any (λ other. bytes_eq other (output_name c.args.run.now output)) c.args.done.now)) c.owed-owed.result
+loop-output-init c = left_none (λ output. not (list_any (λ other. bytes_eq other (output_name c.args.run.now output)) c.args.done.now)) c.args.routes
 
 pub loop-output-preserved : goal.loop-output-preserved
 loop-output-preserved c =
@@ -15,26 +15,26 @@ loop-output-preserved c =
     let n = c.loop-output.output in
     let within : n < 64 = omega (arith, c.loop-output-test.true) in
     elim c.if-is_remaining.branch [
-      | then-is_remaining w ↦ rw w.left-is (left_yes p c.owed-owed.result n c.loop-output.left within (sym c.is_remaining.ensures ∙ w.if-is_remaining.true) c.loop-output.invariant)
-      | else-is_remaining w ↦ rw w.left-is (left_no p c.owed-owed.result n c.loop-output.left (sym c.is_remaining.ensures ∙ w.if-is_remaining.false) c.loop-output.invariant)
+      | then-is_remaining w ↦ rw w.left-is (left_yes p c.args.routes n c.loop-output.left within (sym c.is_remaining.ensures ∙ w.if-is_remaining.true) c.loop-output.invariant)
+      | else-is_remaining w ↦ rw w.left-is (left_no p c.args.routes n c.loop-output.left (sym c.is_remaining.ensures ∙ w.if-is_remaining.false) c.loop-output.invariant)
     ]
 
 pub returns-then-left-eq0 : goal.returns-then-left-eq0
-returns-then-left-eq0 c =
+returns-then-left-eq0 c tag are =
     let p : ℕ → Bool = λ output. not (list_any (λ other. bytes_eq other (output_name c.args.run.now output)) c.args.done.now) in
     let test = c.loop-output-test.false in
     let end = c.loop-output.auto.output-end in
     let all : c.loop-output.output ≡ 64 = omega (arith, test, end) in
-    let left = subst (λ (n : ℕ). Left p c.owed-owed.result n c.loop-output.left) all c.loop-output.invariant in
-    nothing_left p c.owed-owed.result c.loop-output.left (outputs_for c.args.run.now c.args.tag.now) c.owed-owed.ensures.routes left c.if-left-eq0.true
+    let left = subst (λ (n : ℕ). Left p c.args.routes n c.loop-output.left) all c.loop-output.invariant in
+    nothing_left p c.args.routes c.loop-output.left (outputs_for c.args.run.now tag) are left c.if-left-eq0.true
 
 pub returns-else-left-eq0 : goal.returns-else-left-eq0
-returns-else-left-eq0 c =
+returns-else-left-eq0 c tag are =
     let p : ℕ → Bool = λ output. not (list_any (λ other. bytes_eq other (output_name c.args.run.now output)) c.args.done.now) in
     let test = c.loop-output-test.false in
     let end = c.loop-output.auto.output-end in
     let all : c.loop-output.output ≡ 64 = omega (arith, test, end) in
-    let left = subst (λ (n : ℕ). Left p c.owed-owed.result n c.loop-output.left) all c.loop-output.invariant in (
-      left_all p c.owed-owed.result c.loop-output.left (outputs_for c.args.run.now c.args.tag.now) c.owed-owed.ensures.routes left,
-      something_left p c.owed-owed.result c.loop-output.left (outputs_for c.args.run.now c.args.tag.now) c.owed-owed.ensures.routes left c.if-left-eq0.false,
+    let left = subst (λ (n : ℕ). Left p c.args.routes n c.loop-output.left) all c.loop-output.invariant in (
+      left_all p c.args.routes c.loop-output.left (outputs_for c.args.run.now tag) are left,
+      something_left p c.args.routes c.loop-output.left (outputs_for c.args.run.now tag) are left c.if-left-eq0.false,
     )

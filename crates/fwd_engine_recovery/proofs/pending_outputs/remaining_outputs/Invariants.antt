@@ -6,4 +6,4 @@ use Rattle.fwd_engine_recovery.proofs.OutputMask.{Left}
 use Rattle.fwd_engine_recovery.proofs.pending_outputs.remaining_outputs.Given as goal
 
 abbrev pub invariant-loop-output : goal.invariant-loop-output
-invariant-loop-output l = Left (λ output. not (list_any (λ other. bytes_eq other (output_name l.run output)) l.done)) l.owed l.output l.left
+invariant-loop-output l = Left (λ output. not (list_any (λ other. bytes_eq other (output_name l.run output)) l.done)) l.routes l.output l.left

@@ -9,7 +9,7 @@ use Rattle.fwd_engine_run.proofs.RunTurns.{keeps_stepped, put_more, put_over, pu
 use Rattle.fwd_engine_run.proofs.run_loop.take.Goals as goal
 
 pub returns-in-More-clause-goes : goal.returns-in-More-clause-goes
-returns-in-More-clause-goes g c others s h next at keeps =
+returns-in-More-clause-goes g c next others s h at keeps =
     let x = c.args.happening in
     let kept : CallLogs = with_keeper (g.K.Keeper.call_log c.args.keeper.now) others in
     let a : CallLogs = with_all (g.L.Loop.call_log c.args.outside.now) (g.D.Disk.call_log c.args.disk.now) (g.F.Files.call_log c.args.files.now) kept in
@@ -23,7 +23,7 @@ returns-in-More-clause-goes g c others s h next at keeps =
     (c.unless_last.ensures.goes (with_keeper (g.K.Keeper.call_log c.put.new.keeper) others) s goes.0 next x c.put.new.self (sym c.is_clock_tick-reads.ensures) goes.1 goes.2)
 
 pub returns-in-Over-clause-goes : goal.returns-in-Over-clause-goes
-returns-in-Over-clause-goes g c others s h next at keeps =
+returns-in-Over-clause-goes g c next others s h at keeps =
     let x = c.args.happening in
     let kept : CallLogs = with_keeper (g.K.Keeper.call_log c.args.keeper.now) others in
     let a : CallLogs = with_all (g.L.Loop.call_log c.args.outside.now) (g.D.Disk.call_log c.args.disk.now) (g.F.Files.call_log c.args.files.now) kept in
@@ -35,7 +35,7 @@ returns-in-Over-clause-goes g c others s h next at keeps =
     put_over a b s c.args.ticks h next c.step.new.self x w c.put.new.self steps put
 
 pub returns-in-Err-put-clause-goes : goal.returns-in-Err-put-clause-goes
-returns-in-Err-put-clause-goes g c others s h next at keeps =
+returns-in-Err-put-clause-goes g c next others s h at keeps =
     let x = c.args.happening in
     let kept : CallLogs = with_keeper (g.K.Keeper.call_log c.args.keeper.now) others in
     let a : CallLogs = with_all (g.L.Loop.call_log c.args.outside.now) (g.D.Disk.call_log c.args.disk.now) (g.F.Files.call_log c.args.files.now) kept in
@@ -47,5 +47,5 @@ returns-in-Err-put-clause-goes g c others s h next at keeps =
     (c.in-Err-put.ensures.puts stepped s steps.1.history (goes_on s (unless_last s c.args.ticks next x) x) steps.1.at (keeps_stepped s c.args.offsets.now h x c.step.new.self c.in-Ok.turn steps.1 keeps))
 
 pub returns-in-Err-clause-goes : goal.returns-in-Err-clause-goes
-returns-in-Err-clause-goes g c others s h next at keeps =
+returns-in-Err-clause-goes g c next others s h at keeps =
     took_so _ _ s c.args.ticks h next c.step.new.self c.args.happening c.args.offsets.now c.in-Err.fault (c.in-Err.ensures.steps (with_keeper (g.K.Keeper.call_log c.args.keeper.now) others) s h at)

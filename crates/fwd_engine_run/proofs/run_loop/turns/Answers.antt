@@ -27,7 +27,7 @@ returns-in-Ok-Over-clause-runs g c others s h at keeps =
     let so_far = c.loop.invariant.5 others s h at keeps in
     let turned = rw c.in-Ok-Over.field-0-is at
     (one_more _ _ _ s c.args.ticks c.args.most c.loop.counter h so_far.0 c.turn.new.engine c.turn.new.offsets (Ok c.in-Ok-Over.field-0) c.loop-test.true so_far.3
-    (c.in-Ok-Over.ensures.goes others s so_far.0 (c.args.most - (c.loop.counter + 1)) so_far.1 so_far.2)) in
+    (c.in-Ok-Over.ensures.goes (c.args.most - (c.loop.counter + 1)) others s so_far.0 so_far.1 so_far.2)) in
     record { history = turned.0; did = turned.2; at = turned.1 }
 
 pub returns-in-Err-LoopFault-clause-runs : goal.returns-in-Err-LoopFault-clause-runs
@@ -35,7 +35,7 @@ returns-in-Err-LoopFault-clause-runs g c others s h at keeps =
     let so_far = c.loop.invariant.5 others s h at keeps in
     let turned = rw c.in-Err-LoopFault.field-0-is at
     (one_more _ _ _ s c.args.ticks c.args.most c.loop.counter h so_far.0 c.turn.new.engine c.turn.new.offsets (Err c.in-Err-LoopFault.field-0) c.loop-test.true so_far.3
-    (c.in-Err-LoopFault.ensures.goes others s so_far.0 (c.args.most - (c.loop.counter + 1)) so_far.1 so_far.2)) in
+    (c.in-Err-LoopFault.ensures.goes (c.args.most - (c.loop.counter + 1)) others s so_far.0 so_far.1 so_far.2)) in
     record { history = turned.0; did = turned.1; at = tt }
 
 pub returns-in-Err-Memory-clause-runs : goal.returns-in-Err-Memory-clause-runs
@@ -43,7 +43,7 @@ returns-in-Err-Memory-clause-runs g c others s h at keeps =
     let so_far = c.loop.invariant.5 others s h at keeps in
     rw c.in-Err-Memory.field-0-is at
     (one_more _ _ _ s c.args.ticks c.args.most c.loop.counter h so_far.0 c.turn.new.engine c.turn.new.offsets (Err c.in-Err-Memory.field-0) c.loop-test.true so_far.3
-    (c.in-Err-Memory.ensures.goes others s so_far.0 (c.args.most - (c.loop.counter + 1)) so_far.1 so_far.2))
+    (c.in-Err-Memory.ensures.goes (c.args.most - (c.loop.counter + 1)) others s so_far.0 so_far.1 so_far.2))
 
 pub loop-preserved : goal.loop-preserved
 loop-preserved g c = (
@@ -56,7 +56,7 @@ loop-preserved g c = (
       let so_far = c.loop.invariant.5 others s h at keeps in
       rw c.in-Ok-More.field-0-is at
       (one_more _ _ _ s c.args.ticks c.args.most c.loop.counter h so_far.0 c.turn.new.engine c.turn.new.offsets (Ok c.in-Ok-More.field-0) c.loop-test.true so_far.3
-      (c.in-Ok-More.ensures.goes others s so_far.0 (c.args.most - (c.loop.counter + 1)) so_far.1 so_far.2)),
+      (c.in-Ok-More.ensures.goes (c.args.most - (c.loop.counter + 1)) others s so_far.0 so_far.1 so_far.2)),
 )
 
 pub returns-clause-runs : goal.returns-clause-runs

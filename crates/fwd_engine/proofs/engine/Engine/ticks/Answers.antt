@@ -2,4 +2,4 @@ use Rattle.std.proofs.Common.{None}
 use Rattle.fwd_engine.proofs.engine.Engine.ticks.Goals as goal
 
 pub returns : goal.returns
-returns c s h at = c.ticked.ensures s h None at.shows.state
+returns c s h at = c.ticks.ensures s h None at.shows.state
