@@ -16,7 +16,7 @@ use Rattle.fwd_replay.specs.declared.report.Ending.{Ending}
 use Rattle.fwd_replay.specs.declared.report.Ending.TheVariants as ending
 use Rattle.fwd_replay.specs.declared.report.Reported.{Reported}
 use Rattle.fwd_top.specs.Words.{Command, Run, ListFolder, command_of}
-use Rattle.fwd_top.specs.Cases.{Case, Refuses, asked, asks, AreSettingsOf}
+use Rattle.fwd_top.specs.Cases.{AreSound, Case, Refuses, asked, asks, AreSettingsOf, settings_for}
 use Rattle.fwd_top.specs.declared.status.Status.{Status}
 use Rattle.fwd_top.specs.declared.status.Status.TheVariants as status
 use Rattle.fwd_top.specs.Outcomes.{Platform, platform_of, AreNotCalled, Produces}
@@ -44,10 +44,12 @@ status_of ending.Memory = status.Memory
 abbrev pub of_reported : Reported → Verdict
 of_reported reported = says reported.text (status_of reported.ending)
 
--- what came of a case, and what holds of it: each of its runs keeps the delivery guarantee, no crash loses a
--- pending chunk, and each kept offset of a followed file has nothing lost before it
+-- What came of a case, and what holds of it: its settings meet what an engine requires, each of its runs keeps
+-- the delivery guarantee, no crash loses a pending chunk, and each kept offset of a followed file has nothing
+-- lost before it.
 pub record Outcome (turns : ℕ) (case : Case) (old new : Platform) (reported : Reported) : Type 0 where
   pub comes : Produces turns case old new reported
+  pub sound : AreSound (settings_for case)
   pub delivered : IsDelivered turns case old new reported comes
   pub safe : IsCrashConsistent turns case old new reported comes
   pub offsets : EachRunKeepsOffsets turns case old new reported comes

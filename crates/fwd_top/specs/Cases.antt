@@ -11,6 +11,7 @@ use Rattle.fwd_config.specs.declared.fault.ConfigFault.{ConfigFault}
 use Rattle.fwd_config.specs.declared.fault.ConfigKind.{ConfigKind}
 use Rattle.fwd_config.specs.declared.fault.ConfigKind.TheVariants as config_kind
 use Rattle.fwd_settings.specs.Reading.{Checked, IsResult}
+use Rattle.fwd_settings.specs.Requirements.{MeetsRequirements}
 use Rattle.fwd_settings.specs.Settings.{settings_of}
 use Rattle.fwd_settings.specs.declared.settings_types.AllSettings.{AllSettings}
 use Rattle.fwd_settings_schema.specs.declared.fault.SettingFault.{SettingFault}
@@ -33,6 +34,19 @@ pub data Case : Type 0 where
   Runs : AllSettings → (ticks : Option ℕ) → Case
   Lists : (root : List ℕ) → Case
   Refuses : Status → Case
+
+-- the settings of a case, which a listing and a refusal have none of
+abbrev pub settings_for : Case → Option AllSettings
+settings_for (Replays s lives) = Some s
+settings_for (Generates s lives) = Some s
+settings_for (Runs s ticks) = Some s
+settings_for (Lists root) = None
+settings_for (Refuses other) = None
+
+-- they meet what an engine requires
+abbrev pub AreSound : Option AllSettings → Type 0
+AreSound (Some s) = MeetsRequirements s
+AreSound None = Unit {0}
 
 -- what is to be done with the settings of a configuration
 pub data Wanted : Type 0 where

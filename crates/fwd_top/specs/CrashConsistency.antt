@@ -5,10 +5,10 @@ use Rattle.fwd_outside.specs.AtCrashPoints.{AtCrashPoints}
 use Rattle.fwd_outside.specs.DiskStates.{Files}
 use Rattle.fwd_backlog.specs.Recovered.{AreDurable}
 use Rattle.fwd_settings.specs.declared.settings_types.AllSettings.{AllSettings}
-use Rattle.fwd_settings.specs.Requirements.{MeetsRequirements}
 use Rattle.fwd_model.specs.Trace.{TraceEntry}
 use Rattle.fwd_theorem_crash.specs.CrashPoint.{crash_point, LeadsTo}
 use Rattle.fwd_theorem_crash.specs.Safety.{IsSafe}
+use Rattle.fwd_theorem_survival.specs.Survival.{KeepsAccepted}
 use Rattle.fwd_theorem_replay.specs.Crashes.{NothingIsLost}
 use Rattle.fwd_replay.specs.LiveRun.{IsRunLive}
 use Rattle.fwd_replay.specs.Runs.{first}
@@ -17,16 +17,18 @@ use Rattle.fwd_replay.specs.declared.report.Shown.TheVariants.{All, Report}
 use Rattle.fwd_top.specs.Cases.{Case, Replays, Generates, Runs, Lists, Refuses}
 use Rattle.fwd_top.specs.Outcomes.{Platform, Produces, world}
 
--- settings of a configuration with which each append is fsynced
-pub record AreSynced (s : AllSettings) : Type 0 where
-  pub sound : MeetsRequirements s
-  pub full : s.service.full ≡ true
+-- with these settings, each append is fsynced
+abbrev pub AreSynced : AllSettings → Type 0
+AreSynced s = s.service.full ≡ true
 
--- From each disk without unsynced state that could have answered this way, each point of these calls is
--- safe: whatever a crash leaves has the file of each pending chunk, whole.
-abbrev pub AreSafe : AllSettings → List TraceEntry → Type 0
-AreSafe s entries =
-    (start : Files) → AreDurable start → AtCrashPoints LeadsTo (IsSafe s start) (crash_point [] start) entries
+-- Points of these calls, from each disk without unsynced state that could have answered this way.
+pub record AreSafe (s : AllSettings) (entries : List TraceEntry) : Type 0 where
+  -- whatever a crash leaves has the file of each pending chunk, whole
+  pub files : (start : Files) → AreDurable start
+      → AtCrashPoints LeadsTo (IsSafe s start) (crash_point [] start) entries
+  -- and the next run has each batch that was accepted before; each message that was answered is one of these
+  pub accepted : (start : Files) → AreDurable start
+      → AtCrashPoints LeadsTo (KeepsAccepted s) (crash_point [] start) entries
 
 -- a run over devices, with a call log or not, to its end or to where memory ran out
 abbrev pub RunIsSafe : (s : AllSettings) (ticks : Option ℕ) (turns : ℕ) (old new : Platform)

@@ -13,7 +13,6 @@ use Rattle.fwd_settings_schema.specs.declared.error_kind.SettingKind.{SettingKin
 use Rattle.fwd_settings_schema.specs.declared.error_kind.SettingKind.TheVariants as setting_kind
 use Rattle.fwd_settings.specs.Reading.{Checked, IsResult}
 use Rattle.fwd_settings.specs.Settings.{settings_of}
-use Rattle.fwd_settings.specs.Requirements.{MeetsRequirements}
 use Rattle.fwd_settings.specs.declared.settings_types.AllSettings.{AllSettings}
 use Rattle.fwd_files_mem.specs.FilesState.{FilesState}
 use Rattle.fwd_files_mem.specs.declared.files.FilesNote.TheVariants.{Preset}
@@ -23,7 +22,7 @@ use Rattle.fwd_replay.specs.Load.{config_text, schedule_text}
 use Rattle.fwd_replay.specs.LiveRun.{heard_in}
 use Rattle.fwd_replay.specs.declared.report.Ending.TheVariants as ending
 use Rattle.fwd_replay.specs.declared.report.Reported.{Reported}
-use Rattle.fwd_top.specs.Cases.{Case, Runs, Refuses, Wanted, ToRun, ToReplay, AreSettingsOf, Replays, Generates, Lists, asked, load_config, load_schedule, of_config, of_load, refused_by, with_settings}
+use Rattle.fwd_top.specs.Cases.{Case, Runs, Refuses, Wanted, ToRun, ToReplay, AreSettingsOf, Replays, Generates, Lists, asked, load_config, load_schedule, of_config, of_load, refused_by, with_settings, settings_for}
 use Rattle.fwd_top.specs.Answers.{Verdict, WroteIt, WroteAPrefix}
 use Rattle.fwd_top.specs.declared.job.Job.{Job}
 use Rattle.fwd_top.specs.declared.job.Job.TheVariants as job
@@ -44,15 +43,7 @@ of_job (job.List folder) = Lists folder
 
 -- the settings of a job, which a listing has none of
 abbrev pub settings_in : Job → Option AllSettings
-settings_in (job.Run s ticks) = Some s
-settings_in (job.Replay s schedule) = Some s
-settings_in (job.Generate s schedule) = Some s
-settings_in (job.List folder) = None
-
--- an engine accepts them
-abbrev pub AreSound : Option AllSettings → Type 0
-AreSound (Some s) = MeetsRequirements s
-AreSound None = Unit {0}
+settings_in job = settings_for (of_job job)
 
 abbrev pub is_to_run : Job → Bool
 is_to_run (job.Run s ticks) = true

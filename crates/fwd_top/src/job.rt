@@ -10,11 +10,11 @@ ghost use Rattle.fwd_config.specs.Sections.{reads_files};
 ghost use Rattle.fwd_config.specs.declared.section.Section.{Section};
 ghost use Rattle.fwd_top.specs.Words.{command_of};
 ghost use Rattle.fwd_top.specs.Views.{wanted_of};
-ghost use Rattle.fwd_top.specs.Cases.{asked, of_file, reports_of, wanted_by};
+ghost use Rattle.fwd_top.specs.Cases.{AreSound, asked, of_file, reports_of, wanted_by};
 ghost use Rattle.fwd_top.specs.Answers.{Asks, is_over_disk, is_run};
 ghost use Rattle.fwd_top.specs.declared.job.Job.TheVariants as job;
 ghost use Rattle.fwd_top.specs.declared.status.Status.TheVariants as status;
-ghost use Rattle.fwd_top.specs.Results.{AreSound, AsksAfter, AsksFor, ComesOfLoad, IsFileFault, IsCaseOf, IsOwnRefusal, IsRefusal, case_of, config_status, held_load, is_run_wanted, is_to_run, of_job, schedule_status, setting_status, settings_in, takes_disk};
+ghost use Rattle.fwd_top.specs.Results.{AsksAfter, AsksFor, ComesOfLoad, IsFileFault, IsCaseOf, IsOwnRefusal, IsRefusal, case_of, config_status, held_load, is_run_wanted, is_to_run, of_job, schedule_status, setting_status, settings_in, takes_disk};
 
 use crate::status::{ConfigRefusal, Status};
 use crate::words::{Command, read_words};

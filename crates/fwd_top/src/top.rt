@@ -5,9 +5,10 @@ ghost use Rattle.fwd_outside.specs.Cause.{HasCause};
 ghost use Rattle.fwd_config.specs.Variables.{environment};
 ghost use Rattle.fwd_engine_state.specs.LoopCounters.{EventsTaken};
 ghost use Rattle.fwd_top.specs.Answers.{Answers, IsDiskFault, IsKeeperFault, IsLoopFault, IsOfTheFiles, devices, of_reported, spent, status_of};
+ghost use Rattle.fwd_top.specs.Cases.{AreSound};
 ghost use Rattle.fwd_top.specs.Outcomes.{IsListed, Produces, platform_of};
 ghost use Rattle.fwd_replay.specs.declared.report.Ending.TheVariants as ending;
-ghost use Rattle.fwd_top.specs.Results.{AreSound, HasDiskFailed, HasKeeperFailed, HasLoopFailed, WritesVerdict, Writes, given_by, of_job, settings_in};
+ghost use Rattle.fwd_top.specs.Results.{HasDiskFailed, HasKeeperFailed, HasLoopFailed, WritesVerdict, Writes, given_by, of_job, settings_in};
 
 use crate::crash_consistency::outcomes_are_crash_consistent;
 use crate::guarantee::outcomes_are_delivered;
