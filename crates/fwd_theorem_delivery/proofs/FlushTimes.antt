@@ -34,6 +34,7 @@ use Rattle.fwd_theorem_trace.specs.Past.{Past, logged}
 use Rattle.fwd_theorem_trace.proofs.Members.{here, deeper}
 use Rattle.fwd_theorem_trace.proofs.RouteResolution.{same_itself}
 use Rattle.fwd_theorem_delivery.specs.DueOrder.{IsDueBefore}
+use Rattle.fwd_theorem_delivery.specs.FlushedEvents.{WereRead, AreOfChunk, SendsChunk}
 use Rattle.fwd_theorem_delivery.specs.RetryCounts.{is_begun}
 use Rattle.fwd_theorem_delivery.proofs.DueRoutes.{InOrder, due_in_order, due_by_now}
 use Rattle.fwd_theorem_delivery.proofs.TimedFacts.{is_on_the_way, on_the_way, just_begun, Calm, IsKeptByTails, calm_tails, calm_outcome, InTime, ReturnsTimed, MayNote, deed, only, nothing, tells_then, tells_behind, tells_if, disk_rests, loop_rests, tells_settles}
@@ -130,11 +131,11 @@ module _ (s : AllSettings) where
     turned_idle : Calm old → Turned q old old
     turned_idle calm = (calm, (refl, λ r other. refl))
 
-    tells_begins_with : (events : List Event) (past : Past) → Starting past → Calm old → InTime s past → ReturnsTimed s (Turned q old) past (starts_with s q events (logged past))
+    tells_begins_with : (events : List Event) (past : Past) → Starting past → SendsChunk s old q events → Calm old → InTime s past → ReturnsTimed s (Turned q old) past (starts_with s q events (logged past))
     unfolding starts_with
-    tells_begins_with events past starting calm in_time =
+    tells_begins_with events past starting sends calm in_time =
         deed s (Turned q old) (OnRoute q (FlushStarted events)) past (λ at. bind (on_loop (starts (delivery s at q) q.output (tag_of_chunk at q.chunk) not_started)) (λ progress. notes_calls s q 0 progress at))
-        (λ _ _. subst (λ (h : History). (due s h q ≤ clock h) × ((is_idle s h q ≡ true) × (just_begun h q ≡ false))) (sym starting.0) (starting.1.0, (starting.1.1, calm q))) in_time
+        (λ _ _. subst (λ (h : History). (due s h q ≤ clock h) × ((is_idle s h q ≡ true) × ((just_begun h q ≡ false) × SendsChunk s h q events))) (sym starting.0) (starting.1.0, (starting.1.1, (calm q, sends)))) in_time
         (λ answer later.
         let at : Past = entry (Note (OnRoute q (FlushStarted events))) answer ∷ past in
         let mid : Mid q old (logged at) = subst (λ (h : History). Mid q old (OnRoute q (FlushStarted events) ∷ h)) (sym starting.0) (begins_mid q events old calm) in
@@ -145,30 +146,35 @@ module _ (s : AllSettings) where
     idle_here : (past : Past) → Starting past → Calm old → InTime s past → ReturnsTimed s (Turned q old) past (Return (logged past))
     idle_here past starting calm in_time = nothing s (Turned q old) past in_time (subst (Turned q old) (sym starting.0) (turned_idle calm))
 
-    tells_read_behind : (kept : ℕ) (past : Past) (bytes : Option (List ℕ)) → Starting past → Calm old → InTime s past → ReturnsTimed s (Turned q old) past (after_read s q kept (logged past) bytes)
-    tells_read_behind kept past None starting calm in_time =
-        only s (Turned q old) IoFailed past (λ _ _. tt) in_time (subst (λ (h : History). Turned q old (IoFailed ∷ h)) (sym starting.0) (turned_idle calm))
-    tells_read_behind kept past (Some bytes) starting calm in_time =
-        tells_if s (Turned q old) (is_complete_read kept bytes) past (starts_with s q (events_in bytes).0 (logged past)) (Return (logged past))
-        (λ yes. tells_begins_with (events_in bytes).0 past starting calm in_time) (λ no. idle_here past starting calm in_time)
+    -- the events of a read begin a flush, if the read is whole
+    module _ (size : ℕ) (sends : (events : List Event) → WereRead size events → SendsChunk s old q events) where
+      tells_read_behind : (past : Past) (bytes : Option (List ℕ)) → Starting past → Calm old → InTime s past → ReturnsTimed s (Turned q old) past (after_read s q size (logged past) bytes)
+      tells_read_behind past None starting calm in_time =
+          only s (Turned q old) IoFailed past (λ _ _. tt) in_time (subst (λ (h : History). Turned q old (IoFailed ∷ h)) (sym starting.0) (turned_idle calm))
+      tells_read_behind past (Some bytes) starting calm in_time =
+          tells_if s (Turned q old) (is_complete_read size bytes) past (starts_with s q (events_in bytes).0 (logged past)) (Return (logged past))
+          (λ yes. tells_begins_with (events_in bytes).0 past starting (sends (events_in bytes).0 (record { bytes = bytes; whole = yes; are = refl })) calm in_time) (λ no. idle_here past starting calm in_time)
 
-    tells_begins_read : (kept : Kept) (past : Past) → Starting past → Calm old → InTime s past → ReturnsTimed s (Turned q old) past (bind (on_disk (read_content_program kept)) (after_read s q (size_of kept) (logged past)))
-    tells_begins_read kept past starting calm in_time =
-        tells_behind s (Turned q old) past (on_disk (read_content_program kept)) (λ bytes h. after_read s q (size_of kept) h bytes) (disk_rests s (read_content_program kept) past in_time)
-        (λ bytes now later same. tells_read_behind (size_of kept) now bytes (same ∙ starting.0, starting.1) calm later)
+      tells_begins_read : (kept : Kept) (past : Past) → Starting past → Calm old → InTime s past → ReturnsTimed s (Turned q old) past (bind (on_disk (read_content_program kept)) (after_read s q size (logged past)))
+      tells_begins_read kept past starting calm in_time =
+          tells_behind s (Turned q old) past (on_disk (read_content_program kept)) (λ bytes h. after_read s q size h bytes) (disk_rests s (read_content_program kept) past in_time)
+          (λ bytes now later same. tells_read_behind now bytes (same ∙ starting.0, starting.1) calm later)
 
-    tells_begins_as : (kept : Option Kept) (past : Past) → Starting past → Calm old → InTime s past → ReturnsTimed s (Turned q old) past (begins_as s q kept (logged past))
-    tells_begins_as None past starting calm in_time = idle_here past starting calm in_time
-    tells_begins_as (Some (InMemory content)) past starting calm in_time = tells_begins_with (records_of (logged past) q.chunk) past starting calm in_time
-    tells_begins_as (Some (InFile head)) past starting calm in_time = tells_begins_read (InFile head) past starting calm in_time
-    tells_begins_as (Some (Adopted head)) past starting calm in_time = tells_begins_read (Adopted head) past starting calm in_time
+    tells_begins_as : (kept : Option Kept) (past : Past) → kept_of s old q.chunk ≡ kept → Starting past → Calm old → InTime s past → ReturnsTimed s (Turned q old) past (begins_as s q kept (logged past))
+    tells_begins_as None past is starting calm in_time = idle_here past starting calm in_time
+    tells_begins_as (Some (InMemory content)) past is starting calm in_time =
+        tells_begins_with (records_of (logged past) q.chunk) past starting (subst (λ (k : Option Kept). AreOfChunk k old q (records_of (logged past) q.chunk)) (sym is) (ap (λ (h : History). records_of h q.chunk) starting.0)) calm in_time
+    tells_begins_as (Some (InFile head)) past is starting calm in_time =
+        tells_begins_read (size_of (InFile head)) (λ events read. subst (λ (k : Option Kept). AreOfChunk k old q events) (sym is) read) (InFile head) past starting calm in_time
+    tells_begins_as (Some (Adopted head)) past is starting calm in_time =
+        tells_begins_read (size_of (Adopted head)) (λ events read. subst (λ (k : Option Kept). AreOfChunk k old q events) (sym is) read) (Adopted head) past starting calm in_time
 
   tells_turn : (q : Route) (past : Past) → due s (logged past) q ≤ clock (logged past) → Calm (logged past) → InTime s past → ReturnsTimed s (Turned q (logged past)) past (starts_if_allowed s q (logged past))
   unfolding starts_if_allowed starts_flush
   tells_turn q past by_now calm in_time =
       tells_if s (Turned q (logged past)) (may_start s (logged past) q) past (starts_flush s q (logged past)) (Return (logged past))
       (λ may.
-      tells_begins_as q (logged past) (kept_of s (logged past) q.chunk) past
+      tells_begins_as q (logged past) (kept_of s (logged past) q.chunk) past refl
       (refl, (by_now, (and_parts (is_idle s (logged past) q) (has_place s (logged past) q && fits s (logged past) q) may).0)) calm in_time)
       (λ no. nothing s (Turned q (logged past)) past in_time (turned_idle q (logged past) calm))
 

@@ -212,7 +212,7 @@ module _ (s : AllSettings) where
     own outcome h timed was = by outcome (same_itself r) timed
       where
         by : (o : Outcome) → same_route r r ≡ true → RouteTimed s r o h → Limited (OnRoute r o ∷ h)
-        by (FlushStarted events) is (by_now, (idle, calm)) =
+        by (FlushStarted events) is (by_now, (idle, (calm, sends))) =
             let means = idle_means h r idle in
             let none : open_or_ended h ≡ 0 = rw (not_under_way h means.1 calm, means.0) refl in
             let most = was.most in
@@ -327,7 +327,7 @@ module _ (s : AllSettings) where
         while_on way = let least = was.least in rw way at least in least
 
         by : (o : Outcome) → same_route r r ≡ true → RouteTimed s r o h → Used (OnRoute r o ∷ h)
-        by (FlushStarted events) is (by_now, (idle, calm)) =
+        by (FlushStarted events) is (by_now, (idle, (calm, sends))) =
             let least = at_least_again in
             record { least = rw is (omega (arith, least)); used = rw is (was.used); left = λ way. rw is (never_ended h (idle_means h r idle).0) }
         by (InFlight progress) is timed = record { least = rw is (while_on timed); used = rw is (was.used); left = λ way. rw is (was.left timed) }

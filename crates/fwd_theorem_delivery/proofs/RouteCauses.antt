@@ -3,7 +3,7 @@ use Rattle.std.proofs.Common.{◌≡◌, ℕ, List, [], ◌∷◌, ◌++◌, Opt
 use Rattle.fwd_outside.specs.Program.{Execution}
 use Rattle.fwd_outside.specs.declared.ends.Ends.{Ends}
 use Rattle.fwd_settings.specs.declared.settings_types.AllSettings.{AllSettings}
-use Rattle.fwd_model.specs.Fact.{Fact, History, Route, OnRoute, Exhausted, Evicted, Refused}
+use Rattle.fwd_model.specs.Fact.{Fact, History, Route, OnRoute, FlushStarted, Exhausted, Evicted, Refused}
 use Rattle.fwd_model.specs.Trace.{Action, TraceEntry, history_after}
 use Rattle.fwd_model.specs.Run.{RunResult, life}
 use Rattle.fwd_theorem_trace.specs.Past.{logged, past_after}
@@ -29,6 +29,7 @@ module _ (s : AllSettings) where
         subst (λ (h : History). RefuseAllowed s b why h) at.is at.may;
     exhausted = λ later before r is. let timed = from later (OnRoute r Exhausted) before is in used_up s before r timed.1 timed.0;
     evicted = λ later before r is. (from later (OnRoute r Evicted) before is).0;
+    sent = λ later before r events is. (from later (OnRoute r (FlushStarted events)) before is).0.1.1.1;
   }
     where
       from : (later : History) (fact : Fact) (before : History) → history_after es [] ≡ later ++ fact ∷ before → Timed s (fact ∷ before)

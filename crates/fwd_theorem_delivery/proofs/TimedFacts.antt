@@ -31,6 +31,7 @@ use Rattle.fwd_theorem_trace.proofs.Members.{here, deeper, from_filter}
 use Rattle.fwd_theorem_trace.proofs.Traversal.{Traverses, Extends, traverses_map, walks_bind, walks_if}
 use Rattle.fwd_theorem_trace.proofs.Invariant.{sound}
 use Rattle.fwd_theorem_delivery.specs.RetryCounts.{is_begun}
+use Rattle.fwd_theorem_delivery.specs.FlushedEvents.{SendsChunk}
 use Rattle.fwd_theorem_delivery.specs.Causes.{IsOverLimit}
 use Rattle.fwd_theorem_delivery.proofs.EvictionCauses.{ClosedSince, Follows, evicted_over}
 
@@ -55,10 +56,10 @@ on_the_way [] r = false
 on_the_way (OnRoute other outcome ∷ h) r = cond (same_route other r) (is_on_the_way outcome) (on_the_way h r)
 on_the_way (fact ∷ h) r = on_the_way h r
 
--- A route begins when it is due and idle, and no flush of it began just now. Its flush is in progress when it
+-- A route begins when it is due and idle, no flush of it began just now, and with its chunk's events. Its flush is in progress when it
 -- goes on, is to be retried, which it may be, or has used its retries. It is evicted over its output's limit.
 abbrev pub RouteTimed : AllSettings → Route → Outcome → History → Type 0
-RouteTimed s r (FlushStarted events) h = (due s h r ≤ clock h) × ((is_idle s h r ≡ true) × (just_begun h r ≡ false))
+RouteTimed s r (FlushStarted events) h = (due s h r ≤ clock h) × ((is_idle s h r ≡ true) × ((just_begun h r ≡ false) × SendsChunk s h r events))
 RouteTimed s r (InFlight progress) h = on_the_way h r ≡ true
 RouteTimed s r (Retries word) h = (may_retry (retries_at (output_at s r.output)) (tries h r) ≡ true) × (on_the_way h r ≡ true)
 RouteTimed s r Delivered h = Unit {0}

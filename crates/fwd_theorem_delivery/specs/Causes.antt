@@ -1,17 +1,19 @@
--- Why a run refuses a batch, runs out of retries, or evicts a chunk.
+-- Why a run refuses a batch, runs out of retries, or evicts a chunk, and what its flushes send.
 use Rattle.std.specs.Prelude.{◌≡◌, ℕ, ◌+◌, ◌<◌, Bool, true, false, List, ◌∷◌, ◌++◌, All, Contains, Option, Some}
 use Rattle.fwd_base.specs.declared.ids.ChunkId.{ChunkId}
 use Rattle.fwd_base.specs.declared.ids.OutputId.{OutputId}
 use Rattle.fwd_base.specs.declared.output_options.Retries.TheVariants.{Times}
+use Rattle.fwd_event.specs.declared.event.Event.{Event}
 use Rattle.fwd_table.specs.Row.{Row}
 use Rattle.fwd_table.specs.Usage.{size_of}
 use Rattle.fwd_limits.specs.Evictions.{fixed, other_waiting, evicted_for}
 use Rattle.fwd_settings.specs.declared.settings_types.AllSettings.{AllSettings}
-use Rattle.fwd_model.specs.Fact.{Fact, History, Batch, Reason, Route, Happened, Refused, OnRoute, Exhausted, Evicted, ChunkClosed}
+use Rattle.fwd_model.specs.Fact.{Fact, History, Batch, Reason, Route, Happened, Refused, OnRoute, FlushStarted, Exhausted, Evicted, ChunkClosed}
 use Rattle.fwd_model.specs.Settings.{output_at, retries_at, total_limit_at}
 use Rattle.fwd_model.specs.Routes.{rows_of}
 use Rattle.fwd_theorem_trace.specs.Allowed.{RefuseAllowed}
 use Rattle.fwd_theorem_delivery.specs.RetryCounts.{begin_count}
+use Rattle.fwd_theorem_delivery.specs.FlushedEvents.{SendsChunk}
 
 -- as many flushes of the route began as its output's limit of retries, and one more
 pub record AreRetriesUsed (s : AllSettings) (h : History) (r : Route) : Type 0 where
@@ -48,7 +50,8 @@ pub record IsOverLimit (s : AllSettings) (h : History) (r : Route) : Type 0 wher
       (rows_of s (ChunkClosed closed ∷ before)))
       (record { 0 = r.chunk })
 
--- Each refusal, each last retry and each eviction has its cause, in the history before it.
+-- Each refusal, each last retry and each eviction has its cause, in the history before it. Each flush begins
+-- with the events of its chunk.
 pub record HaveCauses (s : AllSettings) (h : History) : Type 0 where
   pub refused : (later before : History) (b : Batch) (why : Reason) → h ≡ later ++ Refused b why ∷ before
       → RefuseAllowed s b why before
@@ -56,3 +59,5 @@ pub record HaveCauses (s : AllSettings) (h : History) : Type 0 where
       → AreRetriesUsed s before r
   pub evicted : (later before : History) (r : Route) → h ≡ later ++ OnRoute r Evicted ∷ before
       → IsOverLimit s before r
+  pub sent : (later before : History) (r : Route) (events : List Event)
+      → h ≡ later ++ OnRoute r (FlushStarted events) ∷ before → SendsChunk s before r events

@@ -7,6 +7,7 @@ pub mod DueOrder
 pub mod OverdueChunks
 pub mod RetryCounts
 pub mod Causes
+pub mod FlushedEvents
 pub mod Links
 pub mod LinkOutcomes
 pub mod TakenBytes
