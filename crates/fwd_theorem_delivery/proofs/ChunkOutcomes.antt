@@ -1,5 +1,5 @@
 -- What became of a chunk for each output.
-use Rattle.std.proofs.Common.{◌≡◌, inl, inr, ⊎_elim, ⊥, ℕ, not, Bool, true, false, List, [], ◌∷◌, map, filter, length, refl, sym, ◌∙◌, ap, subst, arith}
+use Rattle.std.proofs.Common.{◌≡◌, inl, inr, ⊎_elim, ℕ, not, Bool, true, false, List, [], ◌∷◌, map, filter, length, refl, sym, ◌∙◌, ap, subst, arith}
 use Rattle.std.specs.Prelude.{◌↔◌, Contains, ◌==◌}
 use Rattle.std.proofs.lemmas.Bool.{eqb-true}
 use Rattle.fwd_outside.specs.Loop.{LoopEntry}

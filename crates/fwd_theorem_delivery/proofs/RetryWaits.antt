@@ -324,7 +324,7 @@ module _ (s : AllSettings) where
         at_least_again = let least = was.least in omega (arith, least)
 
         while_on : on_the_way h r ≡ true → again h + 1 ≤ begin_count h r
-        while_on way = let least = was.least in rw way at least in least
+        while_on way = let least = was.least in rw way at least
 
         by : (o : Outcome) → same_route r r ≡ true → RouteTimed s r o h → Used (OnRoute r o ∷ h)
         by (FlushStarted events) is (by_now, (idle, (calm, sends))) =
@@ -334,14 +334,14 @@ module _ (s : AllSettings) where
         by (Retries word) is timed =
             let least = while_on timed.1 in
             let used = was.used in
-            record { least = rw is (omega (arith, least)); used = rw is (omega (arith, used)); left = λ way. absurd (cc (rw is at way in way)) }
-        by Delivered is timed = let least = at_least_again in record { least = rw is (omega (arith, least)); used = rw is (was.used); left = λ way. absurd (cc (rw is at way in way)) }
-        by Failed is timed = let least = at_least_again in record { least = rw is (omega (arith, least)); used = rw is (was.used); left = λ way. absurd (cc (rw is at way in way)) }
+            record { least = rw is (omega (arith, least)); used = rw is (omega (arith, used)); left = λ way. let off : false ≡ true = rw is at way in absurd (cc off) }
+        by Delivered is timed = let least = at_least_again in record { least = rw is (omega (arith, least)); used = rw is (was.used); left = λ way. let off : false ≡ true = rw is at way in absurd (cc off) }
+        by Failed is timed = let least = at_least_again in record { least = rw is (omega (arith, least)); used = rw is (was.used); left = λ way. let off : false ≡ true = rw is at way in absurd (cc off) }
         by Exhausted is timed =
             let least = at_least_again in
             let used = was.used in
-            record { least = rw is (omega (arith, least)); used = rw is (omega (arith, used)); left = λ way. absurd (cc (rw is at way in way)) }
-        by Evicted is timed = let least = at_least_again in record { least = rw is (omega (arith, least)); used = rw is (was.used); left = λ way. absurd (cc (rw is at way in way)) }
+            record { least = rw is (omega (arith, least)); used = rw is (omega (arith, used)); left = λ way. let off : false ≡ true = rw is at way in absurd (cc off) }
+        by Evicted is timed = let least = at_least_again in record { least = rw is (omega (arith, least)); used = rw is (was.used); left = λ way. let off : false ≡ true = rw is at way in absurd (cc off) }
 
     used_fact : (fact : Fact) (h : History) → FactTimed s fact h → Used h → Used (fact ∷ h)
     used_fact (OnRoute other outcome) h timed was = by (same_route other r) refl
@@ -350,7 +350,7 @@ module _ (s : AllSettings) where
         by true is =
             let same = same_routes other r is in
             subst (λ (q : Route). Used (OnRoute q outcome ∷ h)) (sym same) (used_own outcome h (subst (λ (q : Route). RouteTimed s q outcome h) same timed) was)
-        by false is = record { least = rw is (was.least); used = rw is (was.used); left = λ way. rw is (was.left (rw is at way in way)) }
+        by false is = record { least = rw is (was.least); used = rw is (was.used); left = λ way. let on : on_the_way h r ≡ true = rw is at way in rw is (was.left on) }
     used_fact fact h timed was = record { least = was.least; used = was.used; left = was.left }
 
     used_all : (h : History) → Timed s h → Used h
@@ -362,7 +362,8 @@ module _ (s : AllSettings) where
         let most = begun_at_most h timed in
         let used = (used_all h timed).used in
         let none = (used_all h timed).left way in
-        let least : again h + 1 ≤ begin_count h r = let all = (used_all h timed).least in rw way at all in all in
+        let all = (used_all h timed).least in
+        let least : again h + 1 ≤ begin_count h r = rw way at all in
         omega (arith, most, used, none, least, over)
 
   not_unlimited : (tried : ℕ) → may_retry Unlimited tried ≡ false → ⊥
