@@ -1,3 +1,4 @@
 pub mod Points
 pub mod StoredBatches
 pub mod TakenMessages
+pub mod BatchSurvival

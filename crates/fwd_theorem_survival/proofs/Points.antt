@@ -33,9 +33,9 @@ module _ (P Q : CrashPoint → Type 0) where
     more [] (e ∷ es) m refl now all.0,
     λ during after leads.
         let step = all.1 during after leads in (
-          more [] (e ∷ es) during refl (leads.1.0 ∙ now) step.0,
-          points (prefix ++ e ∷ []) es after (leads.1.1 ∙ (ap (λ (past : Past). e ∷ past) is ∙ sym (after_both [] prefix (e ∷ []))))
-          (λ own rest at same past. more (e ∷ own) rest at (ap (λ (l : List TraceEntry). e ∷ l) same) (past ∙ ap (past_after []) (append_assoc prefix (e ∷ []) own))) step.1,
+          more [] (e ∷ es) during refl (leads.1 ∙ now) step.0,
+          points (prefix ++ e ∷ []) es after (leads.2 ∙ (ap (λ (past : Past). e ∷ past) is ∙ sym (after_both [] prefix (e ∷ []))))
+              (λ own rest at same past. more (e ∷ own) rest at (ap (λ (l : List TraceEntry). e ∷ l) same) (past ∙ ap (past_after []) (append_assoc prefix (e ∷ []) own))) step.1,
         ),
   )
     where

@@ -1,5 +1,5 @@
 -- What a crash leaves of the batches that were accepted, and of the messages that were acknowledged.
-use Rattle.std.specs.Prelude.{◌≡◌, ◌⊎◌, ℕ, false, List, [], ◌∷◌, ◌++◌, Contains, Option, Some}
+use Rattle.std.specs.Prelude.{◌≡◌, ◌⊎◌, ℕ, true, false, List, [], ◌∷◌, ◌++◌, Contains, Option, Some}
 use Rattle.fwd_outside.specs.Program.{entry, Return, Execution}
 use Rattle.fwd_outside.specs.AtCrashPoints.{Ends}
 use Rattle.fwd_outside.specs.Loop.{Reply}
