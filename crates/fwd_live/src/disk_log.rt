@@ -1,6 +1,6 @@
 //! What the log says of failed calls on files.
 
-use fwd_live_poll::Shared;
+use crate::shared::Shared;
 use fwd_log::{Journal, Level, Source, Topic};
 use std::io::{self, ErrorKind};
 
@@ -16,7 +16,7 @@ fn write_failure(journal: &Journal, what: &str, name: &[u8], error: &io::Error) 
 }
 
 /// Writes a line if the storage folder can't be locked.
-pub fn tell_unlocked(journal: &Journal, folder: &[u8], outcome: &io::Result<()>) {
+pub fn log_unlocked(journal: &Journal, folder: &[u8], outcome: &io::Result<()>) {
     match outcome {
         Ok(()) => {}
         Err(error) if error.kind() == ErrorKind::WouldBlock => {
@@ -27,7 +27,7 @@ pub fn tell_unlocked(journal: &Journal, folder: &[u8], outcome: &io::Result<()>)
 }
 
 /// Writes a line if a call failed.
-pub fn tell<T>(journal: &Journal, what: &str, name: &[u8], outcome: &io::Result<T>) {
+pub fn log_failure<T>(journal: &Journal, what: &str, name: &[u8], outcome: &io::Result<T>) {
     match outcome {
         Ok(_) => {}
         Err(error) => write_failure(journal, what, name, error),
@@ -35,13 +35,18 @@ pub fn tell<T>(journal: &Journal, what: &str, name: &[u8], outcome: &io::Result<
 }
 
 /// Returns what a call gave; `None` if it failed, and the log says so.
-pub fn told<T>(journal: &Journal, what: &str, name: &[u8], outcome: io::Result<T>) -> Option<T> {
-    tell(journal, what, name, &outcome);
+pub fn ok_or_log<T>(
+    journal: &Journal,
+    what: &str,
+    name: &[u8],
+    outcome: io::Result<T>,
+) -> Option<T> {
+    log_failure(journal, what, name, &outcome);
     outcome.ok()
 }
 
 /// Returns what a call gave that writes; `None` if it failed. The log says so then, and inputs are held back.
-pub fn told_write<T>(
+pub fn ok_or_hold<T>(
     shared: &Shared,
     what: &str,
     name: &[u8],
@@ -58,7 +63,7 @@ pub fn told_write<T>(
 }
 
 /// Writes a line if a followed file, or a file of the configuration, can't be read.
-pub fn tell_unread<T>(journal: &Journal, path: &[u8], outcome: &io::Result<T>) {
+pub fn log_unread<T>(journal: &Journal, path: &[u8], outcome: &io::Result<T>) {
     let error = match outcome {
         Ok(_) => return,
         Err(error) => error,

@@ -7,8 +7,8 @@ ghost use Rattle.fwd_outside.specs.declared.errors.DiskErr.TheVariants.{Failed};
 
 use crate::disk_calls::DiskCalls;
 use crate::folders::Folders;
+use crate::shared::Shared;
 use crate::storage_root::Access;
-use fwd_live_poll::Shared;
 use fwd_outside::{Bytes, Disk, DiskErr, Names};
 use std::alloc::Global;
 

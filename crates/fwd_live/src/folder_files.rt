@@ -6,11 +6,12 @@ ghost use Rattle.fwd_outside.specs.Files.{FilesGiven, outcome};
 ghost use Rattle.fwd_outside.specs.declared.errors.FileErr.TheVariants.{Failed};
 
 use crate::answer::answer_of;
-use crate::disk_log::tell_unread;
+use crate::disk_log::log_unread;
 use crate::files_calls::FilesCalls;
+use crate::shared::Shared;
 use fwd_base::limits::LONGEST_READ;
 use fwd_live_files::{FollowedFiles, Identities};
-use fwd_live_poll::{Shared, most_files};
+use fwd_live_sockets::most_files;
 use fwd_outside::{Bytes, FileErr, Files};
 use std::alloc::Global;
 use std::time::Duration;
@@ -56,10 +57,10 @@ impl<'a> FolderFiles<'a> {
         }
     }
 
-    /// Tells the loop how many descriptors are held, and when the next reading is wanted after one that gave
+    /// Notes for the loop how many descriptors are held, and when the next reading is wanted after one that gave
     /// this many bytes: at once if they were as many as a read gives at most.
     fn share(&self, read: u64) {
-        self.shared.held_files.set(self.files.held());
+        self.shared.held_files.set(self.files.handles());
         if LONGEST_READ <= read {
             self.shared.read_within.set(0);
         } else if 1 <= read {
@@ -98,7 +99,7 @@ impl<'a> Files for FolderFiles<'a> {
 
     fn length(&mut self, path: &[u8]) -> Result<u64, FileErr> {
         let outcome = self.files.length(path);
-        tell_unread(&self.shared.journal, path, &outcome);
+        log_unread(&self.shared.journal, path, &outcome);
         let answer = answer_of(outcome)?;
         self.share(0);
         self.calls = self.calls.then(&(path, answer));
@@ -108,7 +109,7 @@ impl<'a> Files for FolderFiles<'a> {
     fn read_at(&mut self, alloc: Global, path: &[u8], at: u64, max: u64) -> Result<Bytes, FileErr> {
         let most = self.most().min(max);
         let outcome = self.files.read_at(alloc, path, at, most);
-        tell_unread(&self.shared.journal, path, &outcome);
+        log_unread(&self.shared.journal, path, &outcome);
         let answer = answer_of(outcome)?;
         self.share(length_of(&answer));
         self.calls = self.calls.then(&(path, at, max, &answer));

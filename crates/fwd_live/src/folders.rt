@@ -4,13 +4,15 @@ ghost use Rattle.std.specs.Prelude.{◌≤◌, All, IfOk, IfSome, length};
 ghost use Rattle.fwd_outside.specs.Disk.{IsFileName, IsListing};
 
 use crate::answer::answer_of;
-use crate::disk_log::{tell, tell_unlocked, told, told_write};
+use crate::disk_log::{log_failure, log_unlocked, ok_or_hold, ok_or_log};
 use crate::file_name::{TEMPORARY, complete_name, listing};
 use crate::open_files::OpenFiles;
+use crate::shared::Shared;
 use crate::storage_root::{Access, FILE_MODE, FOLDER_MODE, is_full, own_folder};
 use fwd_live_files::{LAST_OFFSET, read_to};
-use fwd_live_poll::{Shared, memory_error, most_files, text};
+use fwd_live_sockets::most_files;
 use fwd_outside::{Bytes, Memory, Names};
+use fwd_system::{folder_of, memory_error, text};
 use std::alloc::Global;
 use std::fs::{self, DirBuilder, DirEntry, File, OpenOptions};
 use std::io::{self, ErrorKind, Write};
@@ -49,15 +51,6 @@ fn has_name(names: &[Bytes], name: &[u8]) -> bool {
         }
     }
     false
-}
-
-/// Returns the folder of a file or a folder.
-fn folder_of(path: &str) -> &str {
-    match path.rsplit_once('/') {
-        Some((folder, _)) if !folder.is_empty() => folder,
-        Some((_, _)) => "/",
-        None => ".",
-    }
 }
 
 /// Fsyncs a folder, so that a crash keeps its names as they are now.
@@ -284,7 +277,7 @@ impl<'a> Folders<'a> {
         // What is open under this name won't be the file of the name any more.
         self.files.close(name.as_slice());
         let placed = self.place_with_reserve(name.as_slice(), part.as_slice(), bytes);
-        match told_write(self.shared, "created", name.as_slice(), placed) {
+        match ok_or_hold(self.shared, "created", name.as_slice(), placed) {
             Some(file) => {
                 // If there is no memory to keep it open, the next call on it opens it.
                 let _ = self.files.keep(name, file);
@@ -309,7 +302,7 @@ impl<'a> Folders<'a> {
     /// Returns a file to write to. `None` if it can't be opened.
     fn open(&mut self, name: &[u8]) -> Result<Option<&File>, Memory> {
         let opened = self.ensure_open(name)?;
-        match told_write(self.shared, "opened", name, opened) {
+        match ok_or_hold(self.shared, "opened", name, opened) {
             Some(()) => Ok(self.files.get(name)),
             None => Ok(None),
         }
@@ -328,7 +321,7 @@ impl<'a> Folders<'a> {
             }
             outcome => outcome,
         };
-        Ok(told_write(shared, "written", name, written))
+        Ok(ok_or_hold(shared, "written", name, written))
     }
 
     /// Syncs the bytes of a file and its length by fdatasync. The rest isn't needed to read them, and the file's
@@ -345,7 +338,7 @@ impl<'a> Folders<'a> {
         let Some(file) = self.open(name)? else {
             return Ok(None);
         };
-        let answer = told_write(shared, "synced", name, file.sync_data());
+        let answer = ok_or_hold(shared, "synced", name, file.sync_data());
         if answer.is_none() {
             self.unsynced.push(kept)?;
         }
@@ -362,7 +355,7 @@ impl<'a> Folders<'a> {
     pub fn remove(&mut self, name: &[u8]) -> Option<()> {
         self.files.close(name);
         let removed = self.remove_file(name);
-        told(&self.shared.journal, "removed", name, removed)
+        ok_or_log(&self.shared.journal, "removed", name, removed)
     }
 
     /// Reads a file from an offset on, by a handle of its own if it isn't open.
@@ -388,7 +381,7 @@ impl<'a> Folders<'a> {
     {
         let _ = self.ensure_open(name)?;
         let outcome = self.read_file(alloc, name, at, len);
-        tell(&self.shared.journal, "read", name, &outcome);
+        log_failure(&self.shared.journal, "read", name, &outcome);
         answer_of(outcome)
     }
 
@@ -422,12 +415,12 @@ impl<'a> Folders<'a> {
         ensures { IfOk result (λ answer. IfSome answer IsListing) }
     {
         let owned = self.lock(folder);
-        tell_unlocked(&self.shared.journal, folder, &owned);
+        log_unlocked(&self.shared.journal, folder, &owned);
         if answer_of(owned)?.is_none() {
             return Ok(None);
         }
         let outcome = self.list_folder(alloc, folder);
-        tell(&self.shared.journal, "listed", folder, &outcome);
+        log_failure(&self.shared.journal, "listed", folder, &outcome);
         match answer_of(outcome)? {
             Some(names) => Ok(Some(listing(names)?)),
             None => Ok(None),

@@ -5,7 +5,9 @@ ghost use Rattle.fwd_outside.specs.Loop.{LoopGiven};
 
 use crate::answer::answer_of;
 use crate::loop_calls::LoopCalls;
-use fwd_live_poll::{Handed, Machine, Shared, USUAL_PATIENCE};
+use crate::shared::Shared;
+use fwd_live_poll::Machine;
+use fwd_live_sockets::{Handed, USUAL_PATIENCE};
 use fwd_outside::{
     Begun, ConnId, Dialed, Ends, Happening, InputId, LinkId, Loop, Memory, OutputId, Pushed,
     Replied,
@@ -14,7 +16,7 @@ use std::alloc::Global;
 use std::io;
 
 /// The event loop of a live run, which never returns `End`. It breaks the link of an output's peer that is
-/// silent for longer than `USUAL_PATIENCE` of `fwd_live_poll`, or that sends more than 65,536 bytes before it
+/// silent for longer than `USUAL_PATIENCE` of `fwd_live_sockets`, or that sends more than 65,536 bytes before it
 /// has taken its payload.
 #[derive(Drop)]
 pub struct LiveLoop<'a> {
@@ -32,7 +34,7 @@ impl<'a> LiveLoop<'a> {
         ghost brought: { LoopGiven }
         ensures { IfOk result (λ l. (l.calls.given ≡ brought) × (l.calls.entries ≡ [])) }
     {
-        let machine = Machine::new(rt, shared, USUAL_PATIENCE)?;
+        let machine = Machine::new(rt, &shared.journal, USUAL_PATIENCE)?;
         Ok(LiveLoop {
             machine,
             shared,
@@ -46,6 +48,19 @@ impl<'a> LiveLoop<'a> {
     /// Returns the port of an input's listener, once the loop is started.
     pub fn port(&self, input: InputId) -> Option<u16> {
         self.machine.port(input)
+    }
+
+    /// Holds back all inputs while the disk fails, and tries once a second to fill the reserve.
+    fn hold_back(&mut self) -> Result<(), Memory>
+        ensures faults { self.new.faults ≡ self.old.faults }
+        ensures happenings { self.new.happenings ≡ self.old.happenings }
+        ensures greatest { self.new.greatest ≡ self.old.greatest }
+        ensures calls { self.new.calls ≡ self.old.calls }
+    {
+        if self.shared.disk_failed.get() && self.machine.take_probe() {
+            self.shared.probe();
+        }
+        self.machine.hold(self.shared.disk_failed.get())
     }
 
     /// Opens a link and returns its number; `None` if the system refuses.
@@ -91,7 +106,7 @@ impl<'a> Loop for LiveLoop<'a> {
         let read_within = self.shared.read_within.replace(u64::MAX);
         self.machine
             .note_files(read_within, self.shared.held_files.get());
-        self.machine.hold_back(self.shared)?;
+        self.hold_back()?;
         let happening = self.machine.wait(alloc, until, paused)?;
         self.calls = self.calls.then(&(until, paused, &happening));
         let misses = self.machine.take_misses();

@@ -1,7 +1,8 @@
 //! The storage folder of a run, and its lock file.
 
 use crate::file_name::LOCK;
-use fwd_live_poll::{Shared, fill_reserve, path_in};
+use crate::shared::{Shared, fill_reserve};
+use fwd_system::path_in;
 use std::fs::{File, OpenOptions};
 use std::io::{self, ErrorKind};
 use std::os::unix::fs::OpenOptionsExt;

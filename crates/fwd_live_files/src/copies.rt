@@ -2,17 +2,9 @@
 
 use crate::identity::{ChangeTime, Identity, identity_of};
 use crate::stream_file::StreamFile;
+use fwd_system::folder_and_name;
 use std::fs::{self, DirEntry, File};
 use std::io;
-
-/// Returns the folder of a path, and the name in it.
-pub fn folder_and_name(path: &str) -> (&str, &str) {
-    match path.rsplit_once('/') {
-        Some((folder, name)) if !folder.is_empty() => (folder, name),
-        Some((_, name)) => ("/", name),
-        None => (".", path),
-    }
-}
 
 /// Opens an entry of the folder, if it may be the copy: a file with more bytes than were read, that was not
 /// changed before the last poll, and has the known bytes.

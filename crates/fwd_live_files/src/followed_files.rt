@@ -5,6 +5,7 @@ ghost use Rattle.std.specs.Prelude.{◌≤◌, IfOk, length};
 use crate::followed_path::FollowedPath;
 use crate::identities::{Identities, KeptFile};
 use fwd_base::Bytes;
+use fwd_system::text;
 use std::alloc::Global;
 use std::collections::HashMap;
 use std::io::{self, ErrorKind};
@@ -19,22 +20,20 @@ pub struct FollowedFiles<'a> {
     paths: HashMap<Vec<u8>, FollowedPath>,
     linger: Duration,
     most: usize,
-    held: usize,
+    handles: usize,
 }
 
 /// Returns a path without a file; an error if it isn't UTF-8.
 fn followed_path(alloc: Global, path: &[u8], kept: Option<KeptFile>) -> io::Result<FollowedPath> {
-    match str::from_utf8(path) {
-        Ok(path) => Ok(FollowedPath::new(alloc, String::from_str(alloc, path)?, kept)),
-        Err(_) => Err(io::Error::from(ErrorKind::InvalidInput)),
-    }
+    let path = String::from_str(alloc, text(path)?)?;
+    Ok(FollowedPath::new(alloc, path, kept))
 }
 
 impl<'a> FollowedFiles<'a> {
     /// Returns the files with none open. A file that was read to its end is left when another one with bytes
     /// has had its path for `linger`. Paths get a handle while fewer than `most` are held; others are read by
     /// name, in the file that has the path at each call. A path for which `identities` want a file goes on in
-    /// that one, and those that are held are told there.
+    /// that one. They also get which file stands for a path while a handle of it is held.
     pub fn new(rt: HostRuntime, identities: &'a Identities, linger: Duration, most: usize) -> Self {
         FollowedFiles {
             rt,
@@ -42,13 +41,13 @@ impl<'a> FollowedFiles<'a> {
             paths: HashMap::new(rt.alloc()),
             linger,
             most,
-            held: 0,
+            handles: 0,
         }
     }
 
-    /// Returns how many handles are held, with those that paths keep the right to.
-    pub fn held(&self) -> usize {
-        self.held
+    /// Returns how many handles the paths hold, or keep the right to.
+    pub fn handles(&self) -> usize {
+        self.handles
     }
 
     /// Adds a path, unless it is there.
@@ -63,8 +62,8 @@ impl<'a> FollowedFiles<'a> {
     }
 
     /// Notes how many handles a path has now, and had before.
-    fn note_held(&mut self, before: usize, now: usize) {
-        self.held = self.held.saturating_sub(before).saturating_add(now);
+    fn note_handles(&mut self, before: usize, now: usize) {
+        self.handles = self.handles.saturating_sub(before).saturating_add(now);
     }
 
     /// Returns the length of a path's stream; 0 where another file begins.
@@ -74,10 +73,10 @@ impl<'a> FollowedFiles<'a> {
             return Err(io::Error::from(ErrorKind::NotFound));
         };
         let before = followed.handles();
-        let length = followed.length(&self.rt, self.linger, self.held < self.most);
+        let length = followed.length(&self.rt, self.linger, self.handles < self.most);
         let now = followed.handles();
         followed.note_identity(self.rt.alloc(), path, self.identities);
-        self.note_held(before, now);
+        self.note_handles(before, now);
         length
     }
 
@@ -93,7 +92,7 @@ impl<'a> FollowedFiles<'a> {
         let read = followed.read_at(&self.rt, alloc, at, max);
         let now = followed.handles();
         followed.note_identity(self.rt.alloc(), path, self.identities);
-        self.note_held(before, now);
+        self.note_handles(before, now);
         read
     }
 }

@@ -1,9 +1,9 @@
 //! The search for a file in which an offset was kept, by its identity.
 
-use crate::copies::folder_and_name;
 use crate::identities::KeptFile;
 use crate::identity::identity_of;
 use crate::stream_file::{Progress, StreamFile};
+use fwd_system::folder_and_name;
 use std::fs::{self, DirEntry};
 use std::io;
 

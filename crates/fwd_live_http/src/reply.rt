@@ -1,4 +1,5 @@
-//! Replies to requests for pages.
+//! Replies to requests for pages: a page as JSON or text, or a status that needs no page. Each closes its
+//! connection.
 
 use crate::request::Page;
 use fwd_base::{Bytes, Memory};

@@ -2,8 +2,9 @@
 
 ghost use Rattle.std.specs.Prelude.{◌≡◌, ◌≤◌, IfOk};
 
+use fwd_system::millis_of;
 use std::io::{self, ErrorKind};
-use std::time::{Duration, Instant, SystemTime, UNIX_EPOCH};
+use std::time::{Instant, SystemTime, UNIX_EPOCH};
 
 /// The system clock, made monotonic: if the system's time is set back, this clock goes on from its last
 /// reading. If it stood still instead, no tick would come, and nothing would be sent.
@@ -17,10 +18,6 @@ pub struct Clock {
     /// The monotonic time of creation, and the milliseconds from then to the last query.
     begun: Instant,
     uptime: u64,
-}
-
-fn millis_of(time: Duration) -> u64 {
-    time.as_millis().min(u64::MAX as u128) as u64
 }
 
 /// Returns the system time in milliseconds.

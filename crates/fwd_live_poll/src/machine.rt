@@ -2,25 +2,21 @@
 
 ghost use Rattle.std.specs.Prelude.{◌≡◌, true, IfOk, IfSome};
 ghost use Rattle.fwd_outside.specs.Loop.{MayOccur};
-ghost use Rattle.fwd_live_poll.specs.Handed.{TakesAtMost};
+ghost use Rattle.fwd_live_sockets.specs.Handed.{TakesAtMost};
 
 use crate::clock::Clock;
-use crate::descriptors::Budget;
-use crate::input::{Feed, Input, listen};
-use crate::link::{Handed, Link, Peer};
-use crate::names::{addresses_of, file_of_tag, memory_error, path_in, text};
-use crate::patience::Patience;
-use crate::shared::Shared;
 use crate::signals::asked_to_stop;
-use crate::source::Source;
 use crate::sources::Sources;
+use fwd_live_sockets::{
+    Budget, Feed, Handed, Input, Link, Patience, Peer, Source, addresses_of, listen, open_to_append,
+};
 use fwd_log::{Address, Journal, Level, Source as About, Topic};
 use fwd_outside::{ConnId, Ends, Happening, InEnd, InputId, LinkId, Memory, OutEnd, OutputId};
+use fwd_system::{memory_error, text};
 use mio::net::TcpStream;
 use mio::unix::SourceFd;
 use mio::{Events, Interest, Poll};
 use std::alloc::Global;
-use std::fs::{File, OpenOptions};
 use std::io::{self, ErrorKind};
 use std::net::SocketAddr;
 use std::os::fd::AsRawFd;
@@ -72,15 +68,19 @@ pub struct Machine<'a> {
 impl<'a> Machine<'a> {
     /// Returns a machine with nothing open. A link breaks if its peer is silent for longer than this
     /// patience.
-    pub fn new(rt: HostRuntime, shared: &'a Shared, patience: Patience) -> io::Result<Machine<'a>> {
+    pub fn new(
+        rt: HostRuntime,
+        journal: &'a Journal,
+        patience: Patience,
+    ) -> io::Result<Machine<'a>> {
         let alloc = rt.alloc();
         Ok(Machine {
             rt,
-            journal: &shared.journal,
+            journal,
             poll: Poll::new(&rt)?,
             events: Events::with_capacity(alloc, EVENTS)?,
             outputs: Vec::new(alloc),
-            sources: Sources::new(rt, &shared.journal, patience).map_err(memory_error)?,
+            sources: Sources::new(rt, journal, patience).map_err(memory_error)?,
             looks: 0,
             clock: Clock::new(&rt)?,
             last_tick: 0,
@@ -237,18 +237,21 @@ impl<'a> Machine<'a> {
         self.is_stopping
     }
 
-    /// Holds back all inputs while the disk fails, and tries once a second to fill the reserve.
-    pub fn hold_back(&mut self, shared: &Shared) -> Result<(), Memory> {
-        if shared.disk_failed.get() {
-            let uptime = self.clock.uptime(&self.rt);
-            if !self.sources.is_holding() {
-                self.next_probe = uptime.saturating_add(PROBE_INTERVAL);
-            } else if self.next_probe <= uptime {
-                self.next_probe = uptime.saturating_add(PROBE_INTERVAL);
-                shared.probe();
-            }
+    /// Returns whether the reserve has to be tried again while the disk fails: once a second, and for the first time
+    /// a second after the inputs were held back.
+    pub fn take_probe(&mut self) -> bool {
+        let uptime = self.clock.uptime(&self.rt);
+        let is_new = !self.sources.is_holding();
+        let is_due = !is_new && self.next_probe <= uptime;
+        if is_new || is_due {
+            self.next_probe = uptime.saturating_add(PROBE_INTERVAL);
         }
-        self.sources.hold(shared.disk_failed.get())
+        is_due
+    }
+
+    /// Holds back all inputs from now on, or lets those go on that aren't paused.
+    pub fn hold(&mut self, is_holding: bool) -> Result<(), Memory> {
+        self.sources.hold(is_holding)
     }
 
     /// Polls for at most `most` milliseconds, and doesn't block if a source is left to be looked at.
@@ -441,25 +444,6 @@ fn note_failure(journal: &Journal, output: OutputId, error: &io::Error) {
         journal.note_reason(output, text.as_bytes());
     }
     journal.write(Level::Debug, About::Output(output), Topic::Link, error);
-}
-
-/// Opens a file of a folder for appending; without a name, the tag gives the name. The folder isn't created.
-fn open_to_append(
-    rt: &HostRuntime,
-    folder: &[u8],
-    name: Option<&[u8]>,
-    tag: &[u8],
-) -> io::Result<File> {
-    let path = match name {
-        Some(name) => path_in(rt.alloc(), text(folder)?, text(name)?)?,
-        None => {
-            let name = file_of_tag(rt.alloc(), tag)?;
-            path_in(rt.alloc(), text(folder)?, name.as_str())?
-        }
-    };
-    let mut how = OpenOptions::new();
-    how.append(true).create(true);
-    how.open(rt, path.as_str())
 }
 
 fn copy_of_output(alloc: Global, end: &OutEnd) -> Result<OutEnd, Memory> {

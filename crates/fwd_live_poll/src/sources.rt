@@ -6,14 +6,9 @@ ghost use Rattle.fwd_outside.specs.Loop.{MayOccur};
 mod inputs;
 mod links;
 
-use crate::conn::Conn;
-use crate::descriptors::Budget;
-use crate::input::{Feed, Input};
-use crate::link::Link;
-use crate::patience::Patience;
-use crate::source::Source;
 use fwd_base::limits::LONGEST_PIECE;
 use fwd_live_http::{Again, Server};
+use fwd_live_sockets::{Budget, Conn, Feed, Input, Link, Patience, Source};
 use fwd_log::Journal;
 use fwd_outside::{Happening, InputId, Memory};
 use mio::Registry;
@@ -39,7 +34,7 @@ pub struct Sources<'a> {
     /// Sources that may have something.
     ready: VecDeque<Source>,
     /// The same, for inputs that were paused when they were looked at.
-    held: VecDeque<Source>,
+    held_back: VecDeque<Source>,
     /// Inputs that couldn't accept a peer, as no descriptor or no place for a connection was left.
     refused: VecDeque<Source>,
     /// The time at which these retry.
@@ -80,7 +75,7 @@ impl<'a> Sources<'a> {
             held_files: 0,
             failed_dials: HashMap::new(alloc),
             ready: VecDeque::new(alloc),
-            held: VecDeque::new(alloc),
+            held_back: VecDeque::new(alloc),
             refused: VecDeque::new(alloc),
             retry_at: u64::MAX,
             now: 0,
@@ -158,7 +153,7 @@ impl<'a> Sources<'a> {
     pub fn pause(&mut self, paused: u64) -> Result<(), Memory> {
         if paused != self.paused {
             self.paused = paused;
-            self.queue_held()?;
+            self.queue_held_back()?;
         }
         Ok(())
     }
@@ -172,15 +167,15 @@ impl<'a> Sources<'a> {
     pub fn hold(&mut self, is_holding: bool) -> Result<(), Memory> {
         if is_holding != self.is_holding {
             self.is_holding = is_holding;
-            self.queue_held()?;
+            self.queue_held_back()?;
         }
         Ok(())
     }
 
     /// Queues the sources again that were held back.
-    fn queue_held(&mut self) -> Result<(), Memory> {
-        for _ in 0..self.held.len() {
-            if let Some(source) = self.held.pop_front() {
+    fn queue_held_back(&mut self) -> Result<(), Memory> {
+        for _ in 0..self.held_back.len() {
+            if let Some(source) = self.held_back.pop_front() {
                 self.ready.push_back(source)?;
             }
         }

@@ -382,7 +382,7 @@ fn hold_as_many_as_they_may(files: &mut FollowedFiles<'_>, rt: HostRuntime) -> R
             return Ok(false);
         }
     }
-    Ok(files.held() == 256)
+    Ok(files.handles() == 256)
 }
 
 #[test]

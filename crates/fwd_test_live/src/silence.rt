@@ -1,7 +1,9 @@
 //! A peer of an output that is silent, over the machine alone with short patience.
 
 use crate::stage::{ends, peer_at, quiet};
-use fwd_live_poll::{Handed, Machine, Patience, Shared};
+use fwd_live::Shared;
+use fwd_live_poll::Machine;
+use fwd_live_sockets::{Handed, Patience};
 use fwd_outside::{Happening, LinkId, Memory, OutputId};
 use std::alloc::Global;
 use std::net::TcpListener;
@@ -19,7 +21,7 @@ const LONGEST: u64 = 20_000;
 
 fn started(rt: HostRuntime, shared: &Shared, port: u16) -> Result<Machine<'_>, Fail> {
     let ends = ends(rt.alloc(), 0, peer_at(rt.alloc(), port)?)?;
-    let mut machine = Machine::new(rt, shared, SHORT)?;
+    let mut machine = Machine::new(rt, &shared.journal, SHORT)?;
     machine.start(&ends)?;
     Ok(machine)
 }

@@ -3,13 +3,10 @@
 ghost use Rattle.std.specs.Prelude.{◌≡◌, true, IfOk, IfSome};
 ghost use Rattle.fwd_outside.specs.Loop.{IsNotPaused, MayOccur};
 
-use crate::conn::Conn;
-use crate::input::Feed;
 use crate::mask::is_heard;
-use crate::piece::{Unread, error_of, read_from};
-use crate::source::Source;
 use crate::sources::Sources;
 use fwd_base::limits::LONGEST_PIECE;
+use fwd_live_sockets::{Conn, Feed, Source, Unread, error_of, read_from};
 use fwd_log::{Level, Source as About, Topic};
 use fwd_outside::{ConnId, Happening, InputId, Memory};
 use mio::event::Event;
@@ -60,7 +57,7 @@ impl<'a> Sources<'a> {
     }
 
     /// Writes a line on an input's peers.
-    fn tell_peer(&self, level: Level, input: InputId, text: &impl Display) {
+    fn log_peer(&self, level: Level, input: InputId, text: &impl Display) {
         self.journal
             .write(level, About::Input(input), Topic::Peer, text);
     }
@@ -75,7 +72,7 @@ impl<'a> Sources<'a> {
         ensures { IfOk result (λ found. IfSome found (MayOccur true paused)) }
     {
         if self.is_holding || !is_heard(paused, input) {
-            self.held.push_back(Source::Input(input))?;
+            self.held_back.push_back(Source::Input(input))?;
             return Ok(None);
         }
         let is_full = self.budget.conns(self.held_files) <= self.conns.len();
@@ -86,7 +83,7 @@ impl<'a> Sources<'a> {
             Feed::Listening(_) if is_full => {
                 self.refused.push_back(Source::Input(input))?;
                 let text = "has as many peers as there are descriptors for; others wait";
-                self.tell_peer(Level::Warn, input, &text);
+                self.log_peer(Level::Warn, input, &text);
                 Ok(None)
             }
             Feed::Listening(listener) => match listener.accept() {
@@ -96,7 +93,7 @@ impl<'a> Sources<'a> {
                     Ok(conn.map(|conn| Happening::Joined { input, conn }))
                 }
                 Err(error) => {
-                    self.tell_unaccepted(input, &error);
+                    self.log_unaccepted(input, &error);
                     self.accept_later(input, error.kind())?;
                     Ok(None)
                 }
@@ -109,10 +106,10 @@ impl<'a> Sources<'a> {
         }
     }
 
-    fn tell_unaccepted(&self, input: InputId, error: &io::Error) {
+    fn log_unaccepted(&self, input: InputId, error: &io::Error) {
         if error.kind() != ErrorKind::WouldBlock {
             let text = format_args!("no peer can be accepted: {error}");
-            self.tell_peer(Level::Warn, input, &text);
+            self.log_peer(Level::Warn, input, &text);
         }
     }
 
@@ -212,7 +209,7 @@ impl<'a> Sources<'a> {
                 self.miss();
                 let error = error_of(errno);
                 let text = format_args!("standard input can't be read: {error}");
-                self.tell_peer(Level::Error, input, &text);
+                self.log_peer(Level::Error, input, &text);
                 self.end_stdin(registry, input, watched);
                 Ok(Some(Happening::InputEnd { input }))
             }
@@ -270,7 +267,7 @@ impl<'a> Sources<'a> {
         };
         let input = conn.input;
         if self.is_holding || !is_heard(paused, input) {
-            self.held.push_back(Source::Conn(id))?;
+            self.held_back.push_back(Source::Conn(id))?;
             return Ok(None);
         }
         let mut stream = &conn.stream;
@@ -317,7 +314,7 @@ impl<'a> Sources<'a> {
                 self.miss();
                 let error = error_of(errno);
                 let text = format_args!("a peer is lost: {error}");
-                self.tell_peer(Level::Warn, input, &text);
+                self.log_peer(Level::Warn, input, &text);
                 self.leave(id);
                 Ok(Some(Happening::Gone { input, conn: id }))
             }

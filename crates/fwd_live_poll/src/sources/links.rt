@@ -3,10 +3,8 @@
 ghost use Rattle.std.specs.Prelude.{◌≡◌, ℕ, true, IfOk, IfSome};
 ghost use Rattle.fwd_outside.specs.Loop.{MayOccur};
 
-use crate::link::{Link, PeerState};
-use crate::piece::{Unread, error_of};
-use crate::source::Source;
 use crate::sources::Sources;
+use fwd_live_sockets::{Link, PeerState, Source, Unread, error_of};
 use fwd_log::{Level, Source as About, Topic};
 use fwd_outside::{Happening, LinkId, Memory, OutputId};
 use mio::event::Event;

@@ -1,7 +1,7 @@
 -- How much a link takes.
 use Rattle.std.specs.Prelude.{ℕ, ◌≤◌, List, length}
-use Rattle.fwd_live_poll.specs.declared.link.Handed.{Handed}
-use Rattle.fwd_live_poll.specs.declared.link.Handed.TheVariants.{Took, Full, Broken}
+use Rattle.fwd_live_sockets.specs.declared.link.Handed.{Handed}
+use Rattle.fwd_live_sockets.specs.declared.link.Handed.TheVariants.{Took, Full, Broken}
 
 -- no more than it was given
 abbrev pub TakesAtMost : List ℕ → Handed → Type 0

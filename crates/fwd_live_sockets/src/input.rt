@@ -1,9 +1,10 @@
 //! Inputs of the poll: listeners and standard input.
 
-use crate::names::{addresses_of, text};
+use crate::addresses::addresses_of;
 use crate::source::Source;
 use fwd_log::{Journal, Level, Source as About, Topic};
 use fwd_outside::InputId;
+use fwd_system::text;
 use mio::net::TcpListener;
 use mio::{Interest, Registry, Token};
 use std::io::{self, ErrorKind};

@@ -1,6 +1,6 @@
 //! Links of outputs: peers, standard output and files.
 
-ghost use Rattle.fwd_live_poll.specs.Handed.{TakesAtMost};
+ghost use Rattle.fwd_live_sockets.specs.Handed.{TakesAtMost};
 
 use crate::conn::write_some;
 use crate::patience::Patience;

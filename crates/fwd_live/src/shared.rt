@@ -63,7 +63,7 @@ impl Shared {
             let text = format_args!(
                 "inputs are held back, as a write failed: {name} can't be {what}: {reason}"
             );
-            tell(&self.journal, Level::Warn, &text);
+            log_pause(&self.journal, Level::Warn, &text);
         }
     }
 
@@ -83,7 +83,7 @@ impl Shared {
             None => true,
         };
         if filled && self.disk_failed.replace(false) {
-            tell(
+            log_pause(
                 &self.journal,
                 Level::Info,
                 &"inputs go on, as there is room again",
@@ -93,7 +93,7 @@ impl Shared {
 }
 
 /// Writes a line on the storage to the log.
-fn tell(journal: &Journal, level: Level, text: &impl Display) {
+fn log_pause(journal: &Journal, level: Level, text: &impl Display) {
     journal.write(level, Source::Storage, Topic::Pause, text);
 }
 
