@@ -1,6 +1,5 @@
 -- A live run over devices.
-use Rattle.std.proofs.Common.{◌≡◌, ℕ, ◌≤◌, List, [], Option, Some, None, Result, Ok, Err, IfOk, IsErr, refl, subst, arith}
-use Rattle.std.proofs.lemmas.Result.{MatchResult-from_err}
+use Rattle.std.proofs.Common.{◌≡◌, ℕ, ◌≤◌, List, [], Option, Some, None, Result, Ok, Err, IfOk, refl, subst, arith}
 use Rattle.fwd_outside.specs.Program.{Return}
 use Rattle.fwd_outside.specs.Cause.{HasCause}
 use Rattle.fwd_outside.specs.Loop.{LoopCounts}
@@ -19,7 +18,6 @@ use Rattle.fwd_theorem_trace.specs.Allowed.{IsLoading}
 use Rattle.fwd_engine.specs.EngineSteps.{IsAt}
 use Rattle.fwd_engine.specs.declared.engine.Engine.{Engine}
 use Rattle.fwd_engine_run.specs.OffsetRows.{Keeps}
-use Rattle.fwd_engine_run.specs.declared.kept_offsets.KeptOffsets.{KeptOffsets}
 use Rattle.fwd_engine_run.specs.RunOutcome.{RanToEnd, IsAtEnd, end_of}
 use Rattle.fwd_engine_run.specs.RunOutcome as runs
 use Rattle.fwd_engine_run.specs.declared.run_loop.RunEnd.{RunEnd}
@@ -29,6 +27,7 @@ use Rattle.fwd_replay.specs.LiveRun.{BeginsRun, IsToRun, RunsToEnd, RunProduces,
 use Rattle.fwd_replay.specs.Names.{IsNamed, IsNamedUnlessFailed}
 use Rattle.fwd_replay.specs.Text.{report, reported_by}
 use Rattle.fwd_replay.specs.declared.names.Named.{Named}
+use Rattle.fwd_replay.specs.declared.setup.Setup.{Setup}
 use Rattle.fwd_replay.specs.declared.report.Reported.{Reported}
 use Rattle.fwd_replay.specs.declared.report.Ending.TheVariants as ending
 
@@ -39,13 +38,10 @@ named_unless named engine s h run_end.LoopFailed is at = tt
 named_unless named engine s h run_end.Over is at = record { settings = s; history = h; at = at; is = is }
 named_unless named engine s h run_end.TurnsSpent is at = record { settings = s; history = h; at = at; is = is }
 
-pub to_run : (named : Named) (engine : Engine) (offsets : KeptOffsets) (s : AllSettings) (h : History) → IsNamed named s → IsAt engine s h → IsLoading h → Keeps s offsets [] → IsToRun named engine offsets
-to_run named engine offsets s h is at loading keeps = record { settings = s; history = h; at = at; loading = loading; keeps = keeps; is = is }
+pub to_run : (setup : Setup) (engine : Engine) (s : AllSettings) (h : History) → IsNamed setup.named s → IsAt engine s h → IsLoading h → Keeps s setup.offsets [] → IsToRun setup engine
+to_run setup engine s h is at loading keeps = record { settings = s; history = h; at = at; loading = loading; keeps = keeps; is = is }
 
 module _ (s : AllSettings) (ticks : Option ℕ) (turns : ℕ) where
-  pub wanting_memory : {E : Type 0} (a b : CallLogs) (r : Result Reported E) → IsErr r → BeginsRun s ticks turns a b → RunProduces s ticks turns a b r
-  wanting_memory a b r is begins = MatchResult-from_err r (λ reported. RunsToEnd s ticks turns a b reported) (λ _. BeginsRun s ticks turns a b) is (λ _. begins)
-
   -- memory ran out before a call
   pub begins_first : (w : CallLogs) → BeginsRun s ticks turns w w
   begins_first w = (life s (ends_of s) ticks turns, stays w (life s (ends_of s) ticks turns))
@@ -125,12 +121,3 @@ caused_later a b c before cause = record {
   later = let after = cause.later in omega (arith, before, after);
   cause = λ failed. let rose = cause.cause failed in omega (arith, before, rose);
 }
-
--- if memory ran out, no device has failed
-pub loop_cause_wanting : {E : Type 0} (before now : ℕ) (r : Result Reported E) → IsErr r → before ≤ now → HasCause before now (ending_of r ≡ ending.LoopFailed)
-loop_cause_wanting before now (Ok x) is later = absurd (cc is)
-loop_cause_wanting before now (Err e) is later = record { later = later; cause = λ failed. absurd (cc failed) }
-
-pub disk_cause_wanting : {E : Type 0} (before now : ℕ) (r : Result Reported E) → IsErr r → before ≤ now → HasCause before now (ending_of r ≡ ending.DiskFailed)
-disk_cause_wanting before now (Ok x) is later = absurd (cc is)
-disk_cause_wanting before now (Err e) is later = record { later = later; cause = λ failed. absurd (cc failed) }

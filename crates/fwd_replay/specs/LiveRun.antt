@@ -10,9 +10,8 @@ use Rattle.fwd_theorem_trace.specs.Allowed.{IsLoading}
 use Rattle.fwd_engine.specs.EngineSteps.{IsAt}
 use Rattle.fwd_engine.specs.declared.engine.Engine.{Engine}
 use Rattle.fwd_engine_run.specs.OffsetRows.{Keeps}
-use Rattle.fwd_engine_run.specs.declared.kept_offsets.KeptOffsets.{KeptOffsets}
 use Rattle.fwd_replay.specs.Names.{IsNamed}
-use Rattle.fwd_replay.specs.declared.names.Named.{Named}
+use Rattle.fwd_replay.specs.declared.setup.Setup.{Setup}
 use Rattle.fwd_replay.specs.Text.{report, reported_by, out_of_memory}
 use Rattle.fwd_replay.specs.declared.report.Reported.{Reported}
 use Rattle.fwd_replay.specs.declared.report.Ending.{Ending}
@@ -44,14 +43,20 @@ heard_in most ending.KeeperFailed = 0
 heard_in most ending.LoopFailed = 0
 heard_in most ending.Memory = 0
 
+-- what a run with these settings is made with: their names, their endpoints and the offsets that they keep
+pub record IsSetup (settings : AllSettings) (setup : Setup) : Type 0 where
+  pub named : IsNamed setup.named settings
+  pub ends : setup.ends ≡ ends_of settings
+  pub keeps : Keeps settings setup.offsets []
+
 -- an engine that has begun, with the settings of these names and of these rows
-pub record IsToRun (named : Named) (engine : Engine) (offsets : KeptOffsets) : Type 0 where
+pub record IsToRun (setup : Setup) (engine : Engine) : Type 0 where
   pub settings : AllSettings
   pub history : History
   pub at : IsAt engine settings history
   pub loading : IsLoading history
-  pub keeps : Keeps settings offsets []
-  pub is : IsNamed named settings
+  pub keeps : Keeps settings setup.offsets []
+  pub is : IsNamed setup.named settings
 
 -- the calls were those of a run to its end, and the text is the report of its history
 pub record HasRun (s : AllSettings) (run : Action RunResult) (old new : CallLogs)

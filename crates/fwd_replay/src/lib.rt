@@ -24,6 +24,7 @@ mod names;
 mod progress;
 mod report;
 mod runs;
+mod setup;
 mod start;
 mod turns;
 

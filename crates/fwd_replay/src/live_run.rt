@@ -2,7 +2,6 @@
 
 ghost use Rattle.std.specs.Prelude.{◌≡◌, ◌≤◌, [], Some, IfOk};
 ghost use Rattle.fwd_outside.specs.Cause.{HasCause};
-ghost use Rattle.fwd_settings.specs.Endpoints.{ends_of};
 ghost use Rattle.fwd_settings.specs.Requirements.{MeetsRequirements};
 ghost use Rattle.fwd_settings.specs.declared.settings_types.AllSettings.{AllSettings};
 ghost use Rattle.fwd_model.specs.Fact.{History};
@@ -14,25 +13,26 @@ ghost use Rattle.fwd_engine.specs.EngineSteps.{IsAt};
 ghost use Rattle.fwd_engine_run.specs.OffsetRows.{Keeps, with_keeper};
 ghost use Rattle.fwd_engine_run.specs.RunOutcome.{IsAtEnd, end_of};
 ghost use Rattle.fwd_theorem_trace.specs.Allowed.{IsLoading};
-ghost use Rattle.fwd_replay.specs.LiveRun.{IsToRun, RunProduces, IsRunLive, ActionProduces, ending_of, heard_in};
+ghost use Rattle.fwd_replay.specs.LiveRun.{IsSetup, IsToRun, RunProduces, IsRunLive, ActionProduces, ending_of, heard_in};
 ghost use Rattle.fwd_replay.specs.Names.{IsNamed, IsNamedUnlessFailed};
 ghost use Rattle.fwd_replay.specs.Text.{report, reported_by};
 ghost use Rattle.fwd_replay.specs.declared.report.Ending.TheVariants as ending;
 
 use crate::names::Named;
-use crate::report::{Ending, Reported, Shown, report_text};
+use crate::report::{Ending, Reported, report_text};
+use crate::setup::Setup;
 use fwd_base::{Bytes, Memory};
 use fwd_engine::{BeginErr, Engine};
-use fwd_engine_run::{KeptOffsets, RunEnd, run, show_begun, shown_of};
+use fwd_engine_run::{RunEnd, run, show_begun, shown_of};
 use fwd_keeper::Keeper;
-use fwd_outside::{Disk, Ends, Files, Loop};
-use fwd_settings::{AllSettings, ends};
+use fwd_outside::{Disk, Files, Loop};
+use fwd_settings::AllSettings;
 use fwd_watch::Watch;
 use std::alloc::Global;
 use std::thread::Threads;
 
 /// Returns the report of an engine whose run ended this way.
-fn reported(alloc: Global, named: &Named, engine: &Engine, end: RunEnd) -> Result<Reported, Memory>
+fn report_of(alloc: Global, named: &Named, engine: &Engine, end: RunEnd) -> Result<Reported, Memory>
     requires { IsNamedUnlessFailed named.now engine.now end }
     ensures { (s : AllSettings) (h : History) → IsAtEnd engine.now s h end → IsNamed named.now s → IfOk result (λ reported. reported ≡ reported_by (report s h) (end_of end)) }
 {
@@ -59,30 +59,37 @@ fn without_text(alloc: Global, ending: Ending) -> Reported
 fn run_engine<L: Loop, D: Disk, F: Files, K: Keeper>(
     rt: &(impl Threads + Sync),
     alloc: Global,
-    named: &Named,
+    setup: &mut Setup,
     engine: &mut Engine,
-    offsets: &mut KeptOffsets,
-    ends: &Ends,
-    ticks: Option<u64>,
     disk: &mut D,
     files: &mut F,
     outside: &mut L,
     keeper: &mut K,
-    most: u64,
     watch: &mut impl Watch,
 ) -> Result<Reported, Memory>
-    requires { IsToRun named.now engine.old offsets.old }
-    ensures run { (others : CallLogs) (s : AllSettings) (h : History) → IsAt engine.old s h → IsLoading h → Keeps s offsets.old [] → IsNamed named.now s → ActionProduces s (after_recovery s ends.now ticks most (Some h)) (with_all (L.call_log outside.old) (D.call_log disk.old) (F.call_log files.old) (with_keeper (K.call_log keeper.old) others)) (with_all (L.call_log outside.new) (D.call_log disk.new) (F.call_log files.new) (with_keeper (K.call_log keeper.new) others)) result }
-    ensures heard { EventsTaken (heard_in most (ending_of result)) (L.counts outside.old) (L.counts outside.new) }
+    requires { IsToRun setup.old engine.old }
+    ensures run { (others : CallLogs) (s : AllSettings) (h : History) → IsAt engine.old s h → IsLoading h → Keeps s setup.old.offsets [] → IsNamed setup.old.named s
+        → ActionProduces s (after_recovery s setup.old.ends setup.old.ticks setup.old.most (Some h)) (with_all (L.call_log outside.old) (D.call_log disk.old) (F.call_log files.old) (with_keeper (K.call_log keeper.old) others)) (with_all (L.call_log outside.new) (D.call_log disk.new) (F.call_log files.new) (with_keeper (K.call_log keeper.new) others)) result }
+    ensures heard { EventsTaken (heard_in setup.old.most (ending_of result)) (L.counts outside.old) (L.counts outside.new) }
     ensures keeper_cause { HasCause (K.faults keeper.old) (K.faults keeper.new) (ending_of result ≡ ending.KeeperFailed) }
     ensures loop_cause { HasCause (L.faults outside.old) (L.faults outside.new) (ending_of result ≡ ending.LoopFailed) }
     ensures disk_cause { HasCause (D.faults disk.old) (D.faults disk.new) (ending_of result ≡ ending.DiskFailed) }
     ensures files_later { F.faults files.old ≤ F.faults files.new }
 {
     match run(
-        rt, engine, offsets, ends, ticks, disk, files, outside, keeper, most, watch,
+        rt,
+        engine,
+        &mut setup.offsets,
+        &setup.ends,
+        setup.ticks,
+        disk,
+        files,
+        outside,
+        keeper,
+        setup.most,
+        watch,
     ) {
-        Ok(end) => reported(alloc, named, engine, end),
+        Ok(end) => report_of(alloc, &setup.named, engine, end),
         Err(Memory) => Err(Memory),
     }
 }
@@ -91,40 +98,33 @@ fn run_engine<L: Loop, D: Disk, F: Files, K: Keeper>(
 fn run_and_drop<L: Loop, D: Disk, F: Files, K: Keeper>(
     rt: &(impl Threads + Sync),
     alloc: Global,
-    named: &Named,
+    mut setup: Setup,
     mut engine: Engine,
-    mut offsets: KeptOffsets,
-    ends: &Ends,
-    ticks: Option<u64>,
     disk: &mut D,
     files: &mut F,
     outside: &mut L,
     keeper: &mut K,
-    most: u64,
     watch: &mut impl Watch,
 ) -> Result<Reported, Memory>
-    requires { IsToRun named.now engine offsets }
-    ensures run { (others : CallLogs) (s : AllSettings) (h : History) → IsAt engine s h → IsLoading h → Keeps s offsets [] → IsNamed named.now s → ActionProduces s (after_recovery s ends.now ticks most (Some h)) (with_all (L.call_log outside.old) (D.call_log disk.old) (F.call_log files.old) (with_keeper (K.call_log keeper.old) others)) (with_all (L.call_log outside.new) (D.call_log disk.new) (F.call_log files.new) (with_keeper (K.call_log keeper.new) others)) result }
-    ensures heard { EventsTaken (heard_in most (ending_of result)) (L.counts outside.old) (L.counts outside.new) }
+    requires { IsToRun setup engine }
+    ensures run { (others : CallLogs) (s : AllSettings) (h : History) → IsAt engine s h → IsLoading h → Keeps s setup.offsets [] → IsNamed setup.named s
+        → ActionProduces s (after_recovery s setup.ends setup.ticks setup.most (Some h)) (with_all (L.call_log outside.old) (D.call_log disk.old) (F.call_log files.old) (with_keeper (K.call_log keeper.old) others)) (with_all (L.call_log outside.new) (D.call_log disk.new) (F.call_log files.new) (with_keeper (K.call_log keeper.new) others)) result }
+    ensures heard { EventsTaken (heard_in setup.most (ending_of result)) (L.counts outside.old) (L.counts outside.new) }
     ensures keeper_cause { HasCause (K.faults keeper.old) (K.faults keeper.new) (ending_of result ≡ ending.KeeperFailed) }
     ensures loop_cause { HasCause (L.faults outside.old) (L.faults outside.new) (ending_of result ≡ ending.LoopFailed) }
     ensures disk_cause { HasCause (D.faults disk.old) (D.faults disk.new) (ending_of result ≡ ending.DiskFailed) }
     ensures files_later { F.faults files.old ≤ F.faults files.new }
 {
-    show_begun(&engine, &named.inputs, &named.outputs, watch);
+    show_begun(&engine, &setup.named.inputs, &setup.named.outputs, watch);
     let outcome = run_engine(
         rt,
         alloc,
-        named,
+        &mut setup,
         &mut engine,
-        &mut offsets,
-        ends,
-        ticks,
         disk,
         files,
         outside,
         keeper,
-        most,
         watch,
     );
     watch.over(shown_of(&engine));
@@ -132,28 +132,22 @@ fn run_and_drop<L: Loop, D: Disk, F: Files, K: Keeper>(
     outcome
 }
 
-/// Begins an engine with the names and endpoints of its settings, and runs it.
+/// Begins an engine and runs it.
 fn begin_and_run<L: Loop, D: Disk, F: Files, K: Keeper>(
     rt: &(impl Threads + Sync),
     alloc: Global,
-    named: &Named,
+    setup: Setup,
     settings: AllSettings,
-    offsets: KeptOffsets,
-    ends: &Ends,
-    ticks: Option<u64>,
     disk: &mut D,
     files: &mut F,
     outside: &mut L,
     keeper: &mut K,
-    most: u64,
     watch: &mut impl Watch,
 ) -> Result<Reported, Memory>
     requires sound { MeetsRequirements settings }
-    requires named { IsNamed named.now settings }
-    requires offsets { Keeps settings offsets [] }
-    requires ends { ends.now ≡ ends_of settings }
-    ensures life { (others : CallLogs) → RunProduces settings ticks most (with_all (L.call_log outside.old) (D.call_log disk.old) (F.call_log files.old) (with_keeper (K.call_log keeper.old) others)) (with_all (L.call_log outside.new) (D.call_log disk.new) (F.call_log files.new) (with_keeper (K.call_log keeper.new) others)) result }
-    ensures heard { EventsTaken (heard_in most (ending_of result)) (L.counts outside.old) (L.counts outside.new) }
+    requires setup { IsSetup settings setup }
+    ensures life { (others : CallLogs) → RunProduces settings setup.ticks setup.most (with_all (L.call_log outside.old) (D.call_log disk.old) (F.call_log files.old) (with_keeper (K.call_log keeper.old) others)) (with_all (L.call_log outside.new) (D.call_log disk.new) (F.call_log files.new) (with_keeper (K.call_log keeper.new) others)) result }
+    ensures heard { EventsTaken (heard_in setup.most (ending_of result)) (L.counts outside.old) (L.counts outside.new) }
     ensures keeper_cause { HasCause (K.faults keeper.old) (K.faults keeper.new) (ending_of result ≡ ending.KeeperFailed) }
     ensures loop_cause { HasCause (L.faults outside.old) (L.faults outside.new) (ending_of result ≡ ending.LoopFailed) }
     ensures disk_cause { HasCause (D.faults disk.old) (D.faults disk.new) (ending_of result ≡ ending.DiskFailed) }
@@ -161,49 +155,19 @@ fn begin_and_run<L: Loop, D: Disk, F: Files, K: Keeper>(
 {
     match Engine::begin(rt, alloc, settings, disk) {
         Ok(engine) => run_and_drop(
-            rt, alloc, named, engine, offsets, ends, ticks, disk, files, outside, keeper, most,
-            watch,
+            rt, alloc, setup, engine, disk, files, outside, keeper, watch,
         ),
         Err(BeginErr::DiskFault) => Ok(without_text(alloc, Ending::DiskFailed)),
         Err(BeginErr::Memory) => Err(Memory),
     }
 }
 
-/// Makes the run.
-fn lived<L: Loop, D: Disk, F: Files, K: Keeper>(
-    rt: &(impl Threads + Sync),
-    alloc: Global,
-    settings: AllSettings,
-    ticks: Option<u64>,
-    disk: &mut D,
-    files: &mut F,
-    outside: &mut L,
-    keeper: &mut K,
-    most: u64,
-    watch: &mut impl Watch,
-) -> Result<Reported, Memory>
-    requires { MeetsRequirements settings }
-    ensures life { (others : CallLogs) → RunProduces settings ticks most (with_all (L.call_log outside.old) (D.call_log disk.old) (F.call_log files.old) (with_keeper (K.call_log keeper.old) others)) (with_all (L.call_log outside.new) (D.call_log disk.new) (F.call_log files.new) (with_keeper (K.call_log keeper.new) others)) result }
-    ensures heard { EventsTaken (heard_in most (ending_of result)) (L.counts outside.old) (L.counts outside.new) }
-    ensures keeper_cause { HasCause (K.faults keeper.old) (K.faults keeper.new) (ending_of result ≡ ending.KeeperFailed) }
-    ensures loop_cause { HasCause (L.faults outside.old) (L.faults outside.new) (ending_of result ≡ ending.LoopFailed) }
-    ensures disk_cause { HasCause (D.faults disk.old) (D.faults disk.new) (ending_of result ≡ ending.DiskFailed) }
-    ensures files_later { F.faults files.old ≤ F.faults files.new }
-{
-    let named = Named::of(alloc, &settings, Shown::Report)?;
-    let ends = ends(alloc, &settings)?;
-    let offsets = KeptOffsets::of(alloc, &settings)?;
-    begin_and_run(
-        rt, alloc, &named, settings, offsets, &ends, ticks, disk, files, outside, keeper, most,
-        watch,
-    )
-}
-
 /// Runs the engine over devices with the settings of a configuration, for at most the given number of
-/// events: it loads the disk, gets the kept offsets, and then takes the events of the loop. If a number of clock ticks is given,
-/// the run is stopped after the last of them. The text is the report. The ending is `DiskFailed`,
-/// `KeeperFailed` or `LoopFailed` only if a failure of the disk, the keeper or the loop was counted, and `TurnsSpent` only if the loop
-/// returned that many events. The watcher is told how the run goes, and has no effect on it.
+/// events: it loads the disk, gets the kept offsets, and then takes the events of the loop. If a number of clock
+/// ticks is given, the run is stopped after the last of them. The text is the report. The ending is `DiskFailed`,
+/// `KeeperFailed` or `LoopFailed` only if a failure of the disk, the keeper or the loop was counted, and
+/// `TurnsSpent` only if the loop returned that many events. The watcher is told how the run goes, and has no effect
+/// on it.
 pub fn run_live<L: Loop, D: Disk, F: Files, K: Keeper>(
     rt: &(impl Threads + Sync),
     alloc: Global,
@@ -224,10 +188,13 @@ pub fn run_live<L: Loop, D: Disk, F: Files, K: Keeper>(
     ensures disk_cause { HasCause (D.faults disk.old) (D.faults disk.new) (result.ending ≡ ending.DiskFailed) }
     ensures files_later { F.faults files.old ≤ F.faults files.new }
 {
-    match lived(
-        rt, alloc, settings, ticks, disk, files, outside, keeper, most, watch,
-    ) {
-        Ok(reported) => reported,
+    match Setup::of(alloc, &settings, ticks, most) {
+        Ok(setup) => match begin_and_run(
+            rt, alloc, setup, settings, disk, files, outside, keeper, watch,
+        ) {
+            Ok(reported) => reported,
+            Err(Memory) => without_text(alloc, Ending::Memory),
+        },
         Err(Memory) => without_text(alloc, Ending::Memory),
     }
 }
