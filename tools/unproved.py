@@ -133,7 +133,7 @@ def main(words):
     except Unfit as why:
         print(f"fwd: {why}; {BUILD}", file=sys.stderr)
         return 1
-    print(f"fwd: compiling without proof, which takes three to four minutes, and then running; {BUILD}", file=sys.stderr, flush=True)
+    print(f"fwd: compiling without proof, which takes about four minutes, and then running; {BUILD}", file=sys.stderr, flush=True)
     stdin = None if words[0] == "run" else subprocess.DEVNULL
     ran = subprocess.run(command(words, files), cwd=f"{TOP}/crates/fwd", stdin=stdin, stderr=subprocess.PIPE, errors="replace")
     result = result_of(ran.stderr)

@@ -1,5 +1,6 @@
 //! Chunk files: appends on a disk in memory, and reads.
 
+use fwd_base::limits::FULL_CHUNK;
 use fwd_chunk::{ChunkHead, commit, create, read_chunk, stage};
 use fwd_disk_mem::MemDisk;
 use fwd_outside::{Bytes, DiskErr, Memory, Names};
@@ -13,9 +14,6 @@ const ROUNDS: u32 = 7;
 /// The event of a line of 100 letters at second 0.
 const EVENT: &[u8] = b"\x92\x92\xd7\0\0\0\0\0\0\0\0\0\x80\x81\xa3log\xd9\x64\
     aaaaaaaaaaaaaaaaaaaaaaaaaaaaaaaaaaaaaaaaaaaaaaaaaaaaaaaaaaaaaaaaaaaaaaaaaaaaaaaaaaaaaaaaaaaaaaaaaaaa";
-
-/// A chunk with this many bytes of content takes no more appends.
-const FULL_CHUNK: u64 = 2_048_000;
 
 /// The header of a plain file with a tag.
 const PLAIN_HEADER: &[u8] = b"\xc1\0\0\0\0\0\0\0\0\0\0\0\0\0\0\0\0\0\0\0\0\0\0\x05bench";

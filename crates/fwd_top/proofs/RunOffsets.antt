@@ -1,5 +1,5 @@
 -- Each run keeps its offsets.
-use Rattle.std.proofs.Common.{inl, inr, ◌≡◌, ◌≤◌, ◌⊎◌, ℕ, ◌-◌, ◌^◌, false, List, [], ◌∷◌, ◌++◌, Option, Some, None, subst}
+use Rattle.std.proofs.Common.{inl, inr, ◌≡◌, ◌≤◌, ℕ, ◌-◌, ◌^◌, false, List, [], ◌∷◌, ◌++◌, Option, Some, None, subst}
 use Rattle.std.specs.Prelude.{Contains}
 use Rattle.fwd_outside.specs.Program.{entry, Execution}
 use Rattle.fwd_outside.specs.Loop.{Wait}

@@ -126,8 +126,8 @@ fn write_outcome<S: Sink>(out: &mut S, reported: &Reported) -> Status
     }
 }
 
-/// Does all that `log_forwarder` does, and tells a watcher how a live run goes. What the watcher does has no effect on
-/// the run, and no clause speaks of it: the clauses are those of `log_forwarder`.
+/// Does all that `log_forwarder` does, and shows a watcher how a live run goes. What the watcher does has no effect on
+/// the run, and no clause speaks of it: the clauses are those of `log_forwarder`, which says what they mean.
 pub fn watched_forwarder<D: Disk, F: Files, L: Loop, K: Keeper, S: Sink>(
     rt: &(impl Threads + Sync),
     alloc: Global,
@@ -141,24 +141,9 @@ pub fn watched_forwarder<D: Disk, F: Files, L: Loop, K: Keeper, S: Sink>(
     turns: u64,
     watch: &mut impl Watch,
 ) -> Status
-    // The calls on the files are those of the program's asking, and then those on all devices are those
-    // of the reference model, or for a listing those of loading on the disk; the text is written.
-    // Each run that was made keeps the delivery guarantee (`Outcome.delivered`): complete input is accepted, or
-    // refused and counted, or followed the drop of its connection; each chunk is, for each output that it
-    // matches, delivered in full, failed, out of retries, evicted, marked done before, or still pending
-    // and in the report; the bytes sent over each link are a prefix of the payload of its flush.
-    // If appends are fsynced, no crash loses a pending file-backed chunk (`Outcome.safe`): the next run of a
-    // schedule recovers it, whole, and pending for the same outputs; at each point of a run, even inside a call
-    // on the disk, whatever a crash leaves has the file of each such chunk.
-    // Each offset of a followed file that is put has nothing lost before it (`Outcome.offsets`): each batch that
-    // was complete by then was accepted, or refused and counted, or has no events. The next run reads on from
-    // the offset that the keeper gives.
     ensures answers { Answers words.now (environment env.now) turns (devices (D.call_log disk.old) (F.call_log files.old) (L.call_log outside.old) (K.call_log keeper.old) (S.call_log out.old)) (devices (D.call_log disk.new) (F.call_log files.new) (L.call_log outside.new) (K.call_log keeper.new) (S.call_log out.new)) result }
     ensures text { IsOfTheFiles words.now (environment env.now) turns (devices (D.call_log disk.old) (F.call_log files.old) (L.call_log outside.old) (K.call_log keeper.old) (S.call_log out.old)) (devices (D.call_log disk.new) (F.call_log files.new) (L.call_log outside.new) (K.call_log keeper.new) (S.call_log out.new)) result }
     ensures file_cause { HasCause (F.faults files.old) (F.faults files.new) (result ≡ Status.FileFault) }
-    // A run answers `DiskFault`, `KeeperFault` or `LoopFault` only if a failure of its disk, its keeper or
-    // its loop was counted, and `TurnsSpent` only if the loop returned that many events; a listing answers
-    // `DiskFault` only if a failure of the disk was counted.
     ensures disk_cause { HasCause (D.faults disk.old) (D.faults disk.new) (IsDiskFault words.now result) }
     ensures keeper_cause { HasCause (K.faults keeper.old) (K.faults keeper.new) (IsKeeperFault words.now result) }
     ensures loop_cause { HasCause (L.faults outside.old) (L.faults outside.new) (IsLoopFault words.now result) }
