@@ -191,10 +191,14 @@ pub fn log_forwarder<D: Disk, F: Files, L: Loop, K: Keeper, S: Sink>(
     // Each run that was made keeps the delivery guarantee (`Outcome.delivered`): complete input is accepted, or
     // refused and counted, or followed the drop of its connection; each chunk is, for each output that it
     // matches, delivered in full, failed, out of retries, evicted, marked done before, or still pending
-    // and in the report; the bytes sent over each link are a prefix of the payload of its flush.
+    // and in the report; the bytes sent over each link are a prefix of the payload of its flush, and each flush
+    // begins with the events of its chunk. Each batch is decided once, each reply is due, and a refusal, the
+    // end of retries and an eviction have their causes.
     // If appends are fsynced, no crash loses a pending file-backed chunk (`Outcome.safe`): the next run of a
     // schedule recovers it, whole, and pending for the same outputs; at each point of a run, even inside a call
-    // on the disk, whatever a crash leaves has the file of each such chunk.
+    // on the disk, whatever a crash leaves has the file of each such chunk. The next run that loads it finds
+    // each batch that was accepted before, and so each forward message that was answered before: whole, and
+    // pending for each output that matches it and hadn't resolved it.
     // Each offset of a followed file that is put has nothing lost before it (`Outcome.offsets`): each batch that
     // was complete by then was accepted, or refused and counted, or has no events. The next run reads on from
     // the offset that the keeper gives.
