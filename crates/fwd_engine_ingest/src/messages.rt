@@ -133,7 +133,7 @@ fn receive_batch<L: Loop, D: Disk>(
 }
 
 /// Handles a message: a batch under the input's tag, or under its own. Returns whether the messages after
-/// it are handled. A tag of more than `LONGEST_TAG` bytes, which no message has, breaks the stream.
+/// it are handled.
 fn receive_message<L: Loop, D: Disk>(
     rt: &(impl Threads + Sync),
     run: &RunSettings,
@@ -156,7 +156,7 @@ fn receive_message<L: Loop, D: Disk>(
         Message::Batch { tag, events, chunk } => {
             let own = tag_or(run, input, tag.as_slice());
             if own.len() > LONGEST_TAG {
-                reject_stream(parts, outside, input, conn)?;
+                // Unreachable: the readers break a stream with a longer tag, so no message has one.
                 return Ok(false);
             }
             let asked = ack_for(parts.state.alloc(), chunk.as_ref())?;
