@@ -19,7 +19,7 @@ unfolding accepts
 returns-in-Nothing-clause-acts g c short others h next shows = rw c.in-Nothing.is (h, shows, stays _ (next h))
 
 pub returns-in_err-asked-in-Batch-clause-acts : goal.returns-in_err-asked-in-Batch-clause-acts
-returns-in_err-asked-in-Batch-clause-acts g c short others h next shows = went_end c.args.run.now _ _ next c.from_residual-in_err-asked-in-Batch.result c.from_residual-in_err-asked-in-Batch.ensures.0 (_, stays _ _)
+returns-in_err-asked-in-Batch-clause-acts g c short others h next shows = went_end c.args.run.now _ _ next c.from_residual.result c.from_residual.ensures.0 (_, stays _ _)
 
 pub receive_batch-requires-clause-shallow : goal.receive_batch-requires-clause-shallow
 receive_batch-requires-clause-shallow g c ks lives =
