@@ -188,13 +188,13 @@ pub fn run_live<L: Loop, D: Disk, F: Files, K: Keeper>(
     ensures disk_cause { HasCause (D.faults disk.old) (D.faults disk.new) (result.ending ≡ ending.DiskFailed) }
     ensures files_later { F.faults files.old ≤ F.faults files.new }
 {
-    match Setup::of(alloc, &settings, ticks, most) {
-        Ok(setup) => match begin_and_run(
-            rt, alloc, setup, settings, disk, files, outside, keeper, watch,
-        ) {
-            Ok(reported) => reported,
-            Err(Memory) => without_text(alloc, Ending::Memory),
-        },
+    let Ok(setup) = Setup::of(alloc, &settings, ticks, most) else {
+        return without_text(alloc, Ending::Memory);
+    };
+    match begin_and_run(
+        rt, alloc, setup, settings, disk, files, outside, keeper, watch,
+    ) {
+        Ok(reported) => reported,
         Err(Memory) => without_text(alloc, Ending::Memory),
     }
 }
