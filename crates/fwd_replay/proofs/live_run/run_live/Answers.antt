@@ -14,4 +14,4 @@ pub returns-in-Ok-begin_and_run-clause-life : goal.returns-in-Ok-begin_and_run-c
 returns-in-Ok-begin_and_run-clause-life g c others = inl (rw c.in-Ok.ensures.most at (rw c.in-Ok.ensures.ticks at (c.in-Ok-begin_and_run.ensures.life others)))
 
 pub returns-in-Err-clause-life : goal.returns-in-Err-clause-life
-returns-in-Err-clause-life g c others = inr (rw c.in-Ok.ensures.most at (rw c.in-Ok.ensures.ticks at (c.in-Err.ensures.life others)), c.without_text-2.ensures)
+returns-in-Err-clause-life g c others = inr (rw c.in-Ok.ensures.most at (rw c.in-Ok.ensures.ticks at (c.in-Err.ensures.life others)), c.without_text-in-Err.ensures)
