@@ -45,7 +45,7 @@ impl Pattern {
         ensures read { IfOk result (IsReadFrom (translated text.now)) }
         ensures refused { IsErrOf result Refused → IsNoPattern text.now }
     {
-        let translated = rewrite::translated(alloc, text)?;
+        let translated = rewrite::translate(alloc, text)?;
         let Ok(source) = str::from_utf8(translated.as_slice()) else {
             return Err(PatternErr::Refused);
         };

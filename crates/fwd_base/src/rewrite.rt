@@ -75,7 +75,7 @@ fn without_slashes(text: &[u8]) -> &[u8]
 
 /// Translates a pattern: removes enclosing slashes and, outside classes, replaces `(?<` of a named group by
 /// `(?P<`, and an escaped `<` or `>` by the character itself.
-pub fn translated(alloc: Global, text: &[u8]) -> Result<Bytes, Memory>
+pub fn translate(alloc: Global, text: &[u8]) -> Result<Bytes, Memory>
     ensures { IfOk result (λ bytes. bytes ≡ translated text.now) }
 {
     let text = without_slashes(text);

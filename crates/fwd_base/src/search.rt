@@ -53,19 +53,20 @@ impl<'p> Search<'p> {
         text: &'t [u8],
     ) -> Result<Option<Vec<Capture<'p, 't>>>, Memory>
         ensures found { IfOk result (λ found. option_map (λ captures. map captured captures.items) found
-            ≡ option_map (captures_of (search_names self.old) text.now) (find (search_expression self.old) text.now 0)) }
+            ≡ option_map (captures_of (search_names self.old) text.now)
+            (find (search_expression self.old) text.now 0)) }
         ensures same { SearchesAs self.old self.new }
     {
         let names = self.names;
         let Some(captures) = self.matcher.captures(text) else {
             return Ok(None);
         };
-        Ok(Some(named(alloc, names, &captures)?))
+        Ok(Some(named_captures(alloc, names, &captures)?))
     }
 }
 
 /// Returns the named groups that took part in the match with these captures.
-fn named<'p, 't>(
+fn named_captures<'p, 't>(
     alloc: Global,
     names: &'p [Option<String>],
     captures: &Captures<'_, 't>,

@@ -3,7 +3,7 @@ use Rattle.regex.specs.Patterns.{Match}
 use Rattle.regex.specs.Names.{names_of}
 use Rattle.regex.specs.Bytes.{IsCapturesOf}
 use Rattle.fwd_base.specs.Pattern.{captures_from, captures_of, captured}
-use Rattle.fwd_base.proofs.search.named.Given as goal
+use Rattle.fwd_base.proofs.search.named_captures.Given as goal
 
 abbrev pub invariant-loop-n : goal.invariant-loop-n
 invariant-loop-n l =

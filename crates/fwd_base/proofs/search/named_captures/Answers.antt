@@ -6,7 +6,7 @@ use Rattle.regex.specs.Bytes.{match_haystack, match_span}
 use Rattle.regex.specs.Writes.{group_of}
 use Rattle.fwd_base.specs.Pattern.{captures_from, named_capture, captured}
 use Rattle.fwd_base.proofs.MappedLists.{drop-map-step}
-use Rattle.fwd_base.proofs.search.named.Goals as goal
+use Rattle.fwd_base.proofs.search.named_captures.Goals as goal
 
 pub loop-n-preserved : goal.loop-n-preserved
 loop-n-preserved c = λ text m is.
