@@ -11,10 +11,10 @@ use fwd_base::Bytes;
 pub fn is_text(value: &Value, text: &Bytes) -> bool
     ensures { result ≡ is_text text.now (val_of value.now) }
 {
-    match value {
-        Value::Text(bytes) => bytes == text,
-        _ => false,
-    }
+    let Value::Text(bytes) = value else {
+        return false;
+    };
+    bytes == text
 }
 
 /// Returns the index of the first pair with the key.

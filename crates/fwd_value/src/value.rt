@@ -107,7 +107,15 @@ impl Value {
         match self {
             Value::List(values) => depth > 0 && values.nest_within(depth - 1),
             Value::Map(pairs) => depth > 0 && pairs.nest_within(depth - 1),
-            _ => true,
+            Value::Nil
+            | Value::Truth(_)
+            | Value::Uint(_)
+            | Value::Neg(_)
+            | Value::Text(_)
+            | Value::Bin(_)
+            | Value::Float32(_)
+            | Value::Float64(_)
+            | Value::Ext(_, _) => true,
         }
     }
 
@@ -409,7 +417,8 @@ impl<'a> IntoIterator for &'a Values {
 
     type IntoIter = slice::Iter<'a, Value>;
 
-    ghost into_iter_gives = { λ l r. (map val_of (iter_rest r) ≡ l.now) × (length (iter_rest r) < 2 ^ 64) × EveryRun (iter_steps {A = Value}) (λ p. ItemsMapTo p (λ y. y.now) (iter_rest p.from)) };
+    ghost into_iter_gives = { λ l r. (map val_of (iter_rest r) ≡ l.now) × (length (iter_rest r) < 2 ^ 64)
+        × EveryRun (iter_steps {A = Value}) (λ p. ItemsMapTo p (λ y. y.now) (iter_rest p.from)) };
 
     fn into_iter(self) -> slice::Iter<'a, Value> {
         self.items.as_slice().iter()
@@ -421,7 +430,8 @@ impl<'a> IntoIterator for &'a Pairs {
 
     type IntoIter = slice::Iter<'a, (Value, Value)>;
 
-    ghost into_iter_gives = { λ l r. (map pair_of (iter_rest r) ≡ l.now) × (length (iter_rest r) < 2 ^ 64) × EveryRun (iter_steps {A = Value × Value}) (λ p. ItemsMapTo p (λ y. y.now) (iter_rest p.from)) };
+    ghost into_iter_gives = { λ l r. (map pair_of (iter_rest r) ≡ l.now) × (length (iter_rest r) < 2 ^ 64)
+        × EveryRun (iter_steps {A = Value × Value}) (λ p. ItemsMapTo p (λ y. y.now) (iter_rest p.from)) };
 
     fn into_iter(self) -> slice::Iter<'a, (Value, Value)> {
         self.items.as_slice().iter()
