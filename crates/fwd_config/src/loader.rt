@@ -45,7 +45,8 @@ fn out_of_memory(alloc: Global) -> ConfigFault
 
 /// Reads a whole file. Fails if it can't be read or isn't UTF-8.
 fn read_text<F: Files>(alloc: Global, files: &mut F, file: &[u8]) -> Result<Bytes, ConfigFault>
-    ensures calls { RunsProgram (F.call_log files.old) (F.call_log files.new) (bind (read_whole_program file.now) (λ content. Return (text_of file.now content))) (outcome result) }
+    ensures calls { RunsProgram (F.call_log files.old) (F.call_log files.new)
+        (bind (read_whole_program file.now) (λ content. Return (text_of file.now content))) (outcome result) }
     ensures cause { HasCause (F.faults files.old) (F.faults files.new) (IsFileFault result) }
 {
     match read_whole(alloc, files, file) {
@@ -72,7 +73,8 @@ fn read_file<F: Files>(
 ) -> Result<(), ConfigFault>
     requires { 0 < may_open }
     ensures calls { (env : Values) (above : Text) → OutlineRepresents env above outline.old
-        → ReadsInto env (F.call_log files.old) (F.call_log files.new) (with_file env may_open file.now above) outline.new result }
+        → ReadsInto env (F.call_log files.old) (F.call_log files.new)
+        (with_file env may_open file.now above) outline.new result }
     ensures cause { HasCause (F.faults files.old) (F.faults files.new) (IsFileFault result) }
 {
     let content = read_text(alloc, files, file)?;
@@ -102,7 +104,8 @@ fn read_files<F: Files>(
     names: &Names,
 ) -> Result<(), ConfigFault>
     ensures calls { (env : Values) (above : Text) → OutlineRepresents env above outline.old
-        → ReadsInto env (F.call_log files.old) (F.call_log files.new) (with_files env 8 names.now above) outline.new result }
+        → ReadsInto env (F.call_log files.old) (F.call_log files.new)
+        (with_files env 8 names.now above) outline.new result }
     ensures cause { HasCause (F.faults files.old) (F.faults files.new) (IsFileFault result) }
 {
     for name in names.as_slice() {
@@ -118,7 +121,8 @@ fn read_all<F: Files>(
     path: &[u8],
     env: &[(String, String)],
 ) -> Result<Sections, ConfigFault>
-    ensures calls { RunsProgram (F.call_log files.old) (F.call_log files.new) (reads_files (load_program (environment env.now) path.now)) (outcome result) }
+    ensures calls { RunsProgram (F.call_log files.old) (F.call_log files.new)
+        (reads_files (load_program (environment env.now) path.now)) (outcome result) }
     ensures cause { HasCause (F.faults files.old) (F.faults files.new) (IsFileFault result) }
 {
     let Ok(mut outline) = Outline::new(alloc, env) else {
@@ -142,8 +146,10 @@ pub fn load<F: Files>(
     env: &[(String, String)],
 ) -> Result<Sections, ConfigFault>
     // Each file is read when it is reached: one call asks for its length, and one reads that many bytes.
-    ensures calls { RunsProgram (F.call_log files.old) (F.call_log files.new) (reads_files (load_program (environment env.now) path.now)) (outcome result) }
-    ensures meaning { IsResultOfFiles (F.call_log files.old) (F.call_log files.new) path.now (environment env.now) result }
+    ensures calls { RunsProgram (F.call_log files.old) (F.call_log files.new)
+        (reads_files (load_program (environment env.now) path.now)) (outcome result) }
+    ensures meaning { IsResultOfFiles (F.call_log files.old) (F.call_log files.new)
+        path.now (environment env.now) result }
     ensures cause { HasCause (F.faults files.old) (F.faults files.new) (IsFileFault result) }
 {
     read_all(alloc, files, path, env)

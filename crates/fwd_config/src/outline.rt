@@ -22,7 +22,7 @@ pub struct Outline {
 }
 
 /// What follows a line: the next line (`None`), or a file to be read first.
-pub type Next = Result<Option<Bytes>, ConfigKind>;
+pub type NextFile = Result<Option<Bytes>, ConfigKind>;
 
 impl Outline {
     /// Returns the outline of no lines, with the variables of the environment.
@@ -43,11 +43,12 @@ impl Outline {
         number: u64,
         includes_left: usize,
         line: &[u8],
-    ) -> Next
+    ) -> NextFile
         ensures included { IfOk result (λ next. IsSome next → 0 < includes_left) }
         ensures readable { result ≢ Err ConfigKind.FileFault }
         ensures meaning { (env : Values) (above : Text) → OutlineRepresents env above self.old
-            → FollowsMeaning env above (meaning env includes_left (place file.now number) above (form_of line.now)) self.new result }
+            → FollowsMeaning env above
+            (meaning env includes_left (place file.now number) above (form_of line.now)) self.new result }
     {
         match read_line(line) {
             Line::Nothing => Ok(None),
@@ -60,11 +61,12 @@ impl Outline {
         }
     }
 
-    fn include(&self, alloc: Global, file: &[u8], includes_left: usize, path: &[u8]) -> Next
+    fn include(&self, alloc: Global, file: &[u8], includes_left: usize, path: &[u8]) -> NextFile
         ensures included { IfOk result (λ next. IsSome next → 0 < includes_left) }
         ensures readable { result ≢ Err ConfigKind.FileFault }
         ensures meaning { (env : Values) (above : Text) (number : ℕ) → OutlineRepresents env above self.now
-            → FollowsMeaning env above (meaning env includes_left (place file.now number) above (Inclusion path.now)) self.now result }
+            → FollowsMeaning env above
+            (meaning env includes_left (place file.now number) above (Inclusion path.now)) self.now result }
     {
         if path.is_empty() {
             return Err(ConfigKind::NoValue);
@@ -76,22 +78,26 @@ impl Outline {
         Ok(Some(relative_path(alloc, file, path.as_slice())?))
     }
 
-    fn set(&mut self, alloc: Global, name: &[u8], value: &[u8]) -> Next
+    fn set(&mut self, alloc: Global, name: &[u8], value: &[u8]) -> NextFile
         ensures included { IfOk result (λ next. next ≡ None) }
         ensures readable { result ≢ Err ConfigKind.FileFault }
-        ensures meaning { (env : Values) (above : Text) (includes_left : ℕ) (place : Place) → OutlineRepresents env above self.old
-            → FollowsMeaning env above (meaning env includes_left place above (Setting name.now value.now)) self.new result }
+        ensures meaning { (env : Values) (above : Text) (includes_left : ℕ) (place : Place) →
+            OutlineRepresents env above self.old
+            → FollowsMeaning env above
+            (meaning env includes_left place above (Setting name.now value.now)) self.new result }
     {
         let value = self.variables.replace_variables(alloc, value)?;
         self.variables.set(alloc, name, value)?;
         Ok(None)
     }
 
-    fn header(&mut self, alloc: Global, file: &[u8], number: u64, name: &[u8]) -> Next
+    fn header(&mut self, alloc: Global, file: &[u8], number: u64, name: &[u8]) -> NextFile
         ensures included { IfOk result (λ next. next ≡ None) }
         ensures readable { result ≢ Err ConfigKind.FileFault }
-        ensures meaning { (env : Values) (above : Text) (includes_left : ℕ) → OutlineRepresents env above self.old
-            → FollowsMeaning env above (meaning env includes_left (place file.now number) above (Heading name.now)) self.new result }
+        ensures meaning { (env : Values) (above : Text) (includes_left : ℕ) →
+            OutlineRepresents env above self.old
+            → FollowsMeaning env above
+            (meaning env includes_left (place file.now number) above (Heading name.now)) self.new result }
     {
         let section = Section {
             name: Bytes::from_slice(alloc, name)?,
@@ -102,11 +108,21 @@ impl Outline {
         Ok(None)
     }
 
-    fn pair(&mut self, alloc: Global, file: &[u8], number: u64, key: &[u8], value: &[u8]) -> Next
+    fn pair(
+        &mut self,
+        alloc: Global,
+        file: &[u8],
+        number: u64,
+        key: &[u8],
+        value: &[u8],
+    ) -> NextFile
         ensures included { IfOk result (λ next. next ≡ None) }
         ensures readable { result ≢ Err ConfigKind.FileFault }
-        ensures meaning { (env : Values) (above : Text) (includes_left : ℕ) → OutlineRepresents env above self.old
-            → FollowsMeaning env above (meaning env includes_left (place file.now number) above (Pair key.now value.now)) self.new result }
+        ensures meaning { (env : Values) (above : Text) (includes_left : ℕ) →
+            OutlineRepresents env above self.old
+            → FollowsMeaning env above
+            (meaning env includes_left (place file.now number) above (Pair key.now value.now))
+            self.new result }
     {
         if self.sections.is_empty() {
             return Err(ConfigKind::EntryOutsideSection);

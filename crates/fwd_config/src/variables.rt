@@ -18,7 +18,8 @@ pub struct Variables {
 impl Variables {
     /// Returns the variables of the environment. If a name occurs several times, the first counts.
     pub fn new(alloc: Global, env: &[(String, String)]) -> Result<Variables, Memory>
-        ensures { IfOk result (λ variables. (name : List ℕ) → value_of variables name ≡ environment env.now name) }
+        ensures { IfOk result (λ variables. (name : List ℕ) → value_of variables name
+            ≡ environment env.now name) }
     {
         let mut variables = Variables {
             values: HashMap::new(alloc),
@@ -45,7 +46,8 @@ impl Variables {
 
     /// Sets a variable.
     pub fn set(&mut self, alloc: Global, name: &[u8], value: Bytes) -> Result<(), Memory>
-        ensures { OnOk result ((other : List ℕ) → value_of self.new other ≡ with_value (value_of self.old) name.now value other) }
+        ensures { OnOk result ((other : List ℕ) → value_of self.new other
+            ≡ with_value (value_of self.old) name.now value other) }
     {
         let name = Vec::from_slice(alloc, name)?;
         self.values.insert(name, value)?;

@@ -11,7 +11,7 @@ use Rattle.fwd_event.specs.declared.errors.EventErr.{EventErr}
 use Rattle.fwd_event.specs.declared.errors.EventErr.TheVariants.{Short, Unused, TooDeep, Memory, NotAnEvent}
 use Rattle.fwd_event.specs.Event.{event_of, AreEvents, IsWholePrefix}
 use Rattle.fwd_event.specs.ReadAnswers.{EventsRead, OutcomeAt, FailsAt, IsAnswer, IsMemory}
-use Rattle.fwd_event.proofs.Exclusive.{one_value, prefix_not_value, prefix_not_stop, one_stop, unused_not_deep}
+use Rattle.fwd_msgpack.proofs.Exclusive.{one_value, prefix_not_value, prefix_not_stop, one_stop, unused_not_deep}
 use Rattle.fwd_event.proofs.EventLists.{event_at, events_same}
 
 none_some : (e : Event) → None ≡ Some e → ⊥

@@ -7,7 +7,7 @@ use Rattle.fwd_value.specs.Val.{mapping, entries_of}
 use Rattle.fwd_value.specs.Limits.{IsInRange}
 use Rattle.fwd_msgpack.specs.Canonical.{canonical, list_head, ext_head}
 use Rattle.fwd_msgpack.proofs.Encodable.{fits}
-use Rattle.fwd_msgpack.proofs.CanonicalEncodes.{canonical_spells}
+use Rattle.fwd_msgpack.proofs.CanonicalEncodes.{canonical_encodes}
 use Rattle.fwd_event.specs.declared.event.Event.{Event}
 use Rattle.fwd_event.specs.Event.{event_val, event_of, EventFits, AreEvents}
 use Rattle.fwd_event.proofs.EventParts.{pairs_back}
@@ -26,4 +26,4 @@ pub written_is : (e : Event) → e.sec < 2 ^ 32 → e.nsec < 2 ^ 32 → EventFit
 written_is e a b f meta body =
     let v = event_val e in
     let range : IsInRange v = ((omega arith, (meta, tt)), (body, tt)) in
-    (v, canonical v, [], sym (append-nil (canonical v)), canonical_spells v (fits v range (omega arith, ((omega arith, (omega arith, (f.meta_lengths, tt))), (f.body_lengths, tt)))), omega (arith, f.meta_nested, f.body_nested), event_back e a b, refl)
+    (v, canonical v, [], sym (append-nil (canonical v)), canonical_encodes v (fits v range (omega arith, ((omega arith, (omega arith, (f.meta_lengths, tt))), (f.body_lengths, tt)))), omega (arith, f.meta_nested, f.body_nested), event_back e a b, refl)

@@ -27,11 +27,11 @@ pub events_rest : (es fs : List Event) (x y : List ℕ) → AreEvents es x → A
 events_rest [] fs x y a b = (fs, subst (λ (t : List ℕ). AreEvents fs (t ++ y)) a b)
 events_rest (e ∷ es) [] x y a b =
     let size : length x + length y ≡ 0 = sym (length-append x y) ∙ ap length b in
-    absurd (nothing_spelled a.0 a.1 (omega (arith, ap length a.3, length-append a.1 a.2)) a.4)
+    absurd (nothing_encoded a.0 a.1 (omega (arith, ap length a.3, length-append a.1 a.2)) a.4)
   where
-    nothing_spelled : (v : Val) (front : List ℕ) → length front ≡ 0 → Encodes v front → ⊥
-    nothing_spelled v [] n s = s
-    nothing_spelled v (c ∷ front) n s = omega arith
+    nothing_encoded : (v : Val) (front : List ℕ) → length front ≡ 0 → Encodes v front → ⊥
+    nothing_encoded v [] n s = s
+    nothing_encoded v (c ∷ front) n s = omega arith
 events_rest (e ∷ es) (f ∷ fs) x y a b =
     let parts : a.1 ++ (a.2 ++ y) ≡ b.1 ++ b.2 = sym (append_assoc a.1 a.2 y) ∙ ap (λ (t : List ℕ). t ++ y) (sym a.3) ∙ b.3 in
     let same = (encodings_are_prefix_free a.0 b.0 a.1 b.1 (a.2 ++ y) b.2 a.4 b.4 parts).1 in

@@ -46,7 +46,7 @@ pub record Begun (e : Event) (b rest : List ℕ) : Type 0 where
   pub value : Val
   pub front : List ℕ
   pub parts : b ≡ front ++ rest
-  pub spells : Encodes value front
+  pub encodes : Encodes value front
   pub nested : nesting value ≤ 64
   pub event : event_of value ≡ Some e
 
@@ -59,7 +59,7 @@ value_back (Err f) b x h n = absurd (next_apart x n)
 value_back (Ok y) b x h n =
     let is = event_back (event_of y.0) y.1 x n in
     let s = (reads 64).sound b y.0 y.1 h in
-    record { value = y.0; front = s.0; parts = s.1 ∙ ap (λ (t : List ℕ). s.0 ++ t) is.1; spells = s.2.0; nested = s.2.1; event = is.0 }
+    record { value = y.0; front = s.0; parts = s.1 ∙ ap (λ (t : List ℕ). s.0 ++ t) is.1; encodes = s.2.0; nested = s.2.1; event = is.0 }
 
 pub next_begins : (b : List ℕ) (x : Event × List ℕ) → next_in b ≡ some_next x → Begun x.0 b x.1
 unfolding next_in
@@ -101,11 +101,11 @@ parted_next : (n : ℕ) (b : List ℕ) (o : Next) → next_in b ≡ o → length
 parted_next n b None h le more = record { front = []; parts = refl; are = refl; stops = h }
 parted_next n b (Some x) h le more =
     let f = next_begins b x h in
-    let g = more x.1 (omega (arith, some_byte f.value f.front f.spells, ap length f.parts, length-append f.front x.1)) in
+    let g = more x.1 (omega (arith, some_byte f.value f.front f.encodes, ap length f.parts, length-append f.front x.1)) in
     record {
       front = f.front ++ g.front;
       parts = f.parts ∙ ap (λ (t : List ℕ). f.front ++ t) g.parts ∙ sym (append_assoc f.front g.front (event_split n x.1).1);
-      are = (f.value, f.front, g.front, refl, f.spells, f.nested, f.event, g.are);
+      are = (f.value, f.front, g.front, refl, f.encodes, f.nested, f.event, g.are);
       stops = g.stops;
     }
 
@@ -126,8 +126,8 @@ not_longer x b p m others le a = elim (cases_lt (length p.front) m) [
       let back : drop (length p.front) b ≡ x.1 = ap (drop (length p.front)) p.parts ∙ drop_at p.front x.1 (length p.front) refl in
       let h = event_at x.0 others (length p.front) m b (rw front p.are) a lt le in
       let whole : x.1 ≡ take h.2 x.1 ++ drop h.2 x.1 = sym (take-append-drop h.2 x.1) in
-      let spelled : EncodesPrefix h.0 h.2 x.1 = subst (EncodesPrefix h.0 h.2) back h.3 in
-      absurd (next_apart (h.1, drop h.2 x.1) (sym p.stops ∙ ap next_in whole ∙ next_is h.0 h.1 (take h.2 x.1) (drop h.2 x.1) spelled.1 spelled.2 h.4))
+      let encoded : EncodesPrefix h.0 h.2 x.1 = subst (EncodesPrefix h.0 h.2) back h.3 in
+      absurd (next_apart (h.1, drop h.2 x.1) (sym p.stops ∙ ap next_in whole ∙ next_is h.0 h.1 (take h.2 x.1) (drop h.2 x.1) encoded.1 encoded.2 h.4))
 ]
 
 prefix_of : (x : EventSplit) (b : List ℕ) → IsParted x b → IsWholePrefix x.0 (length b - length x.1) b
@@ -160,11 +160,11 @@ events_all es b e =
     whole [] = refl
     whole (x ∷ c) = ap (λ (t : List ℕ). x ∷ t) (whole c)
 
-pub spellings_are : (es : List Event) → All IsWritable es → AreEvents es (encodings es)
-spellings_are [] h = refl
-spellings_are (e ∷ es) h =
+pub encodings_are : (es : List Event) → All IsWritable es → AreEvents es (encodings es)
+encodings_are [] h = refl
+encodings_are (e ∷ es) h =
     let w = All-head IsWritable e es h in
-    are_more (e ∷ []) es (canonical (event_val e)) (encodings es) (written_is e w.sec w.nsec w.fits w.meta w.body) (spellings_are es (All-tail IsWritable e es h))
+    are_more (e ∷ []) es (canonical (event_val e)) (encodings es) (written_is e w.sec w.nsec w.fits w.meta w.body) (encodings_are es (All-tail IsWritable e es h))
 
-pub spellings_back : (es : List Event) → All IsWritable es → events_in (encodings es) ≡ (es, length (encodings es))
-spellings_back es h = all_events es (encodings es) (spellings_are es h)
+pub encodings_back : (es : List Event) → All IsWritable es → events_in (encodings es) ≡ (es, length (encodings es))
+encodings_back es h = all_events es (encodings es) (encodings_are es h)

@@ -1,7 +1,6 @@
 pub mod EventParts
 pub mod PartwiseDecoding
 pub mod DecodeAnswers
-pub mod Exclusive
 pub mod EventLists
 pub mod Answers
 pub mod EventEncodings

@@ -12,12 +12,12 @@ use Rattle.fwd_event.proofs.EventParts.{pairs_back}
 abbrev written : List ℕ → Entries → Entries → Val
 written time meta body = list (val (list (val (ext (pos 0) time) (val (mapping meta) no_vals))) (val (mapping body) no_vals))
 
-abbrev spelling : List ℕ → List ℕ → List ℕ
-spelling time maps = 146 ∷ 146 ∷ 215 ∷ 0 ∷ (time ++ maps)
+abbrev written_event : List ℕ → List ℕ → List ℕ
+written_event time maps = 146 ∷ 146 ∷ 215 ∷ 0 ∷ (time ++ maps)
 
-spells : (time first second : List ℕ) (meta body : Entries) → length time ≡ 8 → Encodes (mapping meta) first → Encodes (mapping body) second → Encodes (written time meta body) (spelling time (first ++ second))
+encodes : (time first second : List ℕ) (meta body : Entries) → length time ≡ 8 → Encodes (mapping meta) first → Encodes (mapping body) second → Encodes (written time meta body) (written_event time (first ++ second))
 unfolding form_of
-spells time first second meta body eight one two =
+encodes time first second meta body eight one two =
     let stamp : Encodes (ext (pos 0) time) (215 ∷ 0 ∷ time) = ([], 0, (eight, refl), refl, refl) in
     let head : Encodes (list (val (ext (pos 0) time) (val (mapping meta) no_vals))) (146 ∷ 215 ∷ 0 ∷ (time ++ first)) =
     ([], 215 ∷ 0 ∷ (time ++ first), (refl, refl), refl, (215 ∷ 0 ∷ time, first, refl, stamp, (first, [], sym (append-nil first), one, refl))) in
@@ -39,30 +39,30 @@ front_of : (front back : List ℕ) (n : ℕ) → n ≡ length front → take n (
 front_of [] back n is = ap (λ (k : ℕ). take k back) is
 front_of (x ∷ front) back n is = ap (λ (k : ℕ). take k ((x ∷ front) ++ back)) is ∙ ap (λ (l : List ℕ). x ∷ l) (front_of front back (length front) refl)
 
-pub event_spelled : (b time maps : List ℕ) (m k sec nsec : ℕ) (meta body : List (Val × Val)) → b ≡ spelling time maps → length time ≡ 8 → event_time time ≡ Some (sec, nsec)
+pub event_encoded : (b time maps : List ℕ) (m k sec nsec : ℕ) (meta body : List (Val × Val)) → b ≡ written_event time maps → length time ≡ 8 → event_time time ≡ Some (sec, nsec)
     → EncodesPrefix (mapping (entries_of meta)) m maps → entry_nestings (entries_of meta) ≤ 61 → EncodesPrefix (mapping (entries_of body)) k (drop m maps) → entry_nestings (entries_of body) ≤ 62
     → (v : Val) × EncodesPrefix v (12 + m + k) b × (event_of v ≡ Some (record { sec = sec; nsec = nsec; meta = meta; body = body }))
-event_spelled b time maps m k sec nsec meta body is eight moment one shallow two low =
+event_encoded b time maps m k sec nsec meta body is eight moment one shallow two low =
     let first = take m maps in
     let second = take k (drop m maps) in
     let back = drop k (drop m maps) in
     let v = written time (entries_of meta) (entries_of body) in
     let all : maps ≡ (first ++ second) ++ back =
     sym (take-append-drop m maps) ∙ ap (λ (l : List ℕ). first ++ l) (sym (take-append-drop k (drop m maps))) ∙ sym (append_assoc first second back) in
-    let whole : b ≡ spelling time (first ++ second) ++ back = is ∙ ap (spelling time) all ∙ ap (λ (l : List ℕ). 146 ∷ 146 ∷ 215 ∷ 0 ∷ l) (sym (append_assoc time (first ++ second) back)) in
-    let size : 12 + m + k ≡ length (spelling time (first ++ second)) =
+    let whole : b ≡ written_event time (first ++ second) ++ back = is ∙ ap (written_event time) all ∙ ap (λ (l : List ℕ). 146 ∷ 146 ∷ 215 ∷ 0 ∷ l) (sym (append_assoc time (first ++ second) back)) in
+    let size : 12 + m + k ≡ length (written_event time (first ++ second)) =
     omega (arith, eight, length-append time (first ++ second), length-append first second, length-take m maps, length-take k (drop m maps), one.0, two.0) in
-    let front : take (12 + m + k) b ≡ spelling time (first ++ second) = ap (take (12 + m + k)) whole ∙ front_of (spelling time (first ++ second)) back (12 + m + k) size in
-    let within : 12 + m + k ≤ length b = omega (arith, ap length whole, length-append (spelling time (first ++ second)) back, size) in
+    let front : take (12 + m + k) b ≡ written_event time (first ++ second) = ap (take (12 + m + k)) whole ∙ front_of (written_event time (first ++ second)) back (12 + m + k) size in
+    let within : 12 + m + k ≤ length b = omega (arith, ap length whole, length-append (written_event time (first ++ second)) back, size) in
     let event : event_of v ≡ Some (record { sec = sec; nsec = nsec; meta = meta; body = body }) =
     ap (λ (o : Option Timestamp). event_at o (entries_of meta) (entries_of body)) moment ∙ (λ i. Some (record { sec = sec; nsec = nsec; meta = pairs_back meta i; body = pairs_back body i })) in
-    (v, (within, subst (Encodes v) (sym front) (spells time first second (entries_of meta) (entries_of body) eight one.1 two.1), omega (arith, shallow, low)), event)
+    (v, (within, subst (Encodes v) (sym front) (encodes time first second (entries_of meta) (entries_of body) eight one.1 two.1), omega (arith, shallow, low)), event)
 
 -- a map without pairs is one byte
-pub empty_spelled : (b : List ℕ) (pairs : List (Val × Val)) → pairs ≡ [] → 1 ≤ length b → get_or b 0 0 ≡ 128 → EncodesPrefix (mapping (entries_of pairs)) 1 b × (entry_nestings (entries_of pairs) ≡ 0)
+pub empty_encoded : (b : List ℕ) (pairs : List (Val × Val)) → pairs ≡ [] → 1 ≤ length b → get_or b 0 0 ≡ 128 → EncodesPrefix (mapping (entries_of pairs)) 1 b × (entry_nestings (entries_of pairs) ≡ 0)
 unfolding form_of
-empty_spelled [] pairs none long is = absurd (omega (arith, long))
-empty_spelled (x ∷ b) pairs none long is =
+empty_encoded [] pairs none long is = absurd (omega (arith, long))
+empty_encoded (x ∷ b) pairs none long is =
     let one : Encodes (mapping no_entries) (128 ∷ []) = ([], [], (refl, refl), refl, refl) in
     let front : Encodes (mapping no_entries) (take 1 (x ∷ b)) = subst (λ (n : ℕ). Encodes (mapping no_entries) (n ∷ [])) (sym is) one in
     let empty : EncodesPrefix (mapping no_entries) 1 (x ∷ b) × (entry_nestings no_entries ≡ 0) = ((long, front, omega arith), refl) in

@@ -4,7 +4,7 @@ use Rattle.std.specs.List.{flat_map}
 use Rattle.fwd_base.specs.Limits.{deepest}
 use Rattle.fwd_value.specs.Val.{Val, mapping, entries_of}
 use Rattle.fwd_value.specs.Limits.{IsInRange}
-use Rattle.fwd_msgpack.specs.declared.fault.FormatError.{FormatError}
+use Rattle.fwd_msgpack.specs.declared.fault.FormatErr.{FormatErr}
 use Rattle.fwd_msgpack.specs.Canonical.{canonical}
 use Rattle.fwd_msgpack.specs.Decoder.{value_at}
 use Rattle.fwd_event.specs.declared.event.Event.{Event}
@@ -19,7 +19,7 @@ with_rest None rest = None
 with_rest (Some e) rest = Some (e, rest)
 
 -- the event of a decoded value, if it is one
-abbrev pub next_of : Result (Val × List ℕ) FormatError → Next
+abbrev pub next_of : Result (Val × List ℕ) FormatErr → Next
 next_of (Ok x) = with_rest (event_of x.0) x.1
 next_of (Err fault) = None
 

@@ -48,7 +48,14 @@ fn time_of(value: &Value) -> Option<(u32, u32)>
             }
         }
         Value::Neg(n) => no_time_below_zero(n),
-        _ => None,
+        Value::Nil
+        | Value::Truth(_)
+        | Value::Text(_)
+        | Value::Bin(_)
+        | Value::Float32(_)
+        | Value::Float64(_)
+        | Value::List(_)
+        | Value::Map(_) => None,
     }
 }
 
@@ -79,12 +86,13 @@ fn event_at(moment: Option<(u32, u32)>, meta: Pairs, body: Pairs) -> Option<Even
 
 /// Builds the event of a time, metadata and a record.
 fn event_with_meta(time: Value, meta: Value, body: Pairs) -> Option<Event>
-    ensures { result ≡ event_with_header (list (val (val_of time) (val (val_of meta) no_vals))) (entries_of body) }
+    ensures { result
+        ≡ event_with_header (list (val (val_of time) (val (val_of meta) no_vals))) (entries_of body) }
 {
-    match meta {
-        Value::Map(meta) => event_at(time_of(&time), meta, body),
-        _ => None,
-    }
+    let Value::Map(meta) = meta else {
+        return None;
+    };
+    event_at(time_of(&time), meta, body)
 }
 
 #[tactic(auto, using(crate::proofs::EventParts::no_head))]
@@ -114,10 +122,10 @@ fn event_with_header(alloc: Global, head: Value, body: Pairs) -> Option<Event>
 pub fn event_of_two(alloc: Global, head: Value, body: Value) -> Option<Event>
     ensures { result ≡ event_of (list (val (val_of head) (val (val_of body) no_vals))) }
 {
-    match body {
-        Value::Map(body) => event_with_header(alloc, head, body),
-        _ => None,
-    }
+    let Value::Map(body) = body else {
+        return None;
+    };
+    event_with_header(alloc, head, body)
 }
 
 #[tactic(auto, using(crate::proofs::EventParts::not_two_parts))]
@@ -136,10 +144,10 @@ fn event_of_list(alloc: Global, mut values: Values) -> Option<Event>
 pub fn event_of(alloc: Global, value: Value) -> Option<Event>
     ensures { result ≡ event_of (val_of value) }
 {
-    match value {
-        Value::List(values) => event_of_list(alloc, values),
-        _ => None,
-    }
+    let Value::List(values) = value else {
+        return None;
+    };
+    event_of_list(alloc, values)
 }
 
 /// Decodes the event at the beginning of the bytes, and returns it and its length in bytes. `place` is the
@@ -166,7 +174,8 @@ const EMPTY_MAP: u8 = 0x80;
 /// Decodes the map at the beginning of the bytes, and returns its pairs and its length in bytes. Returns
 /// `None` if there is no map, or its keys and values are nested more than `depth` deep.
 fn decode_map(alloc: Global, bytes: &[u8], depth: u64) -> Option<(Pairs, usize)>
-    ensures { IfSome result (λ x. EncodesPrefix (mapping (entries_of x.0)) x.1 bytes.now × (entry_nestings (entries_of x.0) ≤ depth)) }
+    ensures { IfSome result (λ x. EncodesPrefix (mapping (entries_of x.0)) x.1 bytes.now
+        × (entry_nestings (entries_of x.0) ≤ depth)) }
 {
     if let [EMPTY_MAP, ..] = bytes {
         return Some((Pairs::new(alloc), 1));
@@ -174,15 +183,13 @@ fn decode_map(alloc: Global, bytes: &[u8], depth: u64) -> Option<(Pairs, usize)>
     let Ok((value, length)) = decode(alloc, bytes) else {
         return None;
     };
-    match value {
-        Value::Map(pairs) => {
-            if pairs.nest_within(depth) {
-                Some((pairs, length as usize))
-            } else {
-                None
-            }
-        }
-        _ => None,
+    let Value::Map(pairs) = value else {
+        return None;
+    };
+    if pairs.nest_within(depth) {
+        Some((pairs, length as usize))
+    } else {
+        None
     }
 }
 

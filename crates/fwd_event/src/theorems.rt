@@ -17,5 +17,6 @@ pub fn all_bytes_are_events()
 
 /// The encodings of events decode to these events, with no byte left.
 pub fn encodings_are_events()
-    ensures { (events : List Event) → All IsWritable events → events_in (encodings events) ≡ (events, length (encodings events)) }
+    ensures { (events : List Event) → All IsWritable events → events_in (encodings events)
+        ≡ (events, length (encodings events)) }
 {}

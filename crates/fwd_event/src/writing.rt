@@ -29,7 +29,8 @@ pub fn can_write(event: &Event) -> bool
 /// Appends the bytes of an event before its metadata.
 #[tactic(auto, using(crate::proofs::EventParts::keeps_same))]
 fn put_time(sec: u32, nsec: u32, out: &mut Bytes) -> Result<(), Memory>
-    ensures ok { OnOk result (out.new ≡ out.old ++ 146 ∷ 146 ∷ 215 ∷ 0 ∷ (to_be_bytes w32 sec ++ to_be_bytes w32 nsec)) }
+    ensures ok { OnOk result (out.new
+        ≡ out.old ++ 146 ∷ 146 ∷ 215 ∷ 0 ∷ (to_be_bytes w32 sec ++ to_be_bytes w32 nsec)) }
     ensures err { OnErr result (KeepsFront out.old out.new) }
 {
     let [a, b, c, d] = sec.to_be_bytes();

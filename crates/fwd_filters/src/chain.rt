@@ -19,8 +19,8 @@ use std::thread::Threads;
 const PARALLEL_EVENTS: usize = 2_048;
 
 /// Returns the events after each filter whose glob matches the tag, in order; the remaining events keep
-/// their order. From 2,048 events on (`PARALLEL_EVENTS`), as many threads filter as the work is worth. If no glob
-/// matches, nothing is done.
+/// their order. From 2,048 events on (`PARALLEL_EVENTS`), as many threads filter as the work is worth. If no
+/// glob matches, nothing is done.
 pub fn filter(
     rt: &(impl Threads + Sync),
     alloc: Global,
@@ -34,8 +34,8 @@ pub fn filter(
 }
 
 /// Filters as `filter` does. From 2,048 events on, each event passes the gate right before it is filtered,
-/// with its index in the list. The result doesn't depend on the gate. The program uses it only with `Open`, by
-/// `filter`: another gate shows a test which threads filter.
+/// with its index in the list. The result doesn't depend on the gate. The program uses it only with `Open`,
+/// by `filter`: another gate shows a test which threads filter.
 pub fn filter_gated<G: Gate>(
     rt: &(impl Threads + Sync),
     alloc: Global,

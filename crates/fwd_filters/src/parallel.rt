@@ -5,7 +5,7 @@ ghost use Rattle.std.specs.List.{filter_map};
 ghost use Rattle.fwd_filters.specs.Step.{through};
 
 use crate::prepared_filter::Filters;
-use crate::runs::{Part, Run, join_parts, split_runs};
+use crate::runs::{FilteredRun, Run, join_parts, split_runs};
 use crate::sieve::{filter_events, filter_run};
 use crate::work::worth_threads;
 use fwd_base::Memory;
@@ -68,13 +68,14 @@ fn in_parallel<F: Filters + Sync, G: Gate>(
         .into_par_iter()
         .with_min_len(1)
         .map(
-            |run: Run| -> Result<Part, Memory>
-                ensures { IfOk result (λ part. part.left ≡ filter_map (through (F.kinds filters.entry.now tag.entry.now)) run.events) }
+            |run: Run| -> Result<FilteredRun, Memory>
+                ensures { IfOk result (λ part. part.left
+                    ≡ filter_map (through (F.kinds filters.entry.now tag.entry.now)) run.events) }
             {
                 let mut ready = filters.ready(alloc, tag)?;
                 filter_run(alloc, &mut ready, run, gate)
             },
         )
-        .collect::<Result<Vec<Part>, Memory>>(rt, alloc)??;
+        .collect::<Result<Vec<FilteredRun>, Memory>>(rt, alloc)??;
     join_parts(alloc, parts)
 }

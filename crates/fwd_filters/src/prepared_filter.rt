@@ -7,7 +7,7 @@ ghost use Rattle.fwd_filters.specs.Step.{step_of, through};
 ghost use Rattle.fwd_filters.specs.FilterFunction.{matching};
 ghost use Rattle.fwd_filters.specs.Prepared.{kind_of, remaining_of};
 
-use crate::record_filters::{lifted, modified, nested};
+use crate::record_filters::{lift_event, modify_event, nest_event};
 use crate::{FilterKind, FilterStep, FilterSteps};
 use fwd_base::Memory;
 use fwd_event::Event;
@@ -115,9 +115,11 @@ fn apply_one(
                 Ok(FilterOutcome::Dropped(event))
             }
         }
-        PreparedFilter::Modify(rules) => Ok(FilterOutcome::Left(modified(alloc, rules, event)?)),
-        PreparedFilter::Nest(rule) => Ok(FilterOutcome::Left(nested(alloc, rule, event)?)),
-        PreparedFilter::Lift(rule) => Ok(FilterOutcome::Left(lifted(alloc, rule, event)?)),
+        PreparedFilter::Modify(rules) => Ok(FilterOutcome::Left(modify_event(
+            alloc, rules, event,
+        )?)),
+        PreparedFilter::Nest(rule) => Ok(FilterOutcome::Left(nest_event(alloc, rule, event)?)),
+        PreparedFilter::Lift(rule) => Ok(FilterOutcome::Left(lift_event(alloc, rule, event)?)),
     }
 }
 
@@ -127,7 +129,8 @@ pub fn apply_all(
     filters: &mut Vec<PreparedFilter<'_>>,
     event: Event,
 ) -> Result<FilterOutcome, Memory>
-    ensures after { IfOk result (λ after. remaining_of after ≡ through (map kind_of filters.old.items) event) }
+    ensures after { IfOk result (λ after. remaining_of after
+        ≡ through (map kind_of filters.old.items) event) }
     ensures same { map kind_of filters.new.items ≡ map kind_of filters.old.items }
 {
     let mut left = event;

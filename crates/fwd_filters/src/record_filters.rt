@@ -9,7 +9,8 @@ use fwd_event::Event;
 use fwd_reshape::{LiftRule, ModifyRules, NestRule, lift, modify, nest};
 use std::alloc::Global;
 
-pub fn modified(alloc: Global, rules: &ModifyRules, event: Event) -> Result<Event, Memory>
+/// Applies the rules of a `modify` filter to the record of an event.
+pub fn modify_event(alloc: Global, rules: &ModifyRules, event: Event) -> Result<Event, Memory>
     ensures { IfOk result (λ after. Some after ≡ step_of (kind.Modify rules.now) event) }
 {
     let Event {
@@ -27,7 +28,8 @@ pub fn modified(alloc: Global, rules: &ModifyRules, event: Event) -> Result<Even
     })
 }
 
-pub fn nested(alloc: Global, rule: &NestRule, event: Event) -> Result<Event, Memory>
+/// Applies the rule of a `nest` filter that nests to the record of an event.
+pub fn nest_event(alloc: Global, rule: &NestRule, event: Event) -> Result<Event, Memory>
     ensures { IfOk result (λ after. Some after ≡ step_of (kind.Nest rule.now) event) }
 {
     let Event {
@@ -45,7 +47,8 @@ pub fn nested(alloc: Global, rule: &NestRule, event: Event) -> Result<Event, Mem
     })
 }
 
-pub fn lifted(alloc: Global, rule: &LiftRule, event: Event) -> Result<Event, Memory>
+/// Applies the rule of a `nest` filter that lifts to the record of an event.
+pub fn lift_event(alloc: Global, rule: &LiftRule, event: Event) -> Result<Event, Memory>
     ensures { IfOk result (λ after. Some after ≡ step_of (kind.Lift rule.now) event) }
 {
     let Event {

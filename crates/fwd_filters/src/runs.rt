@@ -17,7 +17,7 @@ pub struct Run {
 /// The remaining events of a run, in order, and the dropped ones. Dropped events are freed by the thread
 /// that allocated them: threads that free memory of another thread wait for each other.
 #[derive(Debug, Drop)]
-pub struct Part {
+pub struct FilteredRun {
     pub left: Events,
     pub dropped: Events,
 }
@@ -52,7 +52,7 @@ pub fn split_runs(alloc: Global, events: Events, length: usize) -> Result<Vec<Ru
 }
 
 /// Returns the remaining events of all parts, in order.
-pub fn join_parts(alloc: Global, parts: Vec<Part>) -> Result<Events, Memory>
+pub fn join_parts(alloc: Global, parts: Vec<FilteredRun>) -> Result<Events, Memory>
     ensures { IfOk result (λ all. all ≡ flat_map (λ part. part.left) parts.items) }
 {
     let mut all = Vec::new(alloc);

@@ -6,7 +6,7 @@ ghost use Rattle.fwd_filters.specs.Step.{through};
 ghost use Rattle.fwd_filters.specs.Prepared.{kind_of};
 
 use crate::prepared_filter::{FilterOutcome, PreparedFilter, apply_all};
-use crate::runs::{Part, Run};
+use crate::runs::{FilteredRun, Run};
 use fwd_base::Memory;
 use fwd_event::Events;
 use fwd_outside::Gate;
@@ -42,8 +42,9 @@ pub fn filter_run<G: Gate>(
     filters: &mut Vec<PreparedFilter<'_>>,
     run: Run,
     gate: &G,
-) -> Result<Part, Memory>
-    ensures { IfOk result (λ part. part.left ≡ filter_map (through (map kind_of filters.old.items)) run.events) }
+) -> Result<FilteredRun, Memory>
+    ensures { IfOk result (λ part. part.left
+        ≡ filter_map (through (map kind_of filters.old.items)) run.events) }
 {
     let Run { first, events } = run;
     let mut place = first;
@@ -58,5 +59,5 @@ pub fn filter_run<G: Gate>(
             FilterOutcome::Dropped(event) => dropped.push(event)?,
         }
     }
-    Ok(Part { left, dropped })
+    Ok(FilteredRun { left, dropped })
 }

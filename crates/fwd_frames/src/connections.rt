@@ -32,7 +32,8 @@ impl Connections {
 
     /// Adds a connection to an input. The others are unchanged; after `Memory` all are.
     pub fn join(&mut self, conn: u64, input: u32) -> Result<(), Memory>
-        ensures ok { OnOk result ((c : ℕ) → conn_input self.new c ≡ (if conn == c then Some input else conn_input self.old c)) }
+        ensures ok { OnOk result ((c : ℕ) → conn_input self.new c
+            ≡ (if conn == c then Some input else conn_input self.old c)) }
         ensures err { OnErr result ((c : ℕ) → conn_input self.new c ≡ conn_input self.old c) }
     {
         self.inputs.insert(conn, input)?;

@@ -33,7 +33,8 @@ pub fn trim_return(mut bytes: Bytes) -> Bytes
 /// Appends bytes, up to the longest line. Returns whether the line is cut.
 pub fn push_within(bytes: &mut Bytes, cut: bool, more: &[u8]) -> Result<bool, Memory>
     requires { length bytes.old ≤ longest_line }
-    ensures ok { IfOk result (λ over. state_of bytes.new over ≡ state_with_more (state_of bytes.old cut) more.now) }
+    ensures ok { IfOk result (λ over. state_of bytes.new over
+        ≡ state_with_more (state_of bytes.old cut) more.now) }
     ensures within { OnOk result (length bytes.new ≤ longest_line) }
     ensures err { OnErr result (bytes.new ≡ bytes.old) }
 {

@@ -31,7 +31,8 @@ impl Readers {
         ensures lines { (stream : List ℕ) → reader_state self.old number ≡ kept stream →
             IfOk result (λ given. given ≡ drop (length (lines stream)) (lines (stream ++ piece.now))) }
         ensures kept { (stream : List ℕ) → reader_state self.old number ≡ kept stream →
-            OnOk result ((n : ℕ) → reader_state self.new n ≡ (if number == n then kept (stream ++ piece.now) else reader_state self.old n)) }
+            OnOk result ((n : ℕ) → reader_state self.new n
+            ≡ (if number == n then kept (stream ++ piece.now) else reader_state self.old n)) }
         ensures err { OnErr result ((n : ℕ) → reader_state self.new n ≡ reader_state self.old n) }
     {
         match self.readers.get_mut(&number) {
@@ -50,7 +51,8 @@ impl Readers {
     pub fn finish(&mut self, alloc: Global, number: u64) -> Result<Lines, Memory>
         ensures last { (stream : List ℕ) → reader_state self.old number ≡ kept stream →
             IfOk result (λ given. given ≡ last_line stream) }
-        ensures kept { OnOk result ((n : ℕ) → reader_state self.new n ≡ (if number == n then kept [] else reader_state self.old n)) }
+        ensures kept { OnOk result ((n : ℕ) → reader_state self.new n
+            ≡ (if number == n then kept [] else reader_state self.old n)) }
         ensures err { OnErr result ((n : ℕ) → reader_state self.new n ≡ reader_state self.old n) }
     {
         match self.readers.get_mut(&number) {
@@ -65,7 +67,8 @@ impl Readers {
 
     /// Drops a stream and its rest: it is then at its beginning. The others are unchanged.
     pub fn leave(&mut self, number: u64)
-        ensures { (n : ℕ) → reader_state self.new n ≡ (if number == n then kept [] else reader_state self.old n) }
+        ensures { (n : ℕ) → reader_state self.new n
+            ≡ (if number == n then kept [] else reader_state self.old n) }
     {
         self.readers.remove(&number);
     }

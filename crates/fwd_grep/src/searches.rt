@@ -66,7 +66,8 @@ pub fn keeps(alloc: Global, rules: &GrepRules, body: &Pairs) -> Result<bool, Mem
 
 /// Returns a search for the pattern of each rule.
 fn searches_of(alloc: Global, rules: &[GrepRule]) -> Result<Vec<Search<'_>>, Memory>
-    ensures { IfOk result (λ searches. map search_expression searches.items ≡ map searched_pattern rules.now) }
+    ensures { IfOk result (λ searches. map search_expression searches.items
+        ≡ map searched_pattern rules.now) }
 {
     let mut searches = Vec::new(alloc);
     for rule in rules {

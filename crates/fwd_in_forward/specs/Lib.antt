@@ -1,2 +1,2 @@
 pub mod Conn
-pub mod Next
+pub mod NextMessage

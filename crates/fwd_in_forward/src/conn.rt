@@ -133,7 +133,8 @@ impl ForwardConn {
         ensures messages { (stream : List ℕ) (before : List MessageContent) → Streams before self.old stream →
             IfOk result (λ fed. Streams (before ++ all_content fed.messages) self.new (stream ++ piece.now)) }
         ensures fault { IfOk result (λ fed. fed.fault ≡ fault_of self.new) }
-        ensures stays { (fault : ConnFault) → self.old ≡ broken fault → (self.new ≡ broken fault) × IfOk result (λ fed. fed.messages ≡ []) }
+        ensures stays { (fault : ConnFault) → self.old ≡ broken fault → (self.new ≡ broken fault)
+            × IfOk result (λ fed. fed.messages ≡ []) }
         // What the messages say can be encoded again.
         ensures fits { IfOk result (λ fed. All ContentFits (all_content fed.messages)) }
         ensures err { OnErr result (self.new ≡ self.old) }
@@ -177,7 +178,8 @@ impl ForwardConn {
             IfOk result (λ fed. Streams (all_content fed.messages) self.new rest) }
         ensures fault { IfOk result (λ fed. fed.fault ≡ fault_of self.new) }
         ensures fits { IfOk result (λ fed. All ContentFits (all_content fed.messages)) }
-        ensures err { (rest : List ℕ) → self.old ≡ waiting rest → OnErr result (self.new ≡ waiting (take before rest)) }
+        ensures err { (rest : List ℕ) → self.old ≡ waiting rest →
+            OnErr result (self.new ≡ waiting (take before rest)) }
     {
         match messages_and_scan(self.alloc, self.rest.as_slice()) {
             Ok((read, scan)) => {
@@ -203,7 +205,8 @@ impl ForwardConn {
 /// Returns the messages at the start of bytes, and a scan that was fed the bytes after them, if these begin
 /// a value.
 fn messages_and_scan(alloc: Global, bytes: &[u8]) -> Result<(AllRead, Option<Scan>), Memory>
-    ensures streams { IfOk result (λ x. Streams (all_content x.0.messages) (ending_of x.0.rest x.0.fault) bytes.now) }
+    ensures streams { IfOk result
+        (λ x. Streams (all_content x.0.messages) (ending_of x.0.rest x.0.fault) bytes.now) }
     ensures fits { IfOk result (λ x. All ContentFits (all_content x.0.messages)) }
     ensures scan { IfOk result (λ x. Scans x.1 x.0.rest) }
 {

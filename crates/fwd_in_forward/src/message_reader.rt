@@ -5,7 +5,7 @@ ghost use Rattle.fwd_base.specs.Limits.{longest_message};
 ghost use Rattle.fwd_wire.specs.Fits.{ContentFits};
 ghost use Rattle.fwd_wire.specs.Stream.{Streams};
 ghost use Rattle.fwd_in_forward.specs.Conn.{ending_of, all_content};
-ghost use Rattle.fwd_in_forward.specs.Next.{NextIs, NextFits, TakenAs};
+ghost use Rattle.fwd_in_forward.specs.NextMessage.{NextIs, NextFits, TakenAs};
 
 use fwd_base::{Bytes, Items, Memory};
 use fwd_wire::{ConnFault, Message, WireErr, read_message};
@@ -24,28 +24,28 @@ pub struct AllRead {
 
 /// What comes next: a message and its length, nothing whole yet, or what breaks the stream.
 #[derive(Drop)]
-enum Next {
+enum NextMessage {
     Message(Message, usize),
     Short,
     Broken(ConnFault),
 }
 
 /// Returns what comes next, by what was read.
-fn next_of(read: Result<(Message, u64), WireErr>) -> Result<Next, Memory>
+fn next_of(read: Result<(Message, u64), WireErr>) -> Result<NextMessage, Memory>
     ensures { TakenAs read result }
 {
     match read {
-        Ok((message, length)) => Ok(Next::Message(message, length as usize)),
-        Err(WireErr::Short) => Ok(Next::Short),
-        Err(WireErr::NotAMessage { .. }) => Ok(Next::Broken(ConnFault::NotAMessage)),
-        Err(WireErr::Compressed) => Ok(Next::Broken(ConnFault::Compressed)),
-        Err(WireErr::TooLong) => Ok(Next::Broken(ConnFault::TooLong)),
+        Ok((message, length)) => Ok(NextMessage::Message(message, length as usize)),
+        Err(WireErr::Short) => Ok(NextMessage::Short),
+        Err(WireErr::NotAMessage { .. }) => Ok(NextMessage::Broken(ConnFault::NotAMessage)),
+        Err(WireErr::Compressed) => Ok(NextMessage::Broken(ConnFault::Compressed)),
+        Err(WireErr::TooLong) => Ok(NextMessage::Broken(ConnFault::TooLong)),
         Err(WireErr::Memory) => Err(Memory),
     }
 }
 
 /// Returns what comes next in bytes.
-fn next_in(alloc: Global, bytes: &[u8]) -> Result<Next, Memory>
+fn next_in(alloc: Global, bytes: &[u8]) -> Result<NextMessage, Memory>
     ensures is { IfOk result (NextIs bytes.now) }
     ensures fits { IfOk result NextFits }
 {
@@ -54,7 +54,8 @@ fn next_in(alloc: Global, bytes: &[u8]) -> Result<Next, Memory>
 
 /// Returns the messages at the start of bytes.
 pub fn all_messages(alloc: Global, bytes: &[u8]) -> Result<AllRead, Memory>
-    ensures streams { IfOk result (λ read. Streams (all_content read.messages) (ending_of read.rest read.fault) bytes.now) }
+    ensures streams { IfOk result
+        (λ read. Streams (all_content read.messages) (ending_of read.rest read.fault) bytes.now) }
     ensures fits { IfOk result (λ read. All ContentFits (all_content read.messages)) }
     ensures short { IfOk result (λ read. length read.rest < longest_message) }
 {
@@ -62,19 +63,19 @@ pub fn all_messages(alloc: Global, bytes: &[u8]) -> Result<AllRead, Memory>
     let mut rest = bytes;
     'reading: loop {
         match next_in(alloc, rest)? {
-            Next::Message(message, length) => {
+            NextMessage::Message(message, length) => {
                 messages.push(message)?;
                 let (_, behind) = rest.split_at(length);
                 rest = behind;
             }
-            Next::Short => {
+            NextMessage::Short => {
                 return Ok(AllRead {
                     messages,
                     rest: Bytes::from_slice(alloc, rest)?,
                     fault: None,
                 });
             }
-            Next::Broken(fault) => {
+            NextMessage::Broken(fault) => {
                 return Ok(AllRead {
                     messages,
                     rest: Bytes::new(alloc),

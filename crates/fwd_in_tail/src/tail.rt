@@ -65,7 +65,13 @@ impl Model for Tail {
 
     ghost Value = { TailView };
 
-    ghost view = { λ t. record { path = t.path; from_head = t.from_head; place = t.place; kept = t.frames; left = t.left } };
+    ghost view = { λ t. record {
+      path = t.path;
+      from_head = t.from_head;
+      place = t.place;
+      kept = t.frames;
+      left = t.left;
+    } };
 }
 
 impl Tail {
@@ -107,7 +113,8 @@ impl Tail {
 
     /// Adds bytes that were read from a position, and returns the lines that end in them.
     fn append_read(&mut self, from: u64, bytes: &[u8]) -> Result<Lines, Memory>
-        ensures lines { (f : Followed) → TailRepresents self.old f → ReadsLines self.old self.new from f.said bytes.now result }
+        ensures lines { (f : Followed) → TailRepresents self.old f →
+            ReadsLines self.old self.new from f.said bytes.now result }
         ensures err { OnErr result (self.new ≡ self.old) }
     {
         let lines = self.frames.feed(bytes)?;
@@ -132,7 +139,8 @@ impl Tail {
 
     /// Adds what was read of a file of this length.
     fn take_in(&mut self, long: u64, from: u64, bytes: &[u8]) -> Result<Lines, Memory>
-        ensures lines { (f : Followed) → TailRepresents self.old f → ReadsLines self.old self.new from (read_before long f) bytes.now result }
+        ensures lines { (f : Followed) → TailRepresents self.old f →
+            ReadsLines self.old self.new from (read_before long f) bytes.now result }
         ensures err { OnErr result (self.new ≡ self.old) }
     {
         if self.is_cut(long) {
@@ -146,7 +154,8 @@ impl Tail {
     /// the lines that end in what was read. After an `Err` the position and the rest of a line are
     /// unchanged.
     pub fn poll<F: Files>(&mut self, files: &mut F) -> Result<Lines, TailErr>
-        ensures polls { (f : Followed) → TailRepresents self.old f → PollsAs (F.call_log files.old) (F.call_log files.new) self.old self.new f result }
+        ensures polls { (f : Followed) → TailRepresents self.old f →
+            PollsAs (F.call_log files.old) (F.call_log files.new) self.old self.new f result }
         ensures err { OnErr result (self.new ≡ self.old) }
         ensures cause { HasCause (F.faults files.old) (F.faults files.new) (IsErrOf result FileFault) }
     {
@@ -170,7 +179,8 @@ impl Tail {
     /// Continues from a position that `settled` returned in an earlier run.
     pub fn resume(&mut self, place: u64)
         requires { self.old.place ≡ None }
-        ensures follows { (f : Followed) → TailRepresents self.old f → TailRepresents self.new (record f { place = Some place }) }
+        ensures follows { (f : Followed) → TailRepresents self.old f →
+            TailRepresents self.new (record f { place = Some place }) }
         ensures same { self.new ≡ (record self.old { place = Some place }) }
     {
         self.place = Some(place);

@@ -138,7 +138,8 @@ fn put_number<I: Integer>(out: &mut Bytes, n: I) -> Result<(), Memory>
 }
 
 fn put_ext(alloc: Global, out: &mut Bytes, kind: i8, bytes: &[u8]) -> Result<(), Memory>
-    ensures { OnOk result (out.new ≡ out.old ++ tagged (codes "ext:" ++ (signed_decimal kind ++ codes ":")) bytes.now) }
+    ensures { OnOk result (out.new
+        ≡ out.old ++ tagged (codes "ext:" ++ (signed_decimal kind ++ codes ":")) bytes.now) }
 {
     out.extend_from_slice(b"\"ext:")?;
     put_number(out, kind as i64)?;

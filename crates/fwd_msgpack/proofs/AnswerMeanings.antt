@@ -5,8 +5,8 @@ use Rattle.std.proofs.lemmas.List.{take_at, take-append-drop, length-append, len
 use Rattle.fwd_value.specs.Val.{Val}
 use Rattle.fwd_value.specs.View.{val_of}
 use Rattle.fwd_msgpack.specs.declared.errors.DecodeErr.TheVariants as errors
-use Rattle.fwd_msgpack.specs.declared.fault.FormatError.{FormatError}
-use Rattle.fwd_msgpack.specs.declared.fault.FormatError.TheVariants.{Short, Unused, TooDeep}
+use Rattle.fwd_msgpack.specs.declared.fault.FormatErr.{FormatErr}
+use Rattle.fwd_msgpack.specs.declared.fault.FormatErr.TheVariants.{Short, Unused, TooDeep}
 use Rattle.fwd_msgpack.specs.declared.form.Form.{Form}
 use Rattle.fwd_msgpack.specs.declared.form.Form.TheVariants as form
 use Rattle.fwd_msgpack.specs.Table.{form_of}
@@ -15,7 +15,7 @@ use Rattle.fwd_msgpack.specs.Decoder.{value_at}
 use Rattle.fwd_msgpack.specs.DecodeAnswers.{Decoded, Decodes, EncodesPrefix, IsPrefix, IsProperPrefix, BeginsNoValue, IsErrorOffset, FailsAtForm, IsUnused, IsListOrMap, ReturnsValue, IsMemory, IsShort, IsUnusedAt, IsTooDeepAt}
 use Rattle.fwd_msgpack.proofs.Decoders.{stop, IsCause, Reads, not_ok, ok_first, ok_rest}
 use Rattle.fwd_msgpack.proofs.Grammar.{reads}
-use Rattle.fwd_msgpack.proofs.Ranges.{all_bytes, bytes_front, spells_fit}
+use Rattle.fwd_msgpack.proofs.Ranges.{all_bytes, bytes_front, encodings_fit}
 use Rattle.fwd_value.specs.Limits.{IsInRange, LengthsFit}
 use Rattle.fwd_msgpack.proofs.Encodable.{Fits, fits_range, fits_lengths}
 use Rattle.std.specs.Prelude.{IfOk}
@@ -126,7 +126,7 @@ short_exactly b res h = exactly res (IsShort res) (IsProperPrefix b) (short_to b
 
 -- ---- the byte that is the error
 
-err_nothing : (b : List ℕ) (d : FormatError) → value_at 64 b ≡ Err d → BeginsNoValue b
+err_nothing : (b : List ℕ) (d : FormatErr) → value_at 64 b ≡ Err d → BeginsNoValue b
 err_nothing b d e v n s = not_ok v (drop n b) d (sym (front_ok b v n s) ∙ e)
 
 take_past : (front : List ℕ) (byte : ℕ) (rest : List ℕ) (m : ℕ) → length front < m → take m (front ++ byte ∷ rest) ≡ front ++ byte ∷ take (m - (length front + 1)) rest
@@ -244,7 +244,7 @@ deep_exactly b res h n = exactly res (IsTooDeepAt res n) (FailsAtForm IsListOrMa
 value_fits : (b : List ℕ) (v : Val) (rest : List ℕ) → ((i : ℕ) → get_or b i 0 < 256) → value_at 64 b ≡ Ok (v, rest) → Fits v
 value_fits b v rest bytes e =
     let s = r.sound b v rest e in
-    spells_fit v s.0 (bytes_front s.0 rest (all_bytes (s.0 ++ rest) (λ i. subst (λ (t : List ℕ). get_or t i 0 < 256) s.1 (bytes i)))) s.2.0
+    encodings_fit v s.0 (bytes_front s.0 rest (all_bytes (s.0 ++ rest) (λ i. subst (λ (t : List ℕ). get_or t i 0 < 256) s.1 (bytes i)))) s.2.0
 
 pub ok_in_range : (b : List ℕ) (res : Decoded) → ((i : ℕ) → get_or b i 0 < 256) → Decodes b res → IfOk res (λ x. IsInRange (val_of x.0))
 ok_in_range b (Ok x) bytes h = fits_range (val_of x.0) (value_fits b (val_of x.0) h.0 bytes h.1)

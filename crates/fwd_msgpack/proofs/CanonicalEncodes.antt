@@ -56,9 +56,9 @@ eight_is : (n : ℕ) → n < 2 ^ 64 → n ≡ number Eight (to_be_bytes w64 n)
 unfolding number
 eight_is n lt = sym (from_be_bytes-to_be_bytes_8 n lt)
 
-number_spelled : (n : ℕ) → n < 2 ^ 64 → Encodes (whole (pos n)) (number_bytes n)
+number_encoded : (n : ℕ) → n < 2 ^ 64 → Encodes (whole (pos n)) (number_bytes n)
 unfolding number_bytes form_of size
-number_spelled n lt = elim (cases_lt n 128) [
+number_encoded n lt = elim (cases_lt n 128) [
   | inl a ↦ rw (lt-ltb n 128 a, form_small n a) (refl, refl)
   | inr a ↦ rw (le-ltb n 128 a) (elim (cases_lt n 256) [
     | inl b ↦ rw (lt-ltb n 256 b) (refl, ap pos (one_is n))
@@ -86,9 +86,9 @@ minus_four n lt = let e : 4294967296 - suc (4294967295 - n) ≡ n = omega arith 
 minus_eight : (n : ℕ) → n < 2 ^ 63 → cast_signed w64 (18446744073709551615 - n) ≡ negsuc n
 minus_eight n lt = let e : 18446744073709551616 - suc (18446744073709551615 - n) ≡ n = omega arith in rw (le-ltb (18446744073709551615 - n) 9223372036854775808 (omega arith)) (ap negsuc e)
 
-minus_spelled : (n : ℕ) → n < 2 ^ 63 → Encodes (whole (negsuc n)) (minus_bytes n)
+minus_encoded : (n : ℕ) → n < 2 ^ 63 → Encodes (whole (negsuc n)) (minus_bytes n)
 unfolding minus_bytes form_of size
-minus_spelled n lt = elim (cases_lt n 32) [
+minus_encoded n lt = elim (cases_lt n 32) [
   | inl a ↦ rw (lt-ltb n 32 a, form_minus (255 - n) (omega arith)) (sym (minus_one n (omega arith)), refl)
   | inr a ↦ rw (le-ltb n 32 a) (elim (cases_lt n 128) [
     | inl b ↦ rw (lt-ltb n 128 b) (refl, sym (minus_one n b) ∙ ap (cast_signed w8) (one_is (255 - n)))
@@ -181,24 +181,24 @@ behind v f n head tail h g =
 mutual
   unfolding form_of size
 
-  pub canonical_spells : (v : Val) → Fits v → Encodes v (canonical v)
-  canonical_spells nil h = refl
-  canonical_spells (truth false) h = (refl, refl)
-  canonical_spells (truth true) h = (refl, refl)
-  canonical_spells (whole (pos n)) h = number_spelled n h
-  canonical_spells (whole (negsuc n)) h = minus_spelled n h
-  canonical_spells (text s) h = behind (text s) form.Str (length s) (text_head (length s)) s (text_headed (length s) h) (λ k len c. (len, c, refl))
-  canonical_spells (bin s) h = behind (bin s) form.Bin (length s) (bin_head (length s)) s (bin_headed (length s) h) (λ k len c. (len, c, refl))
-  canonical_spells (float32 n) h = (refl, four_is n h)
-  canonical_spells (float64 n) h = (refl, eight_is n h)
-  canonical_spells (ext t s) h = behind (ext t s) form.Ext (length s) (ext_head (length s)) (cast_unsigned w8 t ∷ s) (ext_headed (length s) h.1) (λ k len c. (len, cast_unsigned w8 t, c, sym (to_z-of_z w8 t h.0), refl))
-  canonical_spells (list vs) h = behind (list vs) form.Array (value_count vs) (list_head (value_count vs)) (canonical_all vs) (list_headed (value_count vs) h.0) (λ k len c. (len, canonical_all vs, c, refl, all_spelled vs h.1))
-  canonical_spells (mapping es) h = behind (mapping es) form.Map (entry_count es) (map_head (entry_count es)) (canonical_entries es) (map_headed (entry_count es) h.0) (λ k len c. (len, canonical_entries es, c, refl, entries_spelled es h.1))
+  pub canonical_encodes : (v : Val) → Fits v → Encodes v (canonical v)
+  canonical_encodes nil h = refl
+  canonical_encodes (truth false) h = (refl, refl)
+  canonical_encodes (truth true) h = (refl, refl)
+  canonical_encodes (whole (pos n)) h = number_encoded n h
+  canonical_encodes (whole (negsuc n)) h = minus_encoded n h
+  canonical_encodes (text s) h = behind (text s) form.Str (length s) (text_head (length s)) s (text_headed (length s) h) (λ k len c. (len, c, refl))
+  canonical_encodes (bin s) h = behind (bin s) form.Bin (length s) (bin_head (length s)) s (bin_headed (length s) h) (λ k len c. (len, c, refl))
+  canonical_encodes (float32 n) h = (refl, four_is n h)
+  canonical_encodes (float64 n) h = (refl, eight_is n h)
+  canonical_encodes (ext t s) h = behind (ext t s) form.Ext (length s) (ext_head (length s)) (cast_unsigned w8 t ∷ s) (ext_headed (length s) h.1) (λ k len c. (len, cast_unsigned w8 t, c, sym (to_z-of_z w8 t h.0), refl))
+  canonical_encodes (list vs) h = behind (list vs) form.Array (value_count vs) (list_head (value_count vs)) (canonical_all vs) (list_headed (value_count vs) h.0) (λ k len c. (len, canonical_all vs, c, refl, all_encoded vs h.1))
+  canonical_encodes (mapping es) h = behind (mapping es) form.Map (entry_count es) (map_head (entry_count es)) (canonical_entries es) (map_headed (entry_count es) h.0) (λ k len c. (len, canonical_entries es, c, refl, entries_encoded es h.1))
 
-  pub all_spelled : (vs : Vals) → AllFit vs → EncodesAll vs (canonical_all vs)
-  all_spelled no_vals h = refl
-  all_spelled (val v vs) h = (canonical v, canonical_all vs, refl, canonical_spells v h.0, all_spelled vs h.1)
+  pub all_encoded : (vs : Vals) → AllFit vs → EncodesAll vs (canonical_all vs)
+  all_encoded no_vals h = refl
+  all_encoded (val v vs) h = (canonical v, canonical_all vs, refl, canonical_encodes v h.0, all_encoded vs h.1)
 
-  pub entries_spelled : (es : Entries) → EntriesFit es → EncodesEntries es (canonical_entries es)
-  entries_spelled no_entries h = refl
-  entries_spelled (entry k v es) h = (canonical k, canonical v, canonical_entries es, refl, canonical_spells k h.0, canonical_spells v h.1, entries_spelled es h.2)
+  pub entries_encoded : (es : Entries) → EntriesFit es → EncodesEntries es (canonical_entries es)
+  entries_encoded no_entries h = refl
+  entries_encoded (entry k v es) h = (canonical k, canonical v, canonical_entries es, refl, canonical_encodes k h.0, canonical_encodes v h.1, entries_encoded es h.2)

@@ -2,10 +2,10 @@
 use Rattle.std.proofs.Common.{◌≡◌, ℕ, zero, suc, ◌-◌, ◌+◌, ◌≤◌, ◌<◌, List, [], ◌∷◌, ◌++◌, length, Some, Ok, Err, refl, sym, ap, ◌∙◌, append_assoc, arith}
 use Rattle.std.proofs.lemmas.List.{append-nil}
 use Rattle.fwd_value.specs.Val.{Val}
-use Rattle.fwd_msgpack.specs.declared.fault.ReadError.{ReadError}
-use Rattle.fwd_msgpack.specs.declared.fault.ReadError.TheVariants as errors
+use Rattle.fwd_msgpack.specs.declared.fault.ReadErr.{ReadErr}
+use Rattle.fwd_msgpack.specs.declared.fault.ReadErr.TheVariants as errors
 use Rattle.fwd_msgpack.specs.Decoder.{◌>>=◌, FailsAs, Read, many_at, entries_at, list_at, map_at, after, inner, value_at, value_by}
-use Rattle.fwd_msgpack.specs.declared.fault.FormatError.TheVariants.{TooDeep}
+use Rattle.fwd_msgpack.specs.declared.fault.FormatErr.TheVariants.{TooDeep}
 use Rattle.fwd_msgpack.specs.declared.form.Count.{Count}
 use Rattle.fwd_msgpack.specs.declared.form.Form.TheVariants as form
 
@@ -49,11 +49,11 @@ module _ (p : List ℕ → Read Val) where
       let one : with_front front (many_at p (count - i) bytes) ≡ with_front (front ++ v ∷ []) (many_at p (count - (i + 1)) after) = rw (k, h) (regroup front v (many_at p (count - (i + 1)) after)) in
       sym one ∙ so_far
 
-  pub ends : (e : ReadError) (front : List Val) (count i : ℕ) (bytes : List ℕ) (total : Read (List Val)) → i < count → FailsAs e (p bytes)
+  pub ends : (e : ReadErr) (front : List Val) (count i : ℕ) (bytes : List ℕ) (total : Read (List Val)) → i < count → FailsAs e (p bytes)
       → with_front front (many_at p (count - i) bytes) ≡ total → FailsAs e total
   unfolding many_at
   ends errors.Memory front count i bytes total lt h so_far = tt
-  ends (errors.FormatError f) front count i bytes total lt h so_far =
+  ends (errors.Format f) front count i bytes total lt h so_far =
       let k : count - i ≡ suc (count - (i + 1)) = omega arith in
       let one : with_front front (many_at p (count - i) bytes) ≡ Err f = rw (k, h) refl in
       sym so_far ∙ one
@@ -73,20 +73,20 @@ module _ (p : List ℕ → Read Val) where
       let one : with_front front (entries_at p (count - i) bytes) ≡ with_front (front ++ (k, v) ∷ []) (entries_at p (count - (i + 1)) after) = rw (e, h, g) (regroup front (k, v) (entries_at p (count - (i + 1)) after)) in
       sym one ∙ so_far
 
-  pub key_ends : (e : ReadError) (front : List (Val × Val)) (count i : ℕ) (bytes : List ℕ) (total : Read (List (Val × Val))) → i < count → FailsAs e (p bytes)
+  pub key_ends : (e : ReadErr) (front : List (Val × Val)) (count i : ℕ) (bytes : List ℕ) (total : Read (List (Val × Val))) → i < count → FailsAs e (p bytes)
       → with_front front (entries_at p (count - i) bytes) ≡ total → FailsAs e total
   unfolding entries_at
   key_ends errors.Memory front count i bytes total lt h so_far = tt
-  key_ends (errors.FormatError f) front count i bytes total lt h so_far =
+  key_ends (errors.Format f) front count i bytes total lt h so_far =
       let e : count - i ≡ suc (count - (i + 1)) = omega arith in
       let one : with_front front (entries_at p (count - i) bytes) ≡ Err f = rw (e, h) refl in
       sym so_far ∙ one
 
-  pub value_ends : (e : ReadError) (front : List (Val × Val)) (count i : ℕ) (bytes : List ℕ) (k : Val) (between : List ℕ) (total : Read (List (Val × Val))) → i < count → p bytes ≡ Ok (k, between) → FailsAs e (p between)
+  pub value_ends : (e : ReadErr) (front : List (Val × Val)) (count i : ℕ) (bytes : List ℕ) (k : Val) (between : List ℕ) (total : Read (List (Val × Val))) → i < count → p bytes ≡ Ok (k, between) → FailsAs e (p between)
       → with_front front (entries_at p (count - i) bytes) ≡ total → FailsAs e total
   unfolding entries_at
   value_ends errors.Memory front count i bytes k between total lt h g so_far = tt
-  value_ends (errors.FormatError f) front count i bytes k between total lt h g so_far =
+  value_ends (errors.Format f) front count i bytes k between total lt h g so_far =
       let e : count - i ≡ suc (count - (i + 1)) = omega arith in
       let one : with_front front (entries_at p (count - i) bytes) ≡ Err f = rw (e, h, g) refl in
       sym so_far ∙ one

@@ -2,8 +2,8 @@
 use Rattle.std.proofs.Common.{◌≡◌, ℕ, zero, suc, ◌+◌, ◌-◌, ◌≤◌, ◌<◌, Bool, true, false, cond, ltb, List, [], ◌∷◌, ◌++◌, length, take, drop, Result, Ok, Err, refl, sym, ap, subst, ◌∙◌, append_assoc, arith, inl, inr, ◌⊎◌}
 use Rattle.std.proofs.lemmas.Bool.{ltb-false, ltb-true, le-ltb}
 use Rattle.std.proofs.lemmas.List.{take_at, drop_at, take-append-drop, length-append, length-take}
-use Rattle.fwd_msgpack.specs.declared.fault.FormatError.{FormatError}
-use Rattle.fwd_msgpack.specs.declared.fault.FormatError.TheVariants.{Short, Unused, TooDeep}
+use Rattle.fwd_msgpack.specs.declared.fault.FormatErr.{FormatErr}
+use Rattle.fwd_msgpack.specs.declared.fault.FormatErr.TheVariants.{Short, Unused, TooDeep}
 use Rattle.fwd_msgpack.specs.declared.form.Form.{Form}
 use Rattle.fwd_msgpack.specs.declared.form.Form.TheVariants as form
 use Rattle.fwd_msgpack.specs.Encodings.{AllBytes}
@@ -11,16 +11,16 @@ use Rattle.fwd_msgpack.specs.Table.{form_of}
 use Rattle.fwd_msgpack.specs.Decoder.{◌>>=◌, Read}
 
 -- a step that succeeded, and one that failed
-pub bind_ok : {A B : Type 0} (r : Result A FormatError) (f : A → Result B FormatError) (y : B) → (r >>= f) ≡ Ok y → (x : A) × (r ≡ Ok x) × (f x ≡ Ok y)
+pub bind_ok : {A B : Type 0} (r : Result A FormatErr) (f : A → Result B FormatErr) (y : B) → (r >>= f) ≡ Ok y → (x : A) × (r ≡ Ok x) × (f x ≡ Ok y)
 bind_ok (Ok x) f y e = (x, refl, e)
 bind_ok (Err d) f y e = absurd cc
 
-pub bind_err : {A B : Type 0} (r : Result A FormatError) (f : A → Result B FormatError) (d : FormatError) → (r >>= f) ≡ Err d → (r ≡ Err d) ⊎ ((x : A) × (r ≡ Ok x) × (f x ≡ Err d))
+pub bind_err : {A B : Type 0} (r : Result A FormatErr) (f : A → Result B FormatErr) (d : FormatErr) → (r >>= f) ≡ Err d → (r ≡ Err d) ⊎ ((x : A) × (r ≡ Ok x) × (f x ≡ Err d))
 bind_err (Ok x) f d e = inr (x, refl, e)
 bind_err (Err c) f d e = inl cc
 
 -- the two errors of a byte: false is an unused byte
-abbrev pub stop : Bool → ℕ → FormatError
+abbrev pub stop : Bool → ℕ → FormatErr
 stop false n = Unused n
 stop true n = TooDeep n
 
@@ -68,13 +68,13 @@ ok_first {A} x y b c e = ap (λ (p : A × List ℕ). p.0) (pair_is (x, b) (y, c)
 pub ok_rest : {A : Type 0} (x y : A) (b c : List ℕ) → okay x b ≡ okay y c → b ≡ c
 ok_rest {A} x y b c e = ap (λ (p : A × List ℕ). p.1) (pair_is (x, b) (y, c) e)
 
-abbrev bad : {A : Type 0} → FormatError → Read A
+abbrev bad : {A : Type 0} → FormatErr → Read A
 bad d = Err d
 
-pub err_is : {A : Type 0} (d e : FormatError) → bad {A = A} d ≡ bad e → d ≡ e
+pub err_is : {A : Type 0} (d e : FormatErr) → bad {A = A} d ≡ bad e → d ≡ e
 err_is d e h = cc
 
-pub not_ok : {A : Type 0} (x : A) (b : List ℕ) (d : FormatError) → okay x b ≡ bad d → ⊥
+pub not_ok : {A : Type 0} (x : A) (b : List ℕ) (d : FormatErr) → okay x b ≡ bad d → ⊥
 not_ok x b d e = cc
 
 -- ---- the same relation in other words
@@ -139,7 +139,7 @@ pub cond_ok : {A : Type 0} (t : Bool) (x : A) (r : List ℕ) (y : A) (s : List �
 cond_ok true x r y s e = absurd (not_ok y s Short (sym e))
 cond_ok false x r y s e = (refl, ok_first x y r s e, ok_rest x y r s e)
 
-pub cond_err : {A : Type 0} (t : Bool) (x : A) (r : List ℕ) (d : FormatError) → cond t (bad Short) (okay x r) ≡ bad d → (t ≡ true) × (Short ≡ d)
+pub cond_err : {A : Type 0} (t : Bool) (x : A) (r : List ℕ) (d : FormatErr) → cond t (bad Short) (okay x r) ≡ bad d → (t ≡ true) × (Short ≡ d)
 cond_err {A} true x r d e = (refl, err_is {A = A} Short d e)
 cond_err false x r d e = absurd (not_ok x r d e)
 

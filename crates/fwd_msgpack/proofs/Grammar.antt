@@ -3,7 +3,7 @@
 use Rattle.std.proofs.Common.{◌≡◌, ℕ, zero, suc, ◌+◌, ◌≤◌, ℤ, pos, Bool, true, false, List, [], ◌∷◌, ◌++◌, length, Option, Some, None, Ok, Err, refl, sym, ap, subst, ◌∙◌, arith, inl, inr, ◌⊎◌}
 use Rattle.std.specs.Int.{w8, cast_signed}
 use Rattle.fwd_value.specs.Val.{Val, nil, truth, whole, text, bin, float32, float64, ext, list, mapping, Vals, no_vals, val, Entries, no_entries, entry, vals_of, entries_of}
-use Rattle.fwd_msgpack.specs.declared.fault.FormatError.TheVariants.{Short}
+use Rattle.fwd_msgpack.specs.declared.fault.FormatErr.TheVariants.{Short}
 use Rattle.fwd_msgpack.specs.declared.form.ByteWidth.{ByteWidth}
 use Rattle.fwd_msgpack.specs.declared.form.ByteWidth.TheVariants.{Four, Eight}
 use Rattle.fwd_msgpack.specs.declared.form.Count.{Count}

@@ -193,30 +193,30 @@ parted v [] h s = absurd s
 parted v (c ∷ b) h s = (form_of c, b, h.1, form_fits c h.0, s)
 
 mutual
-  pub spelled_fits : (v : Val) (f : Form) (b : List ℕ) → AllBytes b → FormFits f → EncodesAfter v f b → Fits v
-  spelled_fits nil f b h g s = tt
-  spelled_fits (truth t) f b h g s = tt
-  spelled_fits (whole n) f b h g s = fits_whole n (whole_fits n f b h g s)
-  spelled_fits (text t) f b h g s = text_fits t f b h g s
-  spelled_fits (bin t) f b h g s = bin_fits t f b h g s
-  spelled_fits (float32 n) f b h g s = float32_fits n f b h s
-  spelled_fits (float64 n) f b h g s = float64_fits n f b h s
-  spelled_fits (ext t u) f b h g s = ext_fits t u f b h g s
-  spelled_fits (list vs) f b h g s = let p = list_parts vs f b h g s in (p.1, all_fit vs p.0 p.2 p.3)
-  spelled_fits (mapping es) f b h g s = let p = map_parts es f b h g s in (p.1, entries_fit es p.0 p.2 p.3)
+  pub encoded_fits : (v : Val) (f : Form) (b : List ℕ) → AllBytes b → FormFits f → EncodesAfter v f b → Fits v
+  encoded_fits nil f b h g s = tt
+  encoded_fits (truth t) f b h g s = tt
+  encoded_fits (whole n) f b h g s = fits_whole n (whole_fits n f b h g s)
+  encoded_fits (text t) f b h g s = text_fits t f b h g s
+  encoded_fits (bin t) f b h g s = bin_fits t f b h g s
+  encoded_fits (float32 n) f b h g s = float32_fits n f b h s
+  encoded_fits (float64 n) f b h g s = float64_fits n f b h s
+  encoded_fits (ext t u) f b h g s = ext_fits t u f b h g s
+  encoded_fits (list vs) f b h g s = let p = list_parts vs f b h g s in (p.1, all_fit vs p.0 p.2 p.3)
+  encoded_fits (mapping es) f b h g s = let p = map_parts es f b h g s in (p.1, entries_fit es p.0 p.2 p.3)
 
   pub all_fit : (vs : Vals) (b : List ℕ) → AllBytes b → EncodesAll vs b → AllFit vs
   all_fit no_vals b h s = tt
   all_fit (val v vs) b h s =
       let all : AllBytes (s.0 ++ s.1) = subst AllBytes s.2 h in
-      (let p = parted v s.0 (bytes_front s.0 s.1 all) s.3 in spelled_fits v p.0 p.1 p.2 p.3 p.4, all_fit vs s.1 (bytes_back s.0 s.1 all) s.4)
+      (let p = parted v s.0 (bytes_front s.0 s.1 all) s.3 in encoded_fits v p.0 p.1 p.2 p.3 p.4, all_fit vs s.1 (bytes_back s.0 s.1 all) s.4)
 
   pub entries_fit : (es : Entries) (b : List ℕ) → AllBytes b → EncodesEntries es b → EntriesFit es
   entries_fit no_entries b h s = tt
   entries_fit (entry k v es) b h s =
       let all : AllBytes (s.0 ++ (s.1 ++ s.2)) = subst AllBytes s.3 h in
       let rest = bytes_back s.0 (s.1 ++ s.2) all in
-      (let p = parted k s.0 (bytes_front s.0 (s.1 ++ s.2) all) s.4 in spelled_fits k p.0 p.1 p.2 p.3 p.4, let p = parted v s.1 (bytes_front s.1 s.2 rest) s.5 in spelled_fits v p.0 p.1 p.2 p.3 p.4, entries_fit es s.2 (bytes_back s.1 s.2 rest) s.6)
+      (let p = parted k s.0 (bytes_front s.0 (s.1 ++ s.2) all) s.4 in encoded_fits k p.0 p.1 p.2 p.3 p.4, let p = parted v s.1 (bytes_front s.1 s.2 rest) s.5 in encoded_fits v p.0 p.1 p.2 p.3 p.4, entries_fit es s.2 (bytes_back s.1 s.2 rest) s.6)
 
-pub spells_fit : (v : Val) (b : List ℕ) → AllBytes b → Encodes v b → Fits v
-spells_fit v b h s = let p = parted v b h s in spelled_fits v p.0 p.1 p.2 p.3 p.4
+pub encodings_fit : (v : Val) (b : List ℕ) → AllBytes b → Encodes v b → Fits v
+encodings_fit v b h s = let p = parted v b h s in encoded_fits v p.0 p.1 p.2 p.3 p.4

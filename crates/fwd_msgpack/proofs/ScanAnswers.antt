@@ -3,8 +3,8 @@ use Rattle.std.proofs.Common.{◌≡◌, ℕ, ◌+◌, ◌-◌, ◌↔◌, List,
 use Rattle.std.proofs.lemmas.List.{take_at, take-append-drop, length-append, length-take, append-nil, nil_from_length}
 use Rattle.fwd_value.specs.Val.{Val}
 use Rattle.fwd_msgpack.specs.declared.errors.DecodeErr.TheVariants as errors
-use Rattle.fwd_msgpack.specs.declared.fault.FormatError.{FormatError}
-use Rattle.fwd_msgpack.specs.declared.fault.FormatError.TheVariants as fault
+use Rattle.fwd_msgpack.specs.declared.fault.FormatErr.{FormatErr}
+use Rattle.fwd_msgpack.specs.declared.fault.FormatErr.TheVariants as fault
 use Rattle.fwd_msgpack.specs.declared.scan.Scanned.{Scanned}
 use Rattle.fwd_msgpack.specs.declared.scan.Scanned.TheVariants.{More, Whole, Unused, TooDeep}
 use Rattle.fwd_msgpack.specs.Decoder.{value_at}
@@ -30,13 +30,13 @@ Answers b (TooDeep at) = (left : ℕ) × (skip_value 64 b ≡ Err (fault.TooDeep
 abbrev fine : List ℕ → Skipped
 fine b = Ok b
 
-abbrev wrong : FormatError → Skipped
+abbrev wrong : FormatErr → Skipped
 wrong f = Err f
 
 same_rest : (a b : List ℕ) → fine a ≡ fine b → a ≡ b
 same_rest a b e = cc
 
-not_wrong : (a : List ℕ) (f : FormatError) → fine a ≡ wrong f → ⊥
+not_wrong : (a : List ℕ) (f : FormatErr) → fine a ≡ wrong f → ⊥
 not_wrong a f e = cc
 
 pass_ok : (b left : List ℕ) → skip_value 64 b ≡ Ok left → (v : Val) × (value_at 64 b ≡ Ok (v, left))
@@ -44,7 +44,7 @@ pass_ok b left e =
     let h = bind_ok (value_at 64 b) (λ x. Ok x.1) left e in
     (h.0.0, h.1 ∙ ap (λ (t : List ℕ). Ok (h.0.0, t)) (same_rest h.0.1 left h.2))
 
-pass_err : (b : List ℕ) (f : FormatError) → skip_value 64 b ≡ Err f → value_at 64 b ≡ Err f
+pass_err : (b : List ℕ) (f : FormatErr) → skip_value 64 b ≡ Err f → value_at 64 b ≡ Err f
 pass_err b f e = elim (bind_err (value_at 64 b) (λ x. Ok x.1) f e) [
   | inl h ↦ h
   | inr h ↦ absurd (not_wrong h.0.1 f h.2)

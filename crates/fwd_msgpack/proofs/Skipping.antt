@@ -4,8 +4,8 @@ use Rattle.std.proofs.lemmas.Bool.{le-ltb, lt-ltb, cases_lt}
 use Rattle.std.proofs.lemmas.List.{drop-drop, drop-append-le, length-append, length-drop}
 use Rattle.std.specs.Int.{w8, cast_signed}
 use Rattle.fwd_value.specs.Val.{Val, list, mapping, vals_of, entries_of}
-use Rattle.fwd_msgpack.specs.declared.fault.FormatError.{FormatError}
-use Rattle.fwd_msgpack.specs.declared.fault.FormatError.TheVariants.{Short, Unused, TooDeep}
+use Rattle.fwd_msgpack.specs.declared.fault.FormatErr.{FormatErr}
+use Rattle.fwd_msgpack.specs.declared.fault.FormatErr.TheVariants.{Short, Unused, TooDeep}
 use Rattle.fwd_msgpack.specs.declared.form.ByteWidth.{ByteWidth}
 use Rattle.fwd_msgpack.specs.declared.form.ByteWidth.TheVariants as wide
 use Rattle.fwd_msgpack.specs.declared.form.Count.{Count}
@@ -24,18 +24,18 @@ use Rattle.fwd_msgpack.specs.Table.{form_of, middle}
 use Rattle.fwd_msgpack.specs.Encodings.{number, size}
 use Rattle.fwd_msgpack.specs.Decoder.{◌>>=◌, Read, number_at, bytes_at, byte_at, count_at, counted_at, many_at, entries_at, list_at, map_at, after, inner, value_by, value_at}
 use Rattle.fwd_msgpack.specs.Levels.{MissesOne, one_less, closed}
-use Rattle.fwd_msgpack.specs.Continuations.{IsShortCount, IsTabled, counted, continuation_of}
+use Rattle.fwd_msgpack.specs.Continuations.{IsShortCount, IsTabled, continuation_of_count, continuation_of}
 use Rattle.fwd_msgpack.specs.ScanState.{Skipped, skip_value, skip_values, skip_levels, behind, after_length, complete_length, from_part, may_open, IsWanting}
 use Rattle.fwd_msgpack.proofs.DecodeLoops.{list_none, map_none, list_in, map_in}
 use Rattle.fwd_msgpack.proofs.Decoders.{front_reads}
 
 -- ---- steps that may fail
 
-pub bind_assoc : {A B C : Type 0} (r : Result A FormatError) (f : A → Result B FormatError) (g : B → Result C FormatError) → ((r >>= f) >>= g) ≡ (r >>= λ x. f x >>= g)
+pub bind_assoc : {A B C : Type 0} (r : Result A FormatErr) (f : A → Result B FormatErr) (g : B → Result C FormatErr) → ((r >>= f) >>= g) ≡ (r >>= λ x. f x >>= g)
 bind_assoc (Ok x) f g = refl
 bind_assoc (Err e) f g = refl
 
-pub bind_same : {A B : Type 0} (r : Result A FormatError) (f g : A → Result B FormatError) → ((x : A) → f x ≡ g x) → (r >>= f) ≡ (r >>= g)
+pub bind_same : {A B : Type 0} (r : Result A FormatErr) (f g : A → Result B FormatErr) → ((x : A) → f x ≡ g x) → (r >>= f) ≡ (r >>= g)
 bind_same (Ok x) f g h = h x
 bind_same (Err e) f g h = refl
 
@@ -173,7 +173,7 @@ from_begun (begun.Bytes n) ns b = behind n ns b
 from_begun (begun.Known n h) ns b = cond (may_open h ns) (after_length h n ns b) (Err (TooDeep (length b + 1)))
 from_begun (begun.Sized l h) ns b = cond (may_open h ns) (from_part (part.Length l h) ns b) (Err (TooDeep (length b + 1)))
 
-count_follows : (k : Count) (h : Holds) (ns b : List ℕ) → IsShortCount k → cond (may_open h ns) (count_at k b >>= λ n. after_length h n.0 ns n.1) (Err (TooDeep (length b + 1))) ≡ from_begun (counted k h) ns b
+count_follows : (k : Count) (h : Holds) (ns b : List ℕ) → IsShortCount k → cond (may_open h ns) (count_at k b >>= λ n. after_length h n.0 ns n.1) (Err (TooDeep (length b + 1))) ≡ from_begun (continuation_of_count k h) ns b
 unfolding count_at
 count_follows (count.Known n) h ns b t = refl
 count_follows (count.Sized wide.One) h ns b t = rw (one_on b) refl
@@ -181,7 +181,7 @@ count_follows (count.Sized wide.Two) h ns b t = rw (two_on b) refl
 count_follows (count.Sized wide.Four) h ns b t = rw (four_on b) refl
 count_follows (count.Sized wide.Eight) h ns b t = absurd t
 
-text_follows : (k : Count) (f : List ℕ → Val) (ns b : List ℕ) → IsShortCount k → (rest (counted_at k b >>= λ s. Ok (f s.0, s.1)) >>= skip_levels ns) ≡ from_begun (counted k holds.Bytes) ns b
+text_follows : (k : Count) (f : List ℕ → Val) (ns b : List ℕ) → IsShortCount k → (rest (counted_at k b >>= λ s. Ok (f s.0, s.1)) >>= skip_levels ns) ≡ from_begun (continuation_of_count k holds.Bytes) ns b
 unfolding counted_at
 text_follows k f ns b t = step (count_at k b) ∙ count_follows k holds.Bytes ns b t
   where
@@ -193,7 +193,7 @@ text_follows k f ns b t = step (count_at k b) ∙ count_follows k holds.Bytes ns
     step (Ok n) = ap (λ (p : Skipped). p >>= skip_levels ns) (made (bytes_at n.0 n.1)) ∙ bytes_passed n.0 ns n.1
     step (Err e) = refl
 
-ext_follows : (k : Count) (f : ℕ → List ℕ → Val) (ns b : List ℕ) → IsShortCount k → (rest (count_at k b >>= λ n. byte_at n.1 >>= λ t. bytes_at n.0 t.1 >>= λ s. Ok (f t.0 s.0, s.1)) >>= skip_levels ns) ≡ from_begun (counted k holds.Typed) ns b
+ext_follows : (k : Count) (f : ℕ → List ℕ → Val) (ns b : List ℕ) → IsShortCount k → (rest (count_at k b >>= λ n. byte_at n.1 >>= λ t. bytes_at n.0 t.1 >>= λ s. Ok (f t.0 s.0, s.1)) >>= skip_levels ns) ≡ from_begun (continuation_of_count k holds.Typed) ns b
 ext_follows k f ns b t = step (count_at k b) ∙ count_follows k holds.Typed ns b t
   where
     made : (c : ℕ) (r : Read (List ℕ)) → rest (r >>= λ s. Ok (f c s.0, s.1)) ≡ rest r
@@ -232,27 +232,27 @@ map_rest d k ns b e = step (count_at k b)
     step (Ok n) = ap (λ (p : Skipped). p >>= skip_levels ns) (made (entries_at (value_at d) n.0 n.1) ∙ entries_pass d n.0 n.1 ∙ ap (λ (i : ℕ). skip_values i (2 * n.0) n.1) e)
     step (Err x) = refl
 
-list_follows : (d : ℕ) (k : Count) (ns b : List ℕ) → d ≡ 65 - length ns → IsShortCount k → (rest (after (inner d) (form.Array k) b) >>= skip_levels ns) ≡ from_begun (counted k holds.Values) ns b
+list_follows : (d : ℕ) (k : Count) (ns b : List ℕ) → d ≡ 65 - length ns → IsShortCount k → (rest (after (inner d) (form.Array k) b) >>= skip_levels ns) ≡ from_begun (continuation_of_count k holds.Values) ns b
 list_follows d k ns b e t = elim (cases_lt (length ns) 65) [
   | inl lt ↦
       let room : ltb (length ns) 65 ≡ true = lt-ltb _ _ lt in
-      let same : (count_at k b >>= λ n. skip_levels (n.0 ∷ ns) n.1) ≡ from_begun (counted k holds.Values) ns b = (rw room refl) ∙ count_follows k holds.Values ns b t in
+      let same : (count_at k b >>= λ n. skip_levels (n.0 ∷ ns) n.1) ≡ from_begun (continuation_of_count k holds.Values) ns b = (rw room refl) ∙ count_follows k holds.Values ns b t in
       ap (λ (r : Read Val). rest r >>= skip_levels ns) (list_in d k b (omega (arith, e, lt))) ∙ list_rest (d - 1) k ns b (omega (arith, e, lt)) ∙ same
   | inr ge ↦
       let room : ltb (length ns) 65 ≡ false = le-ltb _ _ ge in
-      let same : Err (TooDeep (length b + 1)) ≡ from_begun (counted k holds.Values) ns b = (rw room refl) ∙ count_follows k holds.Values ns b t in
+      let same : Err (TooDeep (length b + 1)) ≡ from_begun (continuation_of_count k holds.Values) ns b = (rw room refl) ∙ count_follows k holds.Values ns b t in
       ap (λ (r : Read Val). rest r >>= skip_levels ns) (list_none d k b (omega (arith, e, ge))) ∙ same
 ]
 
-map_follows : (d : ℕ) (k : Count) (ns b : List ℕ) → d ≡ 65 - length ns → IsShortCount k → (rest (after (inner d) (form.Map k) b) >>= skip_levels ns) ≡ from_begun (counted k holds.Pairs) ns b
+map_follows : (d : ℕ) (k : Count) (ns b : List ℕ) → d ≡ 65 - length ns → IsShortCount k → (rest (after (inner d) (form.Map k) b) >>= skip_levels ns) ≡ from_begun (continuation_of_count k holds.Pairs) ns b
 map_follows d k ns b e t = elim (cases_lt (length ns) 65) [
   | inl lt ↦
       let room : ltb (length ns) 65 ≡ true = lt-ltb _ _ lt in
-      let same : (count_at k b >>= λ n. skip_levels (2 * n.0 ∷ ns) n.1) ≡ from_begun (counted k holds.Pairs) ns b = (rw room refl) ∙ count_follows k holds.Pairs ns b t in
+      let same : (count_at k b >>= λ n. skip_levels (2 * n.0 ∷ ns) n.1) ≡ from_begun (continuation_of_count k holds.Pairs) ns b = (rw room refl) ∙ count_follows k holds.Pairs ns b t in
       ap (λ (r : Read Val). rest r >>= skip_levels ns) (map_in d k b (omega (arith, e, lt))) ∙ map_rest (d - 1) k ns b (omega (arith, e, lt)) ∙ same
   | inr ge ↦
       let room : ltb (length ns) 65 ≡ false = le-ltb _ _ ge in
-      let same : Err (TooDeep (length b + 1)) ≡ from_begun (counted k holds.Pairs) ns b = (rw room refl) ∙ count_follows k holds.Pairs ns b t in
+      let same : Err (TooDeep (length b + 1)) ≡ from_begun (continuation_of_count k holds.Pairs) ns b = (rw room refl) ∙ count_follows k holds.Pairs ns b t in
       ap (λ (r : Read Val). rest r >>= skip_levels ns) (map_none d k b (omega (arith, e, ge))) ∙ same
 ]
 
@@ -312,7 +312,7 @@ first_passed (suc n ∷ ns) c b w =
     let d = 64 - length ns in
     bind_assoc (skip_value d (c ∷ b)) (skip_values d n) (skip_levels ns) ∙ form_follows d (form_of c) (n ∷ ns) b (omega arith) (is_tabled c)
 
--- the step of a scanner at a first byte, after it counted one value at the innermost level
+-- the step of a scanner at a first byte, after it continuation_of_count one value at the innermost level
 module _ (ns os : List ℕ) (c : ℕ) (b : List ℕ) (want : MissesOne ns) (taken : os ≡ one_less ns) where
   first_is : (w : Begun) → continuation_of (form_of c) ≡ w → from_begun w os b ≡ skip_levels ns (c ∷ b)
   first_is w is = sym (first_passed ns c b want ∙ ap (λ (v : Begun). from_begun v (one_less ns) b) is ∙ ap (λ (t : List ℕ). from_begun w t b) (sym taken))

@@ -25,11 +25,11 @@ IsTabled (form.Map k) = IsShortCount k
 IsTabled _ = Unit {0}
 
 -- a length, and what it counts
-abbrev pub counted : Count → Holds → Begun
-counted (count.Known n) h = Known n h
-counted (count.Sized One) h = Sized (left.One 0 0) h
-counted (count.Sized Two) h = Sized (left.Two 0) h
-counted (count.Sized w) h = Sized left.Four h
+abbrev pub continuation_of_count : Count → Holds → Begun
+continuation_of_count (count.Known n) h = Known n h
+continuation_of_count (count.Sized One) h = Sized (left.One 0 0) h
+continuation_of_count (count.Sized Two) h = Sized (left.Two 0) h
+continuation_of_count (count.Sized w) h = Sized left.Four h
 
 -- what follows a first byte of this form
 abbrev pub continuation_of : Form → Begun
@@ -38,9 +38,9 @@ continuation_of (form.Uint w) = Bytes (size w)
 continuation_of (form.Int w) = Bytes (size w)
 continuation_of form.Float32 = Bytes 4
 continuation_of form.Float64 = Bytes 8
-continuation_of (form.Str k) = counted k holds.Bytes
-continuation_of (form.Bin k) = counted k holds.Bytes
-continuation_of (form.Ext k) = counted k holds.Typed
-continuation_of (form.Array k) = counted k holds.Values
-continuation_of (form.Map k) = counted k holds.Pairs
+continuation_of (form.Str k) = continuation_of_count k holds.Bytes
+continuation_of (form.Bin k) = continuation_of_count k holds.Bytes
+continuation_of (form.Ext k) = continuation_of_count k holds.Typed
+continuation_of (form.Array k) = continuation_of_count k holds.Values
+continuation_of (form.Map k) = continuation_of_count k holds.Pairs
 continuation_of _ = Bytes 0

@@ -6,7 +6,7 @@ use Rattle.fwd_value.specs.View.{val_of}
 use Rattle.fwd_value.specs.declared.Value.{Value}
 use Rattle.fwd_msgpack.specs.declared.errors.DecodeErr.{DecodeErr}
 use Rattle.fwd_msgpack.specs.declared.errors.DecodeErr.TheVariants.{Short, Unused, TooDeep, Memory}
-use Rattle.fwd_msgpack.specs.declared.fault.FormatError.TheVariants as fault
+use Rattle.fwd_msgpack.specs.declared.fault.FormatErr.TheVariants as fault
 use Rattle.fwd_msgpack.specs.declared.form.Form.{Form}
 use Rattle.fwd_msgpack.specs.declared.form.Form.TheVariants as form
 use Rattle.fwd_msgpack.specs.Table.{form_of}

@@ -8,30 +8,30 @@ use Rattle.fwd_msgpack.specs.declared.form.Count.{Count}
 use Rattle.fwd_msgpack.specs.declared.form.Count.TheVariants.{Known, Sized}
 use Rattle.fwd_msgpack.specs.declared.form.Form.{Form}
 use Rattle.fwd_msgpack.specs.declared.form.Form.TheVariants as form
-use Rattle.fwd_msgpack.specs.declared.fault.FormatError.{FormatError}
-use Rattle.fwd_msgpack.specs.declared.fault.FormatError.TheVariants.{Short, Unused, TooDeep}
-use Rattle.fwd_msgpack.specs.declared.fault.ReadError.{ReadError}
-use Rattle.fwd_msgpack.specs.declared.fault.ReadError.TheVariants as errors
+use Rattle.fwd_msgpack.specs.declared.fault.FormatErr.{FormatErr}
+use Rattle.fwd_msgpack.specs.declared.fault.FormatErr.TheVariants.{Short, Unused, TooDeep}
+use Rattle.fwd_msgpack.specs.declared.fault.ReadErr.{ReadErr}
+use Rattle.fwd_msgpack.specs.declared.fault.ReadErr.TheVariants as errors
 use Rattle.fwd_msgpack.specs.Table.{form_of}
 use Rattle.fwd_msgpack.specs.Encodings.{number, size, width}
 
 infixl 10 ◌>>=◌
-abbrev pub ◌>>=◌ : {A B : Type 0} → Result A FormatError → (A → Result B FormatError) → Result B FormatError
+abbrev pub ◌>>=◌ : {A B : Type 0} → Result A FormatErr → (A → Result B FormatErr) → Result B FormatErr
 (Ok x) >>= f = f x
 (Err e) >>= f = Err e
 
 -- the result of a function, mapped by view, is that of the decoder, unless memory was out
-abbrev pub FailsAs : {Y : Type 0} → ReadError → Result Y FormatError → Type 0
+abbrev pub FailsAs : {Y : Type 0} → ReadErr → Result Y FormatErr → Type 0
 FailsAs errors.Memory read = Unit {0}
-FailsAs (errors.FormatError f) read = read ≡ Err f
+FailsAs (errors.Format f) read = read ≡ Err f
 
-abbrev pub DecodesAs : {X Y : Type 0} → (X → Y) → Result X ReadError → Result Y FormatError → Type 0
+abbrev pub DecodesAs : {X Y : Type 0} → (X → Y) → Result X ReadErr → Result Y FormatErr → Type 0
 DecodesAs view (Ok x) read = read ≡ Ok (view x)
 DecodesAs view (Err e) read = FailsAs e read
 
 -- a value, and the bytes after it
 abbrev pub Read : Type 0 → Type 0
-Read A = Result (A × List ℕ) FormatError
+Read A = Result (A × List ℕ) FormatErr
 
 unfoldable pub number_at : ByteWidth → List ℕ → Read ℕ
 number_at w b =

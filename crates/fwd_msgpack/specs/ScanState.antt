@@ -1,7 +1,7 @@
 -- The state of a scanner against the bytes that it was fed, and its answers.
 use Rattle.std.specs.Prelude.{◌≡◌, ℕ, zero, suc, ◌+◌, ◌-◌, ◌*◌, ◌<◌, ◌≤◌, Bool, true, IsTrue, List, [], ◌∷◌, ◌++◌, length, drop, Result, Ok, Err, nat_lt, if◌then◌else◌}
-use Rattle.fwd_msgpack.specs.declared.fault.FormatError.{FormatError}
-use Rattle.fwd_msgpack.specs.declared.fault.FormatError.TheVariants as fault
+use Rattle.fwd_msgpack.specs.declared.fault.FormatErr.{FormatErr}
+use Rattle.fwd_msgpack.specs.declared.fault.FormatErr.TheVariants as fault
 use Rattle.fwd_msgpack.specs.declared.part.PartialLength.{PartialLength}
 use Rattle.fwd_msgpack.specs.declared.part.PartialLength.TheVariants as left
 use Rattle.fwd_msgpack.specs.declared.part.Holds.{Holds}
@@ -18,7 +18,7 @@ use Rattle.fwd_msgpack.specs.Decoder.{◌>>=◌, Read, value_at}
 
 -- the bytes after a value, or the error
 abbrev pub Skipped : Type 0
-Skipped = Result (List ℕ) FormatError
+Skipped = Result (List ℕ) FormatErr
 
 -- skips a value, nested at most d deep
 abbrev pub skip_value : ℕ → List ℕ → Skipped

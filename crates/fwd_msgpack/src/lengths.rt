@@ -10,7 +10,8 @@ use fwd_value::{Pairs, Value};
 /// Returns whether a map of these pairs can be encoded: its keys and values are nested at most `depth` deep,
 /// and every length is below 2^32.
 pub fn can_encode_map(pairs: &Pairs, depth: u64) -> bool
-    ensures { IsTrue result ↔ (entry_nestings (entries_of pairs.now) ≤ depth) × LengthsFit (mapping (entries_of pairs.now)) }
+    ensures { IsTrue result ↔ (entry_nestings (entries_of pairs.now) ≤ depth)
+        × LengthsFit (mapping (entries_of pairs.now)) }
 {
     pairs.nest_within(depth) && map_lengths_fit(pairs)
 }
@@ -37,7 +38,12 @@ fn lengths_fit(value: &Value) -> bool
         Value::Ext(_, bytes) => has_length_form(bytes.len()),
         Value::List(values) => has_length_form(values.len()) && all_lengths_fit(values.as_slice()),
         Value::Map(pairs) => has_length_form(pairs.len()) && entry_lengths_fit(pairs.as_slice()),
-        _ => true,
+        Value::Nil
+        | Value::Truth(_)
+        | Value::Uint(_)
+        | Value::Neg(_)
+        | Value::Float32(_)
+        | Value::Float64(_) => true,
     }
 }
 

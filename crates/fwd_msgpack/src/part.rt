@@ -2,7 +2,7 @@
 
 ghost use Rattle.std.specs.Prelude.{◌≡◌};
 ghost use Rattle.fwd_msgpack.specs.Encodings.{size};
-ghost use Rattle.fwd_msgpack.specs.Continuations.{counted, continuation_of, IsShortCount, IsTabled};
+ghost use Rattle.fwd_msgpack.specs.Continuations.{continuation_of_count, continuation_of, IsShortCount, IsTabled};
 
 use crate::form::{ByteWidth, Count, Form};
 
@@ -76,9 +76,9 @@ fn bytes_of(w: ByteWidth) -> u8
 }
 
 /// Returns what follows a first byte with this length. No length has eight bytes.
-fn counted(k: Count, holds: Holds) -> Begun
+fn continuation_of_count(k: Count, holds: Holds) -> Begun
     requires { IsShortCount k }
-    ensures { result ≡ counted k holds }
+    ensures { result ≡ continuation_of_count k holds }
 {
     match k {
         Count::Known(n) => Begun::Known(n, holds),
@@ -102,9 +102,9 @@ pub fn continuation_of(form: Form) -> Begun
         Form::Uint(w) | Form::Int(w) => Begun::Bytes(bytes_of(w)),
         Form::Float32 => Begun::Bytes(4),
         Form::Float64 => Begun::Bytes(8),
-        Form::Str(k) | Form::Bin(k) => counted(k, Holds::Bytes),
-        Form::Ext(k) => counted(k, Holds::Typed),
-        Form::Array(k) => counted(k, Holds::Values),
-        Form::Map(k) => counted(k, Holds::Pairs),
+        Form::Str(k) | Form::Bin(k) => continuation_of_count(k, Holds::Bytes),
+        Form::Ext(k) => continuation_of_count(k, Holds::Typed),
+        Form::Array(k) => continuation_of_count(k, Holds::Values),
+        Form::Map(k) => continuation_of_count(k, Holds::Pairs),
     }
 }

@@ -8,35 +8,35 @@ ghost use Rattle.fwd_value.specs.Val.{whole};
 ghost use Rattle.fwd_msgpack.specs.declared.form.Form.TheVariants as form;
 ghost use Rattle.fwd_msgpack.specs.Decoder.{DecodesAs, number_at, bytes_at, byte_at, count_at, counted_at, many_at, entries_at, after, inner, value_at};
 
-use crate::fault::{FormatError, ReadError};
+use crate::fault::{FormatErr, ReadErr};
 use crate::form::{ByteWidth, Count, Form, form_of};
 use fwd_base::Bytes;
 use fwd_value::{Below, Pairs, Value, Values};
 use std::alloc::{AllocError, Global};
 
 #[tactic(auto, unfolding(crate::specs::Decoder::number_at, crate::specs::Encodings::number, crate::specs::Encodings::size))]
-fn number_of(bytes: &[u8], w: ByteWidth) -> Result<(u64, &[u8]), ReadError>
+fn number_of(bytes: &[u8], w: ByteWidth) -> Result<(u64, &[u8]), ReadErr>
     ensures read { DecodesAs (λ x. (x.0, x.1.now)) result (number_at w bytes.now) }
     ensures fits { IfOk result (λ x. IsWithin w x.0) }
 {
     match w {
         ByteWidth::One => {
             if bytes.len() < 1 {
-                return Err(ReadError::FormatError(FormatError::Short));
+                return Err(ReadErr::Format(FormatErr::Short));
             }
             let (front, rest) = bytes.split_at(1);
             Ok((front[0] as u64, rest))
         }
         ByteWidth::Two => {
             if bytes.len() < 2 {
-                return Err(ReadError::FormatError(FormatError::Short));
+                return Err(ReadErr::Format(FormatErr::Short));
             }
             let (front, rest) = bytes.split_at(2);
             Ok((u16::from_be_bytes([front[0], front[1]]) as u64, rest))
         }
         ByteWidth::Four => {
             if bytes.len() < 4 {
-                return Err(ReadError::FormatError(FormatError::Short));
+                return Err(ReadErr::Format(FormatErr::Short));
             }
             let (front, rest) = bytes.split_at(4);
             Ok((
@@ -46,7 +46,7 @@ fn number_of(bytes: &[u8], w: ByteWidth) -> Result<(u64, &[u8]), ReadError>
         }
         ByteWidth::Eight => {
             if bytes.len() < 8 {
-                return Err(ReadError::FormatError(FormatError::Short));
+                return Err(ReadErr::Format(FormatErr::Short));
             }
             let (front, rest) = bytes.split_at(8);
             Ok((
@@ -60,7 +60,7 @@ fn number_of(bytes: &[u8], w: ByteWidth) -> Result<(u64, &[u8]), ReadError>
 }
 
 #[tactic(auto, unfolding(crate::specs::Decoder::count_at))]
-fn count_of(bytes: &[u8], k: Count) -> Result<(u64, &[u8]), ReadError>
+fn count_of(bytes: &[u8], k: Count) -> Result<(u64, &[u8]), ReadErr>
     ensures { DecodesAs (λ x. (x.0, x.1.now)) result (count_at k bytes.now) }
 {
     match k {
@@ -70,28 +70,28 @@ fn count_of(bytes: &[u8], k: Count) -> Result<(u64, &[u8]), ReadError>
 }
 
 #[tactic(auto, unfolding(crate::specs::Decoder::byte_at))]
-fn byte_of(bytes: &[u8]) -> Result<(u8, &[u8]), ReadError>
+fn byte_of(bytes: &[u8]) -> Result<(u8, &[u8]), ReadErr>
     ensures { DecodesAs (λ x. (x.0, x.1.now)) result (byte_at bytes.now) }
 {
     match bytes {
-        [] => Err(ReadError::FormatError(FormatError::Short)),
+        [] => Err(ReadErr::Format(FormatErr::Short)),
         [c, rest @ ..] => Ok((*c, rest)),
     }
 }
 
 #[tactic(auto, unfolding(crate::specs::Decoder::bytes_at))]
-fn bytes_of(alloc: Global, bytes: &[u8], n: u64) -> Result<(Bytes, &[u8]), ReadError>
+fn bytes_of(alloc: Global, bytes: &[u8], n: u64) -> Result<(Bytes, &[u8]), ReadErr>
     ensures { DecodesAs (λ x. (x.0, x.1.now)) result (bytes_at n bytes.now) }
 {
     if (bytes.len() as u64) < n {
-        return Err(ReadError::FormatError(FormatError::Short));
+        return Err(ReadErr::Format(FormatErr::Short));
     }
     let (text, rest) = bytes.split_at(n as usize);
     Ok((Bytes::from_slice(alloc, text)?, rest))
 }
 
 #[tactic(auto, unfolding(crate::specs::Decoder::counted_at))]
-fn counted_of(alloc: Global, bytes: &[u8], k: Count) -> Result<(Bytes, &[u8]), ReadError>
+fn counted_of(alloc: Global, bytes: &[u8], k: Count) -> Result<(Bytes, &[u8]), ReadErr>
     ensures { DecodesAs (λ x. (x.0, x.1.now)) result (counted_at k bytes.now) }
 {
     let (n, rest) = count_of(bytes, k)?;
@@ -121,13 +121,13 @@ pub fn whole(n: i64) -> Value
 
 #[cycle(read)]
 #[tactic(auto, unfolding(crate::specs::Decoder::value_by, crate::specs::Decoder::after))]
-pub fn value_of(alloc: Global, bytes: &[u8], depth: u32) -> Result<(Value, &[u8]), ReadError>
+pub fn value_of(alloc: Global, bytes: &[u8], depth: u32) -> Result<(Value, &[u8]), ReadErr>
     ensures { DecodesAs (λ x. (val_of x.0, x.1.now)) result (value_at depth bytes.now) }
 {
     match bytes {
-        [] => Err(ReadError::FormatError(FormatError::Short)),
+        [] => Err(ReadErr::Format(FormatErr::Short)),
         [c, rest @ ..] => match form_of(*c) {
-            Form::Unused => Err(ReadError::FormatError(FormatError::Unused(rest.len() + 1))),
+            Form::Unused => Err(ReadErr::Format(FormatErr::Unused(rest.len() + 1))),
             Form::Nil => Ok((Value::Nil, rest)),
             Form::Bool(t) => Ok((Value::Truth(t), rest)),
             Form::PositiveFixint(n) => Ok((Value::Uint(n as u64), rest)),
@@ -170,11 +170,11 @@ pub fn value_of(alloc: Global, bytes: &[u8], depth: u32) -> Result<(Value, &[u8]
 
 #[cycle(read)]
 #[tactic(auto, unfolding(crate::specs::Decoder::after))]
-fn list_of(alloc: Global, bytes: &[u8], k: Count, depth: u32) -> Result<(Value, &[u8]), ReadError>
+fn list_of(alloc: Global, bytes: &[u8], k: Count, depth: u32) -> Result<(Value, &[u8]), ReadErr>
     ensures { DecodesAs (λ x. (val_of x.0, x.1.now)) result (after (inner depth) (form.Array k) bytes.now) }
 {
     if depth == 0 {
-        return Err(ReadError::FormatError(FormatError::TooDeep(bytes.len() + 1)));
+        return Err(ReadErr::Format(FormatErr::TooDeep(bytes.len() + 1)));
     }
     let (n, rest) = count_of(bytes, k)?;
     let (vs, rest) = values_of(alloc, rest, n, depth - 1)?;
@@ -183,11 +183,11 @@ fn list_of(alloc: Global, bytes: &[u8], k: Count, depth: u32) -> Result<(Value, 
 
 #[cycle(read)]
 #[tactic(auto, unfolding(crate::specs::Decoder::after))]
-fn map_of(alloc: Global, bytes: &[u8], k: Count, depth: u32) -> Result<(Value, &[u8]), ReadError>
+fn map_of(alloc: Global, bytes: &[u8], k: Count, depth: u32) -> Result<(Value, &[u8]), ReadErr>
     ensures { DecodesAs (λ x. (val_of x.0, x.1.now)) result (after (inner depth) (form.Map k) bytes.now) }
 {
     if depth == 0 {
-        return Err(ReadError::FormatError(FormatError::TooDeep(bytes.len() + 1)));
+        return Err(ReadErr::Format(FormatErr::TooDeep(bytes.len() + 1)));
     }
     let (n, rest) = count_of(bytes, k)?;
     let (es, rest) = pairs_of(alloc, rest, n, depth - 1)?;
@@ -195,7 +195,7 @@ fn map_of(alloc: Global, bytes: &[u8], k: Count, depth: u32) -> Result<(Value, &
 }
 
 #[cycle(read)]
-fn values_of(alloc: Global, bytes: &[u8], n: u64, depth: u32) -> Result<(Values, &[u8]), ReadError>
+fn values_of(alloc: Global, bytes: &[u8], n: u64, depth: u32) -> Result<(Values, &[u8]), ReadErr>
     ensures { DecodesAs (λ x. (x.0, x.1.now)) result (many_at (value_at depth) n bytes.now) }
 {
     let mut values = with_reserve(alloc, n, bytes)?;
@@ -209,7 +209,7 @@ fn values_of(alloc: Global, bytes: &[u8], n: u64, depth: u32) -> Result<(Values,
 }
 
 #[cycle(read)]
-fn pairs_of(alloc: Global, bytes: &[u8], n: u64, depth: u32) -> Result<(Pairs, &[u8]), ReadError>
+fn pairs_of(alloc: Global, bytes: &[u8], n: u64, depth: u32) -> Result<(Pairs, &[u8]), ReadErr>
     ensures { DecodesAs (λ x. (x.0, x.1.now)) result (entries_at (value_at depth) n bytes.now) }
 {
     let mut pairs = with_reserve(alloc, n, bytes)?;
@@ -226,8 +226,8 @@ fn pairs_of(alloc: Global, bytes: &[u8], n: u64, depth: u32) -> Result<(Pairs, &
 /// The largest capacity to reserve before any item is decoded.
 const MOST_RESERVED: usize = 16;
 
-/// Returns an empty list with capacity for `n` items, but at most for `MOST_RESERVED` and for one per remaining
-/// byte.
+/// Returns an empty list with capacity for `n` items, but at most for `MOST_RESERVED` and for one per
+/// remaining byte.
 fn with_reserve<T>(alloc: Global, n: u64, bytes: &[u8]) -> Result<Vec<T>, AllocError>
     ensures empty { IfOk result (λ items. items.items ≡ []) }
     ensures filled { IfOk result (λ items. vec_capacity items ≤ length bytes.now) }

@@ -85,8 +85,10 @@ impl Scan {
         requires wanting { IsOpen self.old }
         requires fits { self.old.seen + length bytes.now < 2 ^ 64 }
         // More exactly if they are a proper prefix of an encoding; the scan then continues.
-        ensures more { (fed : List ℕ) → IsFed self.old fed → (IsMore result ↔ IsProperPrefix (fed ++ bytes.now)) }
-        ensures fed { (fed : List ℕ) → IsFed self.old fed → IsMore result → IsFed self.new (fed ++ bytes.now) }
+        ensures more { (fed : List ℕ) → IsFed self.old fed →
+            (IsMore result ↔ IsProperPrefix (fed ++ bytes.now)) }
+        ensures fed { (fed : List ℕ) → IsFed self.old fed → IsMore result →
+            IsFed self.new (fed ++ bytes.now) }
         ensures wanting { IsMore result → IsOpen self.new }
         // Whole exactly if the first n bytes encode a value.
         ensures whole { (fed : List ℕ) (n : ℕ) → IsFed self.old fed →
@@ -147,7 +149,8 @@ impl Scan {
     /// Takes the first byte of a value.
     fn take_first(&mut self, byte: u8) -> Step
         requires { MissesOne self.old.levels }
-        ensures same { (b : List ℕ) → outcome_after_step result self.new b ≡ skip_levels self.old.levels (byte ∷ b) }
+        ensures same { (b : List ℕ) → outcome_after_step result self.new b
+            ≡ skip_levels self.old.levels (byte ∷ b) }
         ensures stays { StaysOpen result self.new }
         ensures seen { self.new.seen ≡ self.old.seen }
     {
@@ -159,7 +162,7 @@ impl Scan {
                 if !self.may_open(holds) {
                     return Step::TooDeep;
                 }
-                self.counted(n as u32, holds)
+                self.begin_content(n as u32, holds)
             }
             Begun::Sized(left, holds) => {
                 let length = Part::Length(left, holds);
@@ -185,7 +188,8 @@ impl Scan {
     /// Takes the next byte of a length.
     fn take_length(&mut self, left: PartialLength, holds: Holds, byte: u8) -> Step
         requires { IsTrue (may_open holds self.old.levels) }
-        ensures same { (b : List ℕ) → outcome_after_step result self.new b ≡ from_part (part.Length left holds) self.old.levels (byte ∷ b) }
+        ensures same { (b : List ℕ) → outcome_after_step result self.new b
+            ≡ from_part (part.Length left holds) self.old.levels (byte ∷ b) }
         ensures stays { StaysOpen result self.new }
         ensures seen { self.new.seen ≡ self.old.seen }
     {
@@ -198,16 +202,17 @@ impl Scan {
             PartialLength::Two(n) => Part::Length(PartialLength::One(n, byte), holds),
             PartialLength::One(n, m) => {
                 let number = (n as u32 * 256 + m as u32) * 256 + byte as u32;
-                return self.counted(number, holds);
+                return self.begin_content(number, holds);
             }
         };
         Step::On
     }
 
-    /// Continues after a complete length.
-    fn counted(&mut self, n: u32, holds: Holds) -> Step
+    /// Begins the content that a complete length counts.
+    fn begin_content(&mut self, n: u32, holds: Holds) -> Step
         requires { IsTrue (may_open holds self.old.levels) }
-        ensures same { (b : List ℕ) → outcome_after_step result self.new b ≡ after_length holds n self.old.levels b }
+        ensures same { (b : List ℕ) → outcome_after_step result self.new b
+            ≡ after_length holds n self.old.levels b }
         ensures stays { StaysOpen result self.new }
         ensures seen { self.new.seen ≡ self.old.seen }
     {
@@ -222,7 +227,8 @@ impl Scan {
     /// Opens a list or map of `n` values.
     fn nest(&mut self, n: u64) -> Step
         requires { length self.old.levels < 65 }
-        ensures same { (b : List ℕ) → outcome_after_step result self.new b ≡ skip_levels (n ∷ self.old.levels) b }
+        ensures same { (b : List ℕ) → outcome_after_step result self.new b
+            ≡ skip_levels (n ∷ self.old.levels) b }
         ensures stays { StaysOpen result self.new }
         ensures seen { self.new.seen ≡ self.old.seen }
     {

@@ -10,7 +10,8 @@ ghost use Rattle.fwd_msgpack.specs.DecodeAnswers.{EncodesPrefix};
 
 /// No encoding is a proper prefix of another, and none encodes two values.
 pub fn encodings_are_prefix_free()
-    ensures { (v w : Val) (a b x y : List ℕ) → Encodes v a → Encodes w b → a ++ x ≡ b ++ y → (v ≡ w) × (a ≡ b) }
+    ensures { (v w : Val) (a b x y : List ℕ) → Encodes v a → Encodes w b → a ++ x ≡ b ++ y →
+        (v ≡ w) × (a ≡ b) }
 {}
 
 /// The canonical encoding of a value is one of its encodings.
@@ -20,7 +21,8 @@ pub fn canonical_is_encoding()
 
 /// The canonical encoding decodes to its value and length, whatever bytes follow.
 pub fn canonical_decodes()
-    ensures { (v : Val) (rest : List ℕ) → IsInRange v → LengthsFit v → nesting v ≤ deepest → EncodesPrefix v (length (canonical v)) (canonical v ++ rest) }
+    ensures { (v : Val) (rest : List ℕ) → IsInRange v → LengthsFit v → nesting v ≤ deepest →
+        EncodesPrefix v (length (canonical v)) (canonical v ++ rest) }
 {}
 
 /// No encoding of a value is shorter than the canonical one.

@@ -6,7 +6,7 @@ use Rattle.std.proofs.lemmas.Slice.Eq.{bytes_eq-Decides}
 use Rattle.std.proofs.lemmas.Bool.{leb-true, le-leb}
 use Rattle.fwd_base.specs.Limits.{longest_reply}
 use Rattle.fwd_value.specs.Val.{Val, nil, truth, whole, text, bin, float32, float64, ext, list, mapping, no_entries, entry}
-use Rattle.fwd_msgpack.specs.declared.fault.FormatError.TheVariants as fault
+use Rattle.fwd_msgpack.specs.declared.fault.FormatErr.TheVariants as fault
 use Rattle.fwd_msgpack.specs.Decoder.{Read, value_at}
 use Rattle.fwd_msgpack.specs.DecodeAnswers.{EncodesPrefix, IsProperPrefix}
 use Rattle.fwd_value.specs.Keys.{is_text}

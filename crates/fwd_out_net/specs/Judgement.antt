@@ -2,7 +2,7 @@
 use Rattle.std.specs.Prelude.{ℕ, Bool, false, ◌&&◌, nat_le, List, length, Ok, Err, if◌then◌else◌}
 use Rattle.fwd_base.specs.Limits.{deepest, longest_reply}
 use Rattle.fwd_value.specs.Val.{Val, mapping, entry, no_entries}
-use Rattle.fwd_msgpack.specs.declared.fault.FormatError.TheVariants.{Short}
+use Rattle.fwd_msgpack.specs.declared.fault.FormatErr.TheVariants.{Short}
 use Rattle.fwd_msgpack.specs.Decoder.{Read, value_at}
 use Rattle.fwd_value.specs.Keys.{is_text}
 use Rattle.fwd_wire.specs.Encode.{ack_key}

@@ -7,7 +7,7 @@ use Rattle.fwd_msgpack.specs.DecodeAnswers.{EncodesPrefix}
 use Rattle.fwd_msgpack.proofs.EncodeLoops.{how_many_entries_is}
 use Rattle.fwd_json.specs.Text.{pair_text, pairs_text, more_pairs}
 use Rattle.fwd_event.specs.declared.event.Event.{Event}
-use Rattle.fwd_event.proofs.PartwiseDecoding.{empty_spelled, event_spelled}
+use Rattle.fwd_event.proofs.PartwiseDecoding.{empty_encoded, event_encoded}
 use Rattle.fwd_out_text.specs.FirstEvent.{StartsWithEvent}
 use Rattle.fwd_out_text.specs.Headers.{StartsWithMap, StartsWithHeader, StartsWithPair, StartsWithPairs}
 
@@ -33,9 +33,9 @@ event_begins sec nsec count ps b pairs rest h many p =
     let body = h.0 in
     let l = h.1 in
     let m = h.2 in
-    let none = empty_spelled (128 ∷ body) [] refl (omega arith) refl in
+    let none = empty_encoded (128 ∷ body) [] refl (omega arith) refl in
     let k = length body - length rest in
-    let event = event_spelled b l.0 (128 ∷ body) 1 k sec nsec [] ps l.1 l.2 l.3 none.0 (omega arith) (map_spelled count ps body pairs rest m many p) p.nested in
+    let event = event_encoded b l.0 (128 ∷ body) 1 k sec nsec [] ps l.1 l.2 l.3 none.0 (omega arith) (map_spelled count ps body pairs rest m many p) p.nested in
     let size : 12 + 1 + k ≡ length b - length rest = omega (arith, l.2, ap length l.1, length-append l.0 (128 ∷ body), not_longer m.0 pairs body m.1, not_longer p.front rest pairs p.parts) in
     (event.0, subst (λ (n : ℕ). EncodesPrefix event.0 n b) size event.1, event.2)
 

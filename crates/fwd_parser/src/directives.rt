@@ -247,7 +247,8 @@ fn single<'t>(letter: u8, text: &'t [u8], fields: Fields) -> Option<(Fields, &'t
 
 /// Reads `%Y-%m-%d`.
 fn date<'t>(text: &'t [u8], fields: Fields) -> Option<(Fields, &'t [u8])>
-    ensures { option_map (λ p. (p.0, p.1.now)) result ≡ read_format single_of (codes "%Y-%m-%d") text.now fields }
+    ensures { option_map (λ p. (p.0, p.1.now)) result
+        ≡ read_format single_of (codes "%Y-%m-%d") text.now fields }
 {
     let (fields, left) = single(b'Y', text, fields)?;
     let (fields, left) = single(b'm', after_format_byte(b'-', left)?, fields)?;
@@ -256,7 +257,8 @@ fn date<'t>(text: &'t [u8], fields: Fields) -> Option<(Fields, &'t [u8])>
 
 /// Reads `%H:%M:%S`.
 fn clock<'t>(text: &'t [u8], fields: Fields) -> Option<(Fields, &'t [u8])>
-    ensures { option_map (λ p. (p.0, p.1.now)) result ≡ read_format single_of (codes "%H:%M:%S") text.now fields }
+    ensures { option_map (λ p. (p.0, p.1.now)) result
+        ≡ read_format single_of (codes "%H:%M:%S") text.now fields }
 {
     let (fields, left) = single(b'H', text, fields)?;
     let (fields, left) = single(b'M', after_format_byte(b':', left)?, fields)?;

@@ -36,10 +36,10 @@ fn moment_in(format: &[u8], text: &[u8]) -> Option<(u32, u32)>
 fn moment_of_value(format: &[u8], value: &Value) -> Option<(u32, u32)>
     ensures { result ≡ moment_of_value format.now (val_of value.now) }
 {
-    match value {
-        Value::Text(text) => moment_in(format, text.as_slice()),
-        _ => None,
-    }
+    let Value::Text(text) = value else {
+        return None;
+    };
+    moment_in(format, text.as_slice())
 }
 
 /// Returns the moment of the first pair with the rule's key.

@@ -76,7 +76,7 @@ fn read_as(kind: TypeKind, text: &[u8]) -> Option<Value>
 
 /// Returns the value of a field. Bytes that don't have the form of the type are text.
 #[tactic(auto, unfolding(crate::specs::Field::typed))]
-fn typed(alloc: Global, kind: TypeKind, bytes: &[u8]) -> Result<Value, Memory>
+fn value_of(alloc: Global, kind: TypeKind, bytes: &[u8]) -> Result<Value, Memory>
     ensures { IfOk result (λ value. val_of value ≡ typed kind bytes.now) }
 {
     match read_as(kind, bytes) {
@@ -139,7 +139,7 @@ fn push_field(
     if skip_empty && group.bytes.is_empty() {
         return Ok(());
     }
-    let value = typed(alloc, kind_of(types, group.name), group.bytes)?;
+    let value = value_of(alloc, kind_of(types, group.name), group.bytes)?;
     let key = Value::Text(Bytes::from_slice(alloc, group.name)?);
     body.push((key, value))
 }

@@ -46,7 +46,7 @@ fn moment(fields: &Fields, left: &[u8]) -> Option<(i64, u32)>
 
 /// A position in a format and in a text, with the fields read so far.
 #[derive(Clone, Copy)]
-struct Place<'f, 't> {
+struct Cursor<'f, 't> {
     format: &'f [u8],
     text: &'t [u8],
     fields: Fields,
@@ -54,9 +54,10 @@ struct Place<'f, 't> {
 
 /// Reads a text by a format, and returns the fields and the rest of the text.
 fn read_format<'t>(format: &[u8], text: &'t [u8]) -> Option<(Fields, &'t [u8])>
-    ensures { option_map (λ p. (p.0, p.1.now)) result ≡ read_format directive_of format.now text.now no_fields }
+    ensures { option_map (λ p. (p.0, p.1.now)) result
+        ≡ read_format directive_of format.now text.now no_fields }
 {
-    let mut place = Place {
+    let mut place = Cursor {
         format,
         text,
         fields: NO_FIELDS,
@@ -68,9 +69,10 @@ fn read_format<'t>(format: &[u8], text: &'t [u8]) -> Option<(Fields, &'t [u8])>
 }
 
 /// Reads what the first byte of a format matches, or its first directive.
-fn step<'f, 't>(place: Place<'f, 't>) -> Option<Place<'f, 't>>
+fn step<'f, 't>(place: Cursor<'f, 't>) -> Option<Cursor<'f, 't>>
     requires { 0 < length place.format.now }
-    ensures walks { let whole = read_format directive_of place.entry.format.now place.entry.text.now place.entry.fields in
+    ensures walks { let whole = read_format directive_of place.entry.format.now place.entry.text.now
+        place.entry.fields in
         MatchOption result (whole ≡ None)
         (λ next. read_format directive_of next.format.now next.text.now next.fields ≡ whole) }
     ensures shorter { IfSome result (λ next. length next.format.now < length place.entry.format.now) }
@@ -79,7 +81,7 @@ fn step<'f, 't>(place: Place<'f, 't>) -> Option<Place<'f, 't>>
     if *first == b'%' {
         return read_directive(more, place.text, place.fields);
     }
-    Some(Place {
+    Some(Cursor {
         format: more,
         text: after_format_byte(*first, place.text)?,
         fields: place.fields,
@@ -87,7 +89,11 @@ fn step<'f, 't>(place: Place<'f, 't>) -> Option<Place<'f, 't>>
 }
 
 /// Reads the directive whose letter begins a format.
-fn read_directive<'f, 't>(format: &'f [u8], text: &'t [u8], fields: Fields) -> Option<Place<'f, 't>>
+fn read_directive<'f, 't>(
+    format: &'f [u8],
+    text: &'t [u8],
+    fields: Fields,
+) -> Option<Cursor<'f, 't>>
     ensures walks { let whole = read_format directive_of (37 ∷ format.now) text.now fields in
         MatchOption result (whole ≡ None)
         (λ next. read_format directive_of next.format.now next.text.now next.fields ≡ whole) }
@@ -95,7 +101,7 @@ fn read_directive<'f, 't>(format: &'f [u8], text: &'t [u8], fields: Fields) -> O
 {
     let (letter, more) = format.split_first()?;
     let (fields, text) = directive(*letter, text, fields)?;
-    Some(Place {
+    Some(Cursor {
         format: more,
         text,
         fields,

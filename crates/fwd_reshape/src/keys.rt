@@ -21,10 +21,10 @@ pub fn text(alloc: Global, bytes: &Bytes) -> Result<Value, Memory>
 pub fn begins_with(value: &Value, text: &Bytes) -> bool
     ensures { result ≡ begins_with text.now (val_of value.now) }
 {
-    match value {
-        Value::Text(bytes) => bytes.as_slice().starts_with(text.as_slice()),
-        _ => false,
-    }
+    let Value::Text(bytes) = value else {
+        return false;
+    };
+    bytes.as_slice().starts_with(text.as_slice())
 }
 
 /// Returns the record without the pairs with the key.

@@ -150,12 +150,12 @@ fn matches_any(wildcards: &Names, body: &Pairs) -> bool
 fn is_matched(wildcards: &Names, key: &Value) -> bool
     ensures { result ≡ is_matched wildcards.now (val_of key.now) }
 {
-    match key {
-        Value::Text(text) => wildcards
-            .iter()
-            .any(|wildcard| wildcard_matches(wildcard, text)),
-        _ => false,
-    }
+    let Value::Text(text) = key else {
+        return false;
+    };
+    wildcards
+        .iter()
+        .any(|wildcard| wildcard_matches(wildcard, text))
 }
 
 fn wildcard_matches(wildcard: &Bytes, text: &Bytes) -> bool
@@ -190,14 +190,16 @@ fn deepest(wildcards: &Names, key: &Value) -> u64
 }
 
 fn nests_within(pair: &(Value, Value), depth: u64) -> bool
-    ensures { result ≡ (nat_le (nesting (val_of pair.now.0)) depth && nat_le (nesting (val_of pair.now.1)) depth) }
+    ensures { result ≡ (nat_le (nesting (val_of pair.now.0)) depth
+        && nat_le (nesting (val_of pair.now.1)) depth) }
 {
     pair.0.nests_within(depth) && pair.1.nests_within(depth)
 }
 
 /// Returns whether neither is nested too deep for the pairs of both to be in one record.
 fn nest_within(body: &Pairs, pairs: &Pairs) -> bool
-    ensures { result ≡ (nat_le (entry_nestings (entries_of body.now)) (deepest - 2) && nat_le (entry_nestings (entries_of pairs.now)) (deepest - 2)) }
+    ensures { result ≡ (nat_le (entry_nestings (entries_of body.now)) (deepest - 2)
+        && nat_le (entry_nestings (entries_of pairs.now)) (deepest - 2)) }
 {
     body.nest_within(PAIR_DEPTH) && pairs.nest_within(PAIR_DEPTH)
 }

@@ -13,7 +13,7 @@ use Rattle.fwd_msgpack.specs.declared.form.Form.TheVariants as form
 use Rattle.fwd_msgpack.specs.Table.{form_of}
 use Rattle.fwd_msgpack.specs.Encodings.{number, size, Counts, EncodesAll, EncodesEntries, Encodes}
 use Rattle.fwd_msgpack.specs.Canonical.{number_bytes, minus_bytes, ext_head, list_head, map_head, canonical, canonical_all, canonical_entries}
-use Rattle.fwd_msgpack.proofs.CanonicalEncodes.{canonical_spells}
+use Rattle.fwd_msgpack.proofs.CanonicalEncodes.{canonical_encodes}
 use Rattle.fwd_event.specs.declared.event.Event.{Event}
 use Rattle.fwd_event.specs.Event.{AreEvents, event_of, event_val, pairs_of, EventFits}
 use Rattle.fwd_event.specs.EventPrefix.{encodings}
@@ -96,15 +96,15 @@ minus_out : (n : ℕ) → 9223372036854775808 ≤ n → minus_bytes n ≡ 211 �
 unfolding minus_bytes
 minus_out n le = rw (le-ltb n 32 (omega arith), le-ltb n 128 (omega arith), le-ltb n 32768 (omega arith), le-ltb n 2147483648 (omega arith)) refl
 
-number_spelled : (b : Bool) (n : ℕ) → nat_lt n 18446744073709551616 ≡ b → Encodes (whole (pos (up_to b n))) (number_bytes n)
+number_encoded : (b : Bool) (n : ℕ) → nat_lt n 18446744073709551616 ≡ b → Encodes (whole (pos (up_to b n))) (number_bytes n)
 unfolding form_of size
-number_spelled true n is = canonical_spells (whole (pos n)) (ltb-true n 18446744073709551616 is)
-number_spelled false n is = rw (number_out n (ltb-false n 18446744073709551616 is)) (refl, refl)
+number_encoded true n is = canonical_encodes (whole (pos n)) (ltb-true n 18446744073709551616 is)
+number_encoded false n is = rw (number_out n (ltb-false n 18446744073709551616 is)) (refl, refl)
 
-minus_spelled : (b : Bool) (n : ℕ) → nat_lt n 9223372036854775808 ≡ b → Encodes (down_to b n) (minus_bytes n)
+minus_encoded : (b : Bool) (n : ℕ) → nat_lt n 9223372036854775808 ≡ b → Encodes (down_to b n) (minus_bytes n)
 unfolding form_of size
-minus_spelled true n is = canonical_spells (whole (negsuc n)) (ltb-true n 9223372036854775808 is)
-minus_spelled false n is = rw (minus_out n (ltb-false n 9223372036854775808 is)) (refl, refl)
+minus_encoded true n is = canonical_encodes (whole (negsuc n)) (ltb-true n 9223372036854775808 is)
+minus_encoded false n is = rw (minus_out n (ltb-false n 9223372036854775808 is)) (refl, refl)
 
 counts_as : (k : Count) (n m : ℕ) (len : List ℕ) → n ≡ m → Counts k n len → Counts k m len
 counts_as k n m len same = subst (λ (i : ℕ). Counts k i len) same
@@ -114,29 +114,29 @@ mutual
 
   spelled : (v : Val) → LengthsFit v → Encodes (written v) (canonical v)
   spelled nil h = refl
-  spelled (truth t) h = canonical_spells (truth t) tt
-  spelled (whole (pos n)) h = number_spelled (nat_lt n 18446744073709551616) n refl
-  spelled (whole (negsuc n)) h = minus_spelled (nat_lt n 9223372036854775808) n refl
-  spelled (text s) h = canonical_spells (text s) h
-  spelled (bin s) h = canonical_spells (bin s) h
+  spelled (truth t) h = canonical_encodes (truth t) tt
+  spelled (whole (pos n)) h = number_encoded (nat_lt n 18446744073709551616) n refl
+  spelled (whole (negsuc n)) h = minus_encoded (nat_lt n 9223372036854775808) n refl
+  spelled (text s) h = canonical_encodes (text s) h
+  spelled (bin s) h = canonical_encodes (bin s) h
   spelled (float32 n) h = (refl, refl)
   spelled (float64 n) h = (refl, refl)
   spelled (ext t s) h =
       behind (written (ext t s)) form.Ext (length s) (ext_head (length s)) (cast_unsigned w8 t ∷ s) (ext_headed (length s) h) (λ k len c. (len, cast_unsigned w8 t, c, refl, refl))
   spelled (list vs) h =
       behind (written (list vs)) form.Array (value_count vs) (list_head (value_count vs)) (canonical_all vs) (list_headed (value_count vs) h.0)
-      (λ k len c. (len, canonical_all vs, counts_as k (value_count vs) (value_count (all_written vs)) len (as_many vs) c, refl, all_spelled vs h.1))
+      (λ k len c. (len, canonical_all vs, counts_as k (value_count vs) (value_count (all_written vs)) len (as_many vs) c, refl, all_encoded vs h.1))
   spelled (mapping es) h =
       behind (written (mapping es)) form.Map (entry_count es) (map_head (entry_count es)) (canonical_entries es) (map_headed (entry_count es) h.0)
-      (λ k len c. (len, canonical_entries es, counts_as k (entry_count es) (entry_count (entries_written es)) len (as_many_entries es) c, refl, entries_spelled es h.1))
+      (λ k len c. (len, canonical_entries es, counts_as k (entry_count es) (entry_count (entries_written es)) len (as_many_entries es) c, refl, entries_encoded es h.1))
 
-  all_spelled : (vs : Vals) → AllLengthsFit vs → EncodesAll (all_written vs) (canonical_all vs)
-  all_spelled no_vals h = refl
-  all_spelled (val v vs) h = (canonical v, canonical_all vs, refl, spelled v h.0, all_spelled vs h.1)
+  all_encoded : (vs : Vals) → AllLengthsFit vs → EncodesAll (all_written vs) (canonical_all vs)
+  all_encoded no_vals h = refl
+  all_encoded (val v vs) h = (canonical v, canonical_all vs, refl, spelled v h.0, all_encoded vs h.1)
 
-  entries_spelled : (es : Entries) → EntryLengthsFit es → EncodesEntries (entries_written es) (canonical_entries es)
-  entries_spelled no_entries h = refl
-  entries_spelled (entry k v es) h = (canonical k, canonical v, canonical_entries es, refl, spelled k h.0, spelled v h.1, entries_spelled es h.2)
+  entries_encoded : (es : Entries) → EntryLengthsFit es → EncodesEntries (entries_written es) (canonical_entries es)
+  entries_encoded no_entries h = refl
+  entries_encoded (entry k v es) h = (canonical k, canonical v, canonical_entries es, refl, spelled k h.0, spelled v h.1, entries_encoded es h.2)
 
 -- ---- events
 

@@ -9,7 +9,7 @@ use Rattle.fwd_msgpack.specs.declared.form.Form.{Form}
 use Rattle.fwd_msgpack.specs.declared.form.Form.TheVariants as form
 use Rattle.fwd_msgpack.specs.Encodings.{AllBytes, EncodesAfter, Encodes}
 use Rattle.fwd_msgpack.proofs.Encodable.{fits_lengths}
-use Rattle.fwd_msgpack.proofs.Ranges.{bytes_front, bytes_back, spells_fit}
+use Rattle.fwd_msgpack.proofs.Ranges.{bytes_front, bytes_back, encodings_fit}
 use Rattle.fwd_value.specs.Keys.{Record, has_key, key}
 use Rattle.fwd_event.specs.declared.event.Event.{Event}
 use Rattle.fwd_event.specs.Event.{Timestamp, pairs_of, time_of, event_at, event_with_header, event_of, AreEvents, EventFits}
@@ -73,7 +73,7 @@ are_fit : (es : List Event) (b : List ℕ) → AllBytes b → AreEvents es b →
 are_fit [] b all a = All-nil EventFits
 are_fit (e ∷ es) b all a =
     let parts = subst AllBytes a.3 all in
-    let lengths = fits_lengths a.0 (spells_fit a.0 a.1 (bytes_front a.1 a.2 parts) a.4) in
+    let lengths = fits_lengths a.0 (encodings_fit a.0 a.1 (bytes_front a.1 a.2 parts) a.4) in
     All-cons EventFits e es (event_fits a.0 e a.6 a.5 lengths) (are_fit es a.2 (bytes_back a.1 a.2 parts) a.7)
 
 carried_fits : (c : Carried) (es : List Event) → CarriedFits c → Carries c es → All EventFits es
@@ -198,9 +198,9 @@ pub said_fits : (b : List ℕ) (s : MessageContent) (n : ℕ) → AllBytes b →
 said_fits b s n all h =
     let x = h.0 in
     let seen = bytes_front (front b) (drop longest_message b) (subst AllBytes (sym (take-append-drop longest_message b)) all) in
-    let spelled = bytes_front (take n (front b)) (drop n (front b)) (subst AllBytes (sym (take-append-drop n (front b))) seen) in
-    let lengths = fits_lengths x (spells_fit x (take n (front b)) spelled h.1.1) in
-    parts_fit (parts_of x) s (value_fits x (take n (front b)) spelled h.1.1 h.1.2 lengths) h.2
+    let encoded = bytes_front (take n (front b)) (drop n (front b)) (subst AllBytes (sym (take-append-drop n (front b))) seen) in
+    let lengths = fits_lengths x (encodings_fit x (take n (front b)) encoded h.1.1) in
+    parts_fit (parts_of x) s (value_fits x (take n (front b)) encoded h.1.1 h.1.2 lengths) h.2
 
 pub returned_fits : (b : List ℕ) (r : Result (Message × ℕ) WireErr) → AllBytes b → HasAnswer b (answer_of r) → IfOk r (λ x. ContentFits (content_of x.0))
 returned_fits b (Ok x) all h = said_fits b (content_of x.0) x.1 all h

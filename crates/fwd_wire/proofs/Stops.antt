@@ -3,7 +3,7 @@ use Rattle.std.proofs.Common.{◌≡◌, ℕ, ◌+◌, ◌-◌, true, false, Lis
 use Rattle.std.proofs.lemmas.List.{take_at, take-append-drop, length-append}
 use Rattle.fwd_value.specs.Val.{Val}
 use Rattle.fwd_msgpack.specs.declared.errors.DecodeErr.TheVariants as errors
-use Rattle.fwd_msgpack.specs.declared.fault.FormatError.TheVariants.{Short, Unused, TooDeep}
+use Rattle.fwd_msgpack.specs.declared.fault.FormatErr.TheVariants.{Short, Unused, TooDeep}
 use Rattle.fwd_msgpack.specs.Decoder.{Read, value_at}
 use Rattle.fwd_msgpack.specs.DecodeAnswers.{EncodesPrefix, IsProperPrefix, FailsAtForm, IsUnused, IsListOrMap}
 use Rattle.fwd_msgpack.proofs.Grammar.{reads}

@@ -59,9 +59,16 @@ fn tag_of(value: &Value) -> Option<&[u8]>
     ensures { bytes_read result ≡ tag_of (val_of value.now) }
 {
     match value {
-        Value::Text(bytes) => checked_tag(bytes.as_slice()),
-        Value::Bin(bytes) => checked_tag(bytes.as_slice()),
-        _ => None,
+        Value::Text(bytes) | Value::Bin(bytes) => checked_tag(bytes.as_slice()),
+        Value::Nil
+        | Value::Truth(_)
+        | Value::Uint(_)
+        | Value::Neg(_)
+        | Value::Float32(_)
+        | Value::Float64(_)
+        | Value::Ext(_, _)
+        | Value::List(_)
+        | Value::Map(_) => None,
     }
 }
 
@@ -131,7 +138,8 @@ fn plain_batch(
     carried: Carried,
     option: Pairs,
 ) -> Result<Message, WireErr>
-    ensures { GivesVerdict (PlainSays (is_plain option) tag.now (option_value option chunk_key) (carried_of carried)) result }
+    ensures { GivesVerdict
+        (PlainSays (is_plain option) tag.now (option_value option chunk_key) (carried_of carried)) result }
 {
     if !is_plain(alloc, &option)? {
         return Err(WireErr::Compressed);
@@ -141,8 +149,14 @@ fn plain_batch(
 }
 
 /// Returns the message of a tag, carried events and an option.
-fn tagged(alloc: Global, tag: &Value, carried: Carried, option: Pairs) -> Result<Message, WireErr>
-    ensures { GivesVerdict (PartsSay (tagged_by (tag_of (val_of tag.now)) (Some option) (carried_of carried))) result }
+fn tagged_message(
+    alloc: Global,
+    tag: &Value,
+    carried: Carried,
+    option: Pairs,
+) -> Result<Message, WireErr>
+    ensures { GivesVerdict
+        (PartsSay (tagged_by (tag_of (val_of tag.now)) (Some option) (carried_of carried))) result }
 {
     let Some(tag) = tag_of(tag) else {
         return Err(NO_MESSAGE);
@@ -158,12 +172,22 @@ fn message_with_option(
     carried: Carried,
     option: Value,
 ) -> Result<Message, WireErr>
-    ensures { GivesVerdict (PartsSay (tagged_by (tag_of (val_of tag.now)) (option_of (val_of option)) (carried_of carried))) result }
+    ensures { GivesVerdict
+        (PartsSay (tagged_by (tag_of (val_of tag.now)) (option_of (val_of option)) (carried_of carried)))
+        result }
 {
     match option {
-        Value::Nil => tagged(alloc, tag, carried, Pairs::new(alloc)),
-        Value::Map(pairs) => tagged(alloc, tag, carried, pairs),
-        _ => Err(NO_MESSAGE),
+        Value::Nil => tagged_message(alloc, tag, carried, Pairs::new(alloc)),
+        Value::Map(pairs) => tagged_message(alloc, tag, carried, pairs),
+        Value::Truth(_)
+        | Value::Uint(_)
+        | Value::Neg(_)
+        | Value::Text(_)
+        | Value::Bin(_)
+        | Value::Float32(_)
+        | Value::Float64(_)
+        | Value::Ext(_, _)
+        | Value::List(_) => Err(NO_MESSAGE),
     }
 }
 
@@ -174,14 +198,15 @@ fn with_option(
     carried: Carried,
     mut behind: Values,
 ) -> Result<Message, WireErr>
-    ensures { GivesVerdict (PartsSay (with_option (val_of tag.now) (carried_of carried) (vals_of behind))) result }
+    ensures { GivesVerdict
+        (PartsSay (with_option (val_of tag.now) (carried_of carried) (vals_of behind))) result }
 {
     if 1 < behind.len() {
         return Err(NO_MESSAGE);
     }
     match behind.pop() {
         Some(option) => message_with_option(alloc, tag, carried, option),
-        None => tagged(alloc, tag, carried, Pairs::new(alloc)),
+        None => tagged_message(alloc, tag, carried, Pairs::new(alloc)),
     }
 }
 
@@ -232,6 +257,14 @@ pub fn message_of(alloc: Global, value: Value) -> Result<Message, WireErr>
     match value {
         Value::Nil => Ok(Message::Nothing),
         Value::List(values) => members(alloc, values),
-        _ => Err(NO_MESSAGE),
+        Value::Truth(_)
+        | Value::Uint(_)
+        | Value::Neg(_)
+        | Value::Text(_)
+        | Value::Bin(_)
+        | Value::Float32(_)
+        | Value::Float64(_)
+        | Value::Ext(_, _)
+        | Value::Map(_) => Err(NO_MESSAGE),
     }
 }

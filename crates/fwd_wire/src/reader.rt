@@ -56,7 +56,8 @@ fn read(alloc: Global, bytes: &[u8]) -> Result<(Message, u64), WireErr>
 /// events in their older and newer form; a nil value is an empty message.
 pub fn read_message(alloc: Global, bytes: &[u8]) -> Result<(Message, u64), WireErr>
     // Unless memory runs out, the answer is the one that these bytes have.
-    ensures answer { (a : Answer) → (answer_of result ≡ None) ⊎ ((answer_of result ≡ Some a) ↔ IsAnswer bytes.now a) }
+    ensures answer { (a : Answer) → (answer_of result ≡ None)
+        ⊎ ((answer_of result ≡ Some a) ↔ IsAnswer bytes.now a) }
     // What the message says can be encoded again.
     ensures fits { IfOk result (λ x. ContentFits (content_of x.0)) }
 {

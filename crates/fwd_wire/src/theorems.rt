@@ -16,11 +16,13 @@ pub fn answers_are_read()
 /// The messages of a stream, and how the bytes after them go on, are what reading from left to right
 /// computes.
 pub fn streams_are_read()
-    ensures { (ms : List MessageContent) (e : Ending) (b : List ℕ) → Streams ms e b ↔ (messages_in b ≡ record { messages = ms; ending = e }) }
+    ensures { (ms : List MessageContent) (e : Ending) (b : List ℕ) → Streams ms e b
+        ↔ (messages_in b ≡ record { messages = ms; ending = e }) }
 {}
 
 /// What a message says can be encoded again: its events as they are stored, its chunk in an
 /// acknowledgement.
 pub fn messages_fit()
-    ensures { (b : List ℕ) (s : MessageContent) (n : ℕ) → AllBytes b → IsAnswer b (message s n) → ContentFits s }
+    ensures { (b : List ℕ) (s : MessageContent) (n : ℕ) → AllBytes b → IsAnswer b (message s n) →
+        ContentFits s }
 {}

@@ -64,7 +64,8 @@ fn put_pair(alloc: Global, option: &mut Pairs, key: &[u8], value: Value) -> Resu
 
 /// Returns the option: the number of events, and the chunk if an acknowledgement is asked for.
 fn option(alloc: Global, size: usize, id: Option<&[u8]>) -> Result<Pairs, Memory>
-    ensures { IfOk result (λ option. mapping (entries_of option) ≡ option_val size (option_map (λ chunk. chunk.now) id.entry)) }
+    ensures { IfOk result (λ option. mapping (entries_of option)
+        ≡ option_val size (option_map (λ chunk. chunk.now) id.entry)) }
 {
     let mut option = Pairs::new(alloc);
     put_pair(alloc, &mut option, b"size", Value::Uint(size as u64))?;
@@ -88,7 +89,8 @@ pub fn write_forward(
     requires tag { length tag.now < 2 ^ 32 }
     requires id { IfSome id (λ chunk. length chunk.now < 2 ^ 32) }
     requires bin { length (entry_bytes whole_time events.now) < 2 ^ 32 }
-    ensures { IfOk result (λ bytes. bytes ≡ forward_payload tag.now events.now (option_map (λ chunk. chunk.now) id.entry) whole_time) }
+    ensures { IfOk result (λ bytes. bytes
+        ≡ forward_payload tag.now events.now (option_map (λ chunk. chunk.now) id.entry) whole_time) }
 {
     let entries = entries(alloc, events, whole_time)?;
     let mut out = Bytes::from_slice(alloc, b"\x93")?;
@@ -117,7 +119,8 @@ fn put_bin(bytes: Bytes, out: &mut Bytes) -> Result<(), Memory>
 /// Appends the option.
 fn put_option(alloc: Global, size: usize, id: Option<&[u8]>, out: &mut Bytes) -> Result<(), Memory>
     requires { IfSome id (λ chunk. length chunk.now < 2 ^ 32) }
-    ensures { OnOk result (out.new ≡ out.old ++ canonical (option_val size (option_map (λ chunk. chunk.now) id.entry))) }
+    ensures { OnOk result (out.new
+        ≡ out.old ++ canonical (option_val size (option_map (λ chunk. chunk.now) id.entry))) }
 {
     let option = option(alloc, size, id)?;
     encode_map(&option, out)

@@ -1,7 +1,7 @@
 use Rattle.std.proofs.Common.{◌≡◌}
 use Rattle.std.specs.List.{flat_map}
-use Rattle.fwd_filters.specs.declared.runs.Part.{Part}
+use Rattle.fwd_filters.specs.declared.runs.FilteredRun.{FilteredRun}
 use Rattle.fwd_filters.proofs.runs.join_parts.Given as goal
 
 abbrev pub invariant-loop-part : goal.invariant-loop-part
-invariant-loop-part l = l.all.items ≡ flat_map (λ (part : Part). part.left) l.yielded
+invariant-loop-part l = l.all.items ≡ flat_map (λ (part : FilteredRun). part.left) l.yielded

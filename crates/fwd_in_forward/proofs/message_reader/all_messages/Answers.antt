@@ -3,7 +3,7 @@ use Rattle.fwd_wire.specs.Representation.{content_of}
 use Rattle.fwd_wire.specs.declared.message.Message.{Message}
 use Rattle.fwd_wire.specs.Stream.{Streams, waiting, broken}
 use Rattle.fwd_in_forward.specs.Conn.{all_content}
-use Rattle.fwd_in_forward.specs.Next.{NextIs, NextFits}
+use Rattle.fwd_in_forward.specs.NextMessage.{NextIs, NextFits}
 use Rattle.fwd_in_forward.proofs.StreamGrowth.{message_within, some_byte, read_on, read_all, all_fit_push}
 use Rattle.fwd_in_forward.proofs.message_reader.all_messages.Goals as goal
 

@@ -23,7 +23,7 @@ returns-then-not-may_open-clause-same c = λ b.
 pub returns-else-not-may_open-clause-same : goal.returns-else-not-may_open-clause-same
 returns-else-not-may_open-clause-same c = λ b.
     let room : may_open c.in-Known.holds c.count_value.new.self ≡ true = search rules in
-    c.counted.ensures.same b ∙ known_first c.args.self.now.levels c.count_value.new.self c.args.byte b c.requires c.count_value.ensures c.in-Known.n c.in-Known.holds (ap continuation_of (sym c.form_of.ensures) ∙ sym c.in-Known.ensures) room
+    c.begin_content.ensures.same b ∙ known_first c.args.self.now.levels c.count_value.new.self c.args.byte b c.requires c.count_value.ensures c.in-Known.n c.in-Known.holds (ap continuation_of (sym c.form_of.ensures) ∙ sym c.in-Known.ensures) room
 
 pub returns-then-not-may_open-2-clause-same : goal.returns-then-not-may_open-2-clause-same
 returns-then-not-may_open-2-clause-same c = λ b.

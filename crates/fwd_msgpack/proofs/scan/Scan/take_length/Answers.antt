@@ -5,7 +5,7 @@ use Rattle.fwd_msgpack.proofs.scan.Scan.take_length.Goals.{in-Four, in-Three, in
 
 pub returns-in-One-clause-same : goal.returns-in-One-clause-same
 unfolding complete_length
-returns-in-One-clause-same c = λ b. rw c.in-One.is (c.counted.ensures.same b)
+returns-in-One-clause-same c = λ b. rw c.in-One.is (c.begin_content.ensures.same b)
 
 pub returns-clause-same : goal.returns-clause-same
 unfolding complete_length
