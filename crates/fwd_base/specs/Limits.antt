@@ -79,6 +79,10 @@ longest_wait = 250
 abbrev pub most_peer_flushes : ℕ
 most_peer_flushes = 4
 
+-- all `ticks` lines of a schedule together have at most so many clock readings
+abbrev pub most_ticks : ℕ
+most_ticks = 10000000
+
 -- the header of a chunk's file has so many bytes
 abbrev pub chunk_header : ℕ
 chunk_header = 24

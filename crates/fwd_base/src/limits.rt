@@ -63,6 +63,9 @@ pub const LONGEST_WAIT: u64 = 250;
 /// The most flushes that are under way at a time to an output with peers.
 pub const MOST_PEER_FLUSHES: u64 = 4;
 
+/// The most clock readings of all `ticks` lines of a schedule.
+pub const MOST_TICKS: u64 = 10_000_000;
+
 /// The bytes of the header of a chunk's file.
 pub const CHUNK_HEADER: usize = 24;
 
@@ -88,5 +91,6 @@ pub fn limits_are_defined()
     ensures tag { LONGEST_TAG ≡ limit.longest_tag }
     ensures wait { LONGEST_WAIT ≡ limit.longest_wait }
     ensures flushes { MOST_PEER_FLUSHES ≡ limit.most_peer_flushes }
+    ensures ticks { MOST_TICKS ≡ limit.most_ticks }
     ensures header { CHUNK_HEADER ≡ limit.chunk_header }
 {}

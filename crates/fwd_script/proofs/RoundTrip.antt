@@ -6,6 +6,7 @@ use Rattle.std.proofs.lemmas.List.Elements.{All-append, All-cons, All-head, All-
 use Rattle.std.proofs.lemmas.List.Sums.{sum_by-append, sum_by-cons}
 use Rattle.std.proofs.lemmas.Grind.{flat_map-append}
 use Rattle.std.proofs.Math.Seq.{take-append_seam, drop-append_seam}
+use Rattle.fwd_base.specs.Limits.{most_ticks}
 use Rattle.fwd_outside.specs.declared.happening.Happening.{Happening}
 use Rattle.fwd_script.specs.declared.meaning.LineMeaning.{LineMeaning}
 use Rattle.fwd_script.specs.declared.meaning.LineMeaning.TheVariants.{Plans, Answers, DiskFails, FileFails, Stores}
@@ -276,4 +277,4 @@ unfolding schedule_of
 written_reads s writable =
     ap (λ (t : List ℕ). read_on reader_start 1 (lines_of t)) (texts s.lives)
     ∙ ap (read_on reader_start 1) (lines_back (flat_map life_lines s.lives) (all_lack s.lives writable.fits writable.ends))
-    ∙ lives_read s [] 10000000 false s.lives writable.ends writable.fits (at_first s.lives writable.stores s) writable.ticks refl 1
+    ∙ lives_read s [] most_ticks false s.lives writable.ends writable.fits (at_first s.lives writable.stores s) writable.ticks refl 1

@@ -1,5 +1,6 @@
 -- The schedule of a text, or the first refusal of one of its lines.
 use Rattle.std.specs.Prelude.{◌≡◌, ℕ, ◌+◌, ◌-◌, ◌==◌, Bool, true, false, not, ◌||◌, if◌then◌else◌, List, [], ◌∷◌, ◌++◌, Option, Some, None, is_some, Result, Ok, Err}
+use Rattle.fwd_base.specs.Limits.{most_ticks}
 use Rattle.fwd_script.specs.declared.keywords.Keyword.{Keyword}
 use Rattle.fwd_script.specs.declared.meaning.LineMeaning.{LineMeaning}
 use Rattle.fwd_script.specs.declared.meaning.LineMeaning.TheVariants.{Plans, Answers, DiskFails, FileFails, Stores, Crashes}
@@ -38,9 +39,9 @@ is_passed_over (first ∷ rest) = first == 35
 abbrev pub empty_life : Life
 empty_life = record { lines = []; answers = []; disk_fails = []; file_fails = []; store = []; cut = None }
 
--- before the first line; all `ticks` lines together may have 10,000,000 clock readings
+-- before the first line
 abbrev pub reader_start : ScheduleReader
-reader_start = record { lives = []; life = empty_life; left = 10000000; begun = false }
+reader_start = record { lives = []; life = empty_life; left = most_ticks; begun = false }
 
 -- how many clock readings a `ticks` line has
 abbrev pub ticks_of : Planned → ℕ

@@ -2,7 +2,7 @@
 use Rattle.std.specs.Prelude.{◌≡◌, ℕ, ◌^◌, ◌<◌, ◌≤◌, ◌==◌, false, List, [], ◌∷◌, ◌++◌, length, Some, None, All}
 use Rattle.std.specs.List.{list_any, sum_by}
 use Rattle.hex.specs.Hex.{IsBytes}
-use Rattle.fwd_base.specs.Limits.{longest_piece}
+use Rattle.fwd_base.specs.Limits.{longest_piece, most_ticks}
 use Rattle.fwd_outside.specs.declared.happening.Happening.{Happening}
 use Rattle.fwd_outside.specs.declared.happening.Happening.TheVariants.{Tick, Joined, Piece, Gone, Room, Back, Broken, InputEnd, Stop, End, Failed}
 use Rattle.fwd_script.specs.declared.schedule.Schedule.{Schedule}
@@ -107,4 +107,4 @@ pub record IsWritable (schedule : Schedule) : Type 0 where
   pub fits : All LifeFits schedule.lives
   pub ends : HasValidEnds schedule.lives
   pub stores : StoresFirst schedule.lives
-  pub ticks : sum_by ticks_in schedule.lives ≤ 10000000
+  pub ticks : sum_by ticks_in schedule.lives ≤ most_ticks

@@ -9,6 +9,7 @@ use crate::keywords::Keyword;
 use crate::meaning::{LineMeaning, line_meaning};
 use crate::words::part;
 use crate::{Life, Lives, Planned, Schedule, ScheduleKind, ScheduleRefused};
+use fwd_base::limits::MOST_TICKS;
 use fwd_base::{Items, Memory};
 use std::alloc::Global;
 use std::mem;
@@ -91,7 +92,7 @@ impl ScheduleReader {
         ScheduleReader {
             lives: Items::new(alloc),
             life: Life::new(alloc),
-            left: 10_000_000,
+            left: MOST_TICKS,
             begun: false,
         }
     }
