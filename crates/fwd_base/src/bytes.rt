@@ -204,6 +204,16 @@ impl Items<Bytes> {
     }
 }
 
+/// Returns a copy of the bytes, if there are any.
+pub fn clone_optional(alloc: Global, bytes: &Option<Bytes>) -> Result<Option<Bytes>, Memory>
+    ensures { IfOk result (λ copy. copy ≡ bytes.now) }
+{
+    match bytes {
+        Some(bytes) => Ok(Some(bytes.try_clone(alloc)?)),
+        None => Ok(None),
+    }
+}
+
 /// Compiles only for types that are `Send` and `Sync`.
 pub fn crosses<T: Send + Sync>(_: &T) {}
 

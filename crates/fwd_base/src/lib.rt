@@ -23,7 +23,7 @@ mod search;
 mod size;
 mod text;
 
-pub use bytes::{Bytes, Names, bytes_are_send_sync, crosses, names_are_send_sync};
+pub use bytes::{Bytes, Names, bytes_are_send_sync, clone_optional, crosses, names_are_send_sync};
 pub use ids::{ChunkId, ConnId, InputId, LinkId, OutputId};
 pub use items::Items;
 pub use masks::is_set;

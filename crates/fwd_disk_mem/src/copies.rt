@@ -25,15 +25,6 @@ pub fn part_of(alloc: Global, bytes: &[u8], at: u64, len: u64) -> Result<Bytes, 
     Bytes::from_slice(alloc, &rest[..len as usize])
 }
 
-pub fn copy_of(alloc: Global, bytes: &Option<Bytes>) -> Result<Option<Bytes>, Memory>
-    ensures { IfOk result (λ copy. copy ≡ bytes.now) }
-{
-    match bytes {
-        Some(bytes) => Ok(Some(bytes.try_clone(alloc)?)),
-        None => Ok(None),
-    }
-}
-
 pub fn copy_of_names(alloc: Global, names: &Option<Names>) -> Result<Option<Names>, Memory>
     ensures { IfOk result (λ copy. copy ≡ names.now) }
 {

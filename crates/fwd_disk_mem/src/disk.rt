@@ -13,12 +13,13 @@ ghost use Rattle.fwd_disk_mem.specs.DiskState.{counted};
 ghost use Rattle.fwd_disk_mem.specs.FileTable.{MemFile};
 ghost use Rattle.fwd_disk_mem.specs.Images.{picked, file_settings, prefix_after_mark};
 
-use crate::copies::{both, copy_of, copy_of_names, part_of};
+use crate::copies::{both, copy_of_names, part_of};
 use crate::crash::disk_after_crash;
 use crate::file_table::FileTable;
 use crate::image::prefix_until;
 use crate::listing::names_in;
 use crate::told::{BoxedTold, Told, calls_in, is_to_fail, push_and_change, push_number};
+use fwd_base::clone_optional;
 use fwd_outside::{Bytes, Disk, DiskErr, Memory, Names};
 use std::alloc::Global;
 use std::marker::Model;
@@ -319,7 +320,7 @@ impl Disk for MemDisk {
     {
         let next_succeeds = self.next_succeeds();
         let given = self.part(alloc, next_succeeds, name, at, len)?;
-        let answer = copy_of(alloc, &given)?;
+        let answer = clone_optional(alloc, &given)?;
         let call = Told::Read(Bytes::from_slice(self.alloc, name)?, at, len, answer);
         self.note(call)?;
         match given {

@@ -13,7 +13,7 @@ ghost use Rattle.fwd_files_mem.specs.FilesAnswers.{IsPlayed};
 ghost use Rattle.fwd_files_mem.specs.MemFiles.{Answered, HasContent, SameFiles, changed, entries_from, files_now, with_note, path_of, readable, told_of};
 
 use crate::FileChange;
-use fwd_base::{Bytes, Memory};
+use fwd_base::{Bytes, Memory, clone_optional};
 use fwd_outside::{FileErr, Files};
 use std::alloc::Global;
 use std::collections::BTreeSet;
@@ -282,16 +282,6 @@ fn part_of(
     let behind = &bytes[from..];
     let most = (behind.len() as u64).min(max) as usize;
     Ok(Some(Bytes::from_slice(alloc, &behind[..most])?))
-}
-
-/// Returns a copy of the bytes, if there are any.
-fn clone_optional(alloc: Global, bytes: &Option<Bytes>) -> Result<Option<Bytes>, Memory>
-    ensures { IfOk result (λ copy. copy ≡ bytes.now) }
-{
-    match bytes {
-        Some(bytes) => Ok(Some(bytes.try_clone(alloc)?)),
-        None => Ok(None),
-    }
 }
 
 /// Gives the file of a path these bytes.

@@ -113,7 +113,7 @@ impl<'a> Machine<'a> {
     /// Opens the listeners of the inputs, and keeps the endpoints of the outputs.
     pub fn start(&mut self, ends: &Ends) -> io::Result<()> {
         for end in ends.outputs.as_slice() {
-            let copy = copy_of_output(self.rt.alloc(), end).map_err(memory_error)?;
+            let copy = end.try_clone(self.rt.alloc()).map_err(memory_error)?;
             self.outputs.push(copy)?;
         }
         for end in ends.inputs.as_slice() {
@@ -444,21 +444,4 @@ fn note_failure(journal: &Journal, output: OutputId, error: &io::Error) {
         journal.note_reason(output, text.as_bytes());
     }
     journal.write(Level::Debug, About::Output(output), Topic::Link, error);
-}
-
-fn copy_of_output(alloc: Global, end: &OutEnd) -> Result<OutEnd, Memory> {
-    Ok(match end {
-        OutEnd::Stdout => OutEnd::Stdout,
-        OutEnd::Folder { path, file } => OutEnd::Folder {
-            path: path.try_clone(alloc)?,
-            file: match file {
-                Some(name) => Some(name.try_clone(alloc)?),
-                None => None,
-            },
-        },
-        OutEnd::Peer { host, port } => OutEnd::Peer {
-            host: host.try_clone(alloc)?,
-            port: *port,
-        },
-    })
 }

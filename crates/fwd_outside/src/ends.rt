@@ -1,6 +1,9 @@
 //! Endpoints: where inputs get their bytes from, and where outputs send theirs.
 
-use fwd_base::{Bytes, Items};
+ghost use Rattle.std.specs.Prelude.{◌≡◌, IfOk};
+
+use fwd_base::{Bytes, Items, Memory, clone_optional};
+use std::alloc::Global;
 
 /// The endpoint of an input.
 #[derive(Debug, Drop, PartialEq, Eq)]
@@ -12,6 +15,22 @@ pub enum InEnd {
     Quiet,
 }
 
+impl InEnd {
+    /// Returns a copy of the endpoint.
+    pub fn try_clone(&self, alloc: Global) -> Result<InEnd, Memory>
+        ensures { IfOk result (λ copy. copy ≡ self.now) }
+    {
+        Ok(match self {
+            InEnd::Listen { host, port } => InEnd::Listen {
+                host: host.try_clone(alloc)?,
+                port: *port,
+            },
+            InEnd::Stdin => InEnd::Stdin,
+            InEnd::Quiet => InEnd::Quiet,
+        })
+    }
+}
+
 /// The endpoint of an output.
 #[derive(Debug, Drop, PartialEq, Eq)]
 pub enum OutEnd {
@@ -20,6 +39,25 @@ pub enum OutEnd {
     Folder { path: Bytes, file: Option<Bytes> },
     /// A peer to connect to.
     Peer { host: Bytes, port: u16 },
+}
+
+impl OutEnd {
+    /// Returns a copy of the endpoint.
+    pub fn try_clone(&self, alloc: Global) -> Result<OutEnd, Memory>
+        ensures { IfOk result (λ copy. copy ≡ self.now) }
+    {
+        Ok(match self {
+            OutEnd::Stdout => OutEnd::Stdout,
+            OutEnd::Folder { path, file } => OutEnd::Folder {
+                path: path.try_clone(alloc)?,
+                file: clone_optional(alloc, file)?,
+            },
+            OutEnd::Peer { host, port } => OutEnd::Peer {
+                host: host.try_clone(alloc)?,
+                port: *port,
+            },
+        })
+    }
 }
 
 /// The endpoints of the inputs, in the order of the configuration.

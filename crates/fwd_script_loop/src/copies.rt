@@ -2,8 +2,8 @@
 
 ghost use Rattle.std.specs.Prelude.{◌≡◌, IfOk};
 
-use fwd_base::{Bytes, Items, Memory};
-use fwd_outside::{Ends, InEnd, InEnds, OutEnd, OutEnds};
+use fwd_base::{Items, Memory};
+use fwd_outside::{Ends, InEnds, OutEnds};
 use fwd_script::{Plan, Planned};
 use std::alloc::Global;
 
@@ -33,53 +33,12 @@ pub fn copy_of_lines(alloc: Global, lines: &Plan) -> Result<Plan, Memory>
     Ok(Items::from_vec(copy))
 }
 
-/// Returns a copy of an input's endpoint.
-fn copy_of_input(alloc: Global, end: &InEnd) -> Result<InEnd, Memory>
-    ensures { IfOk result (λ copy. copy ≡ end.now) }
-{
-    Ok(match end {
-        InEnd::Listen { host, port } => InEnd::Listen {
-            host: host.try_clone(alloc)?,
-            port: *port,
-        },
-        InEnd::Stdin => InEnd::Stdin,
-        InEnd::Quiet => InEnd::Quiet,
-    })
-}
-
-/// Returns a copy of a name, if there is one.
-fn copy_of_name(alloc: Global, name: &Option<Bytes>) -> Result<Option<Bytes>, Memory>
-    ensures { IfOk result (λ copy. copy ≡ name.now) }
-{
-    match name {
-        Some(name) => Ok(Some(name.try_clone(alloc)?)),
-        None => Ok(None),
-    }
-}
-
-/// Returns a copy of an output's endpoint.
-fn copy_of_output(alloc: Global, end: &OutEnd) -> Result<OutEnd, Memory>
-    ensures { IfOk result (λ copy. copy ≡ end.now) }
-{
-    Ok(match end {
-        OutEnd::Stdout => OutEnd::Stdout,
-        OutEnd::Folder { path, file } => OutEnd::Folder {
-            path: path.try_clone(alloc)?,
-            file: copy_of_name(alloc, file)?,
-        },
-        OutEnd::Peer { host, port } => OutEnd::Peer {
-            host: host.try_clone(alloc)?,
-            port: *port,
-        },
-    })
-}
-
 fn copy_of_inputs(alloc: Global, ends: &InEnds) -> Result<InEnds, Memory>
     ensures { IfOk result (λ copy. copy ≡ ends.now) }
 {
     let mut copy = Vec::with_capacity(alloc, ends.len())?;
     for end in ends.as_slice() {
-        copy.push(copy_of_input(alloc, end)?)?;
+        copy.push(end.try_clone(alloc)?)?;
     }
     Ok(Items::from_vec(copy))
 }
@@ -89,7 +48,7 @@ fn copy_of_outputs(alloc: Global, ends: &OutEnds) -> Result<OutEnds, Memory>
 {
     let mut copy = Vec::with_capacity(alloc, ends.len())?;
     for end in ends.as_slice() {
-        copy.push(copy_of_output(alloc, end)?)?;
+        copy.push(end.try_clone(alloc)?)?;
     }
     Ok(Items::from_vec(copy))
 }
