@@ -41,22 +41,22 @@ LINES = """[INPUT]
 """
 
 
-def spelled(text):
+def encoded(text):
     """A short text in MessagePack."""
     return bytes([0xA0 + len(text)]) + text.encode()
 
 
 def message_of(number, padding=0):
     """A message of one event that asks for an acknowledgement; with a padding the event has a text of so many bytes too."""
-    pairs = spelled("n") + b"\xce" + number.to_bytes(4, "big")
+    pairs = encoded("n") + b"\xce" + number.to_bytes(4, "big")
     if padding:
-        pairs += spelled("padding") + b"\xda" + padding.to_bytes(2, "big") + b"x" * padding
+        pairs += encoded("padding") + b"\xda" + padding.to_bytes(2, "big") + b"x" * padding
     event = b"\x92" + b"\xce" + (1_000 + number).to_bytes(4, "big") + (b"\x82" if padding else b"\x81") + pairs
-    return b"\x93" + spelled("app") + b"\x91" + event + b"\x81" + spelled("chunk") + spelled(f"id{number}")
+    return b"\x93" + encoded("app") + b"\x91" + event + b"\x81" + encoded("chunk") + encoded(f"id{number}")
 
 
 def answer_of(number):
-    return b"\x81" + spelled("ack") + spelled(f"id{number}")
+    return b"\x81" + encoded("ack") + encoded(f"id{number}")
 
 
 def send_message(link, number, padding=0):

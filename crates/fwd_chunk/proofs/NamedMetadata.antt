@@ -125,8 +125,8 @@ output_is (outcome ∷ (size ∷ rest)) x h =
     let fits : size ≤ length rest = ltb-false (length rest) size parts.0 in
     let same : (record { name = take size rest; outcome = outcome }, drop size rest) ≡ x = same_value (record { name = take size rest; outcome = outcome }, drop size rest) x parts.1 in
     let long : length (take size rest) ≡ size = omega (arith, length-take size rest) in
-    let spelled : outcome ∷ (size ∷ rest) ≡ outcome ∷ (length (take size rest) ∷ (take size rest ++ drop size rest)) = (λ i. outcome ∷ (sym long i ∷ sym (take-append-drop size rest) i)) in
-    spelled ∙ ap (λ (y : NamedOutput × List ℕ). named_output_bytes y.0 ++ y.1) same
+    let encoded : outcome ∷ (size ∷ rest) ≡ outcome ∷ (length (take size rest) ∷ (take size rest ++ drop size rest)) = (λ i. outcome ∷ (sym long i ∷ sym (take-append-drop size rest) i)) in
+    encoded ∙ ap (λ (y : NamedOutput × List ℕ). named_output_bytes y.0 ++ y.1) same
 
 no_outputs_in : (os : List NamedOutput) → None ≡ some_outputs os → ⊥
 no_outputs_in os h = cc h
@@ -256,9 +256,9 @@ named_were meta m h =
     let with_outputs = mapped (with_tag p.0) (if_allowed (counted_outputs p.1)) m x.2 in
     let os = with_outputs.0 in
     let are = were_allowed (counted_outputs p.1) os with_outputs.1 in
-    let spelled : p.1 ≡ length os ∷ flat_map named_output_bytes os = counted_were p.1 os are.0 in
+    let encoded : p.1 ≡ length os ∷ flat_map named_output_bytes os = counted_were p.1 os are.0 in
     let parts = parts_were meta p x.1 in
-    let all : meta ≡ named_meta_bytes p.0 os = parts.1 ∙ ap (λ (l : List ℕ). six_and (length p.0) (p.0 ++ l)) spelled in
+    let all : meta ≡ named_meta_bytes p.0 os = parts.1 ∙ ap (λ (l : List ℕ). six_and (length p.0) (p.0 ++ l)) encoded in
     let meaning : with_tag p.0 os ≡ m = with_outputs.2 in (
       all ∙ ap (λ (n : MetadataMeaning). named_meta_bytes n.tag n.outputs) meaning,
       subst (λ (n : MetadataMeaning). length n.tag < 2 ^ 16) meaning parts.0,

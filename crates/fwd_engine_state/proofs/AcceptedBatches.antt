@@ -27,7 +27,7 @@ and_not_some false = refl
 pub record IsHanded (s : AllSettings) (b : Batch) (stream : List ℕ) (home : Home) (bytes : List ℕ) (outputs : List (List ℕ)) : Type 0 where
   pub in_folder : stream ≡ input_name s b.input
   pub at_home : home ≡ home_at s b.input
-  pub spelling : bytes ≡ encoded b.events
+  pub encoding : bytes ≡ encoded b.events
   pub names : outputs ≡ names_for s b.tag
 
 next_up : (n : ℕ) → max n (n + 1) ≡ n + 1
@@ -59,7 +59,7 @@ store_after_begin s store h b kept fresh is held = record {
 pub kept_new : (s : AllSettings) (store : Stored) (h : History) (b : Batch) (stream : List ℕ) (home : Home) (bytes : List ℕ) (outputs : List (List ℕ))
     → IsHanded s b stream home bytes outputs → StoreRepresents s store h → new_kept (new_name store stream) b.tag home bytes outputs ≡ created_with s b (next h)
 kept_new s store h b stream home bytes outputs handed held =
-    rw (handed.in_folder, handed.at_home, handed.spelling, handed.names, held.root, held.next) refl
+    rw (handed.in_folder, handed.at_home, handed.encoding, handed.names, held.root, held.next) refl
 
 -- ---- a chunk grows
 
@@ -91,7 +91,7 @@ pub calls_appends : (s : AllSettings) (store : Stored) (h : History) (b : Batch)
     → accept_program store b.input stream b.tag home bytes outputs ≡ append_to_program (kept_of s h c.number) (encoded b.events) s.service.full
 calls_appends s store h b stream home bytes outputs c handed short is held =
     let at : chunk_for store b.input b.tag ≡ Some c.number = chunk_is s store h b.input b.tag held ∙ ap (option_map numbered) is in
-    rw (short, at, and_not_some (store.next == numbers_end)) (rw (held.chunks c.number, handed.spelling, held.full) refl)
+    rw (short, at, and_not_some (store.next == numbers_end)) (rw (held.chunks c.number, handed.encoding, held.full) refl)
 
 -- the calls if none is open and a number is left
 pub calls_begins : (s : AllSettings) (store : Stored) (h : History) (b : Batch) (stream : List ℕ) (home : Home) (bytes : List ℕ) (outputs : List (List ℕ))
@@ -100,7 +100,7 @@ pub calls_begins : (s : AllSettings) (store : Stored) (h : History) (b : Batch) 
 calls_begins s store h b stream home bytes outputs handed short is left held =
     let at : chunk_for store b.input b.tag ≡ None = chunk_is s store h b.input b.tag held ∙ ap (option_map numbered) is in
     let some : (store.next == numbers_end) ≡ false = ap (λ (n : ℕ). n == numbers_end) held.next ∙ left in
-    rw (short, at, some) (rw (handed.in_folder, handed.at_home, handed.spelling, handed.names, held.root, held.next) refl)
+    rw (short, at, some) (rw (handed.in_folder, handed.at_home, handed.encoding, handed.names, held.root, held.next) refl)
 
 -- ---- batches that weren't accepted
 

@@ -16,15 +16,15 @@ pub not_longer : (front rest b : List ℕ) → b ≡ front ++ rest → length b 
 not_longer front rest b e = ap length e ∙ length-append front rest
 
 -- the map whose header and pairs were decoded
-map_spelled : (count : ℕ) (ps : List (Val × Val)) (body pairs rest : List ℕ) → StartsWithMap count pairs body → length ps ≡ count → StartsWithPairs ps rest pairs → EncodesPrefix (mapping (entries_of ps)) (length body - length rest) body
-map_spelled count ps body pairs rest m many p =
+map_encoded : (count : ℕ) (ps : List (Val × Val)) (body pairs rest : List ℕ) → StartsWithMap count pairs body → length ps ≡ count → StartsWithPairs ps rest pairs → EncodesPrefix (mapping (entries_of ps)) (length body - length rest) body
+map_encoded count ps body pairs rest m many p =
     let front = m.0 ++ p.front in
     let parts : body ≡ front ++ rest = m.1 ∙ ap (λ (t : List ℕ). m.0 ++ t) p.parts ∙ sym (append_assoc m.0 p.front rest) in
     let k = length body - length rest in
     let size : length front ≡ k = omega (arith, not_longer front rest body parts) in
     let first : take k body ≡ front = ap (take k) parts ∙ take_at front rest k size in
-    let spelled : Encodes (mapping (entries_of ps)) front = m.2 (entries_of ps) p.front (how_many_entries_is ps ∙ many) p.spelled in
-    (omega arith, subst (Encodes (mapping (entries_of ps))) (sym first) spelled, omega (arith, p.nested))
+    let encoded : Encodes (mapping (entries_of ps)) front = m.2 (entries_of ps) p.front (how_many_entries_is ps ∙ many) p.encoded in
+    (omega arith, subst (Encodes (mapping (entries_of ps))) (sym first) encoded, omega (arith, p.nested))
 
 -- the event whose parts were decoded
 event_begins : (sec nsec count : ℕ) (ps : List (Val × Val)) (b pairs rest : List ℕ) → StartsWithHeader sec nsec count pairs b → length ps ≡ count → StartsWithPairs ps rest pairs
@@ -35,7 +35,7 @@ event_begins sec nsec count ps b pairs rest h many p =
     let m = h.2 in
     let none = empty_encoded (128 ∷ body) [] refl (omega arith) refl in
     let k = length body - length rest in
-    let event = event_encoded b l.0 (128 ∷ body) 1 k sec nsec [] ps l.1 l.2 l.3 none.0 (omega arith) (map_spelled count ps body pairs rest m many p) p.nested in
+    let event = event_encoded b l.0 (128 ∷ body) 1 k sec nsec [] ps l.1 l.2 l.3 none.0 (omega arith) (map_encoded count ps body pairs rest m many p) p.nested in
     let size : 12 + 1 + k ≡ length b - length rest = omega (arith, l.2, ap length l.1, length-append l.0 (128 ∷ body), not_longer m.0 pairs body m.1, not_longer p.front rest pairs p.parts) in
     (event.0, subst (λ (n : ℕ). EncodesPrefix event.0 n b) size event.1, event.2)
 
@@ -63,7 +63,7 @@ members_written count b behind rest old between new some first w =
     let read : StartsWithPairs (p ∷ ps) rest b = record {
       front = one.key ++ (one.value ++ w.2.front);
       parts = one.parts ∙ ap (λ (t : List ℕ). one.key ++ (one.value ++ t)) w.2.parts ∙ ap (λ (t : List ℕ). one.key ++ t) (sym (append_assoc one.value w.2.front rest)) ∙ sym (append_assoc one.key (one.value ++ w.2.front) rest);
-      spelled = (one.key, one.value, w.2.front, refl, one.key_spelled, one.value_spelled, w.2.spelled);
+      encoded = (one.key, one.value, w.2.front, refl, one.key_encoded, one.value_encoded, w.2.encoded);
       nested = omega (arith, one.key_nested, one.value_nested, w.2.nested);
     } in
     let rest_text = more_pairs (entries_of ps) in

@@ -24,8 +24,8 @@ pair_written key b behind rest old between colon new k one two w =
       key = k.0;
       value = w.1.0;
       parts = k.1 ∙ ap (λ (t : List ℕ). k.0 ++ t) w.1.1;
-      key_spelled = k.2;
-      value_spelled = w.1.2;
+      key_encoded = k.2;
+      value_encoded = w.1.2;
       key_nested = omega arith;
       value_nested = w.2;
     } in
@@ -35,14 +35,14 @@ pair_written key b behind rest old between colon new k one two w =
 
 -- ---- one more pair
 
-spelled_more : (ps : List (Val × Val)) (p : Val × Val) (front key value : List ℕ) → EncodesEntries (entries_of ps) front → Encodes p.0 key → Encodes p.1 value → EncodesEntries (entries_of (ps ++ p ∷ [])) (front ++ (key ++ value))
-spelled_more [] p front key value s k v = (key, value, [], ap (λ (t : List ℕ). t ++ (key ++ value)) s ∙ ap (λ (t : List ℕ). key ++ t) (sym (append-nil value)), k, v, refl)
-spelled_more (q ∷ ps) p front key value s k v =
+encoded_more : (ps : List (Val × Val)) (p : Val × Val) (front key value : List ℕ) → EncodesEntries (entries_of ps) front → Encodes p.0 key → Encodes p.1 value → EncodesEntries (entries_of (ps ++ p ∷ [])) (front ++ (key ++ value))
+encoded_more [] p front key value s k v = (key, value, [], ap (λ (t : List ℕ). t ++ (key ++ value)) s ∙ ap (λ (t : List ℕ). key ++ t) (sym (append-nil value)), k, v, refl)
+encoded_more (q ∷ ps) p front key value s k v =
     let first = s.0 in
     let second = s.1 in
     let back = s.2 in
     let more = key ++ value in
-    (first, second, back ++ more, ap (λ (t : List ℕ). t ++ more) s.3 ∙ append_assoc first (second ++ back) more ∙ ap (λ (t : List ℕ). first ++ t) (append_assoc second back more), s.4, s.5, spelled_more ps p back key value s.6 k v)
+    (first, second, back ++ more, ap (λ (t : List ℕ). t ++ more) s.3 ∙ append_assoc first (second ++ back) more ∙ ap (λ (t : List ℕ). first ++ t) (append_assoc second back more), s.4, s.5, encoded_more ps p back key value s.6 k v)
 
 nested_more : (ps : List (Val × Val)) (p : Val × Val) (n : ℕ) → entry_nestings (entries_of ps) ≤ n → nesting p.0 ≤ n → nesting p.1 ≤ n → entry_nestings (entries_of (ps ++ p ∷ [])) ≤ n
 nested_more [] p n h k v = omega (arith, k, v)
@@ -74,7 +74,7 @@ one_more old between comma new count b behind rest so_far said w =
       lead = record {
         front = front ++ (pair.key ++ pair.value);
         parts = so_far.lead.parts ∙ ap (λ (t : List ℕ). front ++ t) (pair.parts ∙ sym (append_assoc pair.key pair.value rest)) ∙ sym (append_assoc front (pair.key ++ pair.value) rest);
-        spelled = spelled_more ps p front pair.key pair.value so_far.lead.spelled pair.key_spelled pair.value_spelled;
+        encoded = encoded_more ps p front pair.key pair.value so_far.lead.encoded pair.key_encoded pair.value_encoded;
         nested = nested_more ps p deepest_member so_far.lead.nested pair.key_nested pair.value_nested;
       };
       written =

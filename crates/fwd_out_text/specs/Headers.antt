@@ -48,8 +48,8 @@ pub record StartsWithPair (p : Val × Val) (rest b : List ℕ) : Type 0 where
   pub key : List ℕ
   pub value : List ℕ
   pub parts : b ≡ key ++ (value ++ rest)
-  pub key_spelled : Encodes p.0 key
-  pub value_spelled : Encodes p.1 value
+  pub key_encoded : Encodes p.0 key
+  pub value_encoded : Encodes p.1 value
   pub key_nested : nesting p.0 ≤ deepest_member
   pub value_nested : nesting p.1 ≤ deepest_member
 
@@ -57,5 +57,5 @@ pub record StartsWithPair (p : Val × Val) (rest b : List ℕ) : Type 0 where
 pub record StartsWithPairs (pairs : List (Val × Val)) (rest b : List ℕ) : Type 0 where
   pub front : List ℕ
   pub parts : b ≡ front ++ rest
-  pub spelled : EncodesEntries (entries_of pairs) front
+  pub encoded : EncodesEntries (entries_of pairs) front
   pub nested : entry_nestings (entries_of pairs) ≤ deepest_member

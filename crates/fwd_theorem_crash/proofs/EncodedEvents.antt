@@ -112,31 +112,31 @@ counts_as k n m len same = subst (λ (i : ℕ). Counts k i len) same
 mutual
   unfolding form_of size
 
-  spelled : (v : Val) → LengthsFit v → Encodes (written v) (canonical v)
-  spelled nil h = refl
-  spelled (truth t) h = canonical_encodes (truth t) tt
-  spelled (whole (pos n)) h = number_encoded (nat_lt n 18446744073709551616) n refl
-  spelled (whole (negsuc n)) h = minus_encoded (nat_lt n 9223372036854775808) n refl
-  spelled (text s) h = canonical_encodes (text s) h
-  spelled (bin s) h = canonical_encodes (bin s) h
-  spelled (float32 n) h = (refl, refl)
-  spelled (float64 n) h = (refl, refl)
-  spelled (ext t s) h =
+  value_encoded : (v : Val) → LengthsFit v → Encodes (written v) (canonical v)
+  value_encoded nil h = refl
+  value_encoded (truth t) h = canonical_encodes (truth t) tt
+  value_encoded (whole (pos n)) h = number_encoded (nat_lt n 18446744073709551616) n refl
+  value_encoded (whole (negsuc n)) h = minus_encoded (nat_lt n 9223372036854775808) n refl
+  value_encoded (text s) h = canonical_encodes (text s) h
+  value_encoded (bin s) h = canonical_encodes (bin s) h
+  value_encoded (float32 n) h = (refl, refl)
+  value_encoded (float64 n) h = (refl, refl)
+  value_encoded (ext t s) h =
       behind (written (ext t s)) form.Ext (length s) (ext_head (length s)) (cast_unsigned w8 t ∷ s) (ext_headed (length s) h) (λ k len c. (len, cast_unsigned w8 t, c, refl, refl))
-  spelled (list vs) h =
+  value_encoded (list vs) h =
       behind (written (list vs)) form.Array (value_count vs) (list_head (value_count vs)) (canonical_all vs) (list_headed (value_count vs) h.0)
       (λ k len c. (len, canonical_all vs, counts_as k (value_count vs) (value_count (all_written vs)) len (as_many vs) c, refl, all_encoded vs h.1))
-  spelled (mapping es) h =
+  value_encoded (mapping es) h =
       behind (written (mapping es)) form.Map (entry_count es) (map_head (entry_count es)) (canonical_entries es) (map_headed (entry_count es) h.0)
       (λ k len c. (len, canonical_entries es, counts_as k (entry_count es) (entry_count (entries_written es)) len (as_many_entries es) c, refl, entries_encoded es h.1))
 
   all_encoded : (vs : Vals) → AllLengthsFit vs → EncodesAll (all_written vs) (canonical_all vs)
   all_encoded no_vals h = refl
-  all_encoded (val v vs) h = (canonical v, canonical_all vs, refl, spelled v h.0, all_encoded vs h.1)
+  all_encoded (val v vs) h = (canonical v, canonical_all vs, refl, value_encoded v h.0, all_encoded vs h.1)
 
   entries_encoded : (es : Entries) → EntryLengthsFit es → EncodesEntries (entries_written es) (canonical_entries es)
   entries_encoded no_entries h = refl
-  entries_encoded (entry k v es) h = (canonical k, canonical v, canonical_entries es, refl, spelled k h.0, spelled v h.1, entries_encoded es h.2)
+  entries_encoded (entry k v es) h = (canonical k, canonical v, canonical_entries es, refl, value_encoded k h.0, value_encoded v h.1, entries_encoded es h.2)
 
 -- ---- events
 
@@ -172,7 +172,7 @@ events_written (e ∷ es) fits =
     let v = event_val e in
     record {
       written_as = event_written e ∷ rest.written_as;
-      are = (written v, canonical v, encodings es, refl, spelled v (lengths_fit e fit), not_deeper e fit, event_is e, rest.are);
+      are = (written v, canonical v, encodings es, refl, value_encoded v (lengths_fit e fit), not_deeper e fit, event_is e, rest.are);
       count = ap suc rest.count;
     }
 

@@ -59,7 +59,7 @@ returns-in-Ok-clause-acts g c others h shows =
       held = shows.store;
       sound = shows.sound;
       store_sound = c.is_sound.ensures;
-      handed = record { in_folder = c.stream.ensures; at_home = c.home_for-home.ensures.home h shows.store; spelling = c.requires.encoded.encoding; names = named c.args.run.now c.args.tag.now c.args.routes c.in_ok-names.names c.requires.routes c.in_ok-names.ensures };
+      handed = record { in_folder = c.stream.ensures; at_home = c.home_for-home.ensures.home h shows.store; encoding = c.requires.encoded.encoding; names = named c.args.run.now c.args.tag.now c.args.routes c.in_ok-names.names c.requires.routes c.in_ok-names.ensures };
       is_encoded = c.requires.encoded;
       number = some_left _ _ _ c.accept.ensures.no_number c.requires.encoded.short (taken_isnt c.accept.result a c.in-Ok.is);
     } in
@@ -80,7 +80,7 @@ returns-in-Err-DiskFailed-clause-acts g c others h shows =
       held = shows.store;
       sound = shows.sound;
       store_sound = c.is_sound.ensures;
-      handed = record { in_folder = c.stream.ensures; at_home = c.home_for-home.ensures.home h shows.store; spelling = c.requires.encoded.encoding; names = named c.args.run.now c.args.tag.now c.args.routes c.in_ok-names.names c.requires.routes c.in_ok-names.ensures };
+      handed = record { in_folder = c.stream.ensures; at_home = c.home_for-home.ensures.home h shows.store; encoding = c.requires.encoded.encoding; names = named c.args.run.now c.args.tag.now c.args.routes c.in_ok-names.names c.requires.routes c.in_ok-names.ensures };
       is_encoded = c.requires.encoded;
       number = some_left _ _ _ c.accept.ensures.no_number c.requires.encoded.short (refused_isnt c.accept.result c.in-Err-DiskFailed.field-0 (refusal.DiskFailed closed) c.in-Err-DiskFailed.is is (λ e. absurd (cc e)));
     } in
@@ -116,7 +116,7 @@ returns-clause-acts g c others h shows =
       held = shows.store;
       sound = shows.sound;
       store_sound = c.is_sound.ensures;
-      handed = record { in_folder = c.stream.ensures; at_home = c.home_for-home.ensures.home h shows.store; spelling = c.requires.encoded.encoding; names = named c.args.run.now c.args.tag.now c.args.routes c.in_ok-names.names c.requires.routes c.in_ok-names.ensures };
+      handed = record { in_folder = c.stream.ensures; at_home = c.home_for-home.ensures.home h shows.store; encoding = c.requires.encoded.encoding; names = named c.args.run.now c.args.tag.now c.args.routes c.in_ok-names.names c.requires.routes c.in_ok-names.ensures };
       is_encoded = c.requires.encoded;
       number = some_left _ _ _ c.accept.ensures.no_number c.requires.encoded.short (refused_isnt c.accept.result c.in-Err-Memory.field-0 refusal.Memory c.in-Err-Memory.is is (λ e. absurd (cc e)));
     } in

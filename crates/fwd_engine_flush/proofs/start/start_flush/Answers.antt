@@ -41,10 +41,10 @@ returns-in_err-poll-clause-acts g c others h shows idle =
     let s = c.args.run.now in
     let r = route_of c.args.route in
     let content = c.args.content.now in
-    let spelled = rw c.in-Some.is at c.in_ok-flush.ensures.flush in
-    let events = spelled.0 in
+    let encoded = rw c.in-Some.is at c.in_ok-flush.ensures.flush in
+    let events = encoded.0 in
     let flush = c.in-Some.flush in
-    let made = spelled.2 s h None shows.state refl idle in
+    let made = encoded.2 s h None shows.state refl idle in
     let tag : c.tag_of-tag.result.now ≡ tag_of_chunk h r.chunk =
     c.tag_of-tag.ensures ∙ ap (λ (rows : List Row). option_map_or (λ (row : Row). row.tag) (row_at c.args.route.chunk rows) []) (c.table.ensures s h None shows.state)
     ∙ tag_there s h r.chunk shows.state.numbers (idle_has s h r idle) in
@@ -54,7 +54,7 @@ returns-in_err-poll-clause-acts g c others h shows idle =
     let begun = begins_by s r events h (delivery_of wants judges flush) flush.output.0 c.tag_of-tag.result.now flush.progress delivers (ap (λ (o : OutputId). o.0) made.output) tag made.progress in
     let w = with_both (g.L.Loop.call_log c.args.outside.now) (g.D.Disk.call_log c.args.disk.now) others in
     let b = c.in_err-poll.ensures.calls in
-    rw (encoding_begins s r h content events spelled.1, begun)
+    rw (encoding_begins s r h content events encoded.1, begun)
     (refines_err _ _ c.from_residual-in_err-poll.result c.from_residual-in_err-poll.ensures.0
     (begun_trans (fact_noted w (OnRoute r (FlushStarted events)) _)
     (begun_bind (λ progress. notes_calls s r 0 progress (OnRoute r (FlushStarted events) ∷ h)) (loop_begun w _ act (b.0, record { entries = b.1.entries; grew = b.1.grew; way = b.1.way })))))
@@ -64,10 +64,10 @@ returns-clause-acts g c others h shows idle =
     let s = c.args.run.now in
     let r = route_of c.args.route in
     let content = c.args.content.now in
-    let spelled = rw c.in-Some.is at c.in_ok-flush.ensures.flush in
-    let events = spelled.0 in
+    let encoded = rw c.in-Some.is at c.in_ok-flush.ensures.flush in
+    let events = encoded.0 in
     let flush = c.in-Some.flush in
-    let made = spelled.2 s h None shows.state refl idle in
+    let made = encoded.2 s h None shows.state refl idle in
     let tag : c.tag_of-tag.result.now ≡ tag_of_chunk h r.chunk =
     c.tag_of-tag.ensures ∙ ap (λ (rows : List Row). option_map_or (λ (row : Row). row.tag) (row_at c.args.route.chunk rows) []) (c.table.ensures s h None shows.state)
     ∙ tag_there s h r.chunk shows.state.numbers (idle_has s h r idle) in
@@ -82,7 +82,7 @@ returns-clause-acts g c others h shows idle =
     let first : IsFlightOf s (OnRoute r (FlushStarted events) ∷ h) new r =
     (refl, made.output, delivers, c.lemma_idle_route_is_pending.ensures.begun s c.args.parts.now.state h None r events shows.state idle, c.lemma_idle_route_is_closed.ensures s c.args.parts.now.state h None r shows.state idle) in
     let of = attempt_advances s (OnRoute r (FlushStarted events) ∷ h) new r _ c.in_ok-poll.ensures.same first in
-    rw (encoding_begins s r h content events spelled.1, begun)
+    rw (encoding_begins s r h content events encoded.1, begun)
     (refines_note_then _ _ _ (OnRoute r (FlushStarted events)) h (λ at. bind (on_loop act) (λ progress. notes_calls s r 0 progress at)) c.record_progress.result
     (refines_after _ _ _ _ c.record_progress.result (leads_inside (λ progress. notes_calls s r 0 progress (OnRoute r (FlushStarted events) ∷ h)) (loop_leads w _ act _ calls.0))
     (c.record_progress.ensures.acts others (OnRoute r (FlushStarted events) ∷ h) out (of, calls.1))))
