@@ -104,10 +104,10 @@ minus_encoded n lt = elim (cases_lt n 32) [
 
 -- ---- lengths: a header is a first byte of a form, and the bytes of the length
 
-abbrev Head : (Count → Form) → ℕ → List ℕ → Type 0
-Head f n head = (k : Count) × (c : ℕ) × (len : List ℕ) × (head ≡ c ∷ len) × (form_of c ≡ f k) × Counts k n len
+abbrev pub IsHeader : (Count → Form) → ℕ → List ℕ → Type 0
+IsHeader f n head = (k : Count) × (c : ℕ) × (len : List ℕ) × (head ≡ c ∷ len) × (form_of c ≡ f k) × Counts k n len
 
-text_headed : (n : ℕ) → n < 2 ^ 32 → Head form.Str n (text_head n)
+text_headed : (n : ℕ) → n < 2 ^ 32 → IsHeader form.Str n (text_head n)
 unfolding text_head form_of size
 text_headed n lt = elim (cases_lt n 32) [
   | inl a ↦ rw (lt-ltb n 32 a) (Known n, 160 + n, [], refl, form_text n a, (refl, refl))
@@ -120,7 +120,7 @@ text_headed n lt = elim (cases_lt n 32) [
   ])
 ]
 
-bin_headed : (n : ℕ) → n < 2 ^ 32 → Head form.Bin n (bin_head n)
+bin_headed : (n : ℕ) → n < 2 ^ 32 → IsHeader form.Bin n (bin_head n)
 unfolding bin_head form_of size
 bin_headed n lt = elim (cases_lt n 256) [
   | inl b ↦ rw (lt-ltb n 256 b) (Sized One, 196, n ∷ [], refl, refl, (refl, one_is n))
@@ -130,7 +130,7 @@ bin_headed n lt = elim (cases_lt n 256) [
   ])
 ]
 
-list_headed : (n : ℕ) → n < 2 ^ 32 → Head form.Array n (list_head n)
+pub list_headed : (n : ℕ) → n < 2 ^ 32 → IsHeader form.Array n (list_head n)
 unfolding list_head form_of size
 list_headed n lt = elim (cases_lt n 16) [
   | inl a ↦ rw (lt-ltb n 16 a) (Known n, 144 + n, [], refl, form_list n a, (refl, refl))
@@ -140,7 +140,7 @@ list_headed n lt = elim (cases_lt n 16) [
   ])
 ]
 
-map_headed : (n : ℕ) → n < 2 ^ 32 → Head form.Map n (map_head n)
+pub map_headed : (n : ℕ) → n < 2 ^ 32 → IsHeader form.Map n (map_head n)
 unfolding map_head form_of size
 map_headed n lt = elim (cases_lt n 16) [
   | inl a ↦ rw (lt-ltb n 16 a) (Known n, 128 + n, [], refl, form_map n a, (refl, refl))
@@ -151,14 +151,14 @@ map_headed n lt = elim (cases_lt n 16) [
 ]
 
 -- a comparison that is false
-ext_known : (n m c : ℕ) (rest : List ℕ) → form_of c ≡ form.Ext (Known m) → Head form.Ext n rest → Head form.Ext n (cond (eqb n m) (c ∷ []) rest)
+ext_known : (n m c : ℕ) (rest : List ℕ) → form_of c ≡ form.Ext (Known m) → IsHeader form.Ext n rest → IsHeader form.Ext n (cond (eqb n m) (c ∷ []) rest)
 ext_known n m c rest e h = known (eqb n m) refl
   where
-    known : (t : Bool) → eqb n m ≡ t → Head form.Ext n (cond t (c ∷ []) rest)
+    known : (t : Bool) → eqb n m ≡ t → IsHeader form.Ext n (cond t (c ∷ []) rest)
     known true is = (Known m, c, [], refl, e, (eqb-true n m is, refl))
     known false is = h
 
-ext_sized : (n : ℕ) → n < 2 ^ 32 → Head form.Ext n (cond (ltb n 256) (199 ∷ n ∷ []) (cond (ltb n 65536) (200 ∷ to_be_bytes w16 n) (201 ∷ to_be_bytes w32 n)))
+ext_sized : (n : ℕ) → n < 2 ^ 32 → IsHeader form.Ext n (cond (ltb n 256) (199 ∷ n ∷ []) (cond (ltb n 65536) (200 ∷ to_be_bytes w16 n) (201 ∷ to_be_bytes w32 n)))
 unfolding form_of size
 ext_sized n lt = elim (cases_lt n 256) [
   | inl b ↦ rw (lt-ltb n 256 b) (Sized One, 199, n ∷ [], refl, refl, (refl, one_is n))
@@ -168,13 +168,14 @@ ext_sized n lt = elim (cases_lt n 256) [
   ])
 ]
 
-ext_headed : (n : ℕ) → n < 2 ^ 32 → Head form.Ext n (ext_head n)
+pub ext_headed : (n : ℕ) → n < 2 ^ 32 → IsHeader form.Ext n (ext_head n)
 unfolding ext_head form_of
 ext_headed n lt =
     ext_known n 1 212 _ refl (ext_known n 2 213 _ refl (ext_known n 4 214 _ refl (ext_known n 8 215 _ refl (ext_known n 16 216 _ refl (ext_sized n lt)))))
 
-behind : (v : Val) (f : Count → Form) (n : ℕ) (head tail : List ℕ) → Head f n head → ((k : Count) (len : List ℕ) → Counts k n len → EncodesAfter v (f k) (len ++ tail)) → Encodes v (head ++ tail)
-behind v f n head tail h g =
+-- a value is encoded by its header and what follows it
+pub encodes_by_header : (v : Val) (f : Count → Form) (n : ℕ) (head tail : List ℕ) → IsHeader f n head → ((k : Count) (len : List ℕ) → Counts k n len → EncodesAfter v (f k) (len ++ tail)) → Encodes v (head ++ tail)
+encodes_by_header v f n head tail h g =
     let s : EncodesAfter v (form_of h.1) (h.2 ++ tail) = subst (λ (x : Form). EncodesAfter v x (h.2 ++ tail)) (sym h.4) (g h.0 h.2 h.5) in
     subst (λ (x : List ℕ). Encodes v (x ++ tail)) (sym h.3) s
 
@@ -187,13 +188,13 @@ mutual
   canonical_encodes (truth true) h = (refl, refl)
   canonical_encodes (whole (pos n)) h = number_encoded n h
   canonical_encodes (whole (negsuc n)) h = minus_encoded n h
-  canonical_encodes (text s) h = behind (text s) form.Str (length s) (text_head (length s)) s (text_headed (length s) h) (λ k len c. (len, c, refl))
-  canonical_encodes (bin s) h = behind (bin s) form.Bin (length s) (bin_head (length s)) s (bin_headed (length s) h) (λ k len c. (len, c, refl))
+  canonical_encodes (text s) h = encodes_by_header (text s) form.Str (length s) (text_head (length s)) s (text_headed (length s) h) (λ k len c. (len, c, refl))
+  canonical_encodes (bin s) h = encodes_by_header (bin s) form.Bin (length s) (bin_head (length s)) s (bin_headed (length s) h) (λ k len c. (len, c, refl))
   canonical_encodes (float32 n) h = (refl, four_is n h)
   canonical_encodes (float64 n) h = (refl, eight_is n h)
-  canonical_encodes (ext t s) h = behind (ext t s) form.Ext (length s) (ext_head (length s)) (cast_unsigned w8 t ∷ s) (ext_headed (length s) h.1) (λ k len c. (len, cast_unsigned w8 t, c, sym (to_z-of_z w8 t h.0), refl))
-  canonical_encodes (list vs) h = behind (list vs) form.Array (value_count vs) (list_head (value_count vs)) (canonical_all vs) (list_headed (value_count vs) h.0) (λ k len c. (len, canonical_all vs, c, refl, all_encoded vs h.1))
-  canonical_encodes (mapping es) h = behind (mapping es) form.Map (entry_count es) (map_head (entry_count es)) (canonical_entries es) (map_headed (entry_count es) h.0) (λ k len c. (len, canonical_entries es, c, refl, entries_encoded es h.1))
+  canonical_encodes (ext t s) h = encodes_by_header (ext t s) form.Ext (length s) (ext_head (length s)) (cast_unsigned w8 t ∷ s) (ext_headed (length s) h.1) (λ k len c. (len, cast_unsigned w8 t, c, sym (to_z-of_z w8 t h.0), refl))
+  canonical_encodes (list vs) h = encodes_by_header (list vs) form.Array (value_count vs) (list_head (value_count vs)) (canonical_all vs) (list_headed (value_count vs) h.0) (λ k len c. (len, canonical_all vs, c, refl, all_encoded vs h.1))
+  canonical_encodes (mapping es) h = encodes_by_header (mapping es) form.Map (entry_count es) (map_head (entry_count es)) (canonical_entries es) (map_headed (entry_count es) h.0) (λ k len c. (len, canonical_entries es, c, refl, entries_encoded es h.1))
 
   pub all_encoded : (vs : Vals) → AllFit vs → EncodesAll vs (canonical_all vs)
   all_encoded no_vals h = refl

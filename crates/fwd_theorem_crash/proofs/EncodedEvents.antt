@@ -13,12 +13,11 @@ use Rattle.fwd_msgpack.specs.declared.form.Form.TheVariants as form
 use Rattle.fwd_msgpack.specs.Table.{form_of}
 use Rattle.fwd_msgpack.specs.Encodings.{number, size, Counts, EncodesAll, EncodesEntries, Encodes}
 use Rattle.fwd_msgpack.specs.Canonical.{number_bytes, minus_bytes, ext_head, list_head, map_head, canonical, canonical_all, canonical_entries}
-use Rattle.fwd_msgpack.proofs.CanonicalEncodes.{canonical_encodes}
+use Rattle.fwd_msgpack.proofs.CanonicalEncodes.{canonical_encodes, encodes_by_header, ext_headed, list_headed, map_headed}
 use Rattle.fwd_event.specs.declared.event.Event.{Event}
 use Rattle.fwd_event.specs.Event.{AreEvents, event_of, event_val, pairs_of, EventFits}
 use Rattle.fwd_event.specs.EventPrefix.{encodings}
 use Rattle.fwd_model.specs.Notes.{is_empty}
-use Rattle.fwd_theorem_crash.proofs.ValueHeaders.{behind, ext_headed, list_headed, map_headed}
 
 -- ---- the written value
 
@@ -122,12 +121,12 @@ mutual
   value_encoded (float32 n) h = (refl, refl)
   value_encoded (float64 n) h = (refl, refl)
   value_encoded (ext t s) h =
-      behind (written (ext t s)) form.Ext (length s) (ext_head (length s)) (cast_unsigned w8 t ∷ s) (ext_headed (length s) h) (λ k len c. (len, cast_unsigned w8 t, c, refl, refl))
+      encodes_by_header (written (ext t s)) form.Ext (length s) (ext_head (length s)) (cast_unsigned w8 t ∷ s) (ext_headed (length s) h) (λ k len c. (len, cast_unsigned w8 t, c, refl, refl))
   value_encoded (list vs) h =
-      behind (written (list vs)) form.Array (value_count vs) (list_head (value_count vs)) (canonical_all vs) (list_headed (value_count vs) h.0)
+      encodes_by_header (written (list vs)) form.Array (value_count vs) (list_head (value_count vs)) (canonical_all vs) (list_headed (value_count vs) h.0)
       (λ k len c. (len, canonical_all vs, counts_as k (value_count vs) (value_count (all_written vs)) len (as_many vs) c, refl, all_encoded vs h.1))
   value_encoded (mapping es) h =
-      behind (written (mapping es)) form.Map (entry_count es) (map_head (entry_count es)) (canonical_entries es) (map_headed (entry_count es) h.0)
+      encodes_by_header (written (mapping es)) form.Map (entry_count es) (map_head (entry_count es)) (canonical_entries es) (map_headed (entry_count es) h.0)
       (λ k len c. (len, canonical_entries es, counts_as k (entry_count es) (entry_count (entries_written es)) len (as_many_entries es) c, refl, entries_encoded es h.1))
 
   all_encoded : (vs : Vals) → AllLengthsFit vs → EncodesAll (all_written vs) (canonical_all vs)

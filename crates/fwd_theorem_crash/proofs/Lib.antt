@@ -6,7 +6,6 @@ pub mod OutcomeMetadata
 pub mod FileContents
 pub mod StreamNames
 pub mod StorageFolder
-pub mod ValueHeaders
 pub mod EncodedEvents
 pub mod WritableBatches
 pub mod Safety
