@@ -1,12 +1,11 @@
 -- Reads of a content that is in its file.
-use Rattle.std.proofs.Common.{◌≡◌, ◌≢◌, ℕ, zero, suc, ◌+◌, ◌-◌, ◌<◌, ◌≤◌, min, nat_lt, Bool, true, false, if◌then◌else◌, List, [], ◌++◌, length, length-append, take, drop, Option, Some, None, Result, Ok, Err, IsErrAnd, refl, sym, ◌∙◌, ap, subst, arith}
+use Rattle.std.proofs.Common.{◌≡◌, ◌≢◌, ℕ, zero, suc, ◌+◌, ◌-◌, ◌<◌, ◌≤◌, min, nat_lt, Bool, true, false, if◌then◌else◌, List, [], ◌++◌, length, length-append, take, drop, Option, Some, None, Result, Ok, Err, refl, sym, ◌∙◌, ap, subst, arith}
 use Rattle.std.proofs.lemmas.Bool.{ltb-true, ltb-false}
 use Rattle.std.proofs.lemmas.List.{take_all, drop-drop, length-take}
 use Rattle.std.proofs.Math.Seq.{take-add, take-length}
 use Rattle.fwd_outside.specs.Program.{Return, Ask}
 use Rattle.fwd_outside.specs.Log.{RunsFallible}
 use Rattle.fwd_outside.specs.AtCrashPoints.{HoldsThroughout}
-use Rattle.fwd_outside.proofs.Executions.{no_call_made}
 use Rattle.fwd_outside.proofs.CrashPointLemmas.{holds_weaker}
 use Rattle.fwd_outside.proofs.SinceLemmas.{since_attempts, after_did}
 use Rattle.fwd_outside.specs.Disk.{DiskLog, DiskProgram, Read}
@@ -129,13 +128,6 @@ pub content_begins : (kept : Kept) → read_content_program kept ≢ Return None
 content_begins (InFile head) is = rest_begins head.size head.name (24 + head.meta) head.size [] is
 content_begins (Adopted head) is = rest_begins head.size head.name (24 + head.meta) head.size [] is
 content_begins (InMemory content) is = absurd (cc is)
-
--- memory ran out before the first call
-pub nothing_read : {T : Type 0} (a : DiskLog) (p : DiskProgram (Option (List ℕ))) (Judges : List ℕ → Result T PartErr → Type 0) (r : Result T PartErr) → p ≢ Return None → IsErrAnd r (λ e. e ≡ Memory) → ReadReturns a a p Judges r
-nothing_read a p Judges (Ok content) begins is = absurd is
-nothing_read a p Judges (Err DiskFailed) begins is = absurd (cc is)
-nothing_read a p Judges (Err (Damaged kept got)) begins is = absurd (cc is)
-nothing_read a p Judges (Err Memory) begins is = (p, no_call_made a p, begins)
 
 made_of : {T : Type 0} (a b : DiskLog) (p : DiskProgram (Option (List ℕ))) (Judges : List ℕ → Result T PartErr → Type 0) (r : Result T PartErr) → ReadReturns a b p Judges r → (o : Option (Option (List ℕ))) × RunsFallible a b p o
 made_of a b p Judges (Ok content) gives = (Some (Some gives.0), gives.1)

@@ -6,7 +6,7 @@ ghost use Rattle.fwd_outside.specs.Cause.{HasCause};
 ghost use Rattle.fwd_outside.specs.Disk.{disk_outcome};
 ghost use Rattle.fwd_outside.specs.declared.errors.DiskErr.TheVariants.{Failed};
 ghost use Rattle.fwd_chunk.specs.declared.content.PartErr.TheVariants as part_err;
-ghost use Rattle.fwd_chunk.specs.Content.{read_part_program, IsWholeContent, HasRecordedLength, ReadReturns};
+ghost use Rattle.fwd_chunk.specs.Content.{read_part_program, IsWholeContent, HasRecordedLength};
 
 use fwd_base::limits::LONGEST_PIECE;
 use fwd_event::whole_prefix;
@@ -35,9 +35,9 @@ impl From<Memory> for PartErr {
     }
 }
 
-// Reads up to `size` bytes of a file from an offset, in several reads. Returns fewer bytes if the file ends
-// earlier.
-fn read_part<D: Disk>(
+/// Reads up to `size` bytes of a file from an offset, in several reads. Returns fewer bytes if the file ends
+/// earlier.
+pub fn read_part<D: Disk>(
     alloc: Global,
     disk: &mut D,
     name: &[u8],
@@ -62,8 +62,8 @@ fn read_part<D: Disk>(
     Ok(bytes)
 }
 
-// Returns the bytes if they are whole events and `kept` in number.
-fn judge(alloc: Global, bytes: Bytes, kept: u64) -> Result<Bytes, PartErr>
+/// Returns the bytes if they are whole events and `kept` in number.
+pub fn check_events(alloc: Global, bytes: Bytes, kept: u64) -> Result<Bytes, PartErr>
     requires { length bytes ≤ kept }
     ensures { IsWholeContent kept bytes result }
 {
@@ -75,27 +75,8 @@ fn judge(alloc: Global, bytes: Bytes, kept: u64) -> Result<Bytes, PartErr>
     }
 }
 
-/// Reads `kept` bytes of a file from an offset, and returns them if they are whole events.
-pub fn read_back<D: Disk>(
-    alloc: Global,
-    disk: &mut D,
-    name: &[u8],
-    from: u64,
-    kept: u64,
-) -> Result<Bytes, PartErr>
-    requires { from + kept < 2 ^ 64 }
-    ensures calls { ReadReturns (D.call_log disk.old) (D.call_log disk.new) (read_part_program name.now from kept) (IsWholeContent kept) result }
-    ensures cause { HasCause (D.faults disk.old) (D.faults disk.new) (IsErrOf result part_err.DiskFailed) }
-{
-    match read_part(alloc, disk, name, from, kept) {
-        Ok(bytes) => judge(alloc, bytes, kept),
-        Err(DiskErr::Failed) => Err(PartErr::DiskFailed),
-        Err(DiskErr::Memory) => Err(PartErr::Memory),
-    }
-}
-
 /// Returns the bytes if they are `kept` in number.
-fn check_length(bytes: Bytes, kept: u64) -> Result<Bytes, PartErr>
+pub fn check_length(bytes: Bytes, kept: u64) -> Result<Bytes, PartErr>
     ensures { HasRecordedLength kept bytes result }
 {
     let got = bytes.len() as u64;
@@ -103,24 +84,5 @@ fn check_length(bytes: Bytes, kept: u64) -> Result<Bytes, PartErr>
         Ok(bytes)
     } else {
         Err(PartErr::Damaged { kept, got })
-    }
-}
-
-/// Reads `kept` bytes of a file from an offset, and returns them unchecked.
-pub fn read_bytes<D: Disk>(
-    alloc: Global,
-    disk: &mut D,
-    name: &[u8],
-    from: u64,
-    kept: u64,
-) -> Result<Bytes, PartErr>
-    requires { from + kept < 2 ^ 64 }
-    ensures calls { ReadReturns (D.call_log disk.old) (D.call_log disk.new) (read_part_program name.now from kept) (HasRecordedLength kept) result }
-    ensures cause { HasCause (D.faults disk.old) (D.faults disk.new) (IsErrOf result part_err.DiskFailed) }
-{
-    match read_part(alloc, disk, name, from, kept) {
-        Ok(bytes) => check_length(bytes, kept),
-        Err(DiskErr::Failed) => Err(PartErr::DiskFailed),
-        Err(DiskErr::Memory) => Err(PartErr::Memory),
     }
 }

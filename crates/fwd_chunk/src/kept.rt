@@ -1,6 +1,6 @@
 //! A chunk of the store: in a file that it created, in a recovered file, or in memory.
 
-ghost use Rattle.std.specs.Prelude.{◌≡◌, ◌+◌, ◌<◌, ◌≤◌, ◌^◌, length, OnOk, OnErr, IsErrOf, is_some};
+ghost use Rattle.std.specs.Prelude.{◌≡◌, ◌+◌, ◌<◌, ◌≤◌, ◌^◌, length, IfOk, OnOk, OnErr, IsErrOf, is_some};
 ghost use Rattle.fwd_base.specs.Limits.{chunk_header, longest_file};
 ghost use Rattle.fwd_outside.specs.Log.{RunsFallible};
 ghost use Rattle.fwd_outside.specs.Cause.{HasCause};
@@ -12,7 +12,7 @@ ghost use Rattle.fwd_chunk.specs.declared.content.PartErr.TheVariants.{DiskFaile
 ghost use Rattle.fwd_chunk.specs.Kept.{size_of, end_of, file_of, appends, after_append, remove_program, settle_kept_program, HasRoom, FitsItsNames};
 ghost use Rattle.fwd_chunk.specs.Content.{ReadReturns, read_content_program, IsContentOf, HasRecordedLength};
 
-use crate::content::{PartErr, read_back, read_bytes};
+use crate::content::{PartErr, check_events, check_length, read_part};
 use crate::{ChunkHead, commit, settle, stage};
 use fwd_base::limits::CHUNK_HEADER;
 use fwd_event::Events;
@@ -64,33 +64,16 @@ impl Kept {
         }
     }
 
-    /// Returns the content. A content in a file is read and checked: it must be whole events of the recorded
-    /// length.
+    /// Returns the content. A content in a file must be whole events of the recorded length.
     pub fn content<D: Disk>(&self, alloc: Global, disk: &mut D) -> Result<Bytes, PartErr>
         requires { end_of self.now < 2 ^ 64 }
         ensures calls { ReadReturns (D.call_log disk.old) (D.call_log disk.new) (read_content_program self.now) (IsContentOf self.now) result }
         ensures cause { HasCause (D.faults disk.old) (D.faults disk.new) (IsErrOf result DiskFailed) }
     {
-        match self {
-            Kept::InFile(head) => {
-                read_back(
-                    alloc,
-                    disk,
-                    head.name.as_slice(),
-                    CHUNK_HEADER as u64 + head.meta,
-                    head.size,
-                )
-            }
-            Kept::Adopted(head) => {
-                read_back(
-                    alloc,
-                    disk,
-                    head.name.as_slice(),
-                    CHUNK_HEADER as u64 + head.meta,
-                    head.size,
-                )
-            }
-            Kept::InMemory(content) => Ok(content.try_clone(alloc)?),
+        match self.read(alloc, disk) {
+            Ok(bytes) => self.check_content(alloc, bytes),
+            Err(DiskErr::Failed) => Err(PartErr::DiskFailed),
+            Err(DiskErr::Memory) => Err(PartErr::Memory),
         }
     }
 
@@ -100,26 +83,43 @@ impl Kept {
         ensures calls { ReadReturns (D.call_log disk.old) (D.call_log disk.new) (read_content_program self.now) (HasRecordedLength (size_of self.now)) result }
         ensures cause { HasCause (D.faults disk.old) (D.faults disk.new) (IsErrOf result DiskFailed) }
     {
+        match self.read(alloc, disk) {
+            Ok(bytes) => check_length(bytes, self.size()),
+            Err(DiskErr::Failed) => Err(PartErr::DiskFailed),
+            Err(DiskErr::Memory) => Err(PartErr::Memory),
+        }
+    }
+
+    // Returns the bytes of the content that are there, no more than are recorded.
+    fn read<D: Disk>(&self, alloc: Global, disk: &mut D) -> Result<Bytes, DiskErr>
+        requires { end_of self.now < 2 ^ 64 }
+        ensures calls { RunsFallible (D.call_log disk.old) (D.call_log disk.new) (read_content_program self.now) (disk_outcome result) }
+        ensures within { IfOk result (λ bytes. length bytes ≤ size_of self.now) }
+        ensures cause { HasCause (D.faults disk.old) (D.faults disk.new) (IsErrOf result Failed) }
+    {
         match self {
-            Kept::InFile(head) => {
-                read_bytes(
+            Kept::InFile(head) | Kept::Adopted(head) => {
+                let name = head.name.as_slice();
+                read_part(
                     alloc,
                     disk,
-                    head.name.as_slice(),
-                    CHUNK_HEADER as u64 + head.meta,
-                    head.size,
-                )
-            }
-            Kept::Adopted(head) => {
-                read_bytes(
-                    alloc,
-                    disk,
-                    head.name.as_slice(),
+                    name,
                     CHUNK_HEADER as u64 + head.meta,
                     head.size,
                 )
             }
             Kept::InMemory(content) => Ok(content.try_clone(alloc)?),
+        }
+    }
+
+    // Returns the bytes if they are the content.
+    fn check_content(&self, alloc: Global, bytes: Bytes) -> Result<Bytes, PartErr>
+        requires { length bytes ≤ size_of self.now }
+        ensures { IsContentOf self.now bytes result }
+    {
+        match self {
+            Kept::InFile(head) | Kept::Adopted(head) => check_events(alloc, bytes, head.size),
+            Kept::InMemory(_) => Ok(bytes),
         }
     }
 
