@@ -1,5 +1,5 @@
 -- Facts from a result's value.
-use Rattle.std.proofs.Common.{◌≡◌, Option, Some, None, IsSome, Result, Ok, Err, OnOk, OnErr, refl}
+use Rattle.std.proofs.Common.{◌≡◌, Some, Result, Ok, Err, OnOk, OnErr, refl}
 
 pub on_ok : {T E : Type 0} {P Q : Type 0} (r : Result T E) → (P → Q) → OnOk r P → OnOk r Q
 on_ok (Ok x) so holds = so holds
@@ -15,7 +15,3 @@ same_some is = cc is
 pub on_err : {T E : Type 0} {P Q : Type 0} (r : Result T E) → (P → Q) → OnErr r P → OnErr r Q
 on_err (Ok x) so holds = tt
 on_err (Err e) so holds = so holds
-
-pub some_of : {T : Type 0} (o : Option T) → IsSome o → (x : T) × (o ≡ Some x)
-some_of (Some x) is = (x, refl)
-some_of None is = absurd (cc is)

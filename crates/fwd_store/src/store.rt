@@ -20,7 +20,7 @@ ghost use Rattle.fwd_chunk.specs.declared.content.PartErr.TheVariants as part_er
 ghost use Rattle.fwd_chunk.specs.Name.{file_name};
 ghost use Rattle.fwd_store.specs.Crash.{file_for, KeepsOthers, IsReadyToAccept, TakesBatch, HasBatch, LeavesOldOrNone, IsGone, NamesOutputs, KeepsOutcomes, Recorded};
 ghost use Rattle.fwd_chunk.specs.Content.{ReadReturns, read_content_program, IsContentOf, HasRecordedLength, IsValidContent, IsContentIn, ReturnsContent};
-ghost use Rattle.fwd_chunk.specs.Kept.{size_of, size_of_optional, file_of_optional};
+ghost use Rattle.fwd_chunk.specs.Kept.{size_of, end_of, size_of_optional, file_of_optional};
 ghost use Rattle.fwd_store.specs.OpenChunk.{first_of};
 ghost use Rattle.fwd_store.specs.Store.{has_room, kept_outcome, IsRefusalOf, begins_as, new_kept, sealed, named, after_failed_append, has_file, IsSound, chunk_for, new_name, accept_outcome, BeginsChunk, GrowsChunk, AcceptsBatch, AbandonsBatch, RefusesBatch, HasFailed, CanGrow, append_to_program, accept_into_program, accept_program, has_no_number, drops, without_chunk, with_kept, head_of, IsWhole, path_of_recovered, adopted, IsNew, IsNoLater, settle_for_program};
 
@@ -277,8 +277,8 @@ impl Store {
 
     /// Returns the content of a chunk of the store, whole events. The content of a chunk in a file is read
     /// from it, in pieces. It is `Damaged` if the bytes aren't whole events of the recorded length, which
-    /// can't happen on a disk that keeps synced bytes. The program doesn't use it (it reads by `bytes`): it is
-    /// for callers that want whole events.
+    /// can't happen on a disk that keeps synced bytes. It reads as `bytes` does. The program asks for `bytes`;
+    /// this is for callers that want whole events.
     pub fn content<D: Disk>(
         &self,
         alloc: Global,
@@ -294,7 +294,7 @@ impl Store {
         ensures any_moment { DiskSince (D.call_log disk.old) (D.call_log disk.new) (λ _. Unit {0}) (λ first now. now ≡ first) }
         ensures cause { HasCause (D.faults disk.old) (D.faults disk.new) (IsErrOf result part_err.DiskFailed) }
     {
-        self.read_content(alloc, disk, chunk.0)
+        self.kept(chunk.0).content(alloc, disk)
     }
 
     /// Returns the bytes of a chunk's content, as many as are recorded. It doesn't check that they encode
@@ -314,7 +314,7 @@ impl Store {
         ensures any_moment { DiskSince (D.call_log disk.old) (D.call_log disk.new) (λ _. Unit {0}) (λ first now. now ≡ first) }
         ensures cause { HasCause (D.faults disk.old) (D.faults disk.new) (IsErrOf result part_err.DiskFailed) }
     {
-        self.read_bytes(alloc, disk, chunk.0)
+        self.kept(chunk.0).bytes(alloc, disk)
     }
 
     /// Records in the file of a chunk that an output has its outcome. Returns false, with no disk call, if
@@ -413,36 +413,14 @@ impl Store {
         }
     }
 
-    // Reads the content of a chunk of the store.
-    fn read_content<D: Disk>(
-        &self,
-        alloc: Global,
-        disk: &mut D,
-        number: u64,
-    ) -> Result<Bytes, PartErr>
+    // Returns a chunk of the store.
+    fn kept(&self, number: u64) -> &Kept
         requires { IsSome (map.get self.now.chunks number) }
-        ensures calls { (kept : Kept) → map.get self.now.chunks number ≡ Some kept → ReadReturns (D.call_log disk.old) (D.call_log disk.new) (read_content_program kept) (IsContentOf kept) result }
-        ensures cause { HasCause (D.faults disk.old) (D.faults disk.new) (IsErrOf result part_err.DiskFailed) }
+        ensures found { map.get self.now.chunks number ≡ Some result.now }
+        ensures fits { end_of result.now < 2 ^ 64 }
     {
         match self.chunks.get(number) {
-            Some(kept) => kept.content(alloc, disk),
-            None => unreachable!(),
-        }
-    }
-
-    // Reads the bytes of a chunk of the store.
-    fn read_bytes<D: Disk>(
-        &self,
-        alloc: Global,
-        disk: &mut D,
-        number: u64,
-    ) -> Result<Bytes, PartErr>
-        requires { IsSome (map.get self.now.chunks number) }
-        ensures calls { (kept : Kept) → map.get self.now.chunks number ≡ Some kept → ReadReturns (D.call_log disk.old) (D.call_log disk.new) (read_content_program kept) (HasRecordedLength (size_of kept)) result }
-        ensures cause { HasCause (D.faults disk.old) (D.faults disk.new) (IsErrOf result part_err.DiskFailed) }
-    {
-        match self.chunks.get(number) {
-            Some(kept) => kept.bytes(alloc, disk),
+            Some(kept) => kept,
             None => unreachable!(),
         }
     }
