@@ -12,12 +12,12 @@ pub fn wait_of(n: u64, base: u64, cap: u64, word: u64) -> u64
     requires { 1 ≤ base }
     ensures { result ≡ wait n base cap word }
 {
-    let longest = base.max(doubled(n, base, cap));
+    let longest = base.max(exponential(n, base, cap));
     base + word % (longest - base + 1)
 }
 
 /// Returns the base doubled `n` times, at most the cap.
-fn doubled(n: u64, base: u64, cap: u64) -> u64
+fn exponential(n: u64, base: u64, cap: u64) -> u64
     requires { 1 ≤ base }
     ensures { result ≡ min cap (base * 2 ^ n) }
 {

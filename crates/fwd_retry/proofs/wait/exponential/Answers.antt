@@ -1,6 +1,6 @@
 use Rattle.std.proofs.Common.{◌*◌, ◌^◌, ◌≤◌, arith}
 use Rattle.std.proofs.Math.Nat.{pow-le-pow_right}
-use Rattle.fwd_retry.proofs.wait.doubled.Goals as goal
+use Rattle.fwd_retry.proofs.wait.exponential.Goals as goal
 
 pub returns-then-n-ge64 : goal.returns-then-n-ge64
 returns-then-n-ge64 c =
