@@ -1,6 +1,6 @@
 pub mod Steps
 pub mod Pushes
 pub mod Programs
-pub mod Verdicts
+pub mod Outcomes
 pub mod Links
 pub mod Turns

@@ -11,7 +11,7 @@ use Rattle.fwd_flush.specs.declared.judgement.Judged.TheVariants.{More, Right, W
 use Rattle.fwd_flush.specs.declared.stage.Stage.{Stage}
 use Rattle.fwd_flush.specs.declared.stage.Stage.TheVariants.{Opening, Writing, AwaitingAck, Ended}
 use Rattle.fwd_flush.specs.FlushProgram.{Progress, Delivery, not_started, link_in, ends, continues_by, confirms_payload, pushed_on, pushes, writes, dialed_on, starts, polls, with_reply_bytes, backs, breaks}
-use Rattle.fwd_flush.specs.Verdict.{Occurrence, Room, Back, Broken, program_at, opened_by, opened, closed_by, closed, HasLink}
+use Rattle.fwd_flush.specs.Outcome.{Occurrence, Room, Back, Broken, program_at, opened_by, opened, closed_by, closed, HasLink}
 use Rattle.fwd_flush.proofs.Steps.{silent, replies}
 use Rattle.fwd_flush.proofs.Programs.{heard_stage, polls_at, polls_not, backs_writing, backs_awaiting, backs_not, breaks_at, breaks_not}
 

@@ -5,8 +5,8 @@ use Rattle.fwd_outside.specs.Program.{Return, Execution}
 use Rattle.fwd_outside.specs.Loop.{LoopEntry}
 use Rattle.fwd_flush.specs.declared.stage.Stage.{Stage}
 use Rattle.fwd_flush.specs.FlushProgram.{Progress, Delivery, not_started, starts}
-use Rattle.fwd_flush.specs.Verdict.{Event, Occurrences, bytes_pushed, events_of_occurrence, events_of, events_and_calls, calls_of, IsAt, ProgressRepresents, HasLink, IsFlush, Reaches}
-use Rattle.fwd_flush.proofs.Verdicts.{starts_law, goes_law}
+use Rattle.fwd_flush.specs.Outcome.{Event, Occurrences, bytes_pushed, events_of_occurrence, events_of, events_and_calls, calls_of, IsAt, ProgressRepresents, HasLink, IsFlush, Reaches}
+use Rattle.fwd_flush.proofs.Outcomes.{starts_law, goes_law}
 use Rattle.fwd_flush.proofs.Links.{starts_has, goes_has}
 
 flies : (d : Delivery) (events : List Event) (calls : List LoopEntry) (p : Progress) (turns : Occurrences) (last : Progress)

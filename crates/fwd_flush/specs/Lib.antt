@@ -1,4 +1,4 @@
 pub mod FlushProgram
 pub mod Calls
 pub mod Pushes
-pub mod Verdict
+pub mod Outcome

@@ -4,8 +4,8 @@ use Rattle.std.specs.Prelude.{◌==◌, if◌then◌else◌}
 use Rattle.std.proofs.lemmas.List.{append-nil}
 use Rattle.std.proofs.lemmas.Bool.{cases_Bool, cases_eq, eq-eqb, ne_eqb}
 use Rattle.fwd_outside.specs.Loop.{LoopEntry}
-use Rattle.fwd_flush.specs.Verdict.{Event, bytes_pushed}
-use Rattle.fwd_flush.proofs.Verdicts.{bytes_pushed-append}
+use Rattle.fwd_flush.specs.Outcome.{Event, bytes_pushed}
+use Rattle.fwd_flush.proofs.Outcomes.{bytes_pushed-append}
 use Rattle.fwd_model.specs.Fact.{History, Route, Sent, OnRoute, Outcome}
 use Rattle.fwd_model.specs.Counters.{taken}
 use Rattle.fwd_theorem_delivery.specs.Links.{DialTarget, WasDialled, AreNewLinks, all_on_link, since_dial}

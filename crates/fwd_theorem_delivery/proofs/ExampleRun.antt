@@ -2,7 +2,7 @@
 use Rattle.std.proofs.Common.{◌≡◌, [], ◌∷◌, Some, refl, arith}
 use Rattle.fwd_outside.specs.Loop.{Took}
 use Rattle.fwd_outside.specs.declared.ends.Ends.{Ends}
-use Rattle.fwd_flush.specs.Verdict.{Dialed, Pushed, Replied}
+use Rattle.fwd_flush.specs.Outcome.{Dialed, Pushed, Replied}
 use Rattle.fwd_model.specs.Trace.{loop_part}
 use Rattle.fwd_model.specs.Example.{trace, sent, reply}
 use Rattle.fwd_theorem_delivery.specs.Links.{AreNewLinks, since_dial, close_count}

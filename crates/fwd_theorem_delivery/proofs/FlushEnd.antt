@@ -9,7 +9,7 @@ use Rattle.fwd_table.specs.declared.outcome.Answer.TheVariants.{Good, Retry, Bad
 use Rattle.fwd_flush.specs.declared.stage.Stage.{Stage}
 use Rattle.fwd_flush.specs.declared.stage.Stage.TheVariants.{Opening, Writing, AwaitingAck, Ended}
 use Rattle.fwd_flush.specs.FlushProgram.{Progress, link_in}
-use Rattle.fwd_flush.specs.Verdict.{answer_in, Event, ProgressRepresents}
+use Rattle.fwd_flush.specs.Outcome.{answer_in, Event, ProgressRepresents}
 use Rattle.fwd_settings.specs.declared.settings_types.AllSettings.{AllSettings}
 use Rattle.fwd_event.specs.declared.event.Event.{Event as LogEvent}
 use Rattle.fwd_model.specs.Fact.{History, Route, OnRoute, Outcome, FlushStarted, InFlight, Retries, Delivered, Failed, Exhausted, Evicted}

@@ -9,8 +9,8 @@ use Rattle.fwd_table.specs.declared.outcome.Answer.TheVariants.{Good, Retry, Bad
 use Rattle.fwd_flush.specs.declared.stage.Stage.{Stage}
 use Rattle.fwd_flush.specs.declared.stage.Stage.TheVariants.{Ended}
 use Rattle.fwd_flush.specs.FlushProgram.{Progress, Delivery, not_started, link_in, starts}
-use Rattle.fwd_flush.specs.Verdict.{bytes_pushed, Event, Dialed, events_of, ProgressRepresents}
-use Rattle.fwd_flush.proofs.Verdicts.{starts_law}
+use Rattle.fwd_flush.specs.Outcome.{bytes_pushed, Event, Dialed, events_of, ProgressRepresents}
+use Rattle.fwd_flush.proofs.Outcomes.{starts_law}
 use Rattle.fwd_settings.specs.declared.settings_types.AllSettings.{AllSettings}
 use Rattle.fwd_event.specs.declared.event.Event.{Event as LogEvent}
 use Rattle.fwd_event.specs.EventPrefix.{events_in}

@@ -10,7 +10,7 @@ use Rattle.fwd_outside.specs.declared.happening.Happening.{Happening}
 use Rattle.fwd_outside.specs.declared.happening.Happening.TheVariants as happening
 use Rattle.fwd_in_tail.specs.Followed.{Polled as Poll, polls as polls_of}
 use Rattle.fwd_wire.specs.Message.{MessageContent}
-use Rattle.fwd_flush.specs.Verdict.{Room, Back, Broken, Replied, LinkBroke}
+use Rattle.fwd_flush.specs.Outcome.{Room, Back, Broken, Replied, LinkBroke}
 use Rattle.fwd_settings.specs.declared.settings_types.AllSettings.{AllSettings}
 use Rattle.fwd_model.specs.Fact.{History, Stream, LineStream, MessageStream, Standard, Batch, Happened, Polled, Malformed}
 use Rattle.fwd_model.specs.Trace.{Action}

@@ -12,7 +12,7 @@ use Rattle.fwd_flush.specs.declared.judgement.Judged.TheVariants.{More, Right, W
 use Rattle.fwd_flush.specs.declared.stage.Stage.{Stage}
 use Rattle.fwd_flush.specs.declared.stage.Stage.TheVariants.{Opening, Writing, AwaitingAck, Ended}
 use Rattle.fwd_flush.specs.FlushProgram.{Progress, Delivery, link_in, ends, continues_by, confirms_payload, pushed_on, pushes, writes, polls, with_reply_bytes, backs}
-use Rattle.fwd_flush.specs.Verdict.{Occurrence, Room, Back, Broken, program_at, event_of_call, events_of}
+use Rattle.fwd_flush.specs.Outcome.{Occurrence, Room, Back, Broken, program_at, event_of_call, events_of}
 use Rattle.fwd_flush.proofs.Steps.{silent, replies}
 use Rattle.fwd_flush.proofs.Programs.{heard_stage, polls_at, polls_not, backs_writing, backs_awaiting, backs_not, breaks_at, breaks_not}
 use Rattle.fwd_theorem_delivery.specs.Links.{DialTarget, ReturnsLink, greatest_by, on_link, all_on_link, close_of, close_count}

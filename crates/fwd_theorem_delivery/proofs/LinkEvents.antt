@@ -8,8 +8,8 @@ use Rattle.fwd_outside.specs.Loop.{LoopEntry, Wait}
 use Rattle.fwd_outside.specs.declared.happening.Happening.{Happening}
 use Rattle.fwd_outside.specs.declared.happening.Happening.TheVariants as happening
 use Rattle.fwd_flush.specs.FlushProgram.{Progress, Delivery, link_in}
-use Rattle.fwd_flush.specs.Verdict.{bytes_pushed, Replied, LinkBroke, Event, Occurrence, events_of_occurrence, program_at, events_of, ProgressRepresents}
-use Rattle.fwd_flush.proofs.Verdicts.{bytes_pushed-append, goes_law}
+use Rattle.fwd_flush.specs.Outcome.{bytes_pushed, Replied, LinkBroke, Event, Occurrence, events_of_occurrence, program_at, events_of, ProgressRepresents}
+use Rattle.fwd_flush.proofs.Outcomes.{bytes_pushed-append, goes_law}
 use Rattle.fwd_settings.specs.declared.settings_types.AllSettings.{AllSettings}
 use Rattle.fwd_model.specs.Fact.{History, Route, Sent, OnRoute}
 use Rattle.fwd_model.specs.Trace.{Action}

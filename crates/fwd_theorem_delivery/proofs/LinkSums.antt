@@ -3,7 +3,7 @@ use Rattle.std.proofs.Common.{◌≡◌, ℕ, ◌+◌, ◌<◌, ◌≤◌, ◌�
 use Rattle.std.specs.Prelude.{◌==◌, if◌then◌else◌}
 use Rattle.std.proofs.lemmas.Bool.{cases_Bool, eq-eqb, ne_eqb, eqb-true}
 use Rattle.fwd_outside.specs.Loop.{LoopCall, LoopAnswer, LoopEntry, Start, Wait, Dial, Push, Close, Reply, DropConn, Word}
-use Rattle.fwd_flush.specs.Verdict.{bytes_pushed}
+use Rattle.fwd_flush.specs.Outcome.{bytes_pushed}
 use Rattle.fwd_theorem_delivery.specs.Links.{DialTarget, ReturnsLink, WasDialled, greatest_by, IsNewLink, AreNewLinks, since_dial}
 use Rattle.fwd_theorem_delivery.specs.TakenBytes.{links_by, links_of, taken_over}
 use Rattle.fwd_theorem_delivery.proofs.OwnEvents.{GivesNone}

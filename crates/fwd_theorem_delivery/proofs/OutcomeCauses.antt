@@ -6,7 +6,7 @@ use Rattle.std.proofs.lemmas.Bool.{cases_Bool}
 use Rattle.fwd_base.specs.declared.ids.LinkId.{LinkId}
 use Rattle.fwd_outside.specs.Loop.{LoopEntry}
 use Rattle.fwd_flush.specs.FlushProgram.{Progress, link_in}
-use Rattle.fwd_flush.specs.Verdict.{Event, ProgressRepresents}
+use Rattle.fwd_flush.specs.Outcome.{Event, ProgressRepresents}
 use Rattle.fwd_settings.specs.declared.settings_types.AllSettings.{AllSettings}
 use Rattle.fwd_event.specs.declared.event.Event.{Event as LogEvent}
 use Rattle.fwd_model.specs.Fact.{Route, OnRoute, Outcome, FlushStarted}

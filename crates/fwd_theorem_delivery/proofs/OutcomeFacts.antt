@@ -9,7 +9,7 @@ use Rattle.fwd_table.specs.declared.outcome.Answer.TheVariants.{Good, Retry, Bad
 use Rattle.fwd_flush.specs.declared.stage.Stage.{Stage}
 use Rattle.fwd_flush.specs.declared.stage.Stage.TheVariants.{Opening, Writing, AwaitingAck, Ended}
 use Rattle.fwd_flush.specs.FlushProgram.{Progress, Delivery}
-use Rattle.fwd_flush.specs.Verdict.{Event, IsAt}
+use Rattle.fwd_flush.specs.Outcome.{Event, IsAt}
 use Rattle.fwd_settings.specs.declared.settings_types.AllSettings.{AllSettings}
 use Rattle.fwd_model.specs.Fact.{Route, Sent, OnRoute, Outcome, InFlight, Retries, Delivered, Failed, Exhausted}
 use Rattle.fwd_model.specs.Trace.{OnLoop}

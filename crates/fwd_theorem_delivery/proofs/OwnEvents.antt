@@ -2,7 +2,7 @@
 use Rattle.std.proofs.Common.{◌≡◌, ℕ, ◌⊎◌, inl, inr, true, false, List, [], ◌∷◌, ◌++◌, append_assoc, Some, None, refl, sym, ◌∙◌, ap}
 use Rattle.std.proofs.lemmas.Bool.{cases_Bool, eq-eqb, eqb-true}
 use Rattle.fwd_outside.specs.Loop.{LoopCall, LoopAnswer, LoopEntry, Start, Wait, Dial, Push, Close, Reply, DropConn, Word}
-use Rattle.fwd_flush.specs.Verdict.{Event}
+use Rattle.fwd_flush.specs.Outcome.{Event}
 use Rattle.fwd_theorem_delivery.specs.Links.{DialTarget, AnyCall, ReturnsLink, WasDialled, returns_link, on_link, all_on_link, since_dial}
 
 module _ (P : (call : LoopCall) → LoopAnswer call → Type 0) where

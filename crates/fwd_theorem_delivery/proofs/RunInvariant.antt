@@ -2,7 +2,7 @@
 use Rattle.std.proofs.Common.{◌≡◌, ℕ, ◌+◌, Bool, true, false, List, [], ◌∷◌, ◌++◌, refl, ap, arith}
 use Rattle.std.specs.Prelude.{◌==◌, if◌then◌else◌}
 use Rattle.fwd_outside.specs.Loop.{LoopEntry}
-use Rattle.fwd_flush.specs.Verdict.{bytes_pushed}
+use Rattle.fwd_flush.specs.Outcome.{bytes_pushed}
 use Rattle.fwd_settings.specs.declared.settings_types.AllSettings.{AllSettings}
 use Rattle.fwd_model.specs.Fact.{Fact, History, Route, Sent}
 use Rattle.fwd_theorem_delivery.specs.Links.{all_on_link, close_count}

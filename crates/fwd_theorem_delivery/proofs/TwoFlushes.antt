@@ -8,7 +8,7 @@ use Rattle.fwd_outside.specs.declared.happening.Happening.TheVariants.{Back, Bro
 use Rattle.fwd_table.specs.declared.outcome.Answer.TheVariants.{Retry}
 use Rattle.fwd_flush.specs.declared.judgement.Judged.TheVariants.{Right}
 use Rattle.fwd_flush.specs.FlushProgram.{Delivery}
-use Rattle.fwd_flush.specs.Verdict.{Dialed, Pushed, Replied, LinkBroke, verdict}
+use Rattle.fwd_flush.specs.Outcome.{Dialed, Pushed, Replied, LinkBroke, flush_outcome}
 use Rattle.fwd_theorem_delivery.specs.Links.{since_dial, close_count}
 use Rattle.fwd_theorem_delivery.specs.TakenBytes.{links_of, taken_over}
 
@@ -31,11 +31,11 @@ pub other_breaks : since_dial 2 calls ≡ Dialed (Some 2) ∷ Pushed (codes "hel
 unfolding calls
 other_breaks = refl
 
-pub undecided : verdict delivers (since_dial 1 calls) ≡ None
+pub undecided : flush_outcome delivers (since_dial 1 calls) ≡ None
 unfolding calls delivers
 undecided = refl
 
-pub to_be_retried : verdict delivers (since_dial 2 calls) ≡ Some Retry
+pub to_be_retried : flush_outcome delivers (since_dial 2 calls) ≡ Some Retry
 unfolding calls delivers
 to_be_retried = refl
 

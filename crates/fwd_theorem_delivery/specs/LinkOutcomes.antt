@@ -6,7 +6,7 @@ use Rattle.fwd_outside.specs.Loop.{LoopEntry}
 use Rattle.fwd_table.specs.declared.outcome.Answer.{Answer}
 use Rattle.fwd_table.specs.declared.outcome.Answer.TheVariants.{Good, Retry, Bad}
 use Rattle.fwd_flush.specs.FlushProgram.{Progress, Delivery, link_in}
-use Rattle.fwd_flush.specs.Verdict.{bytes_pushed, verdict}
+use Rattle.fwd_flush.specs.Outcome.{bytes_pushed, flush_outcome}
 use Rattle.fwd_settings.specs.declared.settings_types.AllSettings.{AllSettings}
 use Rattle.fwd_model.specs.Fact.{Fact, History, Route, OnRoute, FlushStarted, Retries, Delivered, Failed, Exhausted}
 use Rattle.fwd_model.specs.Settings.{output_at}
@@ -64,15 +64,15 @@ pub record SendsPrefix (s : AllSettings) (h : History) (es : List LoopEntry) (to
   pub begun : IsLogged (OnRoute route (FlushStarted events)) h
   pub rest : List ℕ
   pub beginning : bytes_pushed (since_dial link es) ++ rest ≡ payload s h route events
-  pub followed : IsTracked h link route (verdict (delivers s h route events) (since_dial link es))
-  pub closed : close_count link es ≡ closed_for (verdict (delivers s h route events) (since_dial link es))
+  pub followed : IsTracked h link route (flush_outcome (delivers s h route events) (since_dial link es))
+  pub closed : close_count link es ≡ closed_for (flush_outcome (delivers s h route events) (since_dial link es))
 
 -- A link that was dialled for a flush of the route with these events has this outcome.
 pub record HasOutcome (s : AllSettings) (h : History) (es : List LoopEntry) (r : Route) (events : List Event)
     (answer : Option Answer) (link : ℕ) : Type 0 where
   pub begun : IsLogged (OnRoute r (FlushStarted events)) h
   pub given : WasDialled (dial_target h r) link es
-  pub answered : verdict (delivers s h r events) (since_dial link es) ≡ answer
+  pub answered : flush_outcome (delivers s h r events) (since_dial link es) ≡ answer
 
 -- On one of its links the outcome is OK, and the whole payload was sent.
 pub record SendsAll (s : AllSettings) (h : History) (es : List LoopEntry) (r : Route) : Type 0 where

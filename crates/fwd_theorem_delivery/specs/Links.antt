@@ -3,7 +3,7 @@ use Rattle.std.specs.Prelude.{◌≡◌, ℕ, ◌+◌, ◌<◌, ◌==◌, ◌⊎
 use Rattle.fwd_outside.specs.Loop.{LoopCall, LoopAnswer, LoopEntry, Wait, Dial, Push, Close}
 use Rattle.fwd_outside.specs.declared.happening.Happening.{Happening}
 use Rattle.fwd_outside.specs.declared.happening.Happening.TheVariants as happening
-use Rattle.fwd_flush.specs.Verdict.{Event, Dialed, Pushed, Replied, LinkBroke}
+use Rattle.fwd_flush.specs.Outcome.{Event, Dialed, Pushed, Replied, LinkBroke}
 
 -- one of these calls has an answer with this property
 abbrev pub AnyCall : ((call : LoopCall) → LoopAnswer call → Type 0) → List LoopEntry → Type 0

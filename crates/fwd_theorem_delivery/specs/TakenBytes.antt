@@ -1,7 +1,7 @@
 -- How many bytes the links of an output took.
 use Rattle.std.specs.Prelude.{ℕ, ◌+◌, ◌==◌, if◌then◌else◌, List, [], ◌∷◌, ◌++◌, length, Some}
 use Rattle.fwd_outside.specs.Loop.{LoopCall, LoopAnswer, LoopEntry, Dial}
-use Rattle.fwd_flush.specs.Verdict.{bytes_pushed}
+use Rattle.fwd_flush.specs.Outcome.{bytes_pushed}
 use Rattle.fwd_theorem_delivery.specs.Links.{since_dial}
 
 -- the links that dials to an output returned, in order

@@ -1,4 +1,4 @@
--- The progress of a flush agrees with the verdict on its events.
+-- The progress of a flush agrees with the outcome of its events.
 use Rattle.std.proofs.Common.{◌≡◌, ◌≢◌, ℕ, zero, suc, ◌+◌, ◌<◌, ◌≤◌, min, Bool, true, false, nat_lt, if◌then◌else◌, List, [], ◌∷◌, ◌++◌, length, length-append, take, drop, length-drop, append_assoc, Option, Some, None, refl, sym, ◌∙◌, ap, subst, arith}
 use Rattle.std.specs.List.{list_any}
 use Rattle.std.proofs.lemmas.Bool.{ltb-true, ltb-false, eq-eqb, ne_eqb}
@@ -15,7 +15,7 @@ use Rattle.fwd_flush.specs.declared.judgement.Judged.TheVariants.{More, Right, W
 use Rattle.fwd_flush.specs.declared.stage.Stage.{Stage}
 use Rattle.fwd_flush.specs.declared.stage.Stage.TheVariants.{Opening, Writing, AwaitingAck, Ended}
 use Rattle.fwd_flush.specs.FlushProgram.{Progress, Delivery, not_started, link_in, ends, continues_by, confirms_payload, pushed_on, pushes, writes, dialed_on, starts, polls, with_reply_bytes, backs, breaks}
-use Rattle.fwd_flush.specs.Verdict.{Occurrence, Room, Back, Broken, program_at, events_of_occurrence, Event, Dialed, Pushed, Replied, LinkBroke, taken_of, bytes_pushed, replied_in, bytes_replied, is_empty, fails, gives_link, by_reply, decided, else_by, verdict_behind, verdict, answer_in, events_of, IsUnbroken, IsAt, ProgressRepresents}
+use Rattle.fwd_flush.specs.Outcome.{Occurrence, Room, Back, Broken, program_at, events_of_occurrence, Event, Dialed, Pushed, Replied, LinkBroke, taken_of, bytes_pushed, replied_in, bytes_replied, is_empty, fails, gives_link, by_reply, decided, else_by, outcome_behind, flush_outcome, answer_in, events_of, IsUnbroken, IsAt, ProgressRepresents}
 use Rattle.fwd_flush.proofs.Steps.{silent, replies}
 use Rattle.fwd_flush.proofs.Programs.{heard_stage, heard_reply, heard_taken, polls_at, polls_not, backs_writing, backs_awaiting, backs_not, breaks_at, breaks_not}
 
@@ -29,49 +29,49 @@ bytes_replied-append (e ∷ xs) ys = rw (bytes_replied-append xs ys) (sym (appen
 
 -- these events decide nothing before their end
 abbrev pub Quiet : Delivery → List Event → Type 0
-Quiet d events = (more : List Event) → verdict d (events ++ more) ≡ verdict_behind d events more
+Quiet d events = (more : List Event) → flush_outcome d (events ++ more) ≡ outcome_behind d events more
 
 module _ (d : Delivery) where
   pub quiet_none : Quiet d []
   quiet_none more = refl
 
   pub quiet_more : (events : List Event) (e : Event) → Quiet d events → decided d events ≡ None → Quiet d (events ++ e ∷ [])
-  quiet_more events e quiet none more = ap (λ (l : List Event). verdict d l) (append_assoc events (e ∷ []) more) ∙ quiet (e ∷ more) ∙ rw none refl
+  quiet_more events e quiet none more = ap (λ (l : List Event). flush_outcome d l) (append_assoc events (e ∷ []) more) ∙ quiet (e ∷ more) ∙ rw none refl
 
-  pub quiet_verdict : (events : List Event) → Quiet d events → verdict d events ≡ decided d events
-  quiet_verdict events quiet = ap (λ (l : List Event). verdict d l) (sym (append-nil events)) ∙ quiet []
+  pub quiet_outcome : (events : List Event) → Quiet d events → flush_outcome d events ≡ decided d events
+  quiet_outcome events quiet = ap (λ (l : List Event). flush_outcome d l) (sym (append-nil events)) ∙ quiet []
 
   none_first : (first later : Option Answer) → else_by first later ≡ None → (first ≡ None) × (later ≡ None)
   none_first None later is = (refl, is)
   none_first (Some answer) later is = absurd (cc is)
 
-  behind_none : (before events more : List Event) → verdict_behind d before events ≡ None → verdict_behind d before (events ++ more) ≡ verdict_behind d (before ++ events) more
+  behind_none : (before events more : List Event) → outcome_behind d before events ≡ None → outcome_behind d before (events ++ more) ≡ outcome_behind d (before ++ events) more
   behind_none before [] more none = rw append-nil refl
   behind_none before (e ∷ events) more none =
-      let both = none_first (decided d before) (verdict_behind d (before ++ e ∷ []) events) none in
-      rw (both.0) (behind_none (before ++ e ∷ []) events more both.1 ∙ ap (λ (l : List Event). verdict_behind d l more) (append_assoc before (e ∷ []) events))
+      let both = none_first (decided d before) (outcome_behind d (before ++ e ∷ []) events) none in
+      rw (both.0) (behind_none (before ++ e ∷ []) events more both.1 ∙ ap (λ (l : List Event). outcome_behind d l more) (append_assoc before (e ∷ []) events))
 
-  pub quiet_by : (events : List Event) → verdict d events ≡ None → Quiet d events
+  pub quiet_by : (events : List Event) → flush_outcome d events ≡ None → Quiet d events
   quiet_by events none more = behind_none [] events more none
 
-  behind_some : (before events more : List Event) (answer : Answer) → verdict_behind d before events ≡ Some answer → verdict_behind d before (events ++ more) ≡ Some answer
+  behind_some : (before events more : List Event) (answer : Answer) → outcome_behind d before events ≡ Some answer → outcome_behind d before (events ++ more) ≡ Some answer
   behind_some before [] [] answer is = is
   behind_some before [] (e ∷ more) answer is = rw is refl
   behind_some before (e ∷ events) more answer is = by (decided d before) is (behind_some (before ++ e ∷ []) events more answer)
     where
-      by : (first : Option Answer) → else_by first (verdict_behind d (before ++ e ∷ []) events) ≡ Some answer
-          → (verdict_behind d (before ++ e ∷ []) events ≡ Some answer → verdict_behind d (before ++ e ∷ []) (events ++ more) ≡ Some answer)
-          → else_by first (verdict_behind d (before ++ e ∷ []) (events ++ more)) ≡ Some answer
+      by : (first : Option Answer) → else_by first (outcome_behind d (before ++ e ∷ []) events) ≡ Some answer
+          → (outcome_behind d (before ++ e ∷ []) events ≡ Some answer → outcome_behind d (before ++ e ∷ []) (events ++ more) ≡ Some answer)
+          → else_by first (outcome_behind d (before ++ e ∷ []) (events ++ more)) ≡ Some answer
       by (Some x) is later = is
       by None is later = later is
 
   -- a decision stays
-  pub verdict_stays : (events more : List Event) (answer : Answer) → verdict d events ≡ Some answer → verdict d (events ++ more) ≡ Some answer
-  verdict_stays events more answer is = behind_some [] events more answer is
+  pub outcome_stays : (events more : List Event) (answer : Answer) → flush_outcome d events ≡ Some answer → flush_outcome d (events ++ more) ≡ Some answer
+  outcome_stays events more answer is = behind_some [] events more answer is
 
 -- a flush ends with what was decided
 pub ended : (d : Delivery) (events : List Event) (p : Progress) (link : LinkId) (answer : Answer) (es : List LoopEntry) (q : Progress)
-    → verdict d events ≡ Some answer → p.taken ≡ length (bytes_pushed events) → (rest : List ℕ) → bytes_pushed events ++ rest ≡ d.payload → IsAt d events p (Ended answer)
+    → flush_outcome d events ≡ Some answer → p.taken ≡ length (bytes_pushed events) → (rest : List ℕ) → bytes_pushed events ++ rest ≡ d.payload → IsAt d events p (Ended answer)
     → Execution (ends link answer p) es (Return q) → ProgressRepresents d (events ++ events_of es) q
 ended d events p link answer [] q is counted rest beginning at way = absurd (cc way)
 ended d events p link answer (e ∷ es) q is counted rest beginning at way = by es way.2
@@ -115,7 +115,7 @@ module _ (d : Delivery) (events : List Event) (p : Progress) (runs : Runs d even
   -- it ends with this outcome
   ends_so : (link : LinkId) (answer : Answer) (es : List LoopEntry) (q : Progress) → decided d events ≡ Some answer → IsAt d events p (Ended answer)
       → Execution (ends link answer p) es (Return q) → ProgressRepresents d (events ++ events_of es) q
-  ends_so link answer es q is at way = ended d events p link answer es q (quiet_verdict d events runs.quiet ∙ is) runs.counted runs.rest runs.beginning at way
+  ends_so link answer es q is at way = ended d events p link answer es q (quiet_outcome d events runs.quiet ∙ is) runs.counted runs.rest runs.beginning at way
 
   -- it waits for more of the reply
   pub awaits : (link : LinkId) (es : List LoopEntry) (q : Progress) → p.taken ≡ length d.payload → d.wanted ≡ true → d.judged p.reply ≡ More
@@ -125,7 +125,7 @@ module _ (d : Delivery) (events : List Event) (p : Progress) (runs : Runs d even
       let same : record p { stage = AwaitingAck link } ≡ q = cc over in
       let none : decided d events ≡ None = rw (whole_decides all, wanted, ← runs.intact.kept wanted, more) refl in
       let now : ProgressRepresents d events (record p { stage = AwaitingAck link }) = record {
-        answered = quiet_verdict d events runs.quiet ∙ none;
+        answered = quiet_outcome d events runs.quiet ∙ none;
         counted = runs.counted;
         rest = runs.rest;
         beginning = runs.beginning;
@@ -140,7 +140,7 @@ module _ (d : Delivery) (events : List Event) (p : Progress) (runs : Runs d even
   waits link [] q less over =
       let same : record p { stage = Writing link } ≡ q = cc over in
       let now : ProgressRepresents d events (record p { stage = Writing link }) = record {
-        answered = quiet_verdict d events runs.quiet ∙ undecided less;
+        answered = quiet_outcome d events runs.quiet ∙ undecided less;
         counted = runs.counted;
         rest = runs.rest;
         beginning = runs.beginning;
@@ -180,7 +180,7 @@ module _ (d : Delivery) (events : List Event) (p : Progress) (runs : Runs d even
       let failed : list_any fails (events ++ e ∷ []) ≡ true = rw (list_any-append fails events (e ∷ []), runs.intact.unbroken, broken) refl in
       let so : decided d (events ++ e ∷ []) ≡ Some Retry = rw failed refl in
       let same : bytes_pushed (events ++ e ∷ []) ≡ bytes_pushed events = rw (bytes_pushed-append events (e ∷ []), nothing) (append-nil (bytes_pushed events)) in
-      ended d (events ++ e ∷ []) p link Retry es q (quiet_verdict d (events ++ e ∷ []) (quiet_more d events e runs.quiet none) ∙ so) (runs.counted ∙ sym (ap length same))
+      ended d (events ++ e ∷ []) p link Retry es q (quiet_outcome d (events ++ e ∷ []) (quiet_more d events e runs.quiet none) ∙ so) (runs.counted ∙ sym (ap length same))
       runs.rest (ap (λ (l : List ℕ). l ++ runs.rest) same ∙ runs.beginning) tt way
 
   still_unbroken : (e : Event) → fails e ≡ false → list_any fails (events ++ e ∷ []) ≡ false
@@ -337,14 +337,14 @@ module _ (d : Delivery) (events : List Event) (p : Progress) (stands : ProgressR
   at_stage : (s : Stage) → p.stage ≡ s → IsAt d events p s
   at_stage s is = subst (λ (x : Stage). IsAt d events p x) is stands.at
 
-  none_yet : (s : Stage) → p.stage ≡ s → answer_in s ≡ None → verdict d events ≡ None
+  none_yet : (s : Stage) → p.stage ≡ s → answer_in s ≡ None → flush_outcome d events ≡ None
   none_yet s is none = stands.answered ∙ ap answer_in is ∙ none
 
-  runs_by : IsUnbroken d events p → verdict d events ≡ None → Runs d events p
+  runs_by : IsUnbroken d events p → flush_outcome d events ≡ None → Runs d events p
   runs_by intact none = record { quiet = quiet_by d events none; intact = intact; counted = stands.counted; rest = stands.rest; beginning = stands.beginning }
 
-  decides_none : verdict d events ≡ None → decided d events ≡ None
-  decides_none none = sym (quiet_verdict d events (quiet_by d events none)) ∙ none
+  decides_none : flush_outcome d events ≡ None → decided d events ≡ None
+  decides_none none = sym (quiet_outcome d events (quiet_by d events none)) ∙ none
 
   -- an ended flush stays ended
   stays_ended : (answer : Answer) (e : Event) (es : List LoopEntry) (q : Progress) → p.stage ≡ Ended answer → taken_of e ≡ [] → Execution (Return p) es (Return q)
@@ -355,7 +355,7 @@ module _ (d : Delivery) (events : List Event) (p : Progress) (stands : ProgressR
       let handed_same : bytes_pushed (events ++ e ∷ []) ≡ bytes_pushed events = rw (bytes_pushed-append events (e ∷ []), nothing) (append-nil (bytes_pushed events)) in
       subst (λ (x : Progress). ProgressRepresents d (events ++ e ∷ []) x) same
       (record {
-        answered = verdict_stays d events (e ∷ []) answer (stands.answered ∙ ap answer_in is) ∙ sym (ap answer_in is);
+        answered = outcome_stays d events (e ∷ []) answer (stands.answered ∙ ap answer_in is) ∙ sym (ap answer_in is);
         counted = stands.counted ∙ sym (ap length handed_same);
         rest = stands.rest;
         beginning = ap (λ (l : List ℕ). l ++ stands.rest) handed_same ∙ stands.beginning;

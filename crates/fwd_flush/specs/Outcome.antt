@@ -81,13 +81,13 @@ abbrev pub else_by : Option Answer → Option Answer → Option Answer
 else_by (Some answer) later = Some answer
 else_by None later = later
 
-abbrev pub verdict_behind : Delivery → List Event → List Event → Option Answer
-verdict_behind d before [] = decided d before
-verdict_behind d before (e ∷ es) = else_by (decided d before) (verdict_behind d (before ++ e ∷ []) es)
+abbrev pub outcome_behind : Delivery → List Event → List Event → Option Answer
+outcome_behind d before [] = decided d before
+outcome_behind d before (e ∷ es) = else_by (decided d before) (outcome_behind d (before ++ e ∷ []) es)
 
 -- the outcome of a flush: the first decision; none while the flush is in flight
-abbrev pub verdict : Delivery → List Event → Option Answer
-verdict d events = verdict_behind d [] events
+abbrev pub flush_outcome : Delivery → List Event → Option Answer
+flush_outcome d events = outcome_behind d [] events
 
 abbrev pub answer_in : Stage → Option Answer
 answer_in Opening = None
@@ -146,10 +146,10 @@ IsAt d events p (Ended Good) = p.taken ≡ length d.payload
 IsAt d events p (Ended Retry) = Unit {0}
 IsAt d events p (Ended Bad) = (p.taken ≡ length d.payload) × (d.wanted ≡ true) × (d.judged p.reply ≡ Fatal)
 
--- The progress of a flush represents its events: its outcome is their verdict, and `taken` counts what its
--- pushes took, which is a prefix of the payload.
+-- The progress of a flush represents its events: its outcome is that of the events, and `taken` counts what
+-- its pushes took, which is a prefix of the payload.
 pub record ProgressRepresents (d : Delivery) (events : List Event) (p : Progress) : Type 0 where
-  pub answered : verdict d events ≡ answer_in p.stage
+  pub answered : flush_outcome d events ≡ answer_in p.stage
   pub counted : p.taken ≡ length (bytes_pushed events)
   pub rest : List ℕ
   pub beginning : bytes_pushed events ++ rest ≡ d.payload
@@ -191,7 +191,7 @@ calls_of ((turn, es) ∷ turns) = es ++ calls_of turns
 -- What holds for a flush since its start. Besides, one that ended OK or ERROR has sent the whole payload,
 -- and ERROR comes only if a reply is wanted and the reply is fatal.
 pub record IsFlush (d : Delivery) (events : List Event) (calls : List LoopEntry) (p : Progress) : Type 0 where
-  pub answered : verdict d events ≡ answer_in p.stage
+  pub answered : flush_outcome d events ≡ answer_in p.stage
   pub counted : p.taken ≡ length (bytes_pushed events)
   pub rest : List ℕ
   pub beginning : bytes_pushed events ++ rest ≡ d.payload
