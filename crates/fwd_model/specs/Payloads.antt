@@ -5,9 +5,9 @@ use Rattle.fwd_event.specs.declared.event.Event.{Event}
 use Rattle.fwd_out_text.specs.Payload.{payload_of}
 use Rattle.fwd_wire.specs.Encode.{forward_payload}
 use Rattle.fwd_out_net.specs.Id.{chunk_id}
-use Rattle.fwd_out_net.specs.Judgement.{ack_judged}
+use Rattle.fwd_out_net.specs.Judgement.{ack_judgement}
 use Rattle.fwd_out_http.specs.Request.{http_request}
-use Rattle.fwd_out_http.specs.Reply.{http_judged}
+use Rattle.fwd_out_http.specs.Reply.{http_judgement}
 use Rattle.fwd_flush.specs.declared.judgement.Judged.{Judged}
 use Rattle.fwd_flush.specs.declared.judgement.Judged.TheVariants.{Right}
 use Rattle.fwd_flush.specs.FlushProgram.{Delivery}
@@ -37,12 +37,12 @@ with_reply payload judged = record { payload = payload; wanted = true; judged = 
 abbrev pub message_to : Bool → Bool → List ℕ → Route → List Event → Delivery
 message_to true whole_time tag r events =
     with_reply (forward_payload tag events (Some (chunk_id r.chunk r.output)) whole_time)
-    (ack_judged (chunk_id r.chunk r.output))
+    (ack_judgement (chunk_id r.chunk r.output))
 message_to false whole_time tag r events = without_reply (forward_payload tag events None whole_time)
 
 -- a request, and how its reply is judged
 abbrev pub request_to : HttpOptions → List ℕ → Delivery
-request_to options request = with_reply request (http_judged options.retried)
+request_to options request = with_reply request (http_judgement options.retried)
 
 -- events of a tag in the format of an output
 abbrev pub delivery_to : OutputKind → List ℕ → Route → List Event → Delivery

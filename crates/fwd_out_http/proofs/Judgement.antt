@@ -7,7 +7,7 @@ use Rattle.fwd_flush.specs.declared.judgement.Judged.{Judged}
 use Rattle.fwd_flush.specs.declared.judgement.Judged.TheVariants.{More, Right, Wrong, Fatal}
 use Rattle.fwd_http.specs.declared.statuses.StatusRange.{StatusRange}
 use Rattle.fwd_http.specs.Statuses.{is_retried}
-use Rattle.fwd_out_http.specs.Reply.{is_between, status_in, by_status, judged_by, http_judged}
+use Rattle.fwd_out_http.specs.Reply.{is_between, status_in, by_status, judged_by, http_judgement}
 use Rattle.fwd_out_http.specs.Head.{HasHead, HasNoHead, IsGood, IsBusy, IsJudged}
 use Rattle.fwd_out_http.proofs.Readings.{status_found, found_status}
 
@@ -96,22 +96,22 @@ module _ (ranges : List StatusRange) where
   judged_of reply (Some status) is = judged_has ranges reply status (head_has reply status is)
   judged_of reply None is = judged_none reply (nat_le longest_head (length reply)) refl (has_none reply is)
 
-  pub judged_is : (reply : List ℕ) → IsJudged ranges reply (http_judged ranges reply)
+  pub judged_is : (reply : List ℕ) → IsJudged ranges reply (http_judgement ranges reply)
   judged_is reply = judged_of reply (status_in (take longest_head reply)) refl
 
-  by_head : (reply : List ℕ) (status : ℕ) → HasHead reply status → http_judged ranges reply ≡ by_status ranges status
+  by_head : (reply : List ℕ) (status : ℕ) → HasHead reply status → http_judgement ranges reply ≡ by_status ranges status
   by_head reply status has = ap (λ (s : Option ℕ). judged_by ranges s (nat_le longest_head (length reply))) (has_head reply status has)
 
   status_none : (reply : List ℕ) → HasNoHead reply → (status : Option ℕ) → status_in (take longest_head reply) ≡ status → status_in (take longest_head reply) ≡ None
   status_none reply none (Some status) is = absurd (none status (head_has reply status is))
   status_none reply none None is = is
 
-  by_length : (reply : List ℕ) (full : Bool) → HasNoHead reply → nat_le longest_head (length reply) ≡ full → http_judged ranges reply ≡ judged_by ranges None full
+  by_length : (reply : List ℕ) (full : Bool) → HasNoHead reply → nat_le longest_head (length reply) ≡ full → http_judgement ranges reply ≡ judged_by ranges None full
   by_length reply full none is =
       ap (λ (s : Option ℕ). judged_by ranges s (nat_le longest_head (length reply))) (status_none reply none _ refl)
       ∙ ap (judged_by ranges None) is
 
-  pub is_judged : (reply : List ℕ) (judged : Judged) → IsJudged ranges reply judged → http_judged ranges reply ≡ judged
+  pub is_judged : (reply : List ℕ) (judged : Judged) → IsJudged ranges reply judged → http_judgement ranges reply ≡ judged
   is_judged reply More (none, short) = let test : nat_le longest_head (length reply) ≡ false = grind (arith, nat_tests) in by_length reply false none test
   is_judged reply Right (status, has, good) = by_head reply status has ∙ good_is_right ranges status good
   is_judged reply Wrong (inl (status, has, busy)) = by_head reply status has ∙ busy_is_wrong ranges status busy

@@ -9,7 +9,7 @@ use Rattle.httparse.specs.Grammar.{print_blank, print_end, print_section, Respon
 use Rattle.httparse.specs.Spans.{header_bytes, name_and_value, AreFieldsAt, ResponseOverflows, IsResponseOf}
 use Rattle.httparse.specs.declared.spans.HeaderSpan.{HeaderSpan}
 use Rattle.httparse.specs.declared.spans.ResponseSpans.{ResponseSpans}
-use Rattle.fwd_out_http.specs.Reply.{is_interim, finished, Reading, status_read, status_in, whole_lines, most_fields, judged_by, http_judged}
+use Rattle.fwd_out_http.specs.Reply.{is_interim, finished, Reading, status_read, status_in, whole_lines, most_fields, judged_by, http_judgement}
 use Rattle.fwd_out_http.specs.Head.{BeginsWith, IsHead, First, Later}
 use Rattle.fwd_http.specs.declared.statuses.StatusRange.{StatusRange}
 use Rattle.fwd_out_http.specs.FirstHead.{StartsWithHead, StartsWithNoHead}
@@ -104,7 +104,7 @@ take_first reply n is = by (cases_lt (length reply) longest_head)
     by (inl less) = take_all n reply (omega (arith, is, less)) ∙ sym (take_all longest_head reply (omega (arith, less)))
     by (inr more) = let same : n ≡ longest_head = omega (arith, is, more) in ap (λ (k : ℕ). take k reply) same
 
-pub judged_as : (ranges : List StatusRange) (reply : List ℕ) (n : ℕ) (status : Option ℕ) (full : Bool) → n ≡ min (length reply) longest_head → status ≡ status_in (take n reply) → nat_le longest_head (length reply) ≡ full → judged_by ranges status full ≡ http_judged ranges reply
+pub judged_as : (ranges : List StatusRange) (reply : List ℕ) (n : ℕ) (status : Option ℕ) (full : Bool) → n ≡ min (length reply) longest_head → status ≡ status_in (take n reply) → nat_le longest_head (length reply) ≡ full → judged_by ranges status full ≡ http_judgement ranges reply
 judged_as ranges reply n status full first is long =
     let same : status ≡ status_in (take longest_head reply) = is ∙ ap status_in (take_first reply n first) in
     ap (judged_by ranges status) (sym long) ∙ ap (λ (s : Option ℕ). judged_by ranges s (nat_le longest_head (length reply))) same

@@ -122,6 +122,6 @@ judged_by ranges (Some status) full = by_status ranges status
 judged_by ranges None true = Wrong
 judged_by ranges None false = More
 
-abbrev pub http_judged : List StatusRange → List ℕ → Judged
-http_judged ranges reply =
+abbrev pub http_judgement : List StatusRange → List ℕ → Judged
+http_judgement ranges reply =
     judged_by ranges (status_in (take longest_head reply)) (nat_le longest_head (length reply))

@@ -7,7 +7,7 @@
 //! `payload_http` and `request_of` write one request whose head is read back with its method, URI, fields
 //! and length (`request_is_read_back`); `request_of` may add further fields. A reply is judged by the status
 //! of its first head that isn't interim, within 8,192 bytes and with at most 64 fields a head
-//! (`judged_by_the_head`). A reader may name further statuses that are retried.
+//! (`head_decides_judgement`). A reader may name further statuses that are retried.
 #![tactic(auto)]
 
 mod reply;
@@ -20,4 +20,4 @@ pub use fwd_flush::{Judged, ReplyReader};
 pub use fwd_http::{HeaderField, HeaderFields, StatusRange, StatusRanges};
 pub use reply::HttpReader;
 pub use request::{payload_http, request_of};
-pub use theorems::{judged_by_the_head, request_is_read_back};
+pub use theorems::{head_decides_judgement, request_is_read_back};

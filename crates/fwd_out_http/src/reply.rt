@@ -1,7 +1,7 @@
 //! The judgement of a server's reply.
 
 ghost use Rattle.std.specs.Prelude.{◌≡◌, IfOk, IfSome, IfNone};
-ghost use Rattle.fwd_out_http.specs.Reply.{by_status, is_interim, status_in, http_judged};
+ghost use Rattle.fwd_out_http.specs.Reply.{by_status, is_interim, status_in, http_judgement};
 ghost use Rattle.fwd_out_http.specs.FirstHead.{StartsWithHead, StartsWithNoHead};
 
 use fwd_base::Memory;
@@ -39,18 +39,18 @@ impl HttpReader {
 
 impl ReplyReader for HttpReader {
     ghost use Rattle.std.specs.Prelude.{true};
-    ghost use Rattle.fwd_out_http.specs.Reply.{http_judged};
+    ghost use Rattle.fwd_out_http.specs.Reply.{http_judgement};
 
     ghost wanted = { λ _. true };
 
-    ghost judged = { λ reader reply. http_judged reader.retried reply };
+    ghost judged = { λ reader reply. http_judgement reader.retried reply };
 
     fn wanted(&self) -> bool {
         true
     }
 
     fn judge(&self, _alloc: Global, reply: &[u8]) -> Result<Judged, Memory> {
-        Ok(judged(self.retried.as_slice(), reply))
+        Ok(judgement_of(self.retried.as_slice(), reply))
     }
 }
 
@@ -113,9 +113,9 @@ fn status_in(bytes: &[u8]) -> Option<u16>
     }
 }
 
-/// Judges a reply by all its bytes so far.
-fn judged(retried: &[StatusRange], reply: &[u8]) -> Judged
-    ensures { result ≡ http_judged retried.now reply.now }
+/// Returns the judgement of a reply by all its bytes so far.
+fn judgement_of(retried: &[StatusRange], reply: &[u8]) -> Judged
+    ensures { result ≡ http_judgement retried.now reply.now }
 {
     let first = &reply[..reply.len().min(LONGEST_HEAD)];
     match status_in(first) {

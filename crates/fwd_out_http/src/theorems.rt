@@ -6,7 +6,7 @@ ghost use Rattle.fwd_flush.specs.declared.judgement.Judged.{Judged};
 ghost use Rattle.fwd_http.specs.declared.fields.HeaderField.{HeaderField};
 ghost use Rattle.fwd_http.specs.Fields.{AreHeaderFields};
 ghost use Rattle.fwd_out_http.specs.Request.{IsVisible, IsUri, ReadsBack};
-ghost use Rattle.fwd_out_http.specs.Reply.{http_judged};
+ghost use Rattle.fwd_out_http.specs.Reply.{http_judgement};
 ghost use Rattle.fwd_out_http.specs.Head.{IsJudged};
 ghost use Rattle.fwd_http.specs.declared.statuses.StatusRange.{StatusRange};
 
@@ -20,6 +20,6 @@ pub fn request_is_read_back()
 
 /// A reply is judged by its head, by the grammar of response heads in `httparse`, or by its length if it
 /// has none, whatever further statuses are retried. Each reply has one judgement.
-pub fn judged_by_the_head()
-    ensures { (ranges : List StatusRange) (reply : List ℕ) (judged : Judged) → (http_judged ranges reply ≡ judged) ↔ IsJudged ranges reply judged }
+pub fn head_decides_judgement()
+    ensures { (ranges : List StatusRange) (reply : List ℕ) (judged : Judged) → (http_judgement ranges reply ≡ judged) ↔ IsJudged ranges reply judged }
 {}

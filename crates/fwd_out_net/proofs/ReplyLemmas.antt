@@ -13,7 +13,7 @@ use Rattle.fwd_value.specs.Keys.{is_text}
 use Rattle.fwd_wire.specs.Encode.{ack_key, ack_val}
 use Rattle.fwd_wire.proofs.Stops.{front_read, read_front, read_short, short_read}
 use Rattle.fwd_flush.specs.declared.judgement.Judged.TheVariants.{More, Right, Wrong, Fatal}
-use Rattle.fwd_out_net.specs.Judgement.{is_ack, judged_value}
+use Rattle.fwd_out_net.specs.Judgement.{is_ack, read_judgement}
 
 wrong_right : Wrong ≡ Right → ⊥
 wrong_right e = cc
@@ -101,7 +101,7 @@ is_right id =
     let same : bytes_eq id id ≡ true = (bytes_eq-Decides id id).1 refl in
     rw same refl
 
-right_from : (id reply : List ℕ) (r : Read Val) → value_at 64 reply ≡ r → judged_value id (length reply) r ≡ Right → (n : ℕ) × EncodesPrefix (ack_val (text id)) n reply
+right_from : (id reply : List ℕ) (r : Read Val) → value_at 64 reply ≡ r → read_judgement id (length reply) r ≡ Right → (n : ℕ) × EncodesPrefix (ack_val (text id)) n reply
 right_from id reply (Ok x) e j =
     let h = read_front reply x.0 x.1 e in
     (h.0, subst (λ (v : Val). EncodesPrefix v h.0 reply) (ack_is id x.0 (right_by (is_ack id x.0) j)) h.1)
@@ -109,31 +109,31 @@ right_from id reply (Err fault.Short) e j = absurd (short_not_right (nat_le (len
 right_from id reply (Err (fault.Unused left)) e j = absurd (wrong_right j)
 right_from id reply (Err (fault.TooDeep left)) e j = absurd (wrong_right j)
 
-pub right_exactly : (id reply : List ℕ) → (judged_value id (length reply) (value_at 64 reply) ≡ Right) ↔ ((n : ℕ) × EncodesPrefix (ack_val (text id)) n reply)
+pub right_exactly : (id reply : List ℕ) → (read_judgement id (length reply) (value_at 64 reply) ≡ Right) ↔ ((n : ℕ) × EncodesPrefix (ack_val (text id)) n reply)
 right_exactly id reply = (
   right_from id reply (value_at 64 reply) refl,
   λ s.
-      ap (judged_value id (length reply)) (front_read reply (ack_val (text id)) s.0 s.1) ∙ ap (λ (t : Bool). cond t Right Wrong) (is_right id),
+      ap (read_judgement id (length reply)) (front_read reply (ack_val (text id)) s.0 s.1) ∙ ap (λ (t : Bool). cond t Right Wrong) (is_right id),
 )
 
-more_from : (id reply : List ℕ) (r : Read Val) → value_at 64 reply ≡ r → judged_value id (length reply) r ≡ More → IsProperPrefix reply × (length reply ≤ longest_reply)
+more_from : (id reply : List ℕ) (r : Read Val) → value_at 64 reply ≡ r → read_judgement id (length reply) r ≡ More → IsProperPrefix reply × (length reply ≤ longest_reply)
 more_from id reply (Ok x) e j = absurd (value_not_more (is_ack id x.0) j)
 more_from id reply (Err fault.Short) e j = (read_short reply e, leb-true (length reply) longest_reply (more_by (nat_le (length reply) longest_reply) j))
 more_from id reply (Err (fault.Unused left)) e j = absurd (wrong_more j)
 more_from id reply (Err (fault.TooDeep left)) e j = absurd (wrong_more j)
 
-pub more_exactly : (id reply : List ℕ) → (judged_value id (length reply) (value_at 64 reply) ≡ More) ↔ (IsProperPrefix reply × (length reply ≤ longest_reply))
+pub more_exactly : (id reply : List ℕ) → (read_judgement id (length reply) (value_at 64 reply) ≡ More) ↔ (IsProperPrefix reply × (length reply ≤ longest_reply))
 more_exactly id reply = (
   more_from id reply (value_at 64 reply) refl,
   λ s.
-      ap (judged_value id (length reply)) (short_read reply s.0) ∙ ap (λ (t : Bool). cond t More Wrong) (le-leb (length reply) longest_reply s.1),
+      ap (read_judgement id (length reply)) (short_read reply s.0) ∙ ap (λ (t : Bool). cond t More Wrong) (le-leb (length reply) longest_reply s.1),
 )
 
-not_fatal : (id : List ℕ) (n : ℕ) (r : Read Val) → judged_value id n r ≡ Fatal → ⊥
+not_fatal : (id : List ℕ) (n : ℕ) (r : Read Val) → read_judgement id n r ≡ Fatal → ⊥
 not_fatal id n (Ok x) e = value_fatal (is_ack id x.0) e
 not_fatal id n (Err fault.Short) e = short_fatal (nat_le n longest_reply) e
 not_fatal id n (Err (fault.Unused left)) e = wrong_fatal e
 not_fatal id n (Err (fault.TooDeep left)) e = wrong_fatal e
 
-pub never_fatal : (id reply : List ℕ) → judged_value id (length reply) (value_at 64 reply) ≡ Fatal → ⊥
+pub never_fatal : (id reply : List ℕ) → read_judgement id (length reply) (value_at 64 reply) ≡ Fatal → ⊥
 never_fatal id reply e = not_fatal id (length reply) (value_at 64 reply) e

@@ -15,20 +15,20 @@ is_ack id (mapping (entry k v no_entries)) = is_text ack_key k && is_text id v
 is_ack id _ = false
 
 -- a reply of so many bytes that ends inside its first value
-abbrev pub judged_short : ℕ → Judged
-judged_short n = if nat_le n longest_reply then More else Wrong
+abbrev pub short_judgement : ℕ → Judged
+short_judgement n = if nat_le n longest_reply then More else Wrong
 
 -- a reply that starts with a value
-abbrev pub judged_whole : List ℕ → Val → Judged
-judged_whole id v = if is_ack id v then Right else Wrong
+abbrev pub value_judgement : List ℕ → Val → Judged
+value_judgement id v = if is_ack id v then Right else Wrong
 
 -- By the first value of a reply of so many bytes. A complete and right first value counts, however long the
 -- reply is: the limit is on incomplete replies.
-abbrev pub judged_value : List ℕ → ℕ → Read Val → Judged
-judged_value id n (Ok x) = judged_whole id x.0
-judged_value id n (Err Short) = judged_short n
-judged_value id n (Err _) = Wrong
+abbrev pub read_judgement : List ℕ → ℕ → Read Val → Judged
+read_judgement id n (Ok x) = value_judgement id x.0
+read_judgement id n (Err Short) = short_judgement n
+read_judgement id n (Err _) = Wrong
 
 -- the judgement of a reply that has to acknowledge an id
-abbrev pub ack_judged : List ℕ → List ℕ → Judged
-ack_judged id reply = judged_value id (length reply) (value_at deepest reply)
+abbrev pub ack_judgement : List ℕ → List ℕ → Judged
+ack_judgement id reply = read_judgement id (length reply) (value_at deepest reply)

@@ -5,10 +5,10 @@ use Rattle.fwd_msgpack.specs.declared.errors.DecodeErr.{DecodeErr}
 use Rattle.fwd_msgpack.specs.declared.errors.DecodeErr.TheVariants as errors
 use Rattle.fwd_flush.specs.declared.judgement.Judged.{Judged}
 use Rattle.fwd_flush.specs.declared.judgement.Judged.TheVariants.{Wrong}
-use Rattle.fwd_out_net.specs.Judgement.{judged_short}
+use Rattle.fwd_out_net.specs.Judgement.{short_judgement}
 
 abbrev pub JudgedWithout : DecodeErr → ℕ → Result Judged Memory → Type 0
-JudgedWithout errors.Short n r = r ≡ Ok (judged_short n)
+JudgedWithout errors.Short n r = r ≡ Ok (short_judgement n)
 JudgedWithout (errors.Unused at) n r = r ≡ Ok Wrong
 JudgedWithout (errors.TooDeep at) n r = r ≡ Ok Wrong
 JudgedWithout errors.Memory n r = IsErr r

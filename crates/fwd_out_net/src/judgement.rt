@@ -5,7 +5,7 @@ ghost use Rattle.fwd_value.specs.Val.{mapping, entries_of};
 ghost use Rattle.fwd_value.specs.View.{val_of, pair_of};
 ghost use Rattle.fwd_value.specs.Keys.{is_text};
 ghost use Rattle.fwd_wire.specs.Encode.{ack_key};
-ghost use Rattle.fwd_out_net.specs.Judgement.{is_ack, judged_whole, judged_short, ack_judged};
+ghost use Rattle.fwd_out_net.specs.Judgement.{is_ack, value_judgement, short_judgement, ack_judgement};
 ghost use Rattle.fwd_out_net.specs.Undecodable.{JudgedWithout};
 
 use fwd_base::limits::LONGEST_REPLY;
@@ -53,8 +53,8 @@ fn is_ack(alloc: Global, value: &Value, id: &Bytes) -> Result<bool, Memory>
 }
 
 /// Judges a reply by its first value.
-fn judged_whole(alloc: Global, value: &Value, id: &Bytes) -> Result<Judged, Memory>
-    ensures { IfOk result (λ judgement. judgement ≡ judged_whole id.now (val_of value.now)) }
+fn value_judgement(alloc: Global, value: &Value, id: &Bytes) -> Result<Judged, Memory>
+    ensures { IfOk result (λ judgement. judgement ≡ value_judgement id.now (val_of value.now)) }
 {
     if is_ack(alloc, value, id)? {
         Ok(Judged::Right)
@@ -65,7 +65,7 @@ fn judged_whole(alloc: Global, value: &Value, id: &Bytes) -> Result<Judged, Memo
 
 /// Judges a reply of so many bytes that ends inside its first value.
 fn short(length: usize) -> Judged
-    ensures { result ≡ judged_short length }
+    ensures { result ≡ short_judgement length }
 {
     if length <= LONGEST_REPLY {
         Judged::More
@@ -86,11 +86,11 @@ fn judge_undecodable(error: DecodeErr, length: usize) -> Result<Judged, Memory>
 }
 
 /// Judges a reply that has to acknowledge an id.
-pub fn judged(alloc: Global, id: &Bytes, reply: &[u8]) -> Result<Judged, Memory>
-    ensures { IfOk result (λ judgement. judgement ≡ ack_judged id.now reply.now) }
+pub fn judgement_of(alloc: Global, id: &Bytes, reply: &[u8]) -> Result<Judged, Memory>
+    ensures { IfOk result (λ judgement. judgement ≡ ack_judgement id.now reply.now) }
 {
     match decode(alloc, reply) {
-        Ok((value, _)) => judged_whole(alloc, &value, id),
+        Ok((value, _)) => value_judgement(alloc, &value, id),
         Err(error) => judge_undecodable(error, reply.len()),
     }
 }

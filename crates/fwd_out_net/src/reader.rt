@@ -1,6 +1,6 @@
 //! The reader of a peer's reply.
 
-use crate::judgement::judged;
+use crate::judgement::judgement_of;
 use fwd_base::{Bytes, Memory};
 use fwd_flush::{Judged, ReplyReader};
 use std::alloc::Global;
@@ -29,7 +29,7 @@ impl ReplyReader for EndReader {
     fn judge(&self, alloc: Global, reply: &[u8]) -> Result<Judged, Memory> {
         match self {
             EndReader::Quiet => Ok(Judged::Right),
-            EndReader::Ack { id } => judged(alloc, id, reply),
+            EndReader::Ack { id } => judgement_of(alloc, id, reply),
         }
     }
 }

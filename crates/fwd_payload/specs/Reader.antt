@@ -4,7 +4,7 @@ use Rattle.fwd_flush.specs.declared.judgement.Judged.{Judged}
 use Rattle.fwd_base.specs.declared.ids.OutputId.{OutputId}
 use Rattle.fwd_flush.specs.FlushProgram.{Flight, Delivery, delivery, not_started}
 use Rattle.fwd_out_net.specs.Reader.{wants as end_wants, judges as end_judges}
-use Rattle.fwd_out_http.specs.Reply.{http_judged}
+use Rattle.fwd_out_http.specs.Reply.{http_judgement}
 use Rattle.fwd_payload.specs.declared.reader.Reader.{Reader}
 use Rattle.fwd_payload.specs.declared.reader.Reader.TheVariants.{End, Http}
 
@@ -16,7 +16,7 @@ wants (Http reader) = true
 -- the judgement of a reply
 abbrev pub judges : Reader → List ℕ → Judged
 judges (End reader) reply = end_judges reader reply
-judges (Http reader) reply = http_judged reader.retried reply
+judges (Http reader) reply = http_judgement reader.retried reply
 
 -- the payload, whether a reply is wanted, and its judgement are these
 abbrev pub SendsAndJudges : Delivery → List ℕ → Reader → Type 0

@@ -20,7 +20,7 @@ struct Text {
 }
 
 impl Text {
-    fn copied(alloc: Global, form: Form, tag: &[u8], payload: &Bytes) -> Result<Text, Memory>
+    fn new(alloc: Global, form: Form, tag: &[u8], payload: &Bytes) -> Result<Text, Memory>
         ensures { IfOk result (λ text. (text.form ≡ form) × (text.tag ≡ tag.now) × (text.payload ≡ payload.now)) }
     {
         Ok(Text {
@@ -97,7 +97,7 @@ impl Content {
         }
         let payload = payload_of_content(alloc, form, tag, self.bytes.as_slice())?;
         if is_shared && let Some(payload) = &payload {
-            self.text = Text::copied(alloc, form, tag, payload).ok();
+            self.text = Text::new(alloc, form, tag, payload).ok();
         }
         Ok(payload)
     }

@@ -1,7 +1,7 @@
 use Rattle.std.proofs.Common.{true, false, Some, None, ◌∙◌, refl, arith}
 use Rattle.std.proofs.lemmas.Bool.Decides.{nat_tests}
 use Rattle.fwd_out_http.proofs.ParserResults.{judged_as}
-use Rattle.fwd_out_http.proofs.reply.judged.Goals as goal
+use Rattle.fwd_out_http.proofs.reply.judgement_of.Goals as goal
 
 pub returns-in-Some : goal.returns-in-Some
 returns-in-Some c = c.by_status.ensures ∙ judged_as c.args.retried.now c.args.reply.now c.min.result (Some c.in-Some.status) _ c.min.ensures c.in-Some.ensures refl
