@@ -11,4 +11,4 @@ mod run_loop;
 
 pub use fwd_engine::{BeginErr, Engine, EngineStop, Turn};
 pub use kept_offsets::{Got, KeptOffsets};
-pub use run_loop::{RunEnd, run, show_begun, shown_of};
+pub use run_loop::{RunEnd, run, show_begun, snapshot_of};

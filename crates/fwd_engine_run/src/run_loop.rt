@@ -25,7 +25,7 @@ use fwd_base::{Memory, Names};
 use fwd_engine::{Engine, EngineStop, Turn, is_clock_tick};
 use fwd_keeper::Keeper;
 use fwd_outside::{Begun, Disk, Ends, Files, Happening, Loop};
-use fwd_watch::{Shown, Watch};
+use fwd_watch::{Snapshot, Watch};
 use std::thread::Threads;
 
 /// How a run ended.
@@ -42,8 +42,8 @@ pub enum RunEnd {
 }
 
 /// Returns what a watcher is shown of an engine.
-pub fn shown_of(engine: &Engine) -> Shown<'_> {
-    Shown {
+pub fn snapshot_of(engine: &Engine) -> Snapshot<'_> {
+    Snapshot {
         tally: engine.tally(),
         table: engine.table(),
         paused: engine.paused(),
@@ -54,16 +54,16 @@ pub fn shown_of(engine: &Engine) -> Shown<'_> {
 
 /// Shows an engine that has begun to the watcher. What the watcher does has no effect on the engine.
 pub fn show_begun(engine: &Engine, inputs: &Names, outputs: &Names, watch: &mut impl Watch) {
-    watch.begun(inputs, outputs, shown_of(engine));
+    watch.note_start(inputs, outputs, snapshot_of(engine));
     if let Ok(names) = engine.strangers() {
-        watch.found_strangers(&names);
+        watch.note_strangers(&names);
     }
 }
 
 /// Shows the engine to the watcher after a clock tick. What the watcher does has no effect on the engine.
 fn show_after_tick(engine: &Engine, reads: bool, watch: &mut impl Watch) {
     if reads {
-        watch.read_clock(shown_of(engine));
+        watch.note_clock(snapshot_of(engine));
     }
 }
 

@@ -10,8 +10,8 @@ abbrev pub two_digits : ℕ → List ℕ
 two_digits n = if nat_lt n 10 then codes "0" ++ decimal n else decimal n
 
 -- a byte as a line shows it: a space for a control character
-abbrev pub shown : ℕ → ℕ
-shown byte = if nat_lt byte 32 || byte == 127 then 32 else byte
+abbrev pub printable : ℕ → ℕ
+printable byte = if nat_lt byte 32 || byte == 127 then 32 else byte
 
 -- the day of a time, from 1970-01-01; from the end of the year 9999 on its last day
 abbrev pub day_of : ℕ → ℕ
@@ -30,7 +30,7 @@ clock_text second =
 
 -- the level and the source
 unfoldable pub head_text : Level → List ℕ → List ℕ
-head_text level source = codes "] [" ++ label_of level ++ codes "] [" ++ map shown source ++ codes "] "
+head_text level source = codes "] [" ++ label_of level ++ codes "] [" ++ map printable source ++ codes "] "
 
 -- a bracket and the time are added, the date being the one of that day
 pub record IsAppendedTime (millis : ℕ) (old new : List ℕ) : Type 0 where
@@ -44,4 +44,4 @@ pub record IsLine (millis : ℕ) (level : Level) (source text line : List ℕ) :
   pub on : epoch_day date ≡ pos (day_of millis)
   pub is : line
       ≡ (codes "[" ++ date_text date ++ codes " " ++ clock_text (millis / 1000 % 86400))
-      ++ head_text level source ++ map shown text ++ codes "\n"
+      ++ head_text level source ++ map printable text ++ codes "\n"

@@ -30,7 +30,7 @@ pub struct Journal {
     /// How a peer of an output refused last, which no other reason replaces.
     refusals: Texts,
     /// The time of creation, if there is a clock.
-    begun: Option<Instant>,
+    creation: Option<Instant>,
     /// Whether somebody waits for pages.
     asked: Cell<bool>,
     /// The pages that were made last, until they are taken.
@@ -59,7 +59,7 @@ impl Journal {
             series: RefCell::new(AllSeries::new(alloc)),
             reasons: Texts::new(alloc),
             refusals: Texts::new(alloc),
-            begun: Instant::now(&rt).ok(),
+            creation: Instant::now(&rt).ok(),
             asked: Cell::new(false),
             pages: RefCell::new(None),
             server: RefCell::new(None),
@@ -137,15 +137,15 @@ impl Journal {
     /// Returns whether the limiter of a series allows a line now.
     pub fn is_due(&self, source: Source, topic: Topic) -> bool {
         match self.series.try_borrow() {
-            Ok(series) => series.limiter_of(source, topic).next <= self.passed(),
+            Ok(series) => series.limiter_of(source, topic).next <= self.age(),
             Err(_) => false,
         }
     }
 
     /// Returns the milliseconds since creation.
-    pub fn passed(&self) -> u64 {
-        match (self.begun, Instant::now(&self.rt)) {
-            (Some(begun), Ok(now)) => millis_of(now.duration_since(begun)),
+    pub fn age(&self) -> u64 {
+        match (self.creation, Instant::now(&self.rt)) {
+            (Some(creation), Ok(now)) => millis_of(now.duration_since(creation)),
             _ => 0,
         }
     }
@@ -178,10 +178,10 @@ impl Journal {
     }
 
     /// Decides by the limiter of a series whether a line is told now. Returns how many were passed over, if so.
-    fn limited(&self, source: Source, topic: Topic) -> Option<u64> {
+    fn admit(&self, source: Source, topic: Topic) -> Option<u64> {
         match self.series.try_borrow_mut() {
             Ok(mut series) => {
-                let (passed_over, limiter) = limit(series.limiter_of(source, topic), self.passed());
+                let (passed_over, limiter) = limit(series.limiter_of(source, topic), self.age());
                 let _ = series.keep(source, topic, limiter);
                 passed_over
             }
@@ -197,7 +197,7 @@ impl Journal {
         text: &impl Display,
     ) -> io::Result<()> {
         let alloc = self.rt.alloc();
-        match self.limited(source, topic) {
+        match self.admit(source, topic) {
             Some(0) => {
                 let text = format!(in alloc; "{text}")?;
                 self.put(level, source, text.as_bytes())

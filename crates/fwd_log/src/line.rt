@@ -2,7 +2,7 @@
 
 ghost use Rattle.std.specs.Prelude.{◌≡◌, ◌++◌, pos, map, unsigned_abs, IfOk, OnOk};
 ghost use Rattle.jiff_core.specs.Date.{epoch_day};
-ghost use Rattle.fwd_log.specs.Line.{two_digits, shown, day_of, date_text, clock_text, head_text, IsAppendedTime, IsLine};
+ghost use Rattle.fwd_log.specs.Line.{two_digits, printable, day_of, date_text, clock_text, head_text, IsAppendedTime, IsLine};
 
 use crate::Level;
 use fwd_base::{Bytes, Memory};
@@ -66,18 +66,18 @@ fn push_clock(text: &mut Bytes, second: u64) -> Result<(), Memory>
 }
 
 /// Returns a byte as a line shows it: a space for a control character.
-fn shown(byte: u8) -> u8
-    ensures { result ≡ shown byte }
+fn printable(byte: u8) -> u8
+    ensures { result ≡ printable byte }
 {
     if byte < 32 || byte == 127 { b' ' } else { byte }
 }
 
 /// Appends bytes as a line shows them, so that they can't begin another line or speak to a terminal.
-fn push_shown(text: &mut Bytes, bytes: &[u8]) -> Result<(), Memory>
-    ensures { OnOk result (text.new ≡ text.old ++ map shown bytes.now) }
+fn push_printable(text: &mut Bytes, bytes: &[u8]) -> Result<(), Memory>
+    ensures { OnOk result (text.new ≡ text.old ++ map printable bytes.now) }
 {
     for byte in bytes {
-        text.push(shown(*byte))?;
+        text.push(printable(*byte))?;
     }
     Ok(())
 }
@@ -88,7 +88,7 @@ fn push_head(text: &mut Bytes, level: Level, source: &[u8]) -> Result<(), Memory
     text.extend_from_slice(b"] [")?;
     text.extend_from_slice(level.label())?;
     text.extend_from_slice(b"] [")?;
-    push_shown(text, source)?;
+    push_printable(text, source)?;
     text.extend_from_slice(b"] ")?;
     Ok(())
 }
@@ -117,7 +117,7 @@ pub fn line_of(
     let mut line = Bytes::new(alloc);
     push_time(&mut line, millis)?;
     push_head(&mut line, level, source)?;
-    push_shown(&mut line, text)?;
+    push_printable(&mut line, text)?;
     line.push(b'\n')?;
     Ok(line)
 }

@@ -38,7 +38,7 @@ impl Names {
 }
 
 /// Returns a word and a name, or a number where there is no name yet.
-fn named(alloc: Global, word: &[u8], names: &[Bytes], number: u32) -> Result<Bytes, Memory> {
+fn name_text(alloc: Global, word: &[u8], names: &[Bytes], number: u32) -> Result<Bytes, Memory> {
     let mut text = Bytes::from_slice(alloc, word)?;
     match names.get(number as usize) {
         Some(name) => text.extend_from_slice(name.as_slice())?,
@@ -56,8 +56,13 @@ impl Source {
             Source::Storage => Bytes::from_slice(alloc, b"storage"),
             Source::Files => Bytes::from_slice(alloc, b"files"),
             Source::Http => Bytes::from_slice(alloc, b"http server"),
-            Source::Input(input) => named(alloc, b"input ", names.inputs.as_slice(), input.0),
-            Source::Output(output) => named(alloc, b"output ", names.outputs.as_slice(), output.0),
+            Source::Input(input) => name_text(alloc, b"input ", names.inputs.as_slice(), input.0),
+            Source::Output(output) => name_text(
+                alloc,
+                b"output ",
+                names.outputs.as_slice(),
+                output.0,
+            ),
         }
     }
 }

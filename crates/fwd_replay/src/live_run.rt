@@ -23,7 +23,7 @@ use crate::report::{Ending, Reported, report_text};
 use crate::setup::Setup;
 use fwd_base::{Bytes, Memory};
 use fwd_engine::{BeginErr, Engine};
-use fwd_engine_run::{RunEnd, run, show_begun, shown_of};
+use fwd_engine_run::{RunEnd, run, show_begun, snapshot_of};
 use fwd_keeper::Keeper;
 use fwd_outside::{Disk, Files, Loop};
 use fwd_settings::AllSettings;
@@ -127,7 +127,7 @@ fn run_and_drop<L: Loop, D: Disk, F: Files, K: Keeper>(
         keeper,
         watch,
     );
-    watch.over(shown_of(&engine));
+    watch.note_end(snapshot_of(&engine));
     let _given_back = engine.finish();
     outcome
 }

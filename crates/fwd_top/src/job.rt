@@ -192,11 +192,11 @@ fn job_of_sections<F: Files>(
 {
     match settings(alloc, sections) {
         Ok(settings) => {
-            watch.configured(sections);
+            watch.note_settings(sections);
             job_of_settings(alloc, files, wanted, settings)
         }
         Err(fault) => {
-            watch.refused(sections, fault.kind, &fault.place);
+            watch.note_refused_settings(sections, fault.kind, &fault.place);
             Err(refused_settings(fault))
         }
     }
@@ -221,7 +221,7 @@ fn job_of_config<F: Files>(
     match load(alloc, files, config, env) {
         Ok(sections) => job_of_sections(alloc, files, wanted, &sections, watch),
         Err(fault) => {
-            watch.refused_file(fault.kind, &fault.place);
+            watch.note_refused_file(fault.kind, &fault.place);
             Err(refused_config(fault))
         }
     }

@@ -170,7 +170,7 @@ fn choice(target: Option<Target>, key: &[u8]) -> &'static str {
 }
 
 /// Returns what the value of a key has to be that is refused for this.
-pub fn wanted(target: Option<Target>, kind: SettingKind, key: &[u8]) -> &'static str {
+pub fn expectation_of(target: Option<Target>, kind: SettingKind, key: &[u8]) -> &'static str {
     match kind {
         SettingKind::BadNumber if same_name(key, b"flush") => "seconds, as 1 or 0.5",
         SettingKind::BadNumber => "a number, and one that the key takes",

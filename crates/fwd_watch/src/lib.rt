@@ -10,12 +10,12 @@
 mod changes;
 mod choices;
 mod counts;
+mod log_keys;
 mod pages;
 mod refusal;
-mod shown;
-mod unread;
+mod watch;
 mod watcher;
 
 pub use refusal::refusal_text;
-pub use shown::{Shown, Unwatched, Watch};
+pub use watch::{Snapshot, Unwatched, Watch};
 pub use watcher::Watcher;

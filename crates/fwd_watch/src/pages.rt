@@ -1,6 +1,6 @@
 //! The pages of a run, made where somebody asks.
 
-use crate::Shown;
+use crate::Snapshot;
 use fwd_base::{Memory, Names};
 use fwd_log::{Journal, Pages};
 use fwd_pages::{is_healthy, metrics_page, prometheus_page, storage_page, uptime_page};
@@ -54,10 +54,15 @@ impl PageMaker {
     }
 
     /// Returns the pages; `None` where there isn't one counter for each name.
-    fn pages(&self, alloc: Global, shown: Shown<'_>, now: u64) -> Result<Option<Pages>, Memory> {
+    fn pages(
+        &self,
+        alloc: Global,
+        snapshot: Snapshot<'_>,
+        now: u64,
+    ) -> Result<Option<Pages>, Memory> {
         let inputs = &self.inputs;
         let outputs = &self.outputs;
-        let tally = shown.tally;
+        let tally = snapshot.tally;
         if tally.inputs.len() != inputs.len() {
             return Ok(None);
         }
@@ -72,25 +77,25 @@ impl PageMaker {
         }
         let uptime = now / 1_000;
         Ok(Some(Pages {
-            prometheus: prometheus_page(alloc, inputs, outputs, shown.table, tally, uptime)?,
+            prometheus: prometheus_page(alloc, inputs, outputs, snapshot.table, tally, uptime)?,
             metrics: metrics_page(alloc, inputs, outputs, tally)?,
-            storage: storage_page(alloc, inputs, outputs, shown.table, shown.paused)?,
+            storage: storage_page(alloc, inputs, outputs, snapshot.table, snapshot.paused)?,
             uptime: uptime_page(alloc, uptime)?,
             is_healthy: self.is_healthy(now),
         }))
     }
 
     /// Puts the pages on the board, if somebody asks for them.
-    pub fn answer(&mut self, journal: &Journal, shown: Shown<'_>) {
+    pub fn answer(&mut self, journal: &Journal, snapshot: Snapshot<'_>) {
         if !journal.is_asked() {
             return;
         }
-        let now = journal.passed();
+        let now = journal.age();
         if now < self.next {
             return;
         }
         self.next = now.saturating_add(MAKING_INTERVAL);
-        if let Ok(Some(pages)) = self.pages(journal.alloc(), shown, now) {
+        if let Ok(Some(pages)) = self.pages(journal.alloc(), snapshot, now) {
             journal.put_pages(pages);
         }
     }

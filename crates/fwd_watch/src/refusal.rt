@@ -1,6 +1,6 @@
 //! What is wrong with a refused configuration, in a line.
 
-use crate::choices::{has_key, key_names, plugins_of, wanted};
+use crate::choices::{expectation_of, has_key, key_names, plugins_of};
 use fwd_config::{Entry, Place, Section};
 use fwd_settings_schema::{InputPlugin, SectionKind, SettingKind, Target, same_name};
 use std::alloc::{AllocError, Global};
@@ -91,7 +91,7 @@ fn push_value(
     text.push(' ')?;
     push_text(alloc, text, entry.value.as_slice())?;
     text.push_str(": ")?;
-    text.push_str(wanted(target_of(section), kind, entry.key.as_slice()))
+    text.push_str(expectation_of(target_of(section), kind, entry.key.as_slice()))
 }
 
 fn push_unknown_key(

@@ -2,10 +2,10 @@
 
 use crate::changes::Risen;
 use crate::counts::Counts;
+use crate::log_keys::unread_text;
 use crate::pages::PageMaker;
 use crate::refusal::refusal_text;
-use crate::unread::unread_text;
-use crate::{Shown, Watch};
+use crate::{Snapshot, Watch};
 use fwd_base::{Bytes, ChunkId, InputId, Memory, Names, OutputId, is_set};
 use fwd_config::{ConfigKind, Place, Section, Sections};
 use fwd_log::{Journal, Level, Source, SourceNames, Topic, words_for};
@@ -91,7 +91,7 @@ fn after_colon(alloc: Global, text: &[u8]) -> Result<String, Memory> {
 }
 
 /// Returns names, or their readable parts, with commas between them.
-fn joined(alloc: Global, names: &Names) -> Result<String, Memory> {
+fn join_names(alloc: Global, names: &Names) -> Result<String, Memory> {
     let mut text = String::new(alloc);
     for name in names.as_slice() {
         if !text.is_empty() {
@@ -231,7 +231,7 @@ impl<'j> Watcher<'j> {
         &mut self,
         index: usize,
         now: OutputTally,
-        shown: Shown<'_>,
+        snapshot: Snapshot<'_>,
     ) -> Result<(), Memory> {
         let Some(before) = self.before.outputs.get(index).copied() else {
             return Ok(());
@@ -243,13 +243,13 @@ impl<'j> Watcher<'j> {
         let output = OutputId(number_of(index));
         let risen = Risen::between(before, now);
         if 0 < risen.given_up() {
-            self.pages.note_failure(self.journal.passed());
+            self.pages.note_failure(self.journal.age());
             self.failing |= bit_of(output.0);
             self.tell_given_up(output, risen)?;
         }
         if 0 < risen.retried {
             self.failing |= bit_of(output.0);
-            self.tell_retries(output, risen, shown.table)?;
+            self.tell_retries(output, risen, snapshot.table)?;
         } else if 0 < risen.delivered && risen.given_up() == 0 {
             self.tell_recovery(output);
         }
@@ -300,12 +300,12 @@ impl<'j> Watcher<'j> {
         }
     }
 
-    fn compare_stop(&mut self, shown: Shown<'_>) {
-        if self.is_stopped || shown.stopped.is_none() {
+    fn compare_stop(&mut self, snapshot: Snapshot<'_>) {
+        if self.is_stopped || snapshot.stopped.is_none() {
             return;
         }
         self.is_stopped = true;
-        let left = shown.table.len();
+        let left = snapshot.table.len();
         let chunks = words_for(left, "chunk is", "chunks are");
         let text = format_args!(
             "stops: inputs are closed, and {left} {chunks} waited for until Grace is over"
@@ -324,21 +324,25 @@ impl<'j> Watcher<'j> {
         }
     }
 
-    fn compare(&mut self, shown: Shown<'_>) -> Result<(), Memory> {
-        self.compare_stop(shown);
-        self.compare_damaged(shown.damaged);
-        for (index, tally) in shown.tally.outputs.as_slice().iter().enumerate() {
-            self.compare_output(index, *tally, shown)?;
+    fn compare(&mut self, snapshot: Snapshot<'_>) -> Result<(), Memory> {
+        self.compare_stop(snapshot);
+        self.compare_damaged(snapshot.damaged);
+        for (index, tally) in snapshot.tally.outputs.as_slice().iter().enumerate() {
+            self.compare_output(index, *tally, snapshot)?;
         }
-        for (index, tally) in shown.tally.inputs.as_slice().iter().enumerate() {
+        for (index, tally) in snapshot.tally.inputs.as_slice().iter().enumerate() {
             self.compare_input(index, *tally);
         }
-        self.compare_paused(shown.paused, shown.tally.inputs.len());
+        self.compare_paused(snapshot.paused, snapshot.tally.inputs.len());
         Ok(())
     }
 
-    fn tell_loaded(&self, shown: Shown<'_>) {
-        let (loaded, unrouted, left) = (shown.tally.loaded, shown.tally.unrouted, shown.tally.left);
+    fn tell_loaded(&self, snapshot: Snapshot<'_>) {
+        let (loaded, unrouted, left) = (
+            snapshot.tally.loaded,
+            snapshot.tally.unrouted,
+            snapshot.tally.left,
+        );
         if 0 < loaded || 0 < unrouted || 0 < left {
             let chunks = words_for(loaded, "chunk is", "chunks are");
             let matches = words_for(unrouted, "matches", "match");
@@ -355,7 +359,7 @@ impl<'j> Watcher<'j> {
         if names.is_empty() {
             return Ok(());
         }
-        let names = joined(self.journal.alloc(), names)?;
+        let names = join_names(self.journal.alloc(), names)?;
         let text = format_args!(
             "chunk files name outputs that the configuration doesn't have: {names}"
         );
@@ -363,8 +367,8 @@ impl<'j> Watcher<'j> {
         Ok(())
     }
 
-    fn tell_left(&self, shown: Shown<'_>) {
-        let left = left_in(shown.table);
+    fn tell_left(&self, snapshot: Snapshot<'_>) {
+        let left = left_in(snapshot.table);
         let (chunks, bytes, files) = (left.in_memory, left.bytes_in_memory, left.in_files);
         let in_memory = words_for(chunks, "chunk in memory", "chunks in memory");
         let dropped = words_for(chunks, "is dropped", "are dropped");
@@ -373,7 +377,7 @@ impl<'j> Watcher<'j> {
             "chunk in a file is left to the next run",
             "chunks in files are left to the next run",
         );
-        if shown.stopped.is_none() {
+        if snapshot.stopped.is_none() {
             let text = format_args!(
                 "breaks off: {chunks} {in_memory} with {bytes} bytes {dropped}, and {files} {in_files}"
             );
@@ -436,7 +440,7 @@ impl<'j> Watcher<'j> {
         Ok(())
     }
 
-    fn tell_begun(&self, inputs: &Names, outputs: &Names) {
+    fn tell_start(&self, inputs: &Names, outputs: &Names) {
         let (inputs, outputs) = (inputs.len() as u64, outputs.len() as u64);
         let reads = words_for(inputs, "input", "inputs");
         let writes = words_for(outputs, "output", "outputs");
@@ -446,7 +450,7 @@ impl<'j> Watcher<'j> {
 }
 
 impl<'j> Watch for Watcher<'j> {
-    fn refused_file(&mut self, kind: ConfigKind, place: &Place) {
+    fn note_refused_file(&mut self, kind: ConfigKind, place: &Place) {
         let alloc = self.journal.alloc();
         if let Ok(file) = String::from_utf8_lossy(alloc, place.file.as_slice()) {
             let line = place.line;
@@ -459,41 +463,41 @@ impl<'j> Watch for Watcher<'j> {
         }
     }
 
-    fn refused(&mut self, sections: &Sections, kind: SettingKind, place: &Place) {
+    fn note_refused_settings(&mut self, sections: &Sections, kind: SettingKind, place: &Place) {
         let alloc = self.journal.alloc();
         if let Ok(text) = refusal_text(alloc, sections.as_slice(), kind, place) {
             self.tell(Level::Error, Source::Config, Topic::Run, &text.as_str());
         }
     }
 
-    fn configured(&mut self, sections: &Sections) {
+    fn note_settings(&mut self, sections: &Sections) {
         if let Ok(settings) = log_settings(self.journal.alloc(), sections) {
             self.follow(settings);
         }
         let _ = self.tell_unread(sections.as_slice());
     }
 
-    fn begun(&mut self, inputs: &Names, outputs: &Names, shown: Shown<'_>) {
+    fn note_start(&mut self, inputs: &Names, outputs: &Names, snapshot: Snapshot<'_>) {
         let _ = self.name(inputs, outputs);
-        let _ = self.before.copy(self.journal.alloc(), shown.tally);
-        self.paused = shown.paused;
-        self.tell_begun(inputs, outputs);
-        self.tell_loaded(shown);
+        let _ = self.before.copy(self.journal.alloc(), snapshot.tally);
+        self.paused = snapshot.paused;
+        self.tell_start(inputs, outputs);
+        self.tell_loaded(snapshot);
     }
 
-    fn found_strangers(&mut self, names: &Names) {
+    fn note_strangers(&mut self, names: &Names) {
         let _ = self.tell_strangers(names);
     }
 
-    fn read_clock(&mut self, shown: Shown<'_>) {
-        let _ = self.compare(shown);
-        self.pages.answer(self.journal, shown);
+    fn note_clock(&mut self, snapshot: Snapshot<'_>) {
+        let _ = self.compare(snapshot);
+        self.pages.answer(self.journal, snapshot);
     }
 
-    fn over(&mut self, shown: Shown<'_>) {
-        let _ = self.compare(shown);
-        self.pages.answer(self.journal, shown);
-        self.tell_left(shown);
+    fn note_end(&mut self, snapshot: Snapshot<'_>) {
+        let _ = self.compare(snapshot);
+        self.pages.answer(self.journal, snapshot);
+        self.tell_left(snapshot);
         self.journal.finish();
     }
 }

@@ -1,4 +1,4 @@
-//! What a watcher is told.
+//! The watcher of a run: what it notes, and what the run shows it.
 
 use fwd_base::Names;
 use fwd_config::{ConfigKind, Place, Sections};
@@ -7,7 +7,7 @@ use fwd_table::{Table, Tally};
 
 /// What a run shows between two turns.
 #[derive(Clone, Copy)]
-pub struct Shown<'a> {
+pub struct Snapshot<'a> {
     pub tally: &'a Tally,
     pub table: &'a Table,
     /// The paused inputs: bit `i` is input `i`.
@@ -21,26 +21,26 @@ pub struct Shown<'a> {
 /// Watches how a run goes. What it does has no effect on the run, and no contract speaks of it.
 pub trait Watch {
     /// Notes that the program refuses a file of the configuration, at this place.
-    fn refused_file(&mut self, kind: ConfigKind, place: &Place);
+    fn note_refused_file(&mut self, kind: ConfigKind, place: &Place);
 
     /// Notes that the program refuses the settings of these sections, at this place.
-    fn refused(&mut self, sections: &Sections, kind: SettingKind, place: &Place);
+    fn note_refused_settings(&mut self, sections: &Sections, kind: SettingKind, place: &Place);
 
     /// Notes that the program takes the settings of these sections.
-    fn configured(&mut self, sections: &Sections);
+    fn note_settings(&mut self, sections: &Sections);
 
     /// Notes that the engine has loaded the chunks on the disk, and is about to open the inputs. The names are
     /// those of the inputs and the outputs.
-    fn begun(&mut self, inputs: &Names, outputs: &Names, shown: Shown<'_>);
+    fn note_start(&mut self, inputs: &Names, outputs: &Names, snapshot: Snapshot<'_>);
 
-    /// Notes names in recovered chunk files that stand for no output, once behind `begun`.
-    fn found_strangers(&mut self, names: &Names);
+    /// Notes names in recovered chunk files that stand for no output, once, after `note_start`.
+    fn note_strangers(&mut self, names: &Names);
 
     /// Notes that the engine has read the clock.
-    fn read_clock(&mut self, shown: Shown<'_>);
+    fn note_clock(&mut self, snapshot: Snapshot<'_>);
 
     /// Notes that the run is over.
-    fn over(&mut self, shown: Shown<'_>);
+    fn note_end(&mut self, snapshot: Snapshot<'_>);
 }
 
 /// The watcher that does nothing.
@@ -48,17 +48,17 @@ pub trait Watch {
 pub struct Unwatched;
 
 impl Watch for Unwatched {
-    fn refused_file(&mut self, _: ConfigKind, _: &Place) {}
+    fn note_refused_file(&mut self, _: ConfigKind, _: &Place) {}
 
-    fn refused(&mut self, _: &Sections, _: SettingKind, _: &Place) {}
+    fn note_refused_settings(&mut self, _: &Sections, _: SettingKind, _: &Place) {}
 
-    fn configured(&mut self, _: &Sections) {}
+    fn note_settings(&mut self, _: &Sections) {}
 
-    fn begun(&mut self, _: &Names, _: &Names, _: Shown<'_>) {}
+    fn note_start(&mut self, _: &Names, _: &Names, _: Snapshot<'_>) {}
 
-    fn found_strangers(&mut self, _: &Names) {}
+    fn note_strangers(&mut self, _: &Names) {}
 
-    fn read_clock(&mut self, _: Shown<'_>) {}
+    fn note_clock(&mut self, _: Snapshot<'_>) {}
 
-    fn over(&mut self, _: Shown<'_>) {}
+    fn note_end(&mut self, _: Snapshot<'_>) {}
 }
