@@ -3,12 +3,12 @@ use Rattle.std.proofs.Common.{◌≡◌, true, false, is_some, List, [], ◌∷�
 use Rattle.std.proofs.lemmas.List.{append-nil}
 use Rattle.fwd_outside.specs.Disk.{DiskCall, DiskAnswer, DiskEntry}
 use Rattle.fwd_outside.specs.Disk as outside
-use Rattle.fwd_disk_mem.specs.declared.told.Told.{Told}
-use Rattle.fwd_disk_mem.specs.declared.told.Told.TheVariants.{Place, WriteAt, Sync, Remove, Read, List as Listed, Preset, FailAt}
-use Rattle.fwd_disk_mem.specs.Told.{entry_of, entries_of, IsPlayed}
+use Rattle.fwd_disk_mem.specs.declared.entry.MemEntry.{MemEntry}
+use Rattle.fwd_disk_mem.specs.declared.entry.MemEntry.TheVariants.{Place, WriteAt, Sync, Remove, Read, List as Listed, Preset, FailAt}
+use Rattle.fwd_disk_mem.specs.Entry.{entry_of, entries_of, IsPlayed}
 
 -- the call that an entry records
-call_of : (call : DiskCall) → DiskAnswer call → Told
+call_of : (call : DiskCall) → DiskAnswer call → MemEntry
 call_of (outside.Place name bytes) answer = Place name bytes (is_some answer)
 call_of (outside.WriteAt name at bytes) answer = WriteAt name at bytes (is_some answer)
 call_of (outside.Sync name) answer = Sync name (is_some answer)
@@ -18,47 +18,47 @@ call_of (outside.ListNames folder) answer = Listed folder answer
 call_of (outside.Preset name bytes) answer = Preset name bytes
 call_of (outside.FailAt number) answer = FailAt number
 
-told_back : (call_log : Told) → call_of (entry_of call_log).call (entry_of call_log).answer ≡ call_log
+entry_back : (e : MemEntry) → call_of (entry_of e).call (entry_of e).answer ≡ e
 unfolding call_of
-told_back (Place name bytes true) = refl
-told_back (Place name bytes false) = refl
-told_back (WriteAt name at bytes true) = refl
-told_back (WriteAt name at bytes false) = refl
-told_back (Sync name true) = refl
-told_back (Sync name false) = refl
-told_back (Remove name true) = refl
-told_back (Remove name false) = refl
-told_back (Read name at len answer) = refl
-told_back (Listed folder answer) = refl
-told_back (Preset name bytes) = refl
-told_back (FailAt number) = refl
+entry_back (Place name bytes true) = refl
+entry_back (Place name bytes false) = refl
+entry_back (WriteAt name at bytes true) = refl
+entry_back (WriteAt name at bytes false) = refl
+entry_back (Sync name true) = refl
+entry_back (Sync name false) = refl
+entry_back (Remove name true) = refl
+entry_back (Remove name false) = refl
+entry_back (Read name at len answer) = refl
+entry_back (Listed folder answer) = refl
+entry_back (Preset name bytes) = refl
+entry_back (FailAt number) = refl
 
-pub same_told : (a b : Told) → entry_of a ≡ entry_of b → a ≡ b
-same_told a b same = sym (told_back a) ∙ ap (λ (e : DiskEntry). call_of e.call e.answer) same ∙ told_back b
+pub same_entry : (a b : MemEntry) → entry_of a ≡ entry_of b → a ≡ b
+same_entry a b same = sym (entry_back a) ∙ ap (λ (e : DiskEntry). call_of e.call e.answer) same ∙ entry_back b
 
 -- the new entries, as calls
-pub split_told : (old new : List Told) (es : List DiskEntry) → entries_of new ≡ entries_of old ++ es → (made : List Told) × (new ≡ old ++ made) × (entries_of made ≡ es)
-split_told [] new es is = (new, refl, is)
-split_told (call_log ∷ old) [] es is = absurd (cc is)
-split_told (call_log ∷ old) (now ∷ new) es is =
-    let first : entry_of now ≡ entry_of call_log = cc is in
+pub split_entries : (old new : List MemEntry) (es : List DiskEntry) → entries_of new ≡ entries_of old ++ es → (made : List MemEntry) × (new ≡ old ++ made) × (entries_of made ≡ es)
+split_entries [] new es is = (new, refl, is)
+split_entries (was ∷ old) [] es is = absurd (cc is)
+split_entries (was ∷ old) (now ∷ new) es is =
+    let head : entry_of now ≡ entry_of was = cc is in
     let rest : entries_of new ≡ entries_of old ++ es = cc is in
-    let made = split_told old new es rest in
-    (made.0, ap (λ (t : Told). t ∷ new) (same_told now call_log first) ∙ ap (λ (l : List Told). call_log ∷ l) made.1, made.2)
+    let made = split_entries old new es rest in
+    (made.0, ap (λ (t : MemEntry). t ∷ new) (same_entry now was head) ∙ ap (λ (l : List MemEntry). was ∷ l) made.1, made.2)
 
 -- played calls are played in two parts, and the converse
-pub played_first : (start a b : List Told) → IsPlayed start (a ++ b) → IsPlayed start a
+pub played_first : (start a b : List MemEntry) → IsPlayed start (a ++ b) → IsPlayed start a
 played_first start [] b played = tt
 played_first start (call ∷ a) b played = (played.0, played_first (start ++ call ∷ []) a b played.1)
 
-pub played_second : (start a b : List Told) → IsPlayed start (a ++ b) → IsPlayed (start ++ a) b
-played_second start [] b played = subst (λ (l : List Told). IsPlayed l b) (sym (append-nil start)) played
-played_second start (call ∷ a) b played = subst (λ (l : List Told). IsPlayed l b) (append_assoc start (call ∷ []) a) (played_second (start ++ call ∷ []) a b played.1)
+pub played_second : (start a b : List MemEntry) → IsPlayed start (a ++ b) → IsPlayed (start ++ a) b
+played_second start [] b played = subst (λ (l : List MemEntry). IsPlayed l b) (sym (append-nil start)) played
+played_second start (call ∷ a) b played = subst (λ (l : List MemEntry). IsPlayed l b) (append_assoc start (call ∷ []) a) (played_second (start ++ call ∷ []) a b played.1)
 
-pub played_both : (start a b : List Told) → IsPlayed start a → IsPlayed (start ++ a) b → IsPlayed start (a ++ b)
-played_both start [] b first second = subst (λ (l : List Told). IsPlayed l b) (append-nil start) second
+pub played_both : (start a b : List MemEntry) → IsPlayed start a → IsPlayed (start ++ a) b → IsPlayed start (a ++ b)
+played_both start [] b first second = subst (λ (l : List MemEntry). IsPlayed l b) (append-nil start) second
 played_both start (call ∷ a) b first second =
-    (first.0, played_both (start ++ call ∷ []) a b first.1 (subst (λ (l : List Told). IsPlayed l b) (sym (append_assoc start (call ∷ []) a)) second))
+    (first.0, played_both (start ++ call ∷ []) a b first.1 (subst (λ (l : List MemEntry). IsPlayed l b) (sym (append_assoc start (call ∷ []) a)) second))
 
-pub played_behind : (old made : List Told) → IsPlayed [] (old ++ made) → IsPlayed old made
+pub played_behind : (old made : List MemEntry) → IsPlayed [] (old ++ made) → IsPlayed old made
 played_behind old made played = played_second [] old made played

@@ -10,14 +10,14 @@ use Rattle.std.proofs.lemmas.List.{append-nil, append_assoc}
 use Rattle.fwd_outside.specs.File.{FileState, content, absent, whole}
 use Rattle.fwd_disk_mem.specs.FileTable.{MemFile}
 use Rattle.fwd_disk_mem.specs.declared.image.ImageFile.{ImageFile}
-use Rattle.fwd_disk_mem.specs.declared.told.Told.{Told}
-use Rattle.fwd_disk_mem.specs.declared.told.Told.TheVariants.{Place, WriteAt, Sync, Remove, Read, List as Listed, Preset, FailAt}
-use Rattle.fwd_disk_mem.specs.Told.{is_on, named_by, run, files_of}
+use Rattle.fwd_disk_mem.specs.declared.entry.MemEntry.{MemEntry}
+use Rattle.fwd_disk_mem.specs.declared.entry.MemEntry.TheVariants.{Place, WriteAt, Sync, Remove, Read, List as Listed, Preset, FailAt}
+use Rattle.fwd_disk_mem.specs.Entry.{is_on, named_by, run, files_of}
 use Rattle.fwd_disk_mem.specs.Images.{acted_file, file_settings, preset_of, presets_of, no_file, file_at}
 use Rattle.fwd_disk_mem.proofs.Lookup.{same_key, named, finds}
 
 -- a call that is about no file changes none
-acts_on : (pick : ℕ) (call : Told) (n : List ℕ) (file : ImageFile) → (if bytes_eq (named_by call) n then acted_file pick file call else file) ≡ (if is_on call n then acted_file pick file call else file)
+acts_on : (pick : ℕ) (call : MemEntry) (n : List ℕ) (file : ImageFile) → (if bytes_eq (named_by call) n then acted_file pick file call else file) ≡ (if is_on call n then acted_file pick file call else file)
 acts_on pick (Place _ _ _) n file = refl
 acts_on pick (WriteAt _ _ _ _) n file = refl
 acts_on pick (Sync _ _) n file = refl
@@ -40,13 +40,13 @@ abbrev over : Option ImageFile → Option (List ℕ) → Option (List ℕ)
 over None was = was
 over (Some file) was = or_was file.image was
 
-more_presets : (name : List ℕ) (image : Option (List ℕ)) (calls : List Told) → (files : List MemFile) × (calls ≡ file_settings files) → (files : List MemFile) × (preset_of name image ++ calls ≡ file_settings files)
+more_presets : (name : List ℕ) (image : Option (List ℕ)) (calls : List MemEntry) → (files : List MemFile) × (calls ≡ file_settings files) → (files : List MemFile) × (preset_of name image ++ calls ≡ file_settings files)
 more_presets name None calls are = are
-more_presets name (Some bytes) calls are = let file : MemFile = record { name = name; bytes = bytes } in (file ∷ are.0, ap (λ (l : List Told). Preset name bytes ∷ l) are.1)
+more_presets name (Some bytes) calls are = let file : MemFile = record { name = name; bytes = bytes } in (file ∷ are.0, ap (λ (l : List MemEntry). Preset name bytes ∷ l) are.1)
 
 module _ {Z : Type 0} where
   -- the file of one name is this, and the others are unchanged
-  pub acted_at : (pick : ℕ) (call : Told) (old mid new : List (Vec ℕ Z × ImageFile)) (name : List ℕ) (file : ImageFile) → name ≡ named_by call → file ≡ acted_file pick (file_at old name) call
+  pub acted_at : (pick : ℕ) (call : MemEntry) (old mid new : List (Vec ℕ Z × ImageFile)) (name : List ℕ) (file : ImageFile) → name ≡ named_by call → file ≡ acted_file pick (file_at old name) call
       → ((n : List ℕ) → bytes_eq name n ≡ false → file_at mid n ≡ file_at old n) → lookup (named name) new ≡ Some file → KeepsOthers same_key (named name) mid new
       → (n : List ℕ) → file_at new n ≡ (if is_on call n then acted_file pick (file_at old n) call else file_at old n)
   acted_at pick call old mid new name file is_name is_file others is keeps n =
@@ -66,7 +66,7 @@ module _ {Z : Type 0} where
   pub presets_of-push : (entries : List (Vec ℕ Z × ImageFile)) (entry : Vec ℕ Z × ImageFile) → presets_of (entries ++ entry ∷ []) ≡ presets_of entries ++ preset_of entry.0.items entry.1.image
   presets_of-push [] entry = append-nil (preset_of entry.0.items entry.1.image)
   presets_of-push (first ∷ entries) entry =
-      ap (λ (l : List Told). preset_of first.0.items first.1.image ++ l) (presets_of-push entries entry)
+      ap (λ (l : List MemEntry). preset_of first.0.items first.1.image ++ l) (presets_of-push entries entry)
       ∙ sym (append_assoc (preset_of first.0.items first.1.image) (presets_of entries) (preset_of entry.0.items entry.1.image))
 
   pub are_presets : (entries : List (Vec ℕ Z × ImageFile)) → (files : List MemFile) × (presets_of entries ≡ file_settings files)

@@ -8,9 +8,9 @@ use Rattle.fwd_outside.specs.Disk.{IsListing}
 use Rattle.fwd_outside.specs.File.{FileState, FileInvariant, whole, absent, whole_or_absent, or_absent, after_write}
 use Rattle.fwd_outside.specs.DiskStates.{Files, AreNamesIn, PlaceTransition, WriteTransition, SyncTransition, RemoveTransition, ReadAnswer, ListAnswer, OnFile, DiskTransition, IsReachable}
 use Rattle.fwd_outside.proofs.Invariant.{AllInvariant, sound_gone, sound_whole, sound_maybe, invariant_step}
-use Rattle.fwd_disk_mem.specs.declared.told.Told.{Told}
-use Rattle.fwd_disk_mem.specs.declared.told.Told.TheVariants.{Place, WriteAt, Sync, Remove, Read, List as Listed, Preset, FailAt}
-use Rattle.fwd_disk_mem.specs.Told.{given, took, entry_of, entries_of, next_succeeds, can_write, file_after, is_on, files_of, AnswerIs, IsPlayed}
+use Rattle.fwd_disk_mem.specs.declared.entry.MemEntry.{MemEntry}
+use Rattle.fwd_disk_mem.specs.declared.entry.MemEntry.TheVariants.{Place, WriteAt, Sync, Remove, Read, List as Listed, Preset, FailAt}
+use Rattle.fwd_disk_mem.specs.Entry.{given, took, entry_of, entries_of, next_succeeds, can_write, file_after, is_on, files_of, AnswerIs, IsPlayed}
 use Rattle.fwd_disk_mem.proofs.Lookup.{on_name, off_name}
 use Rattle.fwd_disk_mem.proofs.PlayedCalls.{files-push, both_true}
 
@@ -62,7 +62,7 @@ list_acts folder answer files false gives = subst (λ (a : Option (List (List �
 abbrev beside : List ℕ → FileState → Files → Files
 beside name s files n = if bytes_eq name n then s else files n
 
-on_file : (calls : List Told) (call : Told) (name : List ℕ) (Act : FileState → FileState → FileState → Type 0) (during : FileState)
+on_file : (calls : List MemEntry) (call : MemEntry) (name : List ℕ) (Act : FileState → FileState → FileState → Type 0) (during : FileState)
     → ((n : List ℕ) → is_on call n ≡ bytes_eq name n) → Act (files_of calls name) during (file_after (files_of calls name) call) → OnFile name Act (files_of calls) (beside name during (files_of calls)) (files_of (calls ++ call ∷ []))
 on_file calls call name Act during on acts =
     let new : (n : List ℕ) → files_of (calls ++ call ∷ []) n ≡ (if bytes_eq name n then file_after (files_of calls n) call else files_of calls n) =
@@ -79,10 +79,10 @@ either true s = refl
 either false s = refl
 
 -- a call that changes no file
-stays : (calls : List Told) (call : Told) → ((s : FileState) → file_after s call ≡ s) → files_of (calls ++ call ∷ []) ≡ files_of calls
+stays : (calls : List MemEntry) (call : MemEntry) → ((s : FileState) → file_after s call ≡ s) → files_of (calls ++ call ∷ []) ≡ files_of calls
 stays calls call same = λ i n. (files-push calls call n ∙ ap (λ (t : FileState). if is_on call n then t else files_of calls n) (same (files_of calls n)) ∙ either (is_on call n) (files_of calls n)) i
 
-one_step : (calls : List Told) (call : Told) → AllInvariant (files_of calls) → AnswerIs calls call → (during : Files) × DiskTransition (entry_of call).call (entry_of call).answer (files_of calls) during (files_of (calls ++ call ∷ []))
+one_step : (calls : List MemEntry) (call : MemEntry) → AllInvariant (files_of calls) → AnswerIs calls call → (during : Files) × DiskTransition (entry_of call).call (entry_of call).answer (files_of calls) during (files_of (calls ++ call ∷ []))
 one_step calls (Place name bytes ok) sound gives = (_, on_file calls (Place name bytes ok) name (PlaceTransition bytes (took ok)) (whole_or_absent bytes false) (λ n. refl) (placed_acts (files_of calls name) name bytes ok (sound name)))
 one_step calls (WriteAt name at bytes ok) sound gives = (
   _,
@@ -103,13 +103,13 @@ one_step calls (Preset name bytes) sound gives =
     (_, on_file calls (Preset name bytes) name (λ _ inside after. (inside ≡ whole bytes) × (after ≡ whole bytes)) (whole bytes) (λ n. refl) (refl, refl))
 one_step calls (FailAt number) sound gives = (files_of calls, (refl, stays calls (FailAt number) (λ s. refl)))
 
-played_ends : (before calls : List Told) → AllInvariant (files_of before) → IsPlayed before calls → Ends DiskTransition (files_of before) (entries_of calls) (files_of (before ++ calls))
+played_ends : (before calls : List MemEntry) → AllInvariant (files_of before) → IsPlayed before calls → Ends DiskTransition (files_of before) (entries_of calls) (files_of (before ++ calls))
 played_ends before [] sound played = ap files_of (append-nil before)
 played_ends before (call ∷ calls) sound played =
     let step = one_step before call sound played.0 in
     let after = (invariant_step (entry_of call).call (entry_of call).answer (files_of before) step.0 (files_of (before ++ call ∷ [])) step.1 sound).1 in
     let rest = played_ends (before ++ call ∷ []) calls after played.1 in
-    (step.0, files_of (before ++ call ∷ []), step.1, subst (λ (l : List Told). Ends DiskTransition (files_of (before ++ call ∷ [])) (entries_of calls) (files_of l)) (append_assoc before (call ∷ []) calls) rest)
+    (step.0, files_of (before ++ call ∷ []), step.1, subst (λ (l : List MemEntry). Ends DiskTransition (files_of (before ++ call ∷ [])) (entries_of calls) (files_of l)) (append_assoc before (call ∷ []) calls) rest)
 
-pub may_hold : (calls : List Told) → IsPlayed [] calls → IsReachable given (entries_of calls) (files_of calls)
+pub may_hold : (calls : List MemEntry) → IsPlayed [] calls → IsReachable given (entries_of calls) (files_of calls)
 may_hold calls played = played_ends [] calls (λ name. sound_gone) played

@@ -4,9 +4,9 @@ use Rattle.std.proofs.lemmas.Grind.{take_at_read}
 use Rattle.std.proofs.lemmas.List.{length-take-le}
 use Rattle.fwd_outside.specs.File.{FileState, whole, absent, whole_or_absent, or_absent, overwritten, after_write}
 use Rattle.fwd_disk_mem.specs.declared.image.ImageFile.{ImageFile}
-use Rattle.fwd_disk_mem.specs.declared.told.Told.{Told}
-use Rattle.fwd_disk_mem.specs.declared.told.Told.TheVariants.{Place, WriteAt, Sync, Remove, Read, List as Listed, Preset, FailAt}
-use Rattle.fwd_disk_mem.specs.Told.{can_write, file_after, is_on, step, run, written_over}
+use Rattle.fwd_disk_mem.specs.declared.entry.MemEntry.{MemEntry}
+use Rattle.fwd_disk_mem.specs.declared.entry.MemEntry.TheVariants.{Place, WriteAt, Sync, Remove, Read, List as Listed, Preset, FailAt}
+use Rattle.fwd_disk_mem.specs.Entry.{can_write, file_after, is_on, step, run, written_over}
 use Rattle.fwd_disk_mem.specs.Images.{CrashFile, mixed, variant, crash_file_after, crash_file_step, make, no_call_file, FileRepresents, fits_in, acted_file}
 use Rattle.fwd_disk_mem.proofs.PlayedCalls.{nothing_written}
 
@@ -141,7 +141,7 @@ has_removed pick s m file ok is = by s.there file.there refl is.there ok
     by true false there e ok = absurd (cc e)
     by false true there e ok = absurd (cc e)
 
-same-file_after : (pick : ℕ) (s : FileState) (m : CrashFile) (file : ImageFile) (call : Told) → Same s m file → Same (file_after s call) (crash_file_after pick s m call) (acted_file pick file call)
+same-file_after : (pick : ℕ) (s : FileState) (m : CrashFile) (file : ImageFile) (call : MemEntry) → Same s m file → Same (file_after s call) (crash_file_after pick s m call) (acted_file pick file call)
 same-file_after pick s m file (Place _ bytes true) is = durable_file bytes
 same-file_after pick s m file (Place _ bytes false) is = after_failed_place pick s m file bytes is
 same-file_after pick s m file (WriteAt _ at bytes ok) is = has_written pick s m file at bytes ok is
@@ -152,18 +152,18 @@ same-file_after pick s m file (Listed _ _) is = is
 same-file_after pick s m file (Preset _ bytes) is = durable_file bytes
 same-file_after pick s m file (FailAt _) is = is
 
-pub shows-file_after : (pick : ℕ) (s : FileState) (m : CrashFile) (file : ImageFile) (call : Told) → FileRepresents s m file → FileRepresents (file_after s call) (crash_file_after pick s m call) (acted_file pick file call)
+pub shows-file_after : (pick : ℕ) (s : FileState) (m : CrashFile) (file : ImageFile) (call : MemEntry) → FileRepresents s m file → FileRepresents (file_after s call) (crash_file_after pick s m call) (acted_file pick file call)
 shows-file_after pick s m file call shows = shown (file_after s call) (crash_file_after pick s m call) (acted_file pick file call) (same-file_after pick s m file call (same s m file shows))
 
-pub run-push : (name : List ℕ) (s : FileState) (calls : List Told) (call : Told) → run name s (calls ++ call ∷ []) ≡ step name (run name s calls) call
+pub run-push : (name : List ℕ) (s : FileState) (calls : List MemEntry) (call : MemEntry) → run name s (calls ++ call ∷ []) ≡ step name (run name s calls) call
 run-push name s [] call = refl
 run-push name s (first ∷ calls) call = run-push name (step name s first) calls call
 
-pub make-push : (pick : ℕ) (name : List ℕ) (s : FileState) (m : CrashFile) (calls : List Told) (call : Told) → make pick name s m (calls ++ call ∷ []) ≡ crash_file_step pick name (run name s calls) (make pick name s m calls) call
+pub make-push : (pick : ℕ) (name : List ℕ) (s : FileState) (m : CrashFile) (calls : List MemEntry) (call : MemEntry) → make pick name s m (calls ++ call ∷ []) ≡ crash_file_step pick name (run name s calls) (make pick name s m calls) call
 make-push pick name s m [] call = refl
 make-push pick name s m (first ∷ calls) call = make-push pick name (step name s first) (crash_file_step pick name s m first) calls call
 
-shows_next : (pick : ℕ) (name : List ℕ) (calls : List Told) (call : Told) (file : ImageFile) (b : Bool) → is_on call name ≡ b → FileRepresents (run name absent calls) (make pick name absent no_call_file calls) file
+shows_next : (pick : ℕ) (name : List ℕ) (calls : List MemEntry) (call : MemEntry) (file : ImageFile) (b : Bool) → is_on call name ≡ b → FileRepresents (run name absent calls) (make pick name absent no_call_file calls) file
     → FileRepresents (run name absent (calls ++ call ∷ [])) (make pick name absent no_call_file (calls ++ call ∷ [])) (if b then acted_file pick file call else file)
 shows_next pick name calls call file b is shows =
     subst (λ (s : FileState). FileRepresents s (make pick name absent no_call_file (calls ++ call ∷ [])) (if b then acted_file pick file call else file)) (sym (run-push name absent calls call))
@@ -181,9 +181,9 @@ shows_next pick name calls call file b is shows =
     by true false e = absurd (cc e)
     by false true e = absurd (cc e)
 
-pub shows_more : (pick : ℕ) (name : List ℕ) (calls : List Told) (i : ℕ) (call : Told) (file new : ImageFile) (b : Bool) → i < length calls → call ≡ get_or calls i call → is_on call name ≡ b → new ≡ (if b then acted_file pick file call else file)
+pub shows_more : (pick : ℕ) (name : List ℕ) (calls : List MemEntry) (i : ℕ) (call : MemEntry) (file new : ImageFile) (b : Bool) → i < length calls → call ≡ get_or calls i call → is_on call name ≡ b → new ≡ (if b then acted_file pick file call else file)
     → FileRepresents (run name absent (take i calls)) (make pick name absent no_call_file (take i calls)) file → FileRepresents (run name absent (take (i + 1) calls)) (make pick name absent no_call_file (take (i + 1) calls)) new
 shows_more pick name calls i call file new b lt is on new_is shows =
-    let more = (take_at_read calls i call lt).1 ∙ ap (λ (c : Told). take i calls ++ c ∷ []) (sym is) in
-    subst (λ (l : List Told). FileRepresents (run name absent l) (make pick name absent no_call_file l) new) (sym more)
+    let more = (take_at_read calls i call lt).1 ∙ ap (λ (c : MemEntry). take i calls ++ c ∷ []) (sym is) in
+    subst (λ (l : List MemEntry). FileRepresents (run name absent l) (make pick name absent no_call_file l) new) (sym more)
     (subst (FileRepresents (run name absent (take i calls ++ call ∷ [])) (make pick name absent no_call_file (take i calls ++ call ∷ []))) (sym new_is) (shows_next pick name (take i calls) call file b on shows))

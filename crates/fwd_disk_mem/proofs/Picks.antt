@@ -4,9 +4,9 @@ use Rattle.std.proofs.lemmas.Bool.{leb-true, cases_lt}
 use Rattle.std.proofs.lemmas.List.{length-replicate}
 use Rattle.fwd_outside.specs.File.{FileState, InDoubt, IsPostCrashContent, IsPostCrash, whole, absent, whole_or_absent, or_absent, overwritten, after_write}
 use Rattle.fwd_outside.proofs.KeepsBytes.{length-overwritten, get_or-overwritten}
-use Rattle.fwd_disk_mem.specs.declared.told.Told.{Told}
-use Rattle.fwd_disk_mem.specs.declared.told.Told.TheVariants.{Place, WriteAt, Sync, Remove, Read, List as Listed, Preset, FailAt}
-use Rattle.fwd_disk_mem.specs.Told.{can_write, file_after, is_on, step, run, files_of, written_over}
+use Rattle.fwd_disk_mem.specs.declared.entry.MemEntry.{MemEntry}
+use Rattle.fwd_disk_mem.specs.declared.entry.MemEntry.TheVariants.{Place, WriteAt, Sync, Remove, Read, List as Listed, Preset, FailAt}
+use Rattle.fwd_disk_mem.specs.Entry.{can_write, file_after, is_on, step, run, files_of, written_over}
 use Rattle.fwd_disk_mem.specs.Images.{CrashFile, mixed, variant, crash_file_after, crash_file_step, make, no_call_file, picked}
 use Rattle.fwd_disk_mem.proofs.PlayedCalls.{both_true}
 
@@ -86,7 +86,7 @@ fits_removed pick s None true there fits = refl
 fits_removed pick s (Some image) true there fits = (record { no_shorter = fits.0.no_shorter; no_longer = fits.0.no_longer; same = fits.0.same }, fits.1, λ _ other. fits.2 there other)
 fits_removed pick s image false there fits = refl
 
-fits_made : (pick : ℕ) (s : FileState) (m : CrashFile) (call : Told) → Fits pick s m.image → Fits pick (file_after s call) (crash_file_after pick s m call).image
+fits_made : (pick : ℕ) (s : FileState) (m : CrashFile) (call : MemEntry) → Fits pick s m.image → Fits pick (file_after s call) (crash_file_after pick s m call).image
 fits_made pick s m (Place _ bytes true) fits = fits_whole pick bytes
 fits_made pick s m (Place _ bytes false) fits = by s.there
   where
@@ -126,7 +126,7 @@ fits_made pick s m (Listed _ _) fits = fits
 fits_made pick s m (Preset _ bytes) fits = fits_whole pick bytes
 fits_made pick s m (FailAt _) fits = fits
 
-pub make_fits : (pick : ℕ) (name : List ℕ) (s : FileState) (m : CrashFile) (calls : List Told) → Fits pick s m.image → Fits pick (run name s calls) (make pick name s m calls).image
+pub make_fits : (pick : ℕ) (name : List ℕ) (s : FileState) (m : CrashFile) (calls : List MemEntry) → Fits pick s m.image → Fits pick (run name s calls) (make pick name s m calls).image
 make_fits pick name s m [] fits = fits
 make_fits pick name s m (call ∷ calls) fits = make_fits pick name (step name s call) (crash_file_step pick name s m call) calls (by (is_on call name))
   where
@@ -138,5 +138,5 @@ pub image_of : (pick : ℕ) (s : FileState) (image : Option (List ℕ)) → Fits
 image_of pick s None fits = fits
 image_of pick s (Some image) fits = (fits.1, fits.0)
 
-pub picked_is_image : (pick : ℕ) (calls : List Told) (name : List ℕ) → IsPostCrash (files_of calls name) (picked pick calls name)
+pub picked_is_image : (pick : ℕ) (calls : List MemEntry) (name : List ℕ) → IsPostCrash (files_of calls name) (picked pick calls name)
 picked_is_image pick calls name = image_of pick (files_of calls name) (picked pick calls name) (make_fits pick name absent no_call_file calls refl)

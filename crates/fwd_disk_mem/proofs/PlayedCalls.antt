@@ -5,19 +5,19 @@ use Rattle.std.proofs.lemmas.List.{append-nil}
 use Rattle.std.proofs.lemmas.Grind.{common_steps}
 use Rattle.fwd_outside.specs.File.{FileState, content, whole, absent, whole_or_absent, or_absent, overwritten, after_write}
 use Rattle.fwd_disk_mem.specs.FileTable.{MemFile, found}
-use Rattle.fwd_disk_mem.specs.declared.told.Told.{Told}
-use Rattle.fwd_disk_mem.specs.declared.told.Told.TheVariants.{Place, WriteAt, Sync, Remove, Read, List as Listed, Preset, FailAt}
-use Rattle.fwd_disk_mem.specs.Told.{named_by, is_call, made_of, fails_of, next_succeeds, can_write, file_after, is_on, step, run, files_of, AnswerIs, IsPlayed, written_over, seen_after, Changes, IsNoNumber}
+use Rattle.fwd_disk_mem.specs.declared.entry.MemEntry.{MemEntry}
+use Rattle.fwd_disk_mem.specs.declared.entry.MemEntry.TheVariants.{Place, WriteAt, Sync, Remove, Read, List as Listed, Preset, FailAt}
+use Rattle.fwd_disk_mem.specs.Entry.{named_by, is_call, made_of, fails_of, next_succeeds, can_write, file_after, is_on, step, run, files_of, AnswerIs, IsPlayed, written_over, seen_after, Changes, IsNoNumber}
 use Rattle.fwd_disk_mem.specs.Fields.{IsKept}
 
-run-push : (name : List ℕ) (s : FileState) (calls : List Told) (call : Told) → run name s (calls ++ call ∷ []) ≡ step name (run name s calls) call
+run-push : (name : List ℕ) (s : FileState) (calls : List MemEntry) (call : MemEntry) → run name s (calls ++ call ∷ []) ≡ step name (run name s calls) call
 run-push name s [] call = refl
 run-push name s (first ∷ calls) call = run-push name (step name s first) calls call
 
-pub files-push : (calls : List Told) (call : Told) (name : List ℕ) → files_of (calls ++ call ∷ []) name ≡ step name (files_of calls name) call
+pub files-push : (calls : List MemEntry) (call : MemEntry) (name : List ℕ) → files_of (calls ++ call ∷ []) name ≡ step name (files_of calls name) call
 files-push calls call name = run-push name absent calls call
 
-pub made-push : (calls : List Told) (call : Told) → made_of (calls ++ call ∷ []) ≡ made_of calls + (if is_call call then 1 else 0)
+pub made-push : (calls : List MemEntry) (call : MemEntry) → made_of (calls ++ call ∷ []) ≡ made_of calls + (if is_call call then 1 else 0)
 made-push [] call = omega arith
 made-push (first ∷ calls) call = ap (λ (n : ℕ). (if is_call first then 1 else 0) + n) (made-push calls call) ∙ omega arith
 
@@ -25,11 +25,11 @@ one : (b : Bool) → (let n : ℕ = if b then 1 else 0 in n ≤ 1)
 one true = omega arith
 one false = omega arith
 
-pub made-le : (calls : List Told) → made_of calls ≤ length calls
+pub made-le : (calls : List MemEntry) → made_of calls ≤ length calls
 made-le [] = omega arith
 made-le (call ∷ calls) = omega (arith, one (is_call call), made-le calls)
 
-pub fails-push_number : (calls : List Told) (number : ℕ) → fails_of (calls ++ FailAt number ∷ []) ≡ fails_of calls ++ number ∷ []
+pub fails-push_number : (calls : List MemEntry) (number : ℕ) → fails_of (calls ++ FailAt number ∷ []) ≡ fails_of calls ++ number ∷ []
 fails-push_number [] number = refl
 fails-push_number (FailAt n ∷ calls) number = ap (λ (l : List ℕ). n ∷ l) (fails-push_number calls number)
 fails-push_number (Place _ _ _ ∷ calls) number = fails-push_number calls number
@@ -40,7 +40,7 @@ fails-push_number (Read _ _ _ _ ∷ calls) number = fails-push_number calls numb
 fails-push_number (Listed _ _ ∷ calls) number = fails-push_number calls number
 fails-push_number (Preset _ _ ∷ calls) number = fails-push_number calls number
 
-fails-one : (call : Told) → IsNoNumber call → fails_of (call ∷ []) ≡ []
+fails-one : (call : MemEntry) → IsNoNumber call → fails_of (call ∷ []) ≡ []
 fails-one (FailAt number) plain = absurd plain
 fails-one (Place _ _ _) plain = refl
 fails-one (WriteAt _ _ _ _) plain = refl
@@ -50,7 +50,7 @@ fails-one (Read _ _ _ _) plain = refl
 fails-one (Listed _ _) plain = refl
 fails-one (Preset _ _) plain = refl
 
-pub fails-push : (calls : List Told) (call : Told) → IsNoNumber call → fails_of (calls ++ call ∷ []) ≡ fails_of calls
+pub fails-push : (calls : List MemEntry) (call : MemEntry) → IsNoNumber call → fails_of (calls ++ call ∷ []) ≡ fails_of calls
 fails-push [] call plain = fails-one call plain
 fails-push (FailAt n ∷ calls) call plain = ap (λ (l : List ℕ). n ∷ l) (fails-push calls call plain)
 fails-push (Place _ _ _ ∷ calls) call plain = fails-push calls call plain
@@ -61,10 +61,10 @@ fails-push (Read _ _ _ _ ∷ calls) call plain = fails-push calls call plain
 fails-push (Listed _ _ ∷ calls) call plain = fails-push calls call plain
 fails-push (Preset _ _ ∷ calls) call plain = fails-push calls call plain
 
-pub played-push : (before calls : List Told) (call : Told) → IsPlayed before calls → AnswerIs (before ++ calls) call → IsPlayed before (calls ++ call ∷ [])
-played-push before [] call played gives = (subst (λ (l : List Told). AnswerIs l call) (append-nil before) gives, tt)
+pub played-push : (before calls : List MemEntry) (call : MemEntry) → IsPlayed before calls → AnswerIs (before ++ calls) call → IsPlayed before (calls ++ call ∷ [])
+played-push before [] call played gives = (subst (λ (l : List MemEntry). AnswerIs l call) (append-nil before) gives, tt)
 played-push before (first ∷ calls) call played gives =
-    (played.0, played-push (before ++ first ∷ []) calls call played.1 (subst (λ (l : List Told). AnswerIs l call) (sym (append_assoc before (first ∷ []) calls)) gives))
+    (played.0, played-push (before ++ first ∷ []) calls call played.1 (subst (λ (l : List MemEntry). AnswerIs l call) (sym (append_assoc before (first ∷ []) calls)) gives))
 
 pub both_true : (a b : Bool) → (a && b) ≡ true → (a ≡ true) × (b ≡ true)
 both_true true b is = (refl, is)
@@ -113,7 +113,7 @@ not_removed s = by s.there refl
     by true is = sym (ap (λ (b : Bool). if b then Some s.bytes else None) is)
     by false is = refl
 
-pub seen : (calls : List Told) (call : Told) → AnswerIs calls call → (let s = files_of calls (named_by call) in content (file_after s call) ≡ seen_after call (content s))
+pub seen : (calls : List MemEntry) (call : MemEntry) → AnswerIs calls call → (let s = files_of calls (named_by call) in content (file_after s call) ≡ seen_after call (content s))
 seen calls (Place name bytes true) gives = refl
 seen calls (Place name bytes false) gives = after_failed_place (files_of calls name) bytes
 seen calls (WriteAt name at bytes true) gives = has_written (files_of calls name) at bytes (both_true (next_succeeds calls) (can_write (files_of calls name) at) (sym gives)).1
@@ -126,7 +126,7 @@ seen calls (Listed folder answer) gives = refl
 seen calls (Preset name bytes) gives = refl
 seen calls (FailAt number) gives = refl
 
-pub on_its_name : (call : Told) (n : List ℕ) → is_on call n ≡ true → named_by call ≡ n
+pub on_its_name : (call : MemEntry) (n : List ℕ) → is_on call n ≡ true → named_by call ≡ n
 on_its_name (Place name _ _) n is = (bytes_eq-Decides name n).0 is
 on_its_name (WriteAt name _ _ _) n is = (bytes_eq-Decides name n).0 is
 on_its_name (Sync name _) n is = (bytes_eq-Decides name n).0 is
@@ -137,7 +137,7 @@ on_its_name (Preset name _) n is = (bytes_eq-Decides name n).0 is
 on_its_name (FailAt _) n is = absurd (cc is)
 
 -- files after a call read as the record with the call says
-pub reads-push : (calls : List Told) (call : Told) (old new : List MemFile) → AnswerIs calls call → ((name : List ℕ) → found old name ≡ content (files_of calls name)) → Changes old new call
+pub reads-push : (calls : List MemEntry) (call : MemEntry) (old new : List MemFile) → AnswerIs calls call → ((name : List ℕ) → found old name ≡ content (files_of calls name)) → Changes old new call
     → (name : List ℕ) → found new name ≡ content (files_of (calls ++ call ∷ []) name)
 reads-push calls call old new gives reads changes name = by (is_on call name) refl (changes name) ∙ sym (ap content (files-push calls call name))
   where
@@ -147,7 +147,7 @@ reads-push calls call old new gives reads changes name = by (is_on call name) re
         ∙ sym (subst (λ (n : List ℕ). content (file_after (files_of calls n) call) ≡ seen_after call (content (files_of calls n))) (on_its_name call name is) (seen calls call gives))
     by false is change = change ∙ reads name
 
-pub kept-push : (calls : List Told) (call : Told) (old new : List MemFile) (fails : List ℕ) (made : ℕ) → AnswerIs calls call → IsNoNumber call → IsKept calls old fails made → Changes old new call
+pub kept-push : (calls : List MemEntry) (call : MemEntry) (old new : List MemFile) (fails : List ℕ) (made : ℕ) → AnswerIs calls call → IsNoNumber call → IsKept calls old fails made → Changes old new call
     → IsKept (calls ++ call ∷ []) new fails (made + (if is_call call then 1 else 0))
 kept-push calls call old new fails made gives plain kept changes = record {
   played = played-push [] calls call kept.played gives;
@@ -156,7 +156,7 @@ kept-push calls call old new fails made gives plain kept changes = record {
   made_is = ap (λ (n : ℕ). n + (if is_call call then 1 else 0)) kept.made_is ∙ sym (made-push calls call);
 }
 
-pub kept-push_number : (calls : List Told) (number : ℕ) (files : List MemFile) (fails : List ℕ) (made : ℕ) → IsKept calls files fails made → IsKept (calls ++ FailAt number ∷ []) files (fails ++ number ∷ []) made
+pub kept-push_number : (calls : List MemEntry) (number : ℕ) (files : List MemFile) (fails : List ℕ) (made : ℕ) → IsKept calls files fails made → IsKept (calls ++ FailAt number ∷ []) files (fails ++ number ∷ []) made
 kept-push_number calls number files fails made kept = record {
   played = played-push [] calls (FailAt number) kept.played tt;
   reads = reads-push calls (FailAt number) files files tt kept.reads (λ n. refl);

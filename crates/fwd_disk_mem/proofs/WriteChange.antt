@@ -5,8 +5,8 @@ use Rattle.std.proofs.lemmas.Slice.Eq.{bytes_eq-Decides}
 use Rattle.fwd_base.specs.declared.memory.Memory.{Memory}
 use Rattle.fwd_outside.specs.File.{overwritten}
 use Rattle.fwd_disk_mem.specs.FileTable.{MemFile, found, SetAt}
-use Rattle.fwd_disk_mem.specs.declared.told.Told.TheVariants.{WriteAt}
-use Rattle.fwd_disk_mem.specs.Told.{Changes, written_over}
+use Rattle.fwd_disk_mem.specs.declared.entry.MemEntry.TheVariants.{WriteAt}
+use Rattle.fwd_disk_mem.specs.Entry.{Changes, written_over}
 
 one_name : (old new : List MemFile) (name : List ℕ) (at : ℕ) (bytes : List ℕ) (f : Option (List ℕ)) → found old name ≡ f
     → ((o : List ℕ) → found old name ≡ Some o → SetAt old new name (Some (overwritten o at bytes))) → (found old name ≡ None → new ≡ old)

@@ -3,10 +3,10 @@
 use Rattle.std.specs.Prelude.{ℕ, ◌+◌, ◌-◌, ◌^◌, min, List, Result, Err}
 use Rattle.fwd_outside.specs.declared.errors.DiskErr.{DiskErr}
 use Rattle.fwd_outside.specs.declared.errors.DiskErr.TheVariants.{Failed}
-use Rattle.fwd_disk_mem.specs.declared.told.Told.{Told}
+use Rattle.fwd_disk_mem.specs.declared.entry.MemEntry.{MemEntry}
 
 pub record Seen : Type 0 where
-  pub calls : List Told
+  pub calls : List MemEntry
   pub faults : ℕ
   pub mark : ℕ
 

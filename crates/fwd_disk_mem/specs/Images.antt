@@ -8,9 +8,9 @@ use Rattle.std.specs.Map.{lookup}
 use Rattle.fwd_outside.specs.File.{FileState, absent, content, overwritten}
 use Rattle.fwd_disk_mem.specs.FileTable.{MemFile}
 use Rattle.fwd_disk_mem.specs.declared.image.ImageFile.{ImageFile}
-use Rattle.fwd_disk_mem.specs.declared.told.Told.{Told}
-use Rattle.fwd_disk_mem.specs.declared.told.Told.TheVariants.{Place, WriteAt, Sync, Remove, Preset}
-use Rattle.fwd_disk_mem.specs.Told.{is_call, can_write, is_on, step, written_over}
+use Rattle.fwd_disk_mem.specs.declared.entry.MemEntry.{MemEntry}
+use Rattle.fwd_disk_mem.specs.declared.entry.MemEntry.TheVariants.{Place, WriteAt, Sync, Remove, Preset}
+use Rattle.fwd_disk_mem.specs.Entry.{is_call, can_write, is_on, step, written_over}
 
 -- a file and its post-crash state: its bytes at the last sync, and the state
 pub record CrashFile : Type 0 where
@@ -28,7 +28,7 @@ variant pick base at bytes =
     if pick == 2 then replicate (length bytes) 90 else if pick == 3 then mixed base at bytes else bytes
 
 -- the post-crash state after a call on a file in this state
-abbrev pub crash_file_after : ℕ → FileState → CrashFile → Told → CrashFile
+abbrev pub crash_file_after : ℕ → FileState → CrashFile → MemEntry → CrashFile
 crash_file_after pick s m (Place _ bytes ok) =
     if ok then record { base = bytes; image = Some bytes }
     else if s.there then m
@@ -45,10 +45,10 @@ crash_file_after pick s m (Remove _ ok) =
 crash_file_after pick s m (Preset _ bytes) = record { base = bytes; image = Some bytes }
 crash_file_after pick s m call = m
 
-abbrev pub crash_file_step : ℕ → List ℕ → FileState → CrashFile → Told → CrashFile
+abbrev pub crash_file_step : ℕ → List ℕ → FileState → CrashFile → MemEntry → CrashFile
 crash_file_step pick name s m call = if is_on call name then crash_file_after pick s m call else m
 
-abbrev pub make : ℕ → List ℕ → FileState → CrashFile → List Told → CrashFile
+abbrev pub make : ℕ → List ℕ → FileState → CrashFile → List MemEntry → CrashFile
 make pick name s m [] = m
 make pick name s m (call ∷ calls) =
     make pick name (step name s call) (crash_file_step pick name s m call) calls
@@ -58,21 +58,21 @@ abbrev pub no_call_file : CrashFile
 no_call_file = record { base = []; image = None }
 
 -- the post-crash state of a name, after these calls
-abbrev pub picked : ℕ → List Told → List ℕ → Option (List ℕ)
+abbrev pub picked : ℕ → List MemEntry → List ℕ → Option (List ℕ)
 picked pick calls name = (make pick name absent no_call_file calls).image
 
 -- the length of the prefix with `n` calls; all if there are fewer
-abbrev pub reach : ℕ → List Told → ℕ
+abbrev pub reach : ℕ → List MemEntry → ℕ
 reach n [] = 0
 reach n (call ∷ calls) =
     if is_call call then (if n == 0 then 0 else suc (reach (n - 1) calls)) else suc (reach n calls)
 
 -- the prefix that ends `n` calls after the mark; all if there are fewer
-abbrev pub prefix_after_mark : ℕ → ℕ → List Told → List Told
+abbrev pub prefix_after_mark : ℕ → ℕ → List MemEntry → List MemEntry
 prefix_after_mark mark n calls = take (mark + reach n (drop mark calls)) calls
 
 -- settings of files, and nothing else
-abbrev pub file_settings : List MemFile → List Told
+abbrev pub file_settings : List MemFile → List MemEntry
 file_settings files = map (λ file. Preset file.name file.bytes) files
 
 -- the code's representation of a file and its post-crash state
@@ -85,7 +85,7 @@ abbrev pub fits_in : ImageFile → ℕ → Bool
 fits_in file at = file.there && leb at (length file.bytes)
 
 -- the representation after a call
-abbrev pub acted_file : ℕ → ImageFile → Told → ImageFile
+abbrev pub acted_file : ℕ → ImageFile → MemEntry → ImageFile
 acted_file pick file (Place _ bytes ok) =
     if ok then record { there = true; bytes = bytes; base = bytes; image = Some bytes }
     else if file.there then file
@@ -110,12 +110,12 @@ acted_file pick file (Preset _ bytes) =
 acted_file pick file call = file
 
 -- the setting for a post-crash state
-abbrev pub preset_of : List ℕ → Option (List ℕ) → List Told
+abbrev pub preset_of : List ℕ → Option (List ℕ) → List MemEntry
 preset_of name None = []
 preset_of name (Some bytes) = Preset name bytes ∷ []
 
 -- the settings for the post-crash states of these files
-abbrev pub presets_of : {Z : Type 0} → List (Vec ℕ Z × ImageFile) → List Told
+abbrev pub presets_of : {Z : Type 0} → List (Vec ℕ Z × ImageFile) → List MemEntry
 presets_of [] = []
 presets_of (entry ∷ entries) = preset_of entry.0.items entry.1.image ++ presets_of entries
 

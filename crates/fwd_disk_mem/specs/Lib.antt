@@ -1,5 +1,5 @@
 pub mod FileTable
-pub mod Told
+pub mod Entry
 pub mod DiskState
 pub mod Fields
 pub mod Listing

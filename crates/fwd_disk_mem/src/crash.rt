@@ -4,13 +4,13 @@ ghost use Rattle.std.specs.Prelude.{◌≡◌, ◌++◌, ◌%◌, [], List, ℕ,
 ghost use Rattle.std.specs.Str.{bytes_eq};
 ghost use Rattle.fwd_outside.specs.File.{content, IsPostCrash};
 ghost use Rattle.fwd_disk_mem.specs.FileTable.{MemFile};
-ghost use Rattle.fwd_disk_mem.specs.Told.{files_of, is_on};
+ghost use Rattle.fwd_disk_mem.specs.Entry.{files_of, is_on};
 ghost use Rattle.fwd_disk_mem.specs.Images.{acted_file, file_at, picked, file_settings, preset_of};
 
 use crate::MemDisk;
 use crate::content::Content;
+use crate::entry::{BoxedEntry, MemEntry, name_of};
 use crate::image::{ImageFile, file_after};
-use crate::told::{BoxedTold, Told, name_of};
 use fwd_outside::Memory;
 use std::alloc::Global;
 use std::collections::HashMap;
@@ -22,7 +22,7 @@ fn take_file(alloc: Global, files: &mut HashMap<Vec<u8>, ImageFile>, name: &[u8]
 {
     match files.remove(name) {
         Some(file) => file,
-        None => ImageFile::missing(alloc),
+        None => ImageFile::absent(alloc),
     }
 }
 
@@ -31,7 +31,7 @@ fn apply_call(
     alloc: Global,
     pick: u64,
     files: &mut HashMap<Vec<u8>, ImageFile>,
-    call: &Told,
+    call: &MemEntry,
 ) -> Result<(), Memory>
     ensures { OnOk result ((n : List ℕ) → file_at files.new.entries n ≡ (if is_on call.now n then acted_file pick (file_at files.old.entries n) call.now else file_at files.old.entries n)) }
 {
@@ -47,13 +47,13 @@ fn apply_call(
 fn images_after(
     alloc: Global,
     pick: u64,
-    calls: &[BoxedTold],
+    calls: &[BoxedEntry],
 ) -> Result<HashMap<Vec<u8>, ImageFile>, Memory>
     ensures { IfOk result (λ files. (name : List ℕ) → (file_at files.entries name).image ≡ picked pick calls.now name) }
 {
     let mut files = HashMap::new(alloc);
     for call in calls {
-        apply_call(alloc, pick, &mut files, call.call_log())?;
+        apply_call(alloc, pick, &mut files, call.entry())?;
     }
     Ok(files)
 }
@@ -82,7 +82,7 @@ fn disk_of(alloc: Global, files: &HashMap<Vec<u8>, ImageFile>) -> Result<MemDisk
 }
 
 /// Returns the disk after a crash that follows these calls.
-pub fn disk_after_crash(alloc: Global, pick: u64, calls: &[BoxedTold]) -> Result<MemDisk, Memory>
+pub fn disk_after_crash(alloc: Global, pick: u64, calls: &[BoxedEntry]) -> Result<MemDisk, Memory>
     ensures presets { IfOk result (λ disk. (files : List MemFile) × (disk.calls ≡ file_settings files)) }
     ensures picked { IfOk result (λ disk. (name : List ℕ) → content (files_of disk.calls name) ≡ picked pick calls.now name) }
     ensures faults { IfOk result (λ disk. disk.faults ≡ 0) }

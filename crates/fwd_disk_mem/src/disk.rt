@@ -7,18 +7,18 @@ ghost use Rattle.fwd_outside.specs.File.{content, IsPostCrash};
 ghost use Rattle.fwd_outside.specs.Disk.{IsListing, disk_outcome};
 ghost use Rattle.fwd_outside.specs.Disk as outside;
 ghost use Rattle.fwd_outside.specs.DiskStates.{IsPossibleLog, AreNamesIn};
-ghost use Rattle.fwd_disk_mem.specs.declared.told.Told.TheVariants as call_log;
-ghost use Rattle.fwd_disk_mem.specs.Told.{entries_of, given, told_of, next_succeeds, files_of, can_write, AnswerIs, IsPlayed, IsNoNumber};
+ghost use Rattle.fwd_disk_mem.specs.declared.entry.MemEntry.TheVariants as mem_entry;
+ghost use Rattle.fwd_disk_mem.specs.Entry.{entries_of, given, log_of, next_succeeds, files_of, can_write, AnswerIs, IsPlayed, IsNoNumber};
 ghost use Rattle.fwd_disk_mem.specs.DiskState.{counted};
 ghost use Rattle.fwd_disk_mem.specs.FileTable.{MemFile};
 ghost use Rattle.fwd_disk_mem.specs.Images.{picked, file_settings, prefix_after_mark};
 
 use crate::copies::{both, copy_of_names, part_of};
 use crate::crash::disk_after_crash;
+use crate::entry::{BoxedEntry, MemEntry, calls_in, is_to_fail, push_and_change, push_number};
 use crate::file_table::FileTable;
 use crate::image::prefix_until;
 use crate::listing::names_in;
-use crate::told::{BoxedTold, Told, calls_in, is_to_fail, push_and_change, push_number};
 use fwd_base::clone_optional;
 use fwd_outside::{Bytes, Disk, DiskErr, Memory, Names};
 use std::alloc::Global;
@@ -28,7 +28,7 @@ use std::marker::Model;
 #[derive(Drop)]
 pub struct MemDisk {
     alloc: Global,
-    calls: Vec<BoxedTold>,
+    calls: Vec<BoxedEntry>,
     files: FileTable,
     fails: Vec<u64>,
     made: u64,
@@ -68,10 +68,10 @@ impl MemDisk {
 
     /// Gives a file these bytes, durably. It replaces a file of this name.
     pub fn preset(&mut self, name: &[u8], bytes: &[u8]) -> Result<(), Memory>
-        ensures ok { OnOk result (self.new ≡ record self.old { calls = self.old.calls ++ call_log.Preset name.now bytes.now ∷ [] }) }
+        ensures ok { OnOk result (self.new ≡ record self.old { calls = self.old.calls ++ mem_entry.Preset name.now bytes.now ∷ [] }) }
         ensures err { OnErr result (self.new ≡ self.old) }
     {
-        let call = Told::Preset(
+        let call = MemEntry::Preset(
             Bytes::from_slice(self.alloc, name)?,
             Bytes::from_slice(self.alloc, bytes)?,
         );
@@ -80,7 +80,7 @@ impl MemDisk {
 
     /// Makes the call of this number fail. Calls are counted from 1.
     pub fn fail_at(&mut self, call: u64) -> Result<(), Memory>
-        ensures ok { OnOk result (self.new ≡ record self.old { calls = self.old.calls ++ call_log.FailAt call ∷ [] }) }
+        ensures ok { OnOk result (self.new ≡ record self.old { calls = self.old.calls ++ mem_entry.FailAt call ∷ [] }) }
         ensures err { OnErr result (self.new ≡ self.old) }
     {
         push_number(self.alloc, &mut self.calls, &mut self.fails, call)
@@ -112,7 +112,7 @@ impl MemDisk {
     }
 
     /// Returns the length of the record so far: calls and settings.
-    pub fn told_len(&self) -> usize
+    pub fn record_len(&self) -> usize
         ensures { result ≡ length self.now.calls }
     {
         self.calls.len()
@@ -156,7 +156,7 @@ impl MemDisk {
     }
 
     // Records a call, and applies it to the files. `Err` leaves the disk unchanged.
-    fn note(&mut self, call: Told) -> Result<(), Memory>
+    fn note(&mut self, call: MemEntry) -> Result<(), Memory>
         requires gives { AnswerIs self.old.calls call }
         requires no_number { IsNoNumber call }
         ensures ok { OnOk result (self.new ≡ record self.old { calls = self.old.calls ++ call ∷ [] }) }
@@ -249,16 +249,16 @@ impl MemDisk {
 impl Disk for MemDisk {
     ghost faults = { λ m. m.faults };
 
-    ghost call_log = { λ m. told_of m.calls };
+    ghost call_log = { λ m. log_of m.calls };
 
     fn place(&mut self, name: &[u8], bytes: &[u8]) -> Result<(), DiskErr>
-        ensures call_log { LogGrew (told_of self.old.calls) (told_of self.new.calls) (log_of_call (outside.Place name.now bytes.now) (disk_outcome result)) }
+        ensures call_log { LogGrew (log_of self.old.calls) (log_of self.new.calls) (log_of_call (outside.Place name.now bytes.now) (disk_outcome result)) }
         ensures cause { HasCause self.old.faults self.new.faults (IsErrOf result disk_err.Failed) }
         ensures faults { self.new.faults ≡ counted result self.old.faults }
         ensures mark { self.new.mark ≡ self.old.mark }
     {
         let ok = self.next_succeeds();
-        let call = Told::Place(
+        let call = MemEntry::Place(
             Bytes::from_slice(self.alloc, name)?,
             Bytes::from_slice(self.alloc, bytes)?,
             ok,
@@ -268,14 +268,14 @@ impl Disk for MemDisk {
     }
 
     fn write_at(&mut self, name: &[u8], at: u64, bytes: &[u8]) -> Result<(), DiskErr>
-        ensures call_log { LogGrew (told_of self.old.calls) (told_of self.new.calls) (log_of_call (outside.WriteAt name.now at bytes.now) (disk_outcome result)) }
+        ensures call_log { LogGrew (log_of self.old.calls) (log_of self.new.calls) (log_of_call (outside.WriteAt name.now at bytes.now) (disk_outcome result)) }
         ensures cause { HasCause self.old.faults self.new.faults (IsErrOf result disk_err.Failed) }
         ensures faults { self.new.faults ≡ counted result self.old.faults }
         ensures mark { self.new.mark ≡ self.old.mark }
     {
         let next_succeeds = self.next_succeeds();
         let ok = both(next_succeeds, self.may_write(name, at));
-        let call = Told::WriteAt(
+        let call = MemEntry::WriteAt(
             Bytes::from_slice(self.alloc, name)?,
             at,
             Bytes::from_slice(self.alloc, bytes)?,
@@ -286,33 +286,33 @@ impl Disk for MemDisk {
     }
 
     fn sync(&mut self, name: &[u8]) -> Result<(), DiskErr>
-        ensures call_log { LogGrew (told_of self.old.calls) (told_of self.new.calls) (log_of_call (outside.Sync name.now) (disk_outcome result)) }
+        ensures call_log { LogGrew (log_of self.old.calls) (log_of self.new.calls) (log_of_call (outside.Sync name.now) (disk_outcome result)) }
         ensures cause { HasCause self.old.faults self.new.faults (IsErrOf result disk_err.Failed) }
         ensures faults { self.new.faults ≡ counted result self.old.faults }
         ensures mark { self.new.mark ≡ self.old.mark }
     {
         let next_succeeds = self.next_succeeds();
         let ok = both(next_succeeds, self.has(name));
-        let call = Told::Sync(Bytes::from_slice(self.alloc, name)?, ok);
+        let call = MemEntry::Sync(Bytes::from_slice(self.alloc, name)?, ok);
         self.note(call)?;
         self.answer(ok)
     }
 
     fn remove(&mut self, name: &[u8]) -> Result<(), DiskErr>
-        ensures call_log { LogGrew (told_of self.old.calls) (told_of self.new.calls) (log_of_call (outside.Remove name.now) (disk_outcome result)) }
+        ensures call_log { LogGrew (log_of self.old.calls) (log_of self.new.calls) (log_of_call (outside.Remove name.now) (disk_outcome result)) }
         ensures cause { HasCause self.old.faults self.new.faults (IsErrOf result disk_err.Failed) }
         ensures faults { self.new.faults ≡ counted result self.old.faults }
         ensures mark { self.new.mark ≡ self.old.mark }
     {
         let next_succeeds = self.next_succeeds();
         let ok = both(next_succeeds, self.has(name));
-        let call = Told::Remove(Bytes::from_slice(self.alloc, name)?, ok);
+        let call = MemEntry::Remove(Bytes::from_slice(self.alloc, name)?, ok);
         self.note(call)?;
         self.answer(ok)
     }
 
     fn read(&mut self, alloc: Global, name: &[u8], at: u64, len: u64) -> Result<Bytes, DiskErr>
-        ensures call_log { LogGrew (told_of self.old.calls) (told_of self.new.calls) (log_of_call (outside.Read name.now at len) (disk_outcome result)) }
+        ensures call_log { LogGrew (log_of self.old.calls) (log_of self.new.calls) (log_of_call (outside.Read name.now at len) (disk_outcome result)) }
         ensures cause { HasCause self.old.faults self.new.faults (IsErrOf result disk_err.Failed) }
         ensures within { IfOk result (λ bytes. length bytes ≤ len) }
         ensures faults { self.new.faults ≡ counted result self.old.faults }
@@ -321,7 +321,7 @@ impl Disk for MemDisk {
         let next_succeeds = self.next_succeeds();
         let given = self.part(alloc, next_succeeds, name, at, len)?;
         let answer = clone_optional(alloc, &given)?;
-        let call = Told::Read(Bytes::from_slice(self.alloc, name)?, at, len, answer);
+        let call = MemEntry::Read(Bytes::from_slice(self.alloc, name)?, at, len, answer);
         self.note(call)?;
         match given {
             Some(bytes) => Ok(bytes),
@@ -330,7 +330,7 @@ impl Disk for MemDisk {
     }
 
     fn list(&mut self, alloc: Global, folder: &[u8]) -> Result<Names, DiskErr>
-        ensures call_log { LogGrew (told_of self.old.calls) (told_of self.new.calls) (log_of_call (outside.ListNames folder.now) (disk_outcome result)) }
+        ensures call_log { LogGrew (log_of self.old.calls) (log_of self.new.calls) (log_of_call (outside.ListNames folder.now) (disk_outcome result)) }
         ensures cause { HasCause self.old.faults self.new.faults (IsErrOf result disk_err.Failed) }
         ensures names { IfOk result IsListing }
         ensures faults { self.new.faults ≡ counted result self.old.faults }
@@ -339,7 +339,7 @@ impl Disk for MemDisk {
         let next_succeeds = self.next_succeeds();
         let given = self.names(alloc, next_succeeds, folder)?;
         let answer = copy_of_names(alloc, &given)?;
-        let call = Told::List(Bytes::from_slice(self.alloc, folder)?, answer);
+        let call = MemEntry::List(Bytes::from_slice(self.alloc, folder)?, answer);
         self.note(call)?;
         match given {
             Some(names) => Ok(names),

@@ -2,11 +2,11 @@
 
 ghost use Rattle.std.specs.Prelude.{◌≡◌, true, ◌<◌, ◌≤◌, ◌+◌, ◌^◌, ◌%◌, ◌==◌, ◌&&◌, not, if◌then◌else◌, slice_index, ℕ, List, length, IfOk, OnOk, Some, None};
 ghost use Rattle.fwd_outside.specs.File.{overwritten};
-ghost use Rattle.fwd_disk_mem.specs.Told.{written_over};
+ghost use Rattle.fwd_disk_mem.specs.Entry.{written_over};
 ghost use Rattle.fwd_disk_mem.specs.Images.{mixed, variant, acted_file, fits_in, no_file, reach, prefix_after_mark};
 
 use crate::content::Content;
-use crate::told::{BoxedTold, Told, calls_in};
+use crate::entry::{BoxedEntry, MemEntry, calls_in};
 use fwd_outside::Memory;
 use std::alloc::Global;
 
@@ -21,7 +21,7 @@ pub struct ImageFile {
 
 impl ImageFile {
     /// Returns the file that no call was about.
-    pub fn missing(alloc: Global) -> Self
+    pub fn absent(alloc: Global) -> Self
         ensures { result ≡ no_file }
     {
         ImageFile {
@@ -86,7 +86,7 @@ fn durable_file(alloc: Global, bytes: &[u8]) -> Result<ImageFile, Memory>
 }
 
 // Returns the post-crash state after a write that isn't durable.
-fn written_image(
+fn image_after_write(
     alloc: Global,
     pick: u64,
     base: &[u8],
@@ -111,7 +111,7 @@ fn written_image(
     }
 }
 
-fn written_bytes(old: Content, at: usize, bytes: &[u8], ok: bool) -> Result<Content, Memory>
+fn bytes_after_write(old: Content, at: usize, bytes: &[u8], ok: bool) -> Result<Content, Memory>
     ensures { IfOk result (λ new. new ≡ (if ok then overwritten old at bytes.now else old)) }
 {
     let mut new = old;
@@ -123,7 +123,7 @@ fn written_bytes(old: Content, at: usize, bytes: &[u8], ok: bool) -> Result<Cont
 }
 
 // Returns the file after a write, successful or failed.
-fn written(
+fn file_after_write(
     alloc: Global,
     pick: u64,
     file: ImageFile,
@@ -145,8 +145,8 @@ fn written(
         base,
         image,
     } = file;
-    let image = written_image(alloc, pick, base.as_slice(), image, at as usize, bytes)?;
-    let bytes = written_bytes(old, at as usize, bytes, ok)?;
+    let image = image_after_write(alloc, pick, base.as_slice(), image, at as usize, bytes)?;
+    let bytes = bytes_after_write(old, at as usize, bytes, ok)?;
     Ok(ImageFile {
         there,
         bytes,
@@ -259,36 +259,43 @@ pub fn file_after(
     alloc: Global,
     pick: u64,
     file: ImageFile,
-    call: &Told,
+    call: &MemEntry,
 ) -> Result<ImageFile, Memory>
     ensures { IfOk result (λ new. new ≡ acted_file pick file call.now) }
 {
     match call {
-        Told::Place(_, bytes, ok) => {
+        MemEntry::Place(_, bytes, ok) => {
             if *ok {
                 durable_file(alloc, bytes.as_slice())
             } else {
                 after_failed_place(alloc, pick, file, bytes.as_slice())
             }
         }
-        Told::WriteAt(_, at, bytes, ok) => written(alloc, pick, file, *at, bytes.as_slice(), *ok),
-        Told::Sync(_, ok) => after_sync(alloc, file, *ok),
-        Told::Remove(_, ok) => Ok(after_remove(pick, file, *ok)),
-        Told::Preset(_, bytes) => durable_file(alloc, bytes.as_slice()),
-        Told::Read(_, _, _, _) => Ok(file),
-        Told::List(_, _) => Ok(file),
-        Told::FailAt(_) => Ok(file),
+        MemEntry::WriteAt(_, at, bytes, ok) => file_after_write(
+            alloc,
+            pick,
+            file,
+            *at,
+            bytes.as_slice(),
+            *ok,
+        ),
+        MemEntry::Sync(_, ok) => after_sync(alloc, file, *ok),
+        MemEntry::Remove(_, ok) => Ok(after_remove(pick, file, *ok)),
+        MemEntry::Preset(_, bytes) => durable_file(alloc, bytes.as_slice()),
+        MemEntry::Read(_, _, _, _) => Ok(file),
+        MemEntry::List(_, _) => Ok(file),
+        MemEntry::FailAt(_) => Ok(file),
     }
 }
 
 /// Returns the length of the prefix with `n` calls; all if there are fewer.
-fn reach_of(n: u64, calls: &[BoxedTold]) -> usize
+fn reach_of(n: u64, calls: &[BoxedEntry]) -> usize
     ensures reach { result ≡ reach n calls.now }
     ensures within { result ≤ length calls.now }
 {
     let mut left = n;
     for i in 0..calls.len() {
-        if calls_in(calls[i].call_log()) == 1 {
+        if calls_in(calls[i].entry()) == 1 {
             if left == 0 {
                 return i;
             }
@@ -299,7 +306,7 @@ fn reach_of(n: u64, calls: &[BoxedTold]) -> usize
 }
 
 /// Returns the prefix of `calls` that ends `n` calls after the mark.
-pub fn prefix_until(calls: &[BoxedTold], mark: usize, n: u64) -> &[BoxedTold]
+pub fn prefix_until(calls: &[BoxedEntry], mark: usize, n: u64) -> &[BoxedEntry]
     ensures { result.now ≡ prefix_after_mark mark n calls.now }
 {
     if mark > calls.len() {

@@ -11,9 +11,9 @@ mod content;
 mod copies;
 mod crash;
 mod disk;
+mod entry;
 mod file_table;
 mod image;
 mod listing;
-mod told;
 
 pub use disk::MemDisk;

@@ -6,11 +6,11 @@ use Rattle.fwd_outside.specs.declared.happening.Happening.{Happening}
 use Rattle.fwd_outside.specs.Loop.{LoopEntry, LoopGiven}
 use Rattle.fwd_outside.specs.Disk.{DiskEntry}
 use Rattle.fwd_outside.specs.Files.{found}
-use Rattle.fwd_disk_mem.specs.declared.told.Told.{Told}
+use Rattle.fwd_disk_mem.specs.declared.entry.MemEntry.{MemEntry}
 use Rattle.fwd_disk_mem.specs.Images.{picked, reach, prefix_after_mark}
 use Rattle.fwd_disk_mem.specs.DiskState.{Seen}
-use Rattle.fwd_disk_mem.specs.Told as disk
-use Rattle.fwd_disk_mem.proofs.CallTrace.{split_told, played_second}
+use Rattle.fwd_disk_mem.specs.Entry as disk
+use Rattle.fwd_disk_mem.proofs.CallTrace.{split_entries, played_second}
 use Rattle.fwd_keeper.specs.Keeper.{KeeperEntry, KeeperGiven}
 use Rattle.fwd_keeper_mem.specs.KeeperAnswers as keeper
 use Rattle.fwd_keeper_mem.specs.KeeperAnswers.{offsets_after_all}
@@ -92,7 +92,7 @@ module _ (s : AllSettings) (start : Start) (planned : Life) where
   answered script taken seen held kept trace left at stands plays = record {
     loop = loop_played script (given_of planned) (loop_part trace) stands.loop plays.loop;
     are = stands.are;
-    disk = played_second [] (disk_of start planned) stands.asked (subst (λ (l : List Told). disk.IsPlayed [] l) stands.disk_is plays.disk);
+    disk = played_second [] (disk_of start planned) stands.asked (subst (λ (l : List MemEntry). disk.IsPlayed [] l) stands.disk_is plays.disk);
     files = stands.answered;
     keeper = keeper_played start kept trace stands.kept_given stands.kept_calls plays.keeper;
   }
@@ -161,13 +161,13 @@ module _ (s : AllSettings) (start : Start) (planned : Life) where
 -- ---- the disk after a crash
 
 -- the calls up to some after a position are those before it and the first of those after
-until_is : (n : ℕ) (before more : List Told) → prefix_after_mark (length before) n (before ++ more) ≡ before ++ first_calls n more
+until_is : (n : ℕ) (before more : List MemEntry) → prefix_after_mark (length before) n (before ++ more) ≡ before ++ first_calls n more
 until_is n [] more = let same : 0 + reach n more ≡ reach n more = omega arith in ap (λ (k : ℕ). take k more) same
 until_is n (call ∷ before) more =
     let len = length before in
     let far = reach n (drop len (before ++ more)) in
     let later : suc len + far ≡ suc (len + far) = omega arith in
-    ap (λ (k : ℕ). take k (call ∷ before ++ more)) later ∙ ap (λ (l : List Told). call ∷ l) (until_is n before more)
+    ap (λ (k : ℕ). take k (call ∷ before ++ more)) later ∙ ap (λ (l : List MemEntry). call ∷ l) (until_is n before more)
 
 -- the same files and offsets, with empty call logs
 finds_next : (next : Start) (image : Seen) (held renewed : FilesState) (kept renewed_kept : KeeperState) → image.calls ≡ next.disk → ((path : List ℕ) → found (files_now held.given held.notes) path ≡ content_after None next.changes path) → AreRenewed held renewed
@@ -182,18 +182,18 @@ same_offsets start kept renewed trace given calls again =
     (subst (λ (l : List KeeperEntry). SameOffsets (offsets_after_all kept.given l) renewed.given) calls again.same)
 
 module _ (s : AllSettings) (start : Start) (planned : Life) where
-  made_cut : (most since : ℕ) (cut : Cut) (going : Going) (history last : History) (before turn : List TraceEntry) (asked asked_in : List Told) (old now image : Seen) (held renewed : FilesState) (kept renewed_kept : KeeperState)
+  made_cut : (most since : ℕ) (cut : Cut) (going : Going) (history last : History) (before turn : List TraceEntry) (asked asked_in : List MemEntry) (old now image : Seen) (held renewed : FilesState) (kept renewed_kept : KeeperState)
       → planned.cut ≡ Some cut → IsCutIn s most start planned before history turn → has_cut start planned before ≡ false → IsAnswered start planned (before ++ turn) (asked ++ asked_in) → disk.entries_of asked ≡ disk_part before
       → old.calls ≡ disk_of start planned ++ asked → now.calls ≡ old.calls ++ asked_in → since ≡ length old.calls → IsCrashed since cut now image → AreRenewed held renewed → OffsetsAreRenewed kept renewed_kept
       → ((path : List ℕ) → found (files_now held.given held.notes) path ≡ content_after None (course_after (course_of start planned) (before ++ turn)).files.changes path)
       → kept.given ≡ start.offsets → kept_log.entries_of kept.notes ≡ keeper_part (before ++ turn)
       → waits_in (before ++ turn) ≡ going.taken → IsAt going.engine s last → HandsOver s most start planned cut going history before image renewed renewed_kept
   made_cut most since cut going history last before turn asked asked_in old now image held renewed kept renewed_kept is cut_in uncut answers are old_is now_is since_is crashed again kept_again has given calls waits at_last =
-      let first : List Told = disk_of start planned ++ asked in
-      let all : now.calls ≡ first ++ asked_in = now_is ∙ ap (λ (l : List Told). l ++ asked_in) old_is in
-      let at : since ≡ length first = since_is ∙ ap (λ (l : List Told). length l) old_is in
+      let first : List MemEntry = disk_of start planned ++ asked in
+      let all : now.calls ≡ first ++ asked_in = now_is ∙ ap (λ (l : List MemEntry). l ++ asked_in) old_is in
+      let at : since ≡ length first = since_is ∙ ap (λ (l : List MemEntry). length l) old_is in
       let upto : prefix_after_mark since cut.calls now.calls ≡ first ++ first_calls cut.calls asked_in =
-      ap (λ (k : ℕ). prefix_after_mark k cut.calls now.calls) at ∙ ap (λ (l : List Told). prefix_after_mark (length first) cut.calls l) all ∙ until_is cut.calls first asked_in
+      ap (λ (k : ℕ). prefix_after_mark k cut.calls now.calls) at ∙ ap (λ (l : List MemEntry). prefix_after_mark (length first) cut.calls l) all ∙ until_is cut.calls first asked_in
       in
       let course = course_after (course_of start planned) (before ++ turn) in
       let next : Start = record { disk = image.calls; changes = course.files.changes; offsets = renewed_kept.given } in
@@ -207,7 +207,7 @@ module _ (s : AllSettings) (start : Start) (planned : Life) where
           are = are;
           files = crashed.files;
           disk_is = crashed.is;
-          image = λ name. crashed.picks name ∙ ap (λ (l : List Told). picked (cut.pick % 4) l name) upto;
+          image = λ name. crashed.picks name ∙ ap (λ (l : List MemEntry). picked (cut.pick % 4) l name) upto;
           changes = refl;
           offsets = same_offsets start kept renewed_kept (before ++ turn) given calls kept_again;
         };
@@ -233,7 +233,7 @@ module _ (s : AllSettings) (start : Start) (planned : Life) where
       let same : trace ++ [] ≡ trace = append-nil trace in
       made_cut most since cut going over.history over.history trace [] over.stands.asked [] seen seen image held renewed kept renewed_kept is (inr (ended.way, refl)) over.stands.uncut
       (subst (λ (es : List TraceEntry). IsAnswered start planned es (over.stands.asked ++ [])) (sym same)
-      (subst (λ (l : List Told). IsAnswered start planned trace l) (sym (append-nil over.stands.asked)) (answered s start planned going.script going.taken seen held kept trace (λ more. Return (lived over.history Over)) (course_after course trace).files over.stands plays)))
+      (subst (λ (l : List MemEntry). IsAnswered start planned trace l) (sym (append-nil over.stands.asked)) (answered s start planned going.script going.taken seen held kept trace (λ more. Return (lived over.history Over)) (course_after course trace).files over.stands plays)))
       over.stands.are over.stands.disk_is (sym (append-nil seen.calls)) since_is crashed again kept_again
       (λ path. over.stands.files_stand.has path ∙ ap (λ (es : List TraceEntry). content_after None (course_after course es).files.changes path) (sym same))
       over.stands.kept_given (over.stands.kept_calls ∙ ap keeper_part (sym same)) (ap waits_in same ∙ over.stands.waits) over.at
@@ -337,20 +337,20 @@ module _ (s : AllSettings) (start : Start) (planned : Life) (going : Going) (see
       (uncut_always planned (is_last_next (paused s ready.history) place)) taken.plain taken.ways taken.asked.loop taken.asked.disk taken.asked.files plays
 
   -- the calls on the disk in the turn
-  turn_asked : (made : List Told) × (seen2.calls ≡ seen.calls ++ made) × (disk.entries_of made ≡ disk_part turn_is)
-  turn_asked = split_told seen.calls seen2.calls (disk_part turn_is) taken.asked.disk.1
+  turn_asked : (made : List MemEntry) × (seen2.calls ≡ seen.calls ++ made) × (disk.entries_of made ≡ disk_part turn_is)
+  turn_asked = split_entries seen.calls seen2.calls (disk_part turn_is) taken.asked.disk.1
 
   turn_answered : HaveAnswered going2.script seen2 kept → IsAnswered start planned whole_trace (ready.stands.asked ++ turn_asked.0)
   turn_answered played =
       let asked = ready.stands.asked in
       let made = turn_asked.0 in
-      let all : seen2.calls ≡ disk_of start planned ++ (asked ++ made) = turn_asked.1 ∙ ap (λ (l : List Told). l ++ made) ready.stands.disk_is ∙ append_assoc (disk_of start planned) asked made in
+      let all : seen2.calls ≡ disk_of start planned ++ (asked ++ made) = turn_asked.1 ∙ ap (λ (l : List MemEntry). l ++ made) ready.stands.disk_is ∙ append_assoc (disk_of start planned) asked made in
       record {
         loop = loop_played going2.script (given_of planned) (loop_part whole_trace) stands_behind.loop played.loop;
         are =
             map-append disk.entry_of asked made ∙ ap (λ (l : List DiskEntry). l ++ disk.entries_of made) ready.stands.are ∙ ap (λ (l : List DiskEntry). disk_part ready.trace ++ l) turn_asked.2
             ∙ sym (disk_append ready.trace turn_is);
-        disk = played_second [] (disk_of start planned) (asked ++ made) (subst (λ (l : List Told). disk.IsPlayed [] l) all played.disk);
+        disk = played_second [] (disk_of start planned) (asked ++ made) (subst (λ (l : List MemEntry). disk.IsPlayed [] l) all played.disk);
         files = stands_behind.answered;
         keeper = keeper_played start kept whole_trace stands_behind.kept_given stands_behind.kept_calls played.keeper;
       }

@@ -8,11 +8,11 @@ use Rattle.fwd_outside.specs.Disk.{DiskEntry}
 use Rattle.fwd_outside.specs.Files.{FilesGiven, found}
 use Rattle.fwd_outside.specs.Loop.{LoopEntry, LoopGiven, Start as Starting}
 use Rattle.fwd_outside.specs.declared.ends.Ends.{Ends}
-use Rattle.fwd_disk_mem.specs.declared.told.Told.{Told}
-use Rattle.fwd_disk_mem.specs.declared.told.Told.TheVariants as call_log
+use Rattle.fwd_disk_mem.specs.declared.entry.MemEntry.{MemEntry}
+use Rattle.fwd_disk_mem.specs.declared.entry.MemEntry.TheVariants as mem_entry
 use Rattle.fwd_disk_mem.specs.DiskState.{Seen}
-use Rattle.fwd_disk_mem.specs.Told as disk
-use Rattle.fwd_disk_mem.proofs.CallTrace.{split_told, played_behind}
+use Rattle.fwd_disk_mem.specs.Entry as disk
+use Rattle.fwd_disk_mem.proofs.CallTrace.{split_entries, played_behind}
 use Rattle.fwd_settings.specs.Endpoints.{ends_of}
 use Rattle.fwd_settings.specs.declared.settings_types.AllSettings.{AllSettings}
 use Rattle.fwd_files_mem.specs.FilesState.{FilesState}
@@ -56,12 +56,12 @@ use Rattle.fwd_replay.specs.declared.start.StartErr.TheVariants as why
 
 -- ---- the setup of disk and files
 
-pub told_disk : (start : Start) (planned : Life) (old stored all : Seen) → old.calls ≡ start.disk → stored ≡ record old { calls = old.calls ++ map (λ (file : Stored). call_log.Preset file.name file.bytes) planned.store }
-    → all ≡ record stored { calls = stored.calls ++ map (λ (number : ℕ). call_log.FailAt number) planned.disk_fails } → all.calls ≡ disk_of start planned
+pub told_disk : (start : Start) (planned : Life) (old stored all : Seen) → old.calls ≡ start.disk → stored ≡ record old { calls = old.calls ++ map (λ (file : Stored). mem_entry.Preset file.name file.bytes) planned.store }
+    → all ≡ record stored { calls = stored.calls ++ map (λ (number : ℕ). mem_entry.FailAt number) planned.disk_fails } → all.calls ≡ disk_of start planned
 told_disk start planned old stored all finds store fail =
-    let presets : List Told = map (λ (file : Stored). call_log.Preset file.name file.bytes) planned.store in
-    let fails : List Told = map (λ (number : ℕ). call_log.FailAt number) planned.disk_fails in
-    ap (λ (seen : Seen). seen.calls) fail ∙ ap (λ (seen : Seen). seen.calls ++ fails) store ∙ ap (λ (calls : List Told). (calls ++ presets) ++ fails) finds
+    let presets : List MemEntry = map (λ (file : Stored). mem_entry.Preset file.name file.bytes) planned.store in
+    let fails : List MemEntry = map (λ (number : ℕ). mem_entry.FailAt number) planned.disk_fails in
+    ap (λ (seen : Seen). seen.calls) fail ∙ ap (λ (seen : Seen). seen.calls ++ fails) store ∙ ap (λ (calls : List MemEntry). (calls ++ presets) ++ fails) finds
 
 abbrev fails_told : List ℕ → List FilesNote
 fails_told numbers = map (λ (number : ℕ). note.FailAt number) numbers
@@ -106,24 +106,24 @@ if_ok (Err e) f p = tt
 abbrev pub quiet : Life → CallLogs
 quiet planned = record { loop = Some (given_of planned, []); disk = None; files = Some ([], []); keeper = Some ([], []) }
 
-abbrev pub seen_in : Life → List Told → CallLogs
-seen_in planned calls = with_disk (disk.told_of calls) (quiet planned)
+abbrev pub seen_in : Life → List MemEntry → CallLogs
+seen_in planned calls = with_disk (disk.log_of calls) (quiet planned)
 
 -- the calls on the disk that loaded it
-pub record Loaded (s : AllSettings) (start : Start) (planned : Life) (calls : List Told) (result : Option History) : Type 0 where
+pub record Loaded (s : AllSettings) (start : Start) (planned : Life) (calls : List MemEntry) (result : Option History) : Type 0 where
   trace : List TraceEntry
   way : Execution (recovers s) trace (Return result)
   no_loop : loop_part trace ≡ []
   no_files : files_part trace ≡ []
   no_keeper : keeper_part trace ≡ []
-  asked : List Told
+  asked : List MemEntry
   disk_is : calls ≡ disk_of start planned ++ asked
   are : disk.entries_of asked ≡ disk_part trace
 
-loaded_so : (s : AllSettings) (start : Start) (planned : Life) (old new : List Told) (result : Option History) → old ≡ disk_of start planned
+loaded_so : (s : AllSettings) (start : Start) (planned : Life) (old new : List MemEntry) (result : Option History) → old ≡ disk_of start planned
     → Completes (seen_in planned old) (seen_in planned new) (recovers s) result → Loaded s start planned new result
 loaded_so s start planned old new result call_log did =
-    let made = split_told old new (disk_part did.entries) did.asked.disk.1 in
+    let made = split_entries old new (disk_part did.entries) did.asked.disk.1 in
     record {
       trace = did.entries;
       way = did.way;
@@ -131,7 +131,7 @@ loaded_so s start planned old new result call_log did =
       no_files = sym did.asked.files.1;
       no_keeper = sym did.asked.keeper.1;
       asked = made.0;
-      disk_is = made.1 ∙ ap (λ (calls : List Told). calls ++ made.0) call_log;
+      disk_is = made.1 ∙ ap (λ (calls : List MemEntry). calls ++ made.0) call_log;
       are = made.2;
     }
 
@@ -186,7 +186,7 @@ load_fails s start planned old new held kept ready did played =
         asked = loaded.asked;
         answered = record {
           loop = subst (λ (es : List LoopEntry). place.IsPlayed (given_of planned) es) (sym loaded.no_loop) tt;
-          disk = played_behind (disk_of start planned) loaded.asked (subst (λ (call_log : List Told). disk.IsPlayed [] call_log) loaded.disk_is played);
+          disk = played_behind (disk_of start planned) loaded.asked (subst (λ (call_log : List MemEntry). disk.IsPlayed [] call_log) loaded.disk_is played);
           are = loaded.are;
           files = answers_of (course_of start planned) loaded.trace still;
           keeper = subst (λ (es : List KeeperEntry). keeper.IsPlayed start.offsets [] es) (sym loaded.no_keeper) tt;
@@ -229,7 +229,7 @@ module _ (s : AllSettings) (start : Start) (planned : Life) (seen : Seen) (h : H
   keeper_played trace is = subst (λ (g : KeeperGiven). keeper.IsPlayed g [] (keeper_part trace)) got_given (subst (λ (l : List KeeperEntry). keeper.IsPlayed kept2.given [] l) is played)
 
   disk_played : disk.IsPlayed (disk_of start planned) recovered.asked
-  disk_played = played_behind (disk_of start planned) recovered.asked (subst (λ (call_log : List Told). disk.IsPlayed [] call_log) recovered.disk_is recovered.played)
+  disk_played = played_behind (disk_of start planned) recovered.asked (subst (λ (call_log : List MemEntry). disk.IsPlayed [] call_log) recovered.disk_is recovered.played)
 
   -- a get failed
   pub get_fails : (now : History) → r ≡ lived now KeeperFailed → EndedAs s start planned (lived now KeeperFailed)

@@ -9,10 +9,10 @@ use Rattle.fwd_outside.specs.declared.happening.Happening.TheVariants as happeni
 use Rattle.fwd_outside.specs.Loop.{LoopEntry, LoopLog, Wait}
 use Rattle.fwd_outside.specs.Disk.{DiskEntry}
 use Rattle.fwd_outside.specs.Files.{FilesEntry, FilesGiven}
-use Rattle.fwd_disk_mem.specs.declared.told.Told.{Told}
+use Rattle.fwd_disk_mem.specs.declared.entry.MemEntry.{MemEntry}
 use Rattle.fwd_disk_mem.specs.DiskState.{Seen}
-use Rattle.fwd_disk_mem.specs.Told as disk
-use Rattle.fwd_disk_mem.proofs.CallTrace.{split_told}
+use Rattle.fwd_disk_mem.specs.Entry as disk
+use Rattle.fwd_disk_mem.proofs.CallTrace.{split_entries}
 use Rattle.fwd_settings.specs.Endpoints.{ends_of}
 use Rattle.fwd_settings.specs.declared.settings_types.AllSettings.{AllSettings}
 use Rattle.fwd_script.specs.declared.schedule.Cut.{Cut}
@@ -140,7 +140,7 @@ module _ (s : AllSettings) (start : Start) (planned : Life) (h : History) (trace
       → RunRepresents s start planned call_log taken seen held kept trace (λ more. run s None more h) (after_wait (paused s h) (course_after (course_of start planned) trace)).files
       → None ≡ (if is_last_next (paused s h) (course_after (course_of start planned) trace) then planned.cut else None)
       → ArePlain es → ((more : ℕ) → Execution (run s None (suc more) h) (wait_of s h x ∷ es) (left more))
-      → LogGrew call_log told2 (loop_part (wait_of s h x ∷ es)) → LogGrew (disk.told_of seen.calls) (disk.told_of seen2.calls) (disk_part es) → LogGrew (files.told_of held) (files.told_of held2) (files_part es)
+      → LogGrew call_log told2 (loop_part (wait_of s h x ∷ es)) → LogGrew (disk.log_of seen.calls) (disk.log_of seen2.calls) (disk_part es) → LogGrew (files.told_of held) (files.told_of held2) (files_part es)
       → IsPlayed held2.given [] (entries_from held2.given held2.notes)
       → RunRepresents s start planned told2 (taken + 1) seen2 held2 kept (trace ++ wait_of s h x ∷ es) left (course_after (course_of start planned) (trace ++ wait_of s h x ∷ es)).files
   turn_stands told2 seen2 held2 x es left stands uncut plain ways grew_loop grew_disk grew_files played =
@@ -148,7 +148,7 @@ module _ (s : AllSettings) (start : Start) (planned : Life) (h : History) (trace
       let course = course_of start planned in
       let place = course_after course trace in
       let waited = after_wait (paused s h) place in
-      let made = split_told seen.calls seen2.calls (disk_part es) grew_disk.1 in
+      let made = split_entries seen.calls seen2.calls (disk_part es) grew_disk.1 in
       record {
         way = λ more.
             let moved : taken + suc more ≡ (taken + 1) + more = omega arith in
@@ -163,7 +163,7 @@ module _ (s : AllSettings) (start : Start) (planned : Life) (h : History) (trace
             grew_told call_log told2 (given_of planned) (loop_part trace) (loop_part turn) stands.loop grew_loop
             ∙ ap (λ (l : List LoopEntry). Some (given_of planned, l)) (sym (loop_append trace turn));
         asked = stands.asked ++ made.0;
-        disk_is = made.1 ∙ ap (λ (l : List Told). l ++ made.0) stands.disk_is ∙ append_assoc (disk_of start planned) stands.asked made.0;
+        disk_is = made.1 ∙ ap (λ (l : List MemEntry). l ++ made.0) stands.disk_is ∙ append_assoc (disk_of start planned) stands.asked made.0;
         are =
             map-append disk.entry_of stands.asked made.0
             ∙ ap (λ (l : List DiskEntry). l ++ disk.entries_of made.0) stands.are
@@ -261,10 +261,10 @@ keeps_same s offsets h now same keeps = record {
 module _ (s : AllSettings) (start : Start) (planned : Life) (going : Going) (seen : Seen) (held : FilesState) (kept : KeeperState) (ready : IsReady s start planned going seen held kept None) (engine2 : Engine) (script2 : ScriptState) (seen2 : Seen) (held2 : FilesState)
     (played : IsPlayed held2.given [] (entries_from held2.given held2.notes)) where
   abbrev old : CallLogs
-  old = with_all (told_of going.script) (disk.told_of seen.calls) (files.told_of held) Nowhere
+  old = with_all (told_of going.script) (disk.log_of seen.calls) (files.told_of held) Nowhere
 
   abbrev new : CallLogs
-  new = with_all (told_of script2) (disk.told_of seen2.calls) (files.told_of held2) Nowhere
+  new = with_all (told_of script2) (disk.log_of seen2.calls) (files.told_of held2) Nowhere
 
   stands_then : (x : Happening) (es : List TraceEntry) (left : ℕ → Action RunResult) → ArePlain es → ((more : ℕ) → Execution (run s None (suc more) ready.history) (wait_of s ready.history x ∷ es) (left more))
       → LogsGrew old new (wait_of s ready.history x ∷ es)

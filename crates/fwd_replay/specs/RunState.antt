@@ -6,11 +6,11 @@ use Rattle.fwd_outside.specs.Files.{found}
 use Rattle.fwd_outside.specs.Loop.{LoopLog, Start as Starting}
 use Rattle.fwd_outside.specs.declared.ends.Ends.{Ends}
 use Rattle.fwd_outside.specs.declared.happening.Happening.{Happening}
-use Rattle.fwd_disk_mem.specs.declared.told.Told.{Told}
+use Rattle.fwd_disk_mem.specs.declared.entry.MemEntry.{MemEntry}
 use Rattle.fwd_disk_mem.specs.Images.{picked, file_settings, prefix_after_mark}
 use Rattle.fwd_disk_mem.specs.DiskState.{Seen}
 use Rattle.fwd_disk_mem.specs.FileTable.{MemFile}
-use Rattle.fwd_disk_mem.specs.Told as disk
+use Rattle.fwd_disk_mem.specs.Entry as disk
 use Rattle.fwd_keeper_mem.specs.KeeperAnswers as keeper
 use Rattle.fwd_keeper_mem.specs.KeeperState.{KeeperState}
 use Rattle.fwd_keeper_mem.specs.MemKeeper as offsets
@@ -80,7 +80,7 @@ pub record RunRepresents (s : AllSettings) (start : Start) (planned : Life) (cal
   pub waits : waits_in trace ≡ taken
   pub uncut : has_cut start planned trace ≡ false
   pub loop : call_log ≡ Some (given_of planned, loop_part trace)
-  pub asked : List Told
+  pub asked : List MemEntry
   pub disk_is : seen.calls ≡ disk_of start planned ++ asked
   pub are : disk.entries_of asked ≡ disk_part trace
   pub answered : FilesAnswered (course_of start planned) trace
@@ -151,7 +151,7 @@ abbrev pub nowhere : CallLogs
 nowhere = record { loop = None; disk = None; files = None; keeper = None }
 
 abbrev pub memory : ScriptState → Seen → FilesState → CallLogs
-memory script seen held = with_all (told_of script) (disk.told_of seen.calls) (files.told_of held) nowhere
+memory script seen held = with_all (told_of script) (disk.log_of seen.calls) (files.told_of held) nowhere
 
 -- loop, disk and keeper in memory answered as the schedule says
 pub record HaveAnswered (script : ScriptState) (seen : Seen) (kept : KeeperState) : Type 0 where
@@ -221,7 +221,7 @@ pub record IsRecovered (s : AllSettings) (start : Start) (planned : Life) (seen 
   pub no_loop : loop_part trace ≡ []
   pub no_files : files_part trace ≡ []
   pub no_keeper : keeper_part trace ≡ []
-  pub asked : List Told
+  pub asked : List MemEntry
   pub disk_is : seen.calls ≡ disk_of start planned ++ asked
   pub are : disk.entries_of asked ≡ disk_part trace
   pub played : disk.IsPlayed [] seen.calls

@@ -2,9 +2,9 @@
 use Rattle.std.specs.Prelude.{◌≡◌, ◌⊎◌, ℕ, ◌+◌, ◌-◌, ◌<◌, ◌%◌, Bool, true, false, ◌&&◌, List, [], ◌∷◌, ◌++◌, map, take, Some, None, is_some}
 use Rattle.fwd_outside.specs.Program.{Return, Execution}
 use Rattle.fwd_outside.specs.File.{content}
-use Rattle.fwd_disk_mem.specs.declared.told.Told.{Told}
-use Rattle.fwd_disk_mem.specs.declared.told.Told.TheVariants.{Preset, FailAt}
-use Rattle.fwd_disk_mem.specs.Told as disk
+use Rattle.fwd_disk_mem.specs.declared.entry.MemEntry.{MemEntry}
+use Rattle.fwd_disk_mem.specs.declared.entry.MemEntry.TheVariants.{Preset, FailAt}
+use Rattle.fwd_disk_mem.specs.Entry as disk
 use Rattle.fwd_disk_mem.specs.FileTable.{MemFile}
 use Rattle.fwd_disk_mem.specs.Images.{picked, file_settings, reach}
 use Rattle.fwd_keeper.specs.Keeper.{KeeperGiven}
@@ -34,7 +34,7 @@ use Rattle.fwd_replay.specs.declared.report.Shown.{Shown}
 -- the state of the platform when a run begins: the calls on the disk, which has no unsynced state, the
 -- changes of files so far, and the offsets that the keeper has
 pub record Start : Type 0 where
-  pub disk : List Told
+  pub disk : List MemEntry
   pub changes : List FileChange
   pub offsets : KeeperGiven
 
@@ -44,7 +44,7 @@ first = record { disk = []; changes = []; offsets = [] }
 
 -- the calls of the setup are added to those of the disk: the files put on it, and the calls that are to
 -- fail
-abbrev pub disk_of : Start → Life → List Told
+abbrev pub disk_of : Start → Life → List MemEntry
 disk_of start planned =
     start.disk ++ map (λ (file : Stored). Preset file.name file.bytes) planned.store
     ++ map (λ (number : ℕ). FailAt number) planned.disk_fails
@@ -60,7 +60,7 @@ course_of start planned = record {
 -- The answers to these calls are those of the run: of its loop, of the disk after these calls, of the files,
 -- and of the keeper, which fails no call.
 pub record IsAnswered (start : Start) (planned : Life) (trace : List TraceEntry)
-    (asked : List Told) : Type 0 where
+    (asked : List MemEntry) : Type 0 where
   pub loop : place.IsPlayed (given_of planned) (loop_part trace)
   pub are : disk.entries_of asked ≡ disk_part trace
   pub disk : disk.IsPlayed (disk_of start planned) asked
@@ -77,7 +77,7 @@ has_cut start planned trace = is_some planned.cut && has_last (course_of start p
 pub record IsLife (s : AllSettings) (turns : ℕ) (start : Start) (planned : Life) (trace : List TraceEntry)
     (comes : RunResult) : Type 0 where
   pub way : Execution (life s (ends_of s) None turns) trace (Return comes)
-  pub asked : List Told
+  pub asked : List MemEntry
   pub answered : IsAnswered start planned trace asked
   pub uncut : has_cut start planned trace ≡ false
 
@@ -104,7 +104,7 @@ IsCutIn s turns start planned before h calls =
     ⊎ (Execution (life s (ends_of s) None turns) before (Return (lived h Over)) × (calls ≡ []))
 
 -- the first of these calls, that many
-abbrev pub first_calls : ℕ → List Told → List Told
+abbrev pub first_calls : ℕ → List MemEntry → List MemEntry
 first_calls n calls = take (reach n calls) calls
 
 -- a run that is cut, and the state of the platform after the crash
@@ -114,8 +114,8 @@ pub record CutRun : Type 0 where
   pub history : History
   pub turn : List TraceEntry
   -- the calls on the disk before the turn, and in it
-  pub asked : List Told
-  pub asked_in : List Told
+  pub asked : List MemEntry
+  pub asked_in : List MemEntry
   pub next : Start
 
 -- The disk is then in a post-crash state of the disk after that many calls of the turn, chosen by the

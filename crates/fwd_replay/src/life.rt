@@ -170,7 +170,7 @@ fn cut_turn(
     ensures { (s : AllSettings) (begins : Start) (planned : Life) (ready : IsReady s begins planned going.old disk.old files.old keeper.old (Some cut))
         → OnOk result (HandsOver s most begins planned cut going.new ready.history ready.trace disk.new files.new keeper.new) }
 {
-    let since = disk.told_len();
+    let since = disk.record_len();
     if is_out_of_memory(take(rt, going, disk, files, keeper)) {
         return Err(Memory);
     }
@@ -218,7 +218,7 @@ fn leave_over(
 {
     let text = text_of(alloc, named, going)?;
     lemma_have_answered(going, disk, keeper);
-    let since = disk.told_len();
+    let since = disk.record_len();
     crash(alloc, disk, files, keeper, since, cut)?;
     Ok(Came {
         text,

@@ -1,7 +1,7 @@
 //! The start of a run.
 
 ghost use Rattle.std.specs.Prelude.{◌≡◌, ◌++◌, [], map, ℕ, OnOk};
-ghost use Rattle.fwd_disk_mem.specs.declared.told.Told.TheVariants as call_log;
+ghost use Rattle.fwd_disk_mem.specs.declared.entry.MemEntry.TheVariants as mem_entry;
 ghost use Rattle.fwd_disk_mem.specs.DiskState.{Seen};
 ghost use Rattle.fwd_engine.specs.EngineSteps.{IsAt};
 ghost use Rattle.fwd_settings.specs.declared.settings_types.AllSettings.{AllSettings};
@@ -43,7 +43,7 @@ pub enum StartErr {
 
 /// Puts the files of the schedule on the disk.
 fn store(disk: &mut MemDisk, stored: &StoredList) -> Result<(), Memory>
-    ensures { OnOk result (disk.new ≡ record disk.old { calls = disk.old.calls ++ map (λ (file : Stored). call_log.Preset file.name file.bytes) stored.now }) }
+    ensures { OnOk result (disk.new ≡ record disk.old { calls = disk.old.calls ++ map (λ (file : Stored). mem_entry.Preset file.name file.bytes) stored.now }) }
 {
     for file in stored.as_slice() {
         disk.preset(file.name.as_slice(), file.bytes.as_slice())?;
@@ -53,7 +53,7 @@ fn store(disk: &mut MemDisk, stored: &StoredList) -> Result<(), Memory>
 
 /// Makes these calls on the disk fail.
 fn set_failing_disk_calls(disk: &mut MemDisk, numbers: &Calls) -> Result<(), Memory>
-    ensures { OnOk result (disk.new ≡ record disk.old { calls = disk.old.calls ++ map (λ (number : ℕ). call_log.FailAt number) numbers.now }) }
+    ensures { OnOk result (disk.new ≡ record disk.old { calls = disk.old.calls ++ map (λ (number : ℕ). mem_entry.FailAt number) numbers.now }) }
 {
     for number in numbers.as_slice() {
         disk.fail_at(*number)?;

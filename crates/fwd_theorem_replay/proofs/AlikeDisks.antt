@@ -9,29 +9,29 @@ use Rattle.fwd_outside.specs.DiskStates.{AreNamesIn}
 use Rattle.fwd_outside.specs.Disk.{DiskCall, DiskAnswer, IsListing}
 use Rattle.fwd_outside.specs.Disk as outside
 use Rattle.fwd_disk_mem.specs.FileTable.{MemFile}
-use Rattle.fwd_disk_mem.specs.declared.told.Told.{Told}
-use Rattle.fwd_disk_mem.specs.declared.told.Told.TheVariants.{Place, WriteAt, Sync, Remove, Read, List as Listed, Preset, FailAt}
-use Rattle.fwd_disk_mem.specs.Told.{took, entry_of, entries_of, is_call, made_of, fails_of, next_succeeds, can_write, step, run, files_of, AnswerIs}
+use Rattle.fwd_disk_mem.specs.declared.entry.MemEntry.{MemEntry}
+use Rattle.fwd_disk_mem.specs.declared.entry.MemEntry.TheVariants.{Place, WriteAt, Sync, Remove, Read, List as Listed, Preset, FailAt}
+use Rattle.fwd_disk_mem.specs.Entry.{took, entry_of, entries_of, is_call, made_of, fails_of, next_succeeds, can_write, step, run, files_of, AnswerIs}
 use Rattle.fwd_disk_mem.specs.Images.{CrashFile, crash_file_step, make, no_call_file, file_settings}
 use Rattle.fwd_disk_mem.proofs.PlayedCalls.{files-push, made-push}
-use Rattle.fwd_disk_mem.proofs.CallTrace.{same_told}
+use Rattle.fwd_disk_mem.proofs.CallTrace.{same_entry}
 use Rattle.fwd_theorem_replay.proofs.FolderListing.{one_listing}
 
-pub record Alike (call_log told2 : List Told) : Type 0 where
+pub record Alike (call_log told2 : List MemEntry) : Type 0 where
   pub made : made_of told2 ≡ made_of call_log
   pub fails : fails_of told2 ≡ fails_of call_log
   pub files : (name : List ℕ) → files_of told2 name ≡ files_of call_log name
   pub images : (pick : ℕ) (name : List ℕ) → make pick name absent no_call_file told2 ≡ make pick name absent no_call_file call_log
 
-pub alike_itself : (call_log : List Told) → Alike call_log call_log
+pub alike_itself : (call_log : List MemEntry) → Alike call_log call_log
 alike_itself call_log = record { made = refl; fails = refl; files = λ name. refl; images = λ pick name. refl }
 
-pub alike_back : (call_log told2 : List Told) → Alike call_log told2 → Alike told2 call_log
+pub alike_back : (call_log told2 : List MemEntry) → Alike call_log told2 → Alike told2 call_log
 alike_back call_log told2 alike = record { made = sym alike.made; fails = sym alike.fails; files = λ name. sym (alike.files name); images = λ pick name. sym (alike.images pick name) }
 
 -- ---- one more call
 
-fails-push : (calls : List Told) (call : Told) → fails_of (calls ++ call ∷ []) ≡ fails_of calls ++ fails_of (call ∷ [])
+fails-push : (calls : List MemEntry) (call : MemEntry) → fails_of (calls ++ call ∷ []) ≡ fails_of calls ++ fails_of (call ∷ [])
 fails-push [] call = refl
 fails-push (FailAt n ∷ calls) call = ap (λ (l : List ℕ). n ∷ l) (fails-push calls call)
 fails-push (Place _ _ _ ∷ calls) call = fails-push calls call
@@ -42,11 +42,11 @@ fails-push (Read _ _ _ _ ∷ calls) call = fails-push calls call
 fails-push (Listed _ _ ∷ calls) call = fails-push calls call
 fails-push (Preset _ _ ∷ calls) call = fails-push calls call
 
-make-push : (pick : ℕ) (name : List ℕ) (s : FileState) (m : CrashFile) (calls : List Told) (call : Told) → make pick name s m (calls ++ call ∷ []) ≡ crash_file_step pick name (run name s calls) (make pick name s m calls) call
+make-push : (pick : ℕ) (name : List ℕ) (s : FileState) (m : CrashFile) (calls : List MemEntry) (call : MemEntry) → make pick name s m (calls ++ call ∷ []) ≡ crash_file_step pick name (run name s calls) (make pick name s m calls) call
 make-push pick name s m [] call = refl
 make-push pick name s m (first ∷ calls) call = make-push pick name (step name s first) (crash_file_step pick name s m first) calls call
 
-pub alike_push : (call_log told2 : List Told) (call : Told) → Alike call_log told2 → Alike (call_log ++ call ∷ []) (told2 ++ call ∷ [])
+pub alike_push : (call_log told2 : List MemEntry) (call : MemEntry) → Alike call_log told2 → Alike (call_log ++ call ∷ []) (told2 ++ call ∷ [])
 alike_push call_log told2 call alike = record {
   made = made-push told2 call ∙ ap (λ (n : ℕ). n + (if is_call call then 1 else 0)) alike.made ∙ sym (made-push call_log call);
   fails = fails-push told2 call ∙ ap (λ (l : List ℕ). l ++ fails_of (call ∷ [])) alike.fails ∙ sym (fails-push call_log call);
@@ -58,15 +58,15 @@ alike_push call_log told2 call alike = record {
       ∙ sym (make-push pick name absent no_call_file call_log call);
 }
 
-pub alike_append : (call_log told2 more : List Told) → Alike call_log told2 → Alike (call_log ++ more) (told2 ++ more)
-alike_append call_log told2 [] alike = subst (λ (l : List Told). Alike l (told2 ++ [])) (sym (append-nil call_log)) (subst (λ (l : List Told). Alike call_log l) (sym (append-nil told2)) alike)
+pub alike_append : (call_log told2 more : List MemEntry) → Alike call_log told2 → Alike (call_log ++ more) (told2 ++ more)
+alike_append call_log told2 [] alike = subst (λ (l : List MemEntry). Alike l (told2 ++ [])) (sym (append-nil call_log)) (subst (λ (l : List MemEntry). Alike call_log l) (sym (append-nil told2)) alike)
 alike_append call_log told2 (call ∷ more) alike =
-    subst (λ (l : List Told). Alike l (told2 ++ call ∷ more)) (append_assoc call_log (call ∷ []) more)
-    (subst (λ (l : List Told). Alike ((call_log ++ call ∷ []) ++ more) l) (append_assoc told2 (call ∷ []) more) (alike_append (call_log ++ call ∷ []) (told2 ++ call ∷ []) more (alike_push call_log told2 call alike)))
+    subst (λ (l : List MemEntry). Alike l (told2 ++ call ∷ more)) (append_assoc call_log (call ∷ []) more)
+    (subst (λ (l : List MemEntry). Alike ((call_log ++ call ∷ []) ++ more) l) (append_assoc told2 (call ∷ []) more) (alike_append (call_log ++ call ∷ []) (told2 ++ call ∷ []) more (alike_push call_log told2 call alike)))
 
 -- ---- the answers
 
-pub same_works : (call_log told2 : List Told) → Alike call_log told2 → next_succeeds told2 ≡ next_succeeds call_log
+pub same_works : (call_log told2 : List MemEntry) → Alike call_log told2 → next_succeeds told2 ≡ next_succeeds call_log
 same_works call_log told2 alike =
     ap (λ (n : ℕ). not (list_any (λ number. number == n + 1) (fails_of told2))) alike.made
     ∙ ap (λ (l : List ℕ). not (list_any (λ number. number == made_of call_log + 1) l)) alike.fails
@@ -75,7 +75,7 @@ abbrev read_of : Bool → FileState → ℕ → ℕ → Option (List ℕ)
 read_of ok file at len = if ok && file.there then Some (take len (drop at file.bytes)) else None
 
 -- the condition for a disk's answer
-abbrev pub IsGiven : List Told → (call : DiskCall) → DiskAnswer call → Type 0
+abbrev pub IsGiven : List MemEntry → (call : DiskCall) → DiskAnswer call → Type 0
 IsGiven call_log (outside.Place name bytes) answer = answer ≡ took (next_succeeds call_log)
 IsGiven call_log (outside.WriteAt name at bytes) answer = answer ≡ took (next_succeeds call_log && can_write (files_of call_log name) at)
 IsGiven call_log (outside.Sync name) answer = answer ≡ took (next_succeeds call_log && (files_of call_log name).there)
@@ -85,7 +85,7 @@ IsGiven call_log (outside.ListNames folder) answer = MatchBool (next_succeeds ca
 IsGiven call_log (outside.Preset name bytes) answer = Unit {0}
 IsGiven call_log (outside.FailAt number) answer = Unit {0}
 
-pub given_is : (call_log : List Told) (call : Told) → AnswerIs call_log call → IsGiven call_log (entry_of call).call (entry_of call).answer
+pub given_is : (call_log : List MemEntry) (call : MemEntry) → AnswerIs call_log call → IsGiven call_log (entry_of call).call (entry_of call).answer
 given_is call_log (Place name bytes ok) gives = ap took gives
 given_is call_log (WriteAt name at bytes ok) gives = ap took gives
 given_is call_log (Sync name ok) gives = ap took gives
@@ -95,7 +95,7 @@ given_is call_log (Listed folder answer) gives = gives
 given_is call_log (Preset name bytes) gives = tt
 given_is call_log (FailAt number) gives = tt
 
-module _ (call_log told2 : List Told) (alike : Alike call_log told2) where
+module _ (call_log told2 : List MemEntry) (alike : Alike call_log told2) where
   same_ok : (name : List ℕ) (can : FileState → Bool) → took (next_succeeds told2 && can (files_of told2 name)) ≡ took (next_succeeds call_log && can (files_of call_log name))
   same_ok name can =
       ap (λ (ok : Bool). took (ok && can (files_of told2 name))) (same_works call_log told2 alike) ∙ ap (λ (file : FileState). took (next_succeeds call_log && can file)) (alike.files name)
@@ -124,14 +124,14 @@ module _ (call_log told2 : List Told) (alike : Alike call_log told2) where
   same_answer (outside.FailAt number) a b one other = refl
 
 -- logs with equal entries are equal
-pub same_calls : (a b : List Told) → entries_of a ≡ entries_of b → a ≡ b
+pub same_calls : (a b : List MemEntry) → entries_of a ≡ entries_of b → a ≡ b
 same_calls [] [] same = refl
 same_calls [] (d ∷ b) same = absurd (cc same)
 same_calls (c ∷ a) [] same = absurd (cc same)
 same_calls (c ∷ a) (d ∷ b) same =
     let head : entry_of c ≡ entry_of d = cc same in
     let tail : entries_of a ≡ entries_of b = cc same in
-    ap (λ (t : Told). t ∷ a) (same_told c d head) ∙ ap (λ (l : List Told). d ∷ l) (same_calls a b tail)
+    ap (λ (t : MemEntry). t ∷ a) (same_entry c d head) ∙ ap (λ (l : List MemEntry). d ∷ l) (same_calls a b tail)
 
 -- ---- files that were put on the disk, and nothing else
 

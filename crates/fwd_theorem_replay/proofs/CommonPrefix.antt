@@ -3,9 +3,9 @@ use Rattle.std.proofs.Common.{◌≡◌, List, [], ◌∷◌, ◌++◌, refl, sy
 use Rattle.std.proofs.lemmas.List.{append-nil}
 use Rattle.fwd_outside.specs.Program.{entry, Return, Ask, Execution}
 use Rattle.fwd_outside.specs.Disk.{DiskCall, DiskEntry}
-use Rattle.fwd_disk_mem.specs.declared.told.Told.{Told}
-use Rattle.fwd_disk_mem.specs.Told.{entry_of, entries_of, IsPlayed}
-use Rattle.fwd_disk_mem.proofs.CallTrace.{same_told}
+use Rattle.fwd_disk_mem.specs.declared.entry.MemEntry.{MemEntry}
+use Rattle.fwd_disk_mem.specs.Entry.{entry_of, entries_of, IsPlayed}
+use Rattle.fwd_disk_mem.proofs.CallTrace.{same_entry}
 use Rattle.fwd_script_loop.specs.Place.{Place, ArePlayed, after}
 use Rattle.fwd_keeper.specs.Keeper.{KeeperEntry, KeeperGiven}
 use Rattle.fwd_keeper_mem.specs.KeeperAnswers as keeper
@@ -16,7 +16,7 @@ use Rattle.fwd_theorem_replay.proofs.AlikeDisks.{Alike, alike_push, IsGiven, giv
 use Rattle.fwd_theorem_replay.proofs.AlikeKeepers.{same_kept}
 
 -- from here on each device answers according to its state, and the disk was asked this
-pub record Answers (place : Place) (call_log : List Told) (course : Course) (offsets : KeeperGiven) (kept : List KeeperEntry) (es : List TraceEntry) (asked : List Told) : Type 0 where
+pub record Answers (place : Place) (call_log : List MemEntry) (course : Course) (offsets : KeeperGiven) (kept : List KeeperEntry) (es : List TraceEntry) (asked : List MemEntry) : Type 0 where
   pub loop : ArePlayed place (loop_part es)
   pub are : entries_of asked ≡ disk_part es
   pub disk : IsPlayed call_log asked
@@ -31,7 +31,7 @@ pub record GoesOn {R : Type 0} (left : Action R) (y : R) (one other : List Trace
 
 abbrev pub CallsLeadOn : {R : Type 0} → Action R → Type 0
 CallsLeadOn {R = R} p =
-    (place : Place) (call_log told2 : List Told) (course : Course) (offsets offsets2 : KeeperGiven) (kept : List KeeperEntry) (one other : List TraceEntry) (asked asked2 : List Told) (left : Action R) (y : R)
+    (place : Place) (call_log told2 : List MemEntry) (course : Course) (offsets offsets2 : KeeperGiven) (kept : List KeeperEntry) (one other : List TraceEntry) (asked asked2 : List MemEntry) (left : Action R) (y : R)
     → Alike call_log told2 → SameOffsets offsets offsets2 → Execution p one left → Execution p other (Return y) → Answers place call_log course offsets kept one asked → Answers place told2 course offsets2 kept other asked2 → GoesOn left y one other
 
 module _ {R : Type 0} (left : Action R) (y : R) (es fs : List TraceEntry) where
@@ -42,9 +42,9 @@ module _ {R : Type 0} (left : Action R) (y : R) (es fs : List TraceEntry) where
     way = more.way;
   }
 
-  module _ (place : Place) (call_log told2 : List Told) (course : Course) (offsets offsets2 : KeeperGiven) (kept : List KeeperEntry) (alike : Alike call_log told2) (same_offsets : SameOffsets offsets offsets2) where
+  module _ (place : Place) (call_log told2 : List MemEntry) (course : Course) (offsets offsets2 : KeeperGiven) (kept : List KeeperEntry) (alike : Alike call_log told2) (same_offsets : SameOffsets offsets offsets2) where
     -- the first call of both, by device
-    on_disk : (call : DiskCall) (go : Answer (OnDisk call) → Action R) → ((answer : Answer (OnDisk call)) → CallsLeadOn (go answer)) → (asked asked2 : List Told) (a b : Answer (OnDisk call)) → Execution (go a) es left → Execution (go b) fs (Return y)
+    on_disk : (call : DiskCall) (go : Answer (OnDisk call) → Action R) → ((answer : Answer (OnDisk call)) → CallsLeadOn (go answer)) → (asked asked2 : List MemEntry) (a b : Answer (OnDisk call)) → Execution (go a) es left → Execution (go b) fs (Return y)
         → Answers place call_log course offsets kept (entry (OnDisk call) a ∷ es) asked → Answers place told2 course offsets2 kept (entry (OnDisk call) b ∷ fs) asked2 → GoesOn left y (entry (OnDisk call) a ∷ es) (entry (OnDisk call) b ∷ fs)
     on_disk call go rest [] asked2 a b one other first second = absurd (cc first.are)
     on_disk call go rest (t ∷ asked) [] a b one other first second = absurd (cc second.are)
@@ -56,14 +56,14 @@ module _ {R : Type 0} (left : Action R) (y : R) (es fs : List TraceEntry) where
         let given = subst (λ (e : DiskEntry). IsGiven call_log e.call e.answer) head (given_is call_log t first.disk.0) in
         let given2 = subst (λ (e : DiskEntry). IsGiven told2 e.call e.answer) head2 (given_is told2 t2 second.disk.0) in
         let is : b ≡ a = same_answer call_log told2 alike call a b given given2 in
-        let call_is : t2 ≡ t = same_told t2 t (head2 ∙ ap (λ (z : Answer (OnDisk call)). entry call z) is ∙ sym head) in
-        let next = subst (λ (u : Told). Alike (call_log ++ t ∷ []) (told2 ++ u ∷ [])) (sym call_is) (alike_push call_log told2 t alike) in
+        let call_is : t2 ≡ t = same_entry t2 t (head2 ∙ ap (λ (z : Answer (OnDisk call)). entry call z) is ∙ sym head) in
+        let next = subst (λ (u : MemEntry). Alike (call_log ++ t ∷ []) (told2 ++ u ∷ [])) (sym call_is) (alike_push call_log told2 t alike) in
         goes_behind (OnDisk call) a b is
         (rest a place (call_log ++ t ∷ []) (told2 ++ t2 ∷ []) course offsets offsets2 kept es fs asked asked2 left y next same_offsets one (subst (λ (z : Answer (OnDisk call)). Execution (go z) fs (Return y)) is other)
         (record { loop = first.loop; are = tail; disk = first.disk.1; files = first.files.1; keeper = first.keeper })
         (record { loop = second.loop; are = tail2; disk = second.disk.1; files = second.files.1; keeper = second.keeper }))
 
-    on_first : (call : Call) (go : Answer call → Action R) → ((answer : Answer call) → CallsLeadOn (go answer)) → (asked asked2 : List Told) (a b : Answer call) → Execution (go a) es left → Execution (go b) fs (Return y)
+    on_first : (call : Call) (go : Answer call → Action R) → ((answer : Answer call) → CallsLeadOn (go answer)) → (asked asked2 : List MemEntry) (a b : Answer call) → Execution (go a) es left → Execution (go b) fs (Return y)
         → Answers place call_log course offsets kept (entry call a ∷ es) asked → Answers place told2 course offsets2 kept (entry call b ∷ fs) asked2 → GoesOn left y (entry call a ∷ es) (entry call b ∷ fs)
     on_first (OnLoop call) go rest asked asked2 a b one other first second =
         let is : b ≡ a = second.loop.0 ∙ sym first.loop.0 in

@@ -4,8 +4,8 @@ use Rattle.std.proofs.lemmas.Bool.{cases_lt}
 use Rattle.fwd_outside.specs.Program.{Return, bind, Execution}
 use Rattle.fwd_outside.proofs.Executions.{way_bind, way_trans}
 use Rattle.fwd_outside.specs.Loop.{LoopEntry, Wait}
-use Rattle.fwd_disk_mem.specs.declared.told.Told.{Told}
-use Rattle.fwd_disk_mem.specs.Told.{entries_of}
+use Rattle.fwd_disk_mem.specs.declared.entry.MemEntry.{MemEntry}
+use Rattle.fwd_disk_mem.specs.Entry.{entries_of}
 use Rattle.fwd_disk_mem.proofs.CallTrace.{played_first as told_first}
 use Rattle.fwd_keeper.specs.Keeper.{KeeperEntry, KeeperGiven}
 use Rattle.fwd_keeper_mem.specs.KeeperAnswers as keeper
@@ -41,7 +41,7 @@ files_first course (e ∷ es) more answered = (answered.0, files_first (after_ca
 
 -- the answers to all calls, and to the first ones, for a course from the start
 module _ (start : Start) (planned : Life) (course : Course) (is : course_of start planned ≡ course) where
-  pub all_answers : (es : List TraceEntry) (asked : List Told) → IsAnswered start planned es asked → Answers (beginning (given_of planned)) (disk_of start planned) course start.offsets [] es asked
+  pub all_answers : (es : List TraceEntry) (asked : List MemEntry) → IsAnswered start planned es asked → Answers (beginning (given_of planned)) (disk_of start planned) course start.offsets [] es asked
   all_answers es asked answered = record {
     loop = answered.loop;
     are = answered.are;
@@ -50,7 +50,7 @@ module _ (start : Start) (planned : Life) (course : Course) (is : course_of star
     keeper = answered.keeper;
   }
 
-  pub first_answers : (es more : List TraceEntry) (asked asked_more : List Told) → IsAnswered start planned (es ++ more) (asked ++ asked_more) → entries_of asked ≡ disk_part es
+  pub first_answers : (es more : List TraceEntry) (asked asked_more : List MemEntry) → IsAnswered start planned (es ++ more) (asked ++ asked_more) → entries_of asked ≡ disk_part es
       → Answers (beginning (given_of planned)) (disk_of start planned) course start.offsets [] es asked
   first_answers es more asked asked_more answered are = record {
     loop = played_first (beginning (given_of planned)) (loop_part es) (loop_part more) (subst (λ (l : List LoopEntry). ArePlayed (beginning (given_of planned)) l) (loop_append es more) answered.loop);
@@ -73,7 +73,7 @@ last_behind course (e ∷ es) more last = or_yes (brings_last e.call course) (ha
 sum_of : (n turns : ℕ) → n < turns → turns ≡ n + suc (turns - n - 1)
 sum_of n turns fewer = omega (arith, fewer)
 
-module _ (s : AllSettings) (place : Place) (call_log told2 : List Told) (course : Course) (offsets offsets2 : KeeperGiven) (alike : Alike call_log told2) (same_offsets : SameOffsets offsets offsets2) where
+module _ (s : AllSettings) (place : Place) (call_log told2 : List MemEntry) (course : Course) (offsets offsets2 : KeeperGiven) (alike : Alike call_log told2) (same_offsets : SameOffsets offsets offsets2) where
   -- a turn begins with its wait
   waits_last : (h : History) (more : ℕ) (at : Course) (end : RunResult) (es : List TraceEntry) → Execution (run s None (suc more) h) es (Return end) → is_last_next (paused s h) at ≡ true → has_last at es ≡ true
   unfolding run
@@ -82,7 +82,7 @@ module _ (s : AllSettings) (place : Place) (call_log told2 : List Told) (course 
       subst (λ (f : TraceEntry). has_last at (f ∷ es) ≡ true) (sym way.1)
       (ap (λ (b : Bool). b || has_last (after_call (OnLoop (Wait (saturating_plus (clock h) 250) (paused s h))) at) es) last)
 
-  pub goes_past : (n turns : ℕ) (h : History) (end : RunResult) (before trace : List TraceEntry) (asked asked2 : List Told) → n < turns
+  pub goes_past : (n turns : ℕ) (h : History) (end : RunResult) (before trace : List TraceEntry) (asked asked2 : List MemEntry) → n < turns
       → Execution (life s (ends_of s) None n) before (Return (lived h TurnsSpent)) → Execution (life s (ends_of s) None turns) trace (Return end)
       → Answers place call_log course offsets [] before asked → Answers place told2 course offsets2 [] trace asked2 → is_last_next (paused s h) (course_after course before) ≡ true → has_last course trace ≡ true
   goes_past n turns h end before trace asked asked2 fewer one other first second last =
@@ -101,7 +101,7 @@ CutIn s turns course before h calls =
     ⊎ (Execution (life s (ends_of s) None turns) before (Return (lived h Over)) × (calls ≡ []))
 
 -- what is known of a run that is cut, from its course on
-pub record Cutting (s : AllSettings) (turns : ℕ) (place : Place) (call_log : List Told) (course : Course) (offsets : KeeperGiven) (c : CutRun) : Type 0 where
+pub record Cutting (s : AllSettings) (turns : ℕ) (place : Place) (call_log : List MemEntry) (course : Course) (offsets : KeeperGiven) (c : CutRun) : Type 0 where
   pub cut_in : CutIn s turns course c.before c.history c.turn
   pub uncut : has_last course c.before ≡ false
   pub before : Answers place call_log course offsets [] c.before c.asked
@@ -135,7 +135,7 @@ turn_follows : (s : AllSettings) (turns : ℕ) (ended : RunResult) (before calls
 turn_follows s turns ended before calls last way own =
     way_trans (cut_life s turns) (turn s ended.history) (Return last) before calls (way_bind (life s (ends_of s) None turns) (Return ended) before (λ (r : RunResult). turn s r.history) way) own
 
-module _ (s : AllSettings) (turns : ℕ) (place : Place) (call_log told2 : List Told) (course : Course) (offsets offsets2 : KeeperGiven) (alike : Alike call_log told2) (same_offsets : SameOffsets offsets offsets2) where
+module _ (s : AllSettings) (turns : ℕ) (place : Place) (call_log told2 : List MemEntry) (course : Course) (offsets offsets2 : KeeperGiven) (alike : Alike call_log told2) (same_offsets : SameOffsets offsets offsets2) where
   pub record IsSameCut (c c2 : CutRun) : Type 0 where
     pub before : c2.before ≡ c.before
     pub history : c2.history ≡ c.history

@@ -7,9 +7,9 @@ use Rattle.fwd_outside.proofs.Executions.{way_trans}
 use Rattle.fwd_outside.specs.Disk.{DiskEntry}
 use Rattle.fwd_outside.specs.DiskStates.{Files}
 use Rattle.fwd_outside.specs.DiskStates as disk
-use Rattle.fwd_disk_mem.specs.declared.told.Told.{Told}
-use Rattle.fwd_disk_mem.specs.declared.told.Told.TheVariants.{Preset, FailAt}
-use Rattle.fwd_disk_mem.specs.Told.{entries_of, files_of, IsPlayed}
+use Rattle.fwd_disk_mem.specs.declared.entry.MemEntry.{MemEntry}
+use Rattle.fwd_disk_mem.specs.declared.entry.MemEntry.TheVariants.{Preset, FailAt}
+use Rattle.fwd_disk_mem.specs.Entry.{entries_of, files_of, IsPlayed}
 use Rattle.fwd_disk_mem.specs.Images.{reach}
 use Rattle.fwd_disk_mem.proofs.CallTrace.{played_first}
 use Rattle.fwd_settings.specs.Endpoints.{ends_of}
@@ -69,23 +69,23 @@ module _ (s : AllSettings) (turns : ℕ) (start : Start) (planned : Life) (c : C
       record { turns = cut_life.turns; left = first.0; way = first.1 }
 
   -- the calls on the disk until the crash
-  abbrev asked_then : List Told
+  abbrev asked_then : List MemEntry
   asked_then = c.asked ++ first_calls c.cut.calls c.asked_in
 
-  abbrev pub told_then : List Told
+  abbrev pub told_then : List MemEntry
   told_then = (disk_of start planned ++ c.asked) ++ first_calls c.cut.calls c.asked_in
 
   played_then : IsPlayed (disk_of start planned) asked_then
   played_then =
       let n = reach c.cut.calls c.asked_in in
       let parts : c.asked ++ c.asked_in ≡ asked_then ++ drop n c.asked_in =
-      ap (λ (calls : List Told). c.asked ++ calls) (sym (take-append-drop n c.asked_in)) ∙ sym (append_assoc c.asked (take n c.asked_in) (drop n c.asked_in)) in
-      played_first (disk_of start planned) asked_then (drop n c.asked_in) (subst (λ (calls : List Told). IsPlayed (disk_of start planned) calls) parts cut.answered.disk)
+      ap (λ (calls : List MemEntry). c.asked ++ calls) (sym (take-append-drop n c.asked_in)) ∙ sym (append_assoc c.asked (take n c.asked_in) (drop n c.asked_in)) in
+      played_first (disk_of start planned) asked_then (drop n c.asked_in) (subst (λ (calls : List MemEntry). IsPlayed (disk_of start planned) calls) parts cut.answered.disk)
 
   module _ (set : AreSettings start.disk) where
     ends_then : Ends disk.DiskTransition (files_of (disk_of start planned)) (entries_of asked_then) (files_of told_then)
     ends_then =
-        subst (λ (calls : List Told). Ends disk.DiskTransition (files_of (disk_of start planned)) (entries_of asked_then) (files_of calls)) (sym (append_assoc (disk_of start planned) c.asked (first_calls c.cut.calls c.asked_in)))
+        subst (λ (calls : List MemEntry). Ends disk.DiskTransition (files_of (disk_of start planned)) (entries_of asked_then) (files_of calls)) (sym (append_assoc (disk_of start planned) c.asked (first_calls c.cut.calls c.asked_in)))
         (disk_ends (disk_of start planned) asked_then (set_disk start planned set) played_then)
 
     pub safe_then : MeetsRequirements s → s.service.full ≡ true → (gone : List TraceEntry) → CrashedAfter c gone → IsSafe s (files_of (disk_of start planned)) (crash_point (past_after [] gone) (files_of told_then))

@@ -3,9 +3,9 @@ use Rattle.std.proofs.Common.{◌≡◌, ℕ, Bool, true, false, MatchBool, Opti
 use Rattle.fwd_outside.specs.AtCrashPoints.{Ends}
 use Rattle.fwd_outside.specs.Disk.{DiskEntry, IsListing}
 use Rattle.fwd_outside.specs.DiskStates.{Files, AreNamesIn, DiskTransition}
-use Rattle.fwd_disk_mem.specs.declared.told.Told.{Told}
-use Rattle.fwd_disk_mem.specs.declared.told.Told.TheVariants.{Place, WriteAt, Sync, Remove, Read, List as Listed, Preset, FailAt}
-use Rattle.fwd_disk_mem.specs.Told.{entry_of, entries_of, next_succeeds, files_of, AnswerIs, IsPlayed}
+use Rattle.fwd_disk_mem.specs.declared.entry.MemEntry.{MemEntry}
+use Rattle.fwd_disk_mem.specs.declared.entry.MemEntry.TheVariants.{Place, WriteAt, Sync, Remove, Read, List as Listed, Preset, FailAt}
+use Rattle.fwd_disk_mem.specs.Entry.{entry_of, entries_of, next_succeeds, files_of, AnswerIs, IsPlayed}
 use Rattle.fwd_theorem_crash.specs.CrashPoint.{HasNames, IsNaming}
 
 -- each listing returned valid file names
@@ -18,7 +18,7 @@ listed_names : (folder : List ℕ) (answer : Option (List (List ℕ))) (files : 
 listed_names folder answer files true gives = subst HasNames (sym gives.1) gives.2
 listed_names folder answer files false gives = subst HasNames (sym gives) tt
 
-given_naming : (calls : List Told) (call : Told) → AnswerIs calls call → IsNaming (entry_of call).call (entry_of call).answer
+given_naming : (calls : List MemEntry) (call : MemEntry) → AnswerIs calls call → IsNaming (entry_of call).call (entry_of call).answer
 given_naming calls (Place _ _ _) gives = tt
 given_naming calls (WriteAt _ _ _ _) gives = tt
 given_naming calls (Sync _ _) gives = tt
@@ -28,7 +28,7 @@ given_naming calls (Listed folder answer) gives = listed_names folder answer (fi
 given_naming calls (Preset _ _) gives = tt
 given_naming calls (FailAt _) gives = tt
 
-pub played_naming : (before calls : List Told) → IsPlayed before calls → AreNaming (entries_of calls)
+pub played_naming : (before calls : List MemEntry) → IsPlayed before calls → AreNaming (entries_of calls)
 played_naming before [] played = tt
 played_naming before (call ∷ calls) played = (given_naming before call played.0, played_naming (before ++ call ∷ []) calls played.1)
 
@@ -36,7 +36,7 @@ pub naming_first : (xs ys : List DiskEntry) → AreNaming (xs ++ ys) → AreNami
 naming_first [] ys naming = tt
 naming_first (e ∷ xs) ys naming = (naming.0, naming_first xs ys naming.1)
 
-pub entries_both : (xs ys : List Told) → entries_of (xs ++ ys) ≡ entries_of xs ++ entries_of ys
+pub entries_both : (xs ys : List MemEntry) → entries_of (xs ++ ys) ≡ entries_of xs ++ entries_of ys
 entries_both [] ys = refl
 entries_both (call ∷ xs) ys = ap (λ (es : List DiskEntry). entry_of call ∷ es) (entries_both xs ys)
 

@@ -6,9 +6,9 @@ use Rattle.fwd_outside.specs.Disk.{DiskEntry}
 use Rattle.fwd_outside.specs.File.{IsPostCrash, content}
 use Rattle.fwd_outside.specs.DiskStates.{Files}
 use Rattle.fwd_outside.specs.DiskStates as disk
-use Rattle.fwd_disk_mem.specs.declared.told.Told.{Told}
-use Rattle.fwd_disk_mem.specs.declared.told.Told.TheVariants.{Preset, FailAt}
-use Rattle.fwd_disk_mem.specs.Told.{entries_of, files_of}
+use Rattle.fwd_disk_mem.specs.declared.entry.MemEntry.{MemEntry}
+use Rattle.fwd_disk_mem.specs.declared.entry.MemEntry.TheVariants.{Preset, FailAt}
+use Rattle.fwd_disk_mem.specs.Entry.{entries_of, files_of}
 use Rattle.fwd_disk_mem.specs.Images.{picked}
 use Rattle.fwd_disk_mem.proofs.Picks.{picked_is_image}
 use Rattle.fwd_settings.specs.Requirements.{MeetsRequirements}
@@ -37,7 +37,7 @@ same_files : (start : Start) (planned : Life) → planned.store ≡ [] → (name
 same_files start planned none name =
     let fails = map (λ (number : ℕ). FailAt number) planned.disk_fails in
     ap (λ (store : List Stored). files_of ((start.disk ++ map (λ (file : Stored). Preset file.name file.bytes) store) ++ fails) name) none
-    ∙ ap (λ (calls : List Told). files_of (calls ++ fails) name) (append-nil start.disk)
+    ∙ ap (λ (calls : List MemEntry). files_of (calls ++ fails) name) (append-nil start.disk)
     ∙ run_both start.disk fails name _
     ∙ fails_change_nothing planned.disk_fails name (files_of start.disk name)
 
@@ -46,7 +46,7 @@ record Loads (first : Files) (loading : List TraceEntry) : Type 0 where
   pub last : Files
   pub ends : Ends LeadsTo (crash_point [] first) loading (crash_point (past_after [] loading) last)
 
-module _ (start : Start) (planned : Life) (trace loading rest : List TraceEntry) (asked : List Told) (set : AreSettings start.disk) (answered : IsAnswered start planned trace asked) (is : trace ≡ loading ++ rest) where
+module _ (start : Start) (planned : Life) (trace loading rest : List TraceEntry) (asked : List MemEntry) (set : AreSettings start.disk) (answered : IsAnswered start planned trace asked) (is : trace ≡ loading ++ rest) where
   loads_first : Loads (files_of (disk_of start planned)) loading
   loads_first =
       let image = files_of (disk_of start planned) in
@@ -70,7 +70,7 @@ module _ (s : AllSettings) (settings : MeetsRequirements s) (full : s.service.fu
         let is : content (files_of (disk_of c.next next) name) ≡ picked (c.cut.pick % 4) then name = ap content (same_files c.next next none name) ∙ cut.image name in
         subst (λ (image : Option (List ℕ)). IsPostCrash (files_of then name) image) (sym is) (picked_is_image (c.cut.pick % 4) then name)
 
-    finds : (next : Life) (trace : List TraceEntry) (asked : List Told) → IsAnswered c.next next trace asked → next.store ≡ [] → LosesNothing s c trace
+    finds : (next : Life) (trace : List TraceEntry) (asked : List MemEntry) → IsAnswered c.next next trace asked → next.store ≡ [] → LosesNothing s c trace
     finds next trace asked answered none gone h came loaded =
         let image = files_of (disk_of c.next next) in
         let now = crash_point (past_after [] gone) (files_of (told_then s turns start planned c cut)) in

@@ -3,9 +3,9 @@ use Rattle.std.proofs.Common.{◌≡◌, ◌≢◌, ◌⊎◌, inl, inr, ℕ, �
 use Rattle.std.proofs.lemmas.List.{append_cancel_left}
 use Rattle.fwd_outside.specs.Program.{Return}
 use Rattle.fwd_outside.specs.File.{content}
-use Rattle.fwd_disk_mem.specs.declared.told.Told.{Told}
-use Rattle.fwd_disk_mem.specs.declared.told.Told.TheVariants.{Preset, FailAt}
-use Rattle.fwd_disk_mem.specs.Told.{files_of}
+use Rattle.fwd_disk_mem.specs.declared.entry.MemEntry.{MemEntry}
+use Rattle.fwd_disk_mem.specs.declared.entry.MemEntry.TheVariants.{Preset, FailAt}
+use Rattle.fwd_disk_mem.specs.Entry.{files_of}
 use Rattle.fwd_disk_mem.specs.Images.{CrashFile, picked, file_settings}
 use Rattle.fwd_keeper.specs.Keeper.{found}
 use Rattle.fwd_keeper_mem.specs.KeeperAnswers.{offsets_after_all}
@@ -114,13 +114,13 @@ module _ (shown : Shown) (s : AllSettings) (turns : ℕ) (start start2 : Start) 
     asked_in_is : c2.asked_in ≡ c.asked_in
     asked_in_is =
         let all : c2.asked ++ c2.asked_in ≡ c.asked ++ c.asked_in = same_calls (c2.asked ++ c2.asked_in) (c.asked ++ c.asked_in) (cut2.answered.are ∙ ap disk_part all_is ∙ sym cut.answered.are) in
-        append_cancel_left c.asked c2.asked_in c.asked_in (ap (λ (l : List Told). l ++ c2.asked_in) (sym asked_is) ∙ all)
+        append_cancel_left c.asked c2.asked_in c.asked_in (ap (λ (l : List MemEntry). l ++ c2.asked_in) (sym asked_is) ∙ all)
 
     told2_is : (disk_of start2 planned ++ c2.asked) ++ first_calls c2.cut.calls c2.asked_in ≡ (disk_of start2 planned ++ c.asked) ++ first_calls c.cut.calls c.asked_in
     told2_is =
-        ap (λ (l : List Told). (disk_of start2 planned ++ l) ++ first_calls c2.cut.calls c2.asked_in) asked_is
+        ap (λ (l : List MemEntry). (disk_of start2 planned ++ l) ++ first_calls c2.cut.calls c2.asked_in) asked_is
         ∙ ap (λ (k : Cut). (disk_of start2 planned ++ c.asked) ++ first_calls k.calls c2.asked_in) cut_is
-        ∙ ap (λ (l : List Told). (disk_of start2 planned ++ c.asked) ++ first_calls c.cut.calls l) asked_in_is
+        ∙ ap (λ (l : List MemEntry). (disk_of start2 planned ++ c.asked) ++ first_calls c.cut.calls l) asked_in_is
 
     same_image : (name : List ℕ) → picked (c2.cut.pick % 4) ((disk_of start2 planned ++ c2.asked) ++ first_calls c2.cut.calls c2.asked_in) name ≡ picked (c.cut.pick % 4) ((disk_of start planned ++ c.asked) ++ first_calls c.cut.calls c.asked_in) name
     same_image name =
@@ -128,22 +128,22 @@ module _ (shown : Shown) (s : AllSettings) (turns : ℕ) (start start2 : Start) 
         let disks : Alike ((disk_of start planned ++ c.asked) ++ more) ((disk_of start2 planned ++ c.asked) ++ more) =
         alike_append (disk_of start planned ++ c.asked) (disk_of start2 planned ++ c.asked) more (alike_append (disk_of start planned) (disk_of start2 planned) c.asked (alike_disks start start2 planned similar))
         in
-        ap (λ (l : List Told). picked (c2.cut.pick % 4) l name) told2_is
+        ap (λ (l : List MemEntry). picked (c2.cut.pick % 4) l name) told2_is
         ∙ ap (λ (k : Cut). picked (k.pick % 4) ((disk_of start2 planned ++ c.asked) ++ more) name) cut_is
         ∙ ap (λ (m : CrashFile). m.image) (disks.images (c.cut.pick % 4) name)
 
     pub similar_next : Similar c.next c2.next
     similar_next = record {
       disk =
-          subst (λ (l : List Told). Alike l c2.next.disk) (sym cut.disk_is)
-          (subst (λ (l : List Told). Alike (file_settings cut.files) l) (sym cut2.disk_is)
+          subst (λ (l : List MemEntry). Alike l c2.next.disk) (sym cut.disk_is)
+          (subst (λ (l : List MemEntry). Alike (file_settings cut.files) l) (sym cut2.disk_is)
           (alike_presets cut.files cut2.files
           (λ name.
-          ap (λ (l : List Told). content (files_of l name)) (sym cut2.disk_is)
+          ap (λ (l : List MemEntry). content (files_of l name)) (sym cut2.disk_is)
           ∙ cut2.image name
           ∙ same_image name
           ∙ sym (cut.image name)
-          ∙ ap (λ (l : List Told). content (files_of l name)) cut.disk_is)));
+          ∙ ap (λ (l : List MemEntry). content (files_of l name)) cut.disk_is)));
       changes =
           cut2.changes
           ∙ ap (λ (at : Course). (course_after at (c2.before ++ c2.turn)).files.changes) (same_course start start2 planned similar)

@@ -3,7 +3,7 @@ use Rattle.std.specs.Prelude.{◌≡◌, ℕ, ◌-◌, true, List, [], ◌∷◌
 use mathlib.Core.Logic.{inl, inr}
 use Rattle.fwd_outside.specs.Program.{Return, Execution}
 use Rattle.fwd_outside.specs.declared.home.Home.TheVariants.{Disk}
-use Rattle.fwd_disk_mem.specs.Told.{entries_of}
+use Rattle.fwd_disk_mem.specs.Entry.{entries_of}
 use Rattle.fwd_settings.specs.declared.settings_types.AllSettings.{AllSettings}
 use Rattle.fwd_script.specs.declared.schedule.Life.{Life}
 use Rattle.fwd_model.specs.Fact.{History}

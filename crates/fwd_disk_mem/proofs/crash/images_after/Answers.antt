@@ -3,8 +3,8 @@ use Rattle.std.specs.Prelude.{Vec}
 use Rattle.std.proofs.lemmas.List.{take_all}
 use Rattle.fwd_outside.specs.File.{absent}
 use Rattle.fwd_disk_mem.specs.declared.image.ImageFile.{ImageFile}
-use Rattle.fwd_disk_mem.specs.declared.told.Told.{Told}
-use Rattle.fwd_disk_mem.specs.Told.{is_on}
+use Rattle.fwd_disk_mem.specs.declared.entry.MemEntry.{MemEntry}
+use Rattle.fwd_disk_mem.specs.Entry.{is_on}
 use Rattle.fwd_disk_mem.specs.Images.{acted_file, make, no_call_file, file_at, FileRepresents}
 use Rattle.fwd_disk_mem.proofs.ImageSteps.{shows_more}
 use Rattle.fwd_disk_mem.proofs.crash.images_after.Goals as goal
@@ -16,9 +16,9 @@ loop-call-init c = λ name.
 pub loop-call-preserved : goal.loop-call-preserved
 loop-call-preserved c = λ name.
     shows_more c.args.pick name c.args.calls.now c.loop-call.call-index c.call-item.result (file_at c.loop-call.files.entries name) (file_at c.apply_call.new.files.entries name) (is_on c.call-item.result name) (omega arith) c.call-item.is refl
-    (subst (λ (t : Told). file_at c.apply_call.new.files.entries name ≡ (if is_on t name then acted_file c.args.pick (file_at c.loop-call.files.entries name) t else file_at c.loop-call.files.entries name)) c.call_log.ensures (c.in_ok-apply_call.ensures name))
+    (subst (λ (t : MemEntry). file_at c.apply_call.new.files.entries name ≡ (if is_on t name then acted_file c.args.pick (file_at c.loop-call.files.entries name) t else file_at c.loop-call.files.entries name)) c.entry.ensures (c.in_ok-apply_call.ensures name))
     (c.loop-call.invariant name)
 
 pub returns : goal.returns
 returns c = λ name.
-    sym (c.loop-call.invariant name).image ∙ ap (λ (l : List Told). (make c.args.pick name absent no_call_file l).image) (take_all c.loop-call.call-index c.args.calls.now (omega arith))
+    sym (c.loop-call.invariant name).image ∙ ap (λ (l : List MemEntry). (make c.args.pick name absent no_call_file l).image) (take_all c.loop-call.call-index c.args.calls.now (omega arith))

@@ -1,6 +1,6 @@
 use Rattle.std.proofs.Common.{ℕ, List, take}
 use Rattle.fwd_outside.specs.File.{absent}
-use Rattle.fwd_disk_mem.specs.Told.{run}
+use Rattle.fwd_disk_mem.specs.Entry.{run}
 use Rattle.fwd_disk_mem.specs.Images.{make, no_call_file, file_at, FileRepresents}
 use Rattle.fwd_disk_mem.proofs.crash.images_after.Given as goal
 

@@ -12,6 +12,6 @@ returns g c s begins planned ready =
     let taken : Taken old new s ready.history after = taken_of old new s ready.history after c.take.result (sym c.is_out_of_memory.ensures ∙ c.if-is_out_of_memory.false) (c.take.ensures.turns s ready.history ready.at) in
     on_ok c.crash.result
     (λ crashed.
-    turn_cut s begins planned c.args.going.now c.args.disk.now c.args.files.now c.args.keeper.now c.args.cut ready c.take.new.going c.take.new.disk c.take.new.files taken c.take.ensures.files c.args.most c.told_len-since.result c.crash.new.disk c.crash.new.files c.crash.new.keeper
-    c.requires c.take.ensures.taken c.take.ensures.played c.told_len-since.ensures crashed.0 crashed.1 crashed.2)
+    turn_cut s begins planned c.args.going.now c.args.disk.now c.args.files.now c.args.keeper.now c.args.cut ready c.take.new.going c.take.new.disk c.take.new.files taken c.take.ensures.files c.args.most c.record_len-since.result c.crash.new.disk c.crash.new.files c.crash.new.keeper
+    c.requires c.take.ensures.taken c.take.ensures.played c.record_len-since.ensures crashed.0 crashed.1 crashed.2)
     c.crash.ensures

@@ -10,6 +10,6 @@ returns c s begins planned most named over is fits =
     let crashed = c.in_ok-crash.ensures in (
       h,
       trace,
-      over_cut s begins planned c.args.going.now c.args.disk.now c.crash.new.disk c.args.files.now c.crash.new.files c.args.keeper.now c.crash.new.keeper most c.told_len-since.result c.args.cut over fits c.lemma_have_answered.ensures is c.told_len-since.ensures crashed.0 crashed.1 crashed.2,
+      over_cut s begins planned c.args.going.now c.args.disk.now c.crash.new.disk c.args.files.now c.crash.new.files c.args.keeper.now c.crash.new.keeper most c.record_len-since.result c.args.cut over fits c.lemma_have_answered.ensures is c.record_len-since.ensures crashed.0 crashed.1 crashed.2,
       c.in_ok-text.ensures s h over.at named ∙ text_is c.args.named.now.shown s planned c.args.going.now.script trace h over.stands.loop,
     )

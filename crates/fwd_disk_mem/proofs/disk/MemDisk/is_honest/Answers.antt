@@ -1,7 +1,7 @@
 use Rattle.std.proofs.Common.{subst}
 use Rattle.fwd_outside.specs.DiskStates.{IsReachable}
 use Rattle.fwd_disk_mem.specs.DiskState.{Seen}
-use Rattle.fwd_disk_mem.specs.Told.{given, entries_of, files_of}
+use Rattle.fwd_disk_mem.specs.Entry.{given, entries_of, files_of}
 use Rattle.fwd_disk_mem.proofs.Honesty.{may_hold}
 use Rattle.fwd_disk_mem.proofs.disk.MemDisk.is_honest.Goals as goal
 

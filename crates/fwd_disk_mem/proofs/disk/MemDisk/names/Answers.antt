@@ -2,7 +2,7 @@ use Rattle.std.proofs.Common.{◌≡◌, List, ℕ, refl, subst}
 use Rattle.fwd_outside.specs.File.{content}
 use Rattle.fwd_disk_mem.specs.FileTable.{found}
 use Rattle.fwd_disk_mem.specs.DiskState.{Seen}
-use Rattle.fwd_disk_mem.specs.Told.{files_of}
+use Rattle.fwd_disk_mem.specs.Entry.{files_of}
 use Rattle.fwd_disk_mem.proofs.FolderNames.{names_are_in}
 use Rattle.fwd_disk_mem.proofs.disk.MemDisk.names.Goals as goal
 

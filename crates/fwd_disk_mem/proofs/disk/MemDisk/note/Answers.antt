@@ -1,6 +1,6 @@
 use Rattle.std.proofs.Common.{rules, sym, subst}
 use Rattle.fwd_disk_mem.specs.DiskState.{Seen}
-use Rattle.fwd_disk_mem.specs.Told.{AnswerIs}
+use Rattle.fwd_disk_mem.specs.Entry.{AnswerIs}
 use Rattle.fwd_disk_mem.proofs.RecordStep.{noted, counts-le}
 use Rattle.fwd_disk_mem.proofs.disk.MemDisk.note.Goals as goal
 

@@ -1,5 +1,5 @@
 use Rattle.fwd_disk_mem.proofs.WriteChange.{wrote_changes}
-use Rattle.fwd_disk_mem.proofs.told.change.Goals as goal
+use Rattle.fwd_disk_mem.proofs.entry.change.Goals as goal
 
 pub returns-then-ok-clause-ok : goal.returns-then-ok-clause-ok
 returns-then-ok-clause-ok c =
