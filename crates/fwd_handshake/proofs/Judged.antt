@@ -1,10 +1,11 @@
 -- The meaning of each judgement for the bytes of a stream.
-use Rattle.std.proofs.Common.{◌≡◌, ◌↔◌, inl, inr, ℕ, ◌-◌, ◌<◌, ◌≤◌, Bool, true, false, cond, List, [], ◌∷◌, ◌++◌, length, take, Option, Some, None, Ok, Err, refl, sym, ap, subst, ◌∙◌, arith}
+use Rattle.std.proofs.Common.{◌≡◌, ◌↔◌, inl, inr, ℕ, ◌-◌, ◌<◌, ◌≤◌, Bool, true, false, cond, List, ◌++◌, length, take, Option, Some, None, Ok, Err, refl, ap, subst, ◌∙◌}
 use Rattle.std.specs.Prelude.{nat_le}
 use Rattle.std.proofs.lemmas.Bool.{cases_lt, leb-true, le-leb}
-use Rattle.std.proofs.lemmas.List.{take-append-le, length-append}
+use Rattle.std.proofs.lemmas.List.{take-append-le}
 use Rattle.fwd_value.specs.Val.{Val}
 use Rattle.fwd_msgpack.specs.declared.fault.FormatError.TheVariants.{Short, Unused, TooDeep}
+use Rattle.fwd_msgpack.specs.Encodings.{Encodes}
 use Rattle.fwd_msgpack.specs.Decoder.{Read, value_at}
 use Rattle.fwd_msgpack.specs.DecodeAnswers.{EncodesPrefix, IsProperPrefix}
 use Rattle.fwd_msgpack.proofs.Exclusive.{prefix_not_value}
@@ -62,7 +63,7 @@ module _ (content : Val → Option (List ℕ)) where
   unfolding received
   right_from b len s e = right_by b len s (value_at 64 b) refl e
 
-  right_to : (b : List ℕ) (len : ℕ) (s : List ℕ) → (v : Val) × EncodesPrefix v len b × (content v ≡ Some s) → received content b ≡ Right len s
+  right_to : (b : List ℕ) (len : ℕ) (s : List ℕ) → ((v : Val) × EncodesPrefix v len b × (content v ≡ Some s)) → received content b ≡ Right len s
   right_to b len s h = received_value content b h.0 len h.1 ∙ ap (content_received len) h.2
 
   pub received_right : (b : List ℕ) (len : ℕ) (s : List ℕ) → (received content b ≡ Right len s) ↔ ((v : Val) × EncodesPrefix v len b × (content v ≡ Some s))
@@ -98,7 +99,7 @@ module _ (content : Val → Option (List ℕ)) where
   greeted_more (Right n s) e = absurd cc
   greeted_more Wrong e = absurd cc
 
-  more_to : (b : List ℕ) → IsProperPrefix b × (length b ≤ longest_greeting) → received content b ≡ More
+  more_to : (b : List ℕ) → (IsProperPrefix b × (length b ≤ longest_greeting)) → received content b ≡ More
   more_to b h = received_prefix content b h.0 ∙ ap (λ (t : Bool). cond t More Wrong) (le-leb (length b) longest_greeting h.1)
 
   pub judged_more : (b : List ℕ) → (judged content b ≡ greeted.More) ↔ (IsProperPrefix b × (length b ≤ longest_greeting))
@@ -115,11 +116,11 @@ module _ (content : Val → Option (List ℕ)) where
   pub right_is_later : (b piece : List ℕ) (len : ℕ) → judged content b ≡ greeted.More → judged content (b ++ piece) ≡ greeted.Right len → length b < len
   right_is_later b piece len more right =
       let prefix = ((judged_more b).0 more).0 in
-      let received = (judged_right (b ++ piece) len).0 right in
-      let found = (received_right (b ++ piece) len received.0).0 received.1 in
+      let got = (judged_right (b ++ piece) len).0 right in
+      let found = (received_right (b ++ piece) len got.0).0 got.1 in
       elim (cases_lt (length b) len) [
         | inl lt ↦ lt
         | inr le ↦
-          let same : take len (b ++ piece) ≡ take len b = take-append-le len b piece le in
-          absurd (prefix_not_value b found.0 len prefix (le, rw same at found.1.1, found.1.2))
+            let same : take len (b ++ piece) ≡ take len b = take-append-le len b piece le in
+            absurd (prefix_not_value b found.0 len prefix (le, subst (λ (t : List ℕ). Encodes found.0 t) same found.1.1, found.1.2))
       ]

@@ -16,8 +16,8 @@ pub digest_of_parts : (key salt host nonce : List ℕ) → encode_lower (sha512 
 unfolding key_digest hex_sha512
 digest_of_parts key salt host nonce =
     let parts : ((salt ++ host) ++ nonce) ++ key ≡ salt ++ (host ++ (nonce ++ (key ++ []))) =
-        append_assoc (salt ++ host) nonce key ∙ append_assoc salt host (nonce ++ key)
-        ∙ ap (λ (k : List ℕ). salt ++ (host ++ (nonce ++ k))) (sym (append-nil key)) in
+    append_assoc (salt ++ host) nonce key ∙ append_assoc salt host (nonce ++ key)
+    ∙ ap (λ (k : List ℕ). salt ++ (host ++ (nonce ++ k))) (sym (append-nil key)) in
     ap (λ (m : List ℕ). encode_lower (sha512 m)) parts
 
 -- a digest has 128 bytes

@@ -1,6 +1,7 @@
 -- What is written is right to a reader with the same key.
-use Rattle.std.proofs.Common.{◌≡◌, inl, inr, true, ℕ, ◌<◌, ◌≤◌, ◌^◌, List, [], ◌++◌, length, Option, Some, refl, ap, ◌∙◌, arith}
+use Rattle.std.proofs.Common.{◌≡◌, inl, inr, Bool, true, cond, ℕ, ◌<◌, ◌≤◌, ◌^◌, List, [], ◌++◌, length, Option, Some, refl, ap, ◌∙◌, arith}
 use Rattle.std.proofs.lemmas.List.{take_at, length-append}
+use Rattle.std.proofs.lemmas.Slice.Eq.{bytes_eq-Decides}
 use Rattle.fwd_value.specs.Val.{Val, truth, text, bin}
 use Rattle.fwd_value.specs.Limits.{nesting, IsInRange, LengthsFit}
 use Rattle.fwd_msgpack.specs.Canonical.{canonical}
@@ -10,8 +11,8 @@ use Rattle.fwd_msgpack.proofs.CanonicalEncodes.{canonical_spells}
 use Rattle.fwd_handshake.specs.declared.ring.Ring.{Ring}
 use Rattle.fwd_handshake.specs.declared.received.Received.TheVariants.{Right}
 use Rattle.fwd_handshake.specs.Digest.{key_digest}
-use Rattle.fwd_handshake.specs.Messages.{helo, helo_word, ping_word, pong_word, helo_val, helo_options, ping_val, pong_val, ping_with, pong_with, ping, pong}
-use Rattle.fwd_handshake.specs.Members.{nonce_of, salt_of, host_of}
+use Rattle.fwd_handshake.specs.Messages.{helo, helo_word, ping_word, pong_word, helo_val, helo_options, fixed_options, nonce_key, ping_val, pong_val, ping_with, pong_with, ping, pong}
+use Rattle.fwd_handshake.specs.Members.{first_bytes, nonce_of, salt_of, host_of}
 use Rattle.fwd_handshake.specs.Right.{IsHelo, IsPing, IsPong}
 use Rattle.fwd_handshake.specs.Judgement.{content_received, received}
 use Rattle.fwd_handshake.proofs.Parts.{digest_length}
@@ -30,7 +31,13 @@ written_right content v more s range lengths nested is =
 -- ---- HELO
 
 helo_is : (nonce : List ℕ) → IsHelo nonce (helo_val nonce)
-helo_is nonce = record { word = text helo_word; options = helo_options nonce; members = refl; begins = inl refl; challenges = refl }
+helo_is nonce = record {
+  word = text helo_word;
+  options = helo_options nonce;
+  members = refl;
+  begins = inl refl;
+  challenges = ap (λ (t : Bool). cond t (Some nonce) (first_bytes nonce_key fixed_options)) ((bytes_eq-Decides nonce_key nonce_key).1 refl);
+}
 
 pub helo_right : (nonce more : List ℕ) → length nonce < 2 ^ 32 → received nonce_of (helo nonce ++ more) ≡ Right (length (helo nonce)) nonce
 unfolding helo

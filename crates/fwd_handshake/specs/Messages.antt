@@ -20,10 +20,12 @@ abbrev pub nonce_key : List ℕ
 nonce_key = codes "nonce"
 
 -- the options of a HELO: a nonce, no authentication of users, and connections that stay open
+abbrev pub fixed_options : Entries
+fixed_options =
+    entry (text (codes "auth")) (bin []) (entry (text (codes "keepalive")) (truth true) no_entries)
+
 abbrev pub helo_options : List ℕ → Entries
-helo_options nonce =
-    entry (text nonce_key) (bin nonce)
-    (entry (text (codes "auth")) (bin []) (entry (text (codes "keepalive")) (truth true) no_entries))
+helo_options nonce = entry (text nonce_key) (bin nonce) fixed_options
 
 abbrev pub helo_val : List ℕ → Val
 helo_val nonce = list (val (text helo_word) (val (mapping (helo_options nonce)) no_vals))

@@ -33,12 +33,7 @@ fn nonce_of(alloc: Global, value: &Value) -> Result<Option<Bytes>, Memory>
 }
 
 /// Returns the salt, if a value is a PING that shows the key.
-fn salt_of(
-    alloc: Global,
-    ring: &Ring,
-    nonce: &[u8],
-    value: &Value,
-) -> Result<Option<Bytes>, Memory>
+fn salt_of(alloc: Global, ring: &Ring, nonce: &[u8], value: &Value) -> Result<Option<Bytes>, Memory>
     ensures { IfOk result (λ salt. salt ≡ salt_of ring.now nonce.now (val_of value.now)) }
 {
     match value {
@@ -84,10 +79,7 @@ pub fn read_ping(
     ensures { IfOk result (λ received. received ≡ ping_received ring.now nonce.now stream.now) }
 {
     match decode(alloc, stream) {
-        Ok((value, len)) => Ok(Received::of_content(
-            len,
-            salt_of(alloc, ring, nonce, &value)?,
-        )),
+        Ok((value, len)) => Ok(Received::of_content(len, salt_of(alloc, ring, nonce, &value)?)),
         Err(error) => received_without(error, stream.len()),
     }
 }
