@@ -1,8 +1,10 @@
 -- The content that is found in a value, and what it says of the value's members.
-use Rattle.std.proofs.Common.{◌≡◌, ◌⊎◌, ◌↔◌, inl, inr, Bool, true, false, cond, ◌&&◌, ℕ, List, [], ◌∷◌, length, Option, Some, None, option_map, refl, sym, ap, subst, ◌∙◌}
+use Rattle.std.proofs.Common.{◌≡◌, ◌⊎◌, ◌↔◌, inl, inr, Bool, true, false, cond, ◌&&◌, ℕ, List, [], ◌∷◌, length, map, Option, Some, None, option_map, refl, sym, ap, subst, ◌∙◌}
 use Rattle.std.specs.Str.{bytes_eq}
 use Rattle.std.proofs.lemmas.Slice.Eq.{bytes_eq-Decides}
 use Rattle.fwd_value.specs.Val.{Val, truth, text, bin, list, mapping, no_vals, val, Entries, vals_of, entries_of}
+use Rattle.fwd_value.specs.View.{val_of}
+use Rattle.fwd_value.specs.declared.value.Value.{Value}
 use Rattle.fwd_value.specs.Keys.{is_text, key}
 use Rattle.fwd_handshake.specs.declared.ring.Ring.{Ring}
 use Rattle.fwd_handshake.specs.Digest.{key_digest}
@@ -209,13 +211,13 @@ pong_exactly ring salt nonce host v = (pong_from ring salt nonce host v, pong_to
 
 -- ---- lists of another length
 
-pub not_two : (vs : List Val) → (length vs ≡ 2 → ⊥) → nonce_of (list (vals_of vs)) ≡ None
+pub not_two : (ms : List Value) → (length ms ≡ 2 → ⊥) → nonce_of (list (vals_of (map val_of ms))) ≡ None
 not_two [] n = refl
 not_two (a ∷ []) n = refl
 not_two (a ∷ b ∷ []) n = absurd (n refl)
-not_two (a ∷ b ∷ c ∷ vs) n = refl
+not_two (a ∷ b ∷ c ∷ ms) n = refl
 
-pub not_six : (ring : Ring) (nonce : List ℕ) (vs : List Val) → (length vs ≡ 6 → ⊥) → salt_of ring nonce (list (vals_of vs)) ≡ None
+pub not_six : (ring : Ring) (nonce : List ℕ) (ms : List Value) → (length ms ≡ 6 → ⊥) → salt_of ring nonce (list (vals_of (map val_of ms))) ≡ None
 not_six ring nonce [] n = refl
 not_six ring nonce (a ∷ []) n = refl
 not_six ring nonce (a ∷ b ∷ []) n = refl
@@ -223,16 +225,16 @@ not_six ring nonce (a ∷ b ∷ c ∷ []) n = refl
 not_six ring nonce (a ∷ b ∷ c ∷ d ∷ []) n = refl
 not_six ring nonce (a ∷ b ∷ c ∷ d ∷ e ∷ []) n = refl
 not_six ring nonce (a ∷ b ∷ c ∷ d ∷ e ∷ f ∷ []) n = absurd (n refl)
-not_six ring nonce (a ∷ b ∷ c ∷ d ∷ e ∷ f ∷ g ∷ vs) n = refl
+not_six ring nonce (a ∷ b ∷ c ∷ d ∷ e ∷ f ∷ g ∷ ms) n = refl
 
-pub not_five : (ring : Ring) (salt nonce : List ℕ) (vs : List Val) → (length vs ≡ 5 → ⊥) → host_of ring salt nonce (list (vals_of vs)) ≡ None
+pub not_five : (ring : Ring) (salt nonce : List ℕ) (ms : List Value) → (length ms ≡ 5 → ⊥) → host_of ring salt nonce (list (vals_of (map val_of ms))) ≡ None
 not_five ring salt nonce [] n = refl
 not_five ring salt nonce (a ∷ []) n = refl
 not_five ring salt nonce (a ∷ b ∷ []) n = refl
 not_five ring salt nonce (a ∷ b ∷ c ∷ []) n = refl
 not_five ring salt nonce (a ∷ b ∷ c ∷ d ∷ []) n = refl
 not_five ring salt nonce (a ∷ b ∷ c ∷ d ∷ e ∷ []) n = absurd (n refl)
-not_five ring salt nonce (a ∷ b ∷ c ∷ d ∷ e ∷ f ∷ vs) n = refl
+not_five ring salt nonce (a ∷ b ∷ c ∷ d ∷ e ∷ f ∷ ms) n = refl
 
 -- ---- the first pair of a key
 

@@ -25,7 +25,7 @@ pub use fwd_msgpack::Value;
 pub use judgement::{judge_helo, judge_ping, judge_pong};
 pub use messages::{helo, ping, pong};
 pub use reading::{read_helo, read_ping, read_pong};
-pub use received::{Greeted, LONGEST_GREETING, Received};
+pub use received::{Greeted, LONGEST_GREETING, Received, greeting_limit_is_defined};
 pub use ring::Ring;
 pub use theorems::{
     a_helo_is_right, a_ping_is_right, a_pong_is_right, more_is_a_beginning, own_host_is_refused,

@@ -1,14 +1,14 @@
 //! The members of the messages of the handshake.
 
 ghost use Rattle.std.specs.Prelude.{◌≡◌, map, option_map, IfOk};
-ghost use Rattle.fwd_value.specs.Val.{list, vals_of};
+ghost use Rattle.fwd_value.specs.Val.{list, mapping, vals_of, entries_of};
 ghost use Rattle.fwd_value.specs.View.{val_of};
 ghost use Rattle.fwd_handshake.specs.Members.{bytes_of, is_bytes, is_true, is_digest, bytes_read, nonce_in, nonce_of, ping_digest, salt_of, pong_digest, host_of};
 
 use crate::Ring;
 use crate::digest::key_digest;
 use fwd_base::{Bytes, Memory};
-use fwd_msgpack::Value;
+use fwd_msgpack::{Pairs, Value};
 use fwd_value::value_of;
 use std::alloc::Global;
 
@@ -65,16 +65,23 @@ fn copied_bytes(alloc: Global, value: &Value) -> Result<Option<Bytes>, Memory>
 }
 
 /// Returns the nonce of the options of a HELO.
+fn nonce_in_pairs(alloc: Global, options: &Pairs) -> Result<Option<Bytes>, Memory>
+    ensures { IfOk result (λ nonce. nonce ≡ nonce_in (mapping (entries_of options.now))) }
+{
+    let key = Bytes::from_slice(alloc, b"nonce")?;
+    match value_of(options, &key) {
+        Some(nonce) => copied_bytes(alloc, nonce),
+        None => Ok(None),
+    }
+}
+
+/// Returns the nonce, if a value is a map with one.
 fn nonce_in(alloc: Global, options: &Value) -> Result<Option<Bytes>, Memory>
     ensures { IfOk result (λ nonce. nonce ≡ nonce_in (val_of options.now)) }
 {
-    let Value::Map(pairs) = options else {
-        return Ok(None);
-    };
-    let key = Bytes::from_slice(alloc, b"nonce")?;
-    match value_of(pairs, &key) {
-        Some(nonce) => copied_bytes(alloc, nonce),
-        None => Ok(None),
+    match options {
+        Value::Map(pairs) => nonce_in_pairs(alloc, pairs),
+        _ => Ok(None),
     }
 }
 

@@ -63,7 +63,10 @@ pub fn read_helo(alloc: Global, stream: &[u8]) -> Result<Received, Memory>
     ensures { IfOk result (λ received. received ≡ helo_received stream.now) }
 {
     match decode(alloc, stream) {
-        Ok((value, len)) => Ok(Received::of_content(len, nonce_of(alloc, &value)?)),
+        Ok((value, len)) => {
+            let content = nonce_of(alloc, &value)?;
+            Ok(Received::of_content(len, content))
+        }
         Err(error) => received_without(error, stream.len()),
     }
 }
@@ -79,7 +82,10 @@ pub fn read_ping(
     ensures { IfOk result (λ received. received ≡ ping_received ring.now nonce.now stream.now) }
 {
     match decode(alloc, stream) {
-        Ok((value, len)) => Ok(Received::of_content(len, salt_of(alloc, ring, nonce, &value)?)),
+        Ok((value, len)) => {
+            let content = salt_of(alloc, ring, nonce, &value)?;
+            Ok(Received::of_content(len, content))
+        }
         Err(error) => received_without(error, stream.len()),
     }
 }
@@ -96,10 +102,10 @@ pub fn read_pong(
     ensures { IfOk result (λ received. received ≡ pong_received ring.now salt.now nonce.now stream.now) }
 {
     match decode(alloc, stream) {
-        Ok((value, len)) => Ok(Received::of_content(
-            len,
-            host_of(alloc, ring, salt, nonce, &value)?,
-        )),
+        Ok((value, len)) => {
+            let content = host_of(alloc, ring, salt, nonce, &value)?;
+            Ok(Received::of_content(len, content))
+        }
         Err(error) => received_without(error, stream.len()),
     }
 }
