@@ -169,13 +169,13 @@ shown_pong ring salt nonce host h d e differs g =
     ∙ bytes_test (key_digest ring.key salt h nonce) d g
 
 pong_by : (ring : Ring) (salt nonce host : List ℕ) (w a r h d : Val)
-    → cond (is_bytes pong_word w && (is_true a && is_digest (pong_digest ring salt nonce (bytes_of h)) d)) (bytes_of h) None ≡ Some host
+    → cond (is_true a && (is_bytes pong_word w && is_digest (pong_digest ring salt nonce (bytes_of h)) d)) (bytes_of h) None ≡ Some host
     → IsPong ring salt nonce host (list (val w (val a (val r (val h (val d no_vals))))))
 pong_by ring salt nonce host w a r h d e =
     let shows = is_digest (pong_digest ring salt nonce (bytes_of h)) d in
-    let parts = if_some (is_bytes pong_word w && (is_true a && shows)) (bytes_of h) host e in
-    let tests = both_true (is_bytes pong_word w) (is_true a && shows) parts.0 in
-    let more = both_true (is_true a) shows tests.1 in
+    let parts = if_some (is_true a && (is_bytes pong_word w && shows)) (bytes_of h) host e in
+    let tests = both_true (is_true a) (is_bytes pong_word w && shows) parts.0 in
+    let more = both_true (is_bytes pong_word w) shows tests.1 in
     let shown = pong_shown ring salt nonce (bytes_of h) d more.1 in
     let same : shown.0 ≡ host = some_same shown.0 host (sym shown.1 ∙ parts.1) in
     record {
@@ -185,8 +185,8 @@ pong_by ring salt nonce host w a r h d e =
       host_member = h;
       digest = d;
       members = refl;
-      begins = test_bytes pong_word w tests.0;
-      accepts = true_is a more.0;
+      begins = test_bytes pong_word w more.0;
+      accepts = true_is a tests.0;
       names = bytes_are h host parts.1;
       differs = subst (λ (x : List ℕ). x ≡ ring.host → ⊥) same shown.2;
       shows = subst (λ (x : List ℕ). IsBytes (key_digest ring.key salt x nonce) d) same shown.3;
@@ -202,12 +202,25 @@ pong_to ring salt nonce host v p =
     let shows = shown_pong ring salt nonce (bytes_of p.host_member) host p.digest named p.differs p.shows in
     let digest = is_digest (pong_digest ring salt nonce (bytes_of p.host_member)) p.digest in
     let accepts : is_true p.accepted ≡ true = ap is_true p.accepts in
+    let begins = bytes_test pong_word p.word p.begins in
     ap (host_of ring salt nonce) p.members
-    ∙ some_if (is_bytes pong_word p.word && (is_true p.accepted && digest)) (bytes_of p.host_member) host
-    (true_both (is_bytes pong_word p.word) (is_true p.accepted && digest) (bytes_test pong_word p.word p.begins) (true_both (is_true p.accepted) digest accepts shows)) named
+    ∙ some_if (is_true p.accepted && (is_bytes pong_word p.word && digest)) (bytes_of p.host_member) host
+    (true_both (is_true p.accepted) (is_bytes pong_word p.word && digest) accepts (true_both (is_bytes pong_word p.word) digest begins shows)) named
 
 pub pong_exactly : (ring : Ring) (salt nonce host : List ℕ) (v : Val) → (host_of ring salt nonce v ≡ Some host) ↔ IsPong ring salt nonce host v
 pong_exactly ring salt nonce host v = (pong_from ring salt nonce host v, pong_to ring salt nonce host v)
+
+-- ---- the members by their tests
+
+pub salt_is : (ring : Ring) (nonce : List ℕ) (w h s d u p : Val) (wanted : Option (List ℕ)) (t : Bool) → wanted ≡ ping_digest ring nonce (bytes_of h) (bytes_of s)
+    → t ≡ (is_bytes ping_word w && is_digest wanted d) → cond t (bytes_of s) None ≡ salt_of ring nonce (list (val w (val h (val s (val d (val u (val p no_vals)))))))
+salt_is ring nonce w h s d u p wanted t is test =
+    ap (λ (b : Bool). cond b (bytes_of s) None) (test ∙ ap (λ (o : Option (List ℕ)). is_bytes ping_word w && is_digest o d) is)
+
+pub host_is : (ring : Ring) (salt nonce : List ℕ) (w a r h d : Val) (wanted : Option (List ℕ)) (t : Bool) → wanted ≡ pong_digest ring salt nonce (bytes_of h)
+    → t ≡ (is_true a && (is_bytes pong_word w && is_digest wanted d)) → cond t (bytes_of h) None ≡ host_of ring salt nonce (list (val w (val a (val r (val h (val d no_vals))))))
+host_is ring salt nonce w a r h d wanted t is test =
+    ap (λ (b : Bool). cond b (bytes_of h) None) (test ∙ ap (λ (o : Option (List ℕ)). is_true a && (is_bytes pong_word w && is_digest o d)) is)
 
 -- ---- lists of another length
 
@@ -265,7 +278,7 @@ refused : (ring : Ring) (salt nonce : List ℕ) (w a r h d : Val) (o : Option (L
 refused ring salt nonce w a r h d None own e = refl
 refused ring salt nonce w a r h d (Some host) own e =
     let pong = pong_by ring salt nonce host w a r h d e in
-    let same : host ≡ ring.host = some_same host ring.host (sym ((if_some (is_bytes pong_word w && (is_true a && is_digest (pong_digest ring salt nonce (bytes_of h)) d)) (bytes_of h) host e).1) ∙ are_bytes h ring.host own) in
+    let same : host ≡ ring.host = some_same host ring.host (sym ((if_some (is_true a && (is_bytes pong_word w && is_digest (pong_digest ring salt nonce (bytes_of h)) d)) (bytes_of h) host e).1) ∙ are_bytes h ring.host own) in
     absurd (pong.differs same)
 
 pub own_host_none : (ring : Ring) (salt nonce : List ℕ) (w a r h d : Val) → IsBytes ring.host h → host_of ring salt nonce (list (val w (val a (val r (val h (val d no_vals)))))) ≡ None

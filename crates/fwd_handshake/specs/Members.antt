@@ -78,8 +78,8 @@ pong_digest ring salt nonce None = None
 -- host and the digest.
 abbrev pub host_of : Ring → (salt nonce : List ℕ) → Val → Option (List ℕ)
 host_of ring salt nonce (list (val word (val accepted (val reason (val host (val digest no_vals)))))) =
-    if is_bytes pong_word word
-    && (is_true accepted && is_digest (pong_digest ring salt nonce (bytes_of host)) digest)
+    if is_true accepted
+    && (is_bytes pong_word word && is_digest (pong_digest ring salt nonce (bytes_of host)) digest)
     then bytes_of host
     else None
 host_of ring salt nonce _ = None

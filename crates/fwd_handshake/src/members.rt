@@ -1,6 +1,6 @@
 //! The members of the messages of the handshake.
 
-ghost use Rattle.std.specs.Prelude.{◌≡◌, map, option_map, IfOk};
+ghost use Rattle.std.specs.Prelude.{◌≡◌, ◌&&◌, if◌then◌else◌, map, Some, None, IfOk};
 ghost use Rattle.fwd_value.specs.Val.{list, mapping, vals_of, entries_of};
 ghost use Rattle.fwd_value.specs.View.{val_of};
 ghost use Rattle.fwd_handshake.specs.Members.{bytes_of, is_bytes, is_true, is_digest, bytes_read, nonce_in, nonce_of, ping_digest, salt_of, pong_digest, host_of};
@@ -64,6 +64,24 @@ fn copied_bytes(alloc: Global, value: &Value) -> Result<Option<Bytes>, Memory>
     }
 }
 
+/// Returns whether a message begins with its word and has the wanted digest.
+fn is_shown(wanted_word: &[u8], word: &Value, wanted: &Option<Bytes>, digest: &Value) -> bool
+    ensures { result ≡ (is_bytes wanted_word.now (val_of word.now) && is_digest wanted.now (val_of digest.now)) }
+{
+    is_bytes(wanted_word, word) && is_digest(wanted, digest)
+}
+
+/// Returns a copy of the bytes of a text or a bin, if they are wanted.
+fn copied_if(alloc: Global, is_wanted: bool, value: &Value) -> Result<Option<Bytes>, Memory>
+    ensures { IfOk result (λ copy. copy ≡ (if is_wanted then bytes_of (val_of value.now) else None)) }
+{
+    if is_wanted {
+        copied_bytes(alloc, value)
+    } else {
+        Ok(None)
+    }
+}
+
 /// Returns the nonce of the options of a HELO.
 fn nonce_in_pairs(alloc: Global, options: &Pairs) -> Result<Option<Bytes>, Memory>
     ensures { IfOk result (λ nonce. nonce ≡ nonce_in (mapping (entries_of options.now))) }
@@ -86,16 +104,18 @@ fn nonce_in(alloc: Global, options: &Value) -> Result<Option<Bytes>, Memory>
 }
 
 /// Returns the nonce, if these are the members of a HELO.
+#[tactic(auto, using(crate::proofs::RightMessages::not_two))]
 pub fn nonce_of(alloc: Global, members: &[Value]) -> Result<Option<Bytes>, Memory>
     ensures { IfOk result (λ nonce. nonce ≡ nonce_of (list (vals_of (map val_of members.now)))) }
 {
     let [word, options] = members else {
         return Ok(None);
     };
-    if !is_bytes(b"HELO", word) {
-        return Ok(None);
+    if is_bytes(b"HELO", word) {
+        nonce_in(alloc, options)
+    } else {
+        Ok(None)
     }
-    nonce_in(alloc, options)
 }
 
 /// Returns the digest that a PING has to have, if its host and its salt are texts or bins.
@@ -118,6 +138,7 @@ fn ping_digest(
 }
 
 /// Returns the salt, if these are the members of a PING that shows the key.
+#[tactic(auto, using(crate::proofs::RightMessages::not_six, crate::proofs::RightMessages::salt_is))]
 pub fn salt_of(
     alloc: Global,
     ring: &Ring,
@@ -129,15 +150,24 @@ pub fn salt_of(
     let [word, host, salt, digest, _, _] = members else {
         return Ok(None);
     };
-    if !is_bytes(b"PING", word) {
+    let wanted = ping_digest(alloc, ring, nonce, host, salt)?;
+    copied_if(alloc, is_shown(b"PING", word, &wanted, digest), salt)
+}
+
+/// Returns the digest that a PONG of a host has to have, unless it is the own host.
+fn other_digest(
+    alloc: Global,
+    ring: &Ring,
+    salt: &[u8],
+    nonce: &[u8],
+    host: &[u8],
+) -> Result<Option<Bytes>, Memory>
+    ensures { IfOk result (λ digest. digest ≡ pong_digest ring.now salt.now nonce.now (Some host.now)) }
+{
+    if host == ring.host.as_slice() {
         return Ok(None);
     }
-    let wanted = ping_digest(alloc, ring, nonce, host, salt)?;
-    if is_digest(&wanted, digest) {
-        copied_bytes(alloc, salt)
-    } else {
-        Ok(None)
-    }
+    Ok(Some(key_digest(alloc, ring, salt, host, nonce)?))
 }
 
 /// Returns the digest that a PONG has to have, if its host is a text or a bin and not the own host.
@@ -151,14 +181,13 @@ fn pong_digest(
     ensures { IfOk result (λ digest. digest ≡ pong_digest ring.now salt.now nonce.now (bytes_of (val_of host.now))) }
 {
     match bytes_of(host) {
-        Some(host) if host != ring.host.as_slice() => {
-            Ok(Some(key_digest(alloc, ring, salt, host, nonce)?))
-        }
-        _ => Ok(None),
+        Some(host) => other_digest(alloc, ring, salt, nonce, host),
+        None => Ok(None),
     }
 }
 
 /// Returns the host, if these are the members of a PONG that accepts and shows the key.
+#[tactic(auto, using(crate::proofs::RightMessages::not_five, crate::proofs::RightMessages::host_is))]
 pub fn host_of(
     alloc: Global,
     ring: &Ring,
@@ -171,13 +200,7 @@ pub fn host_of(
     let [word, accepted, _, host, digest] = members else {
         return Ok(None);
     };
-    if !is_bytes(b"PONG", word) || !is_true(accepted) {
-        return Ok(None);
-    }
     let wanted = pong_digest(alloc, ring, salt, nonce, host)?;
-    if is_digest(&wanted, digest) {
-        copied_bytes(alloc, host)
-    } else {
-        Ok(None)
-    }
+    let is_right = is_true(accepted) && is_shown(b"PONG", word, &wanted, digest);
+    copied_if(alloc, is_right, host)
 }
