@@ -27,7 +27,8 @@ pub record IsPing (ring : Ring) (nonce salt : List ℕ) (v : Val) : Type 0 where
   pub digest : Val
   pub user : Val
   pub password : Val
-  pub members : v ≡ list (val word (val host_member (val salt_member (val digest (val user (val password no_vals))))))
+  pub members :
+      v ≡ list (val word (val host_member (val salt_member (val digest (val user (val password no_vals))))))
   pub begins : IsBytes ping_word word
   pub names : IsBytes host host_member
   pub salts : IsBytes salt salt_member

@@ -54,15 +54,16 @@ fn ping_with(alloc: Global, host: &[u8], salt: &[u8], digest: &[u8]) -> Result<B
 }
 
 /// Returns the PING with a salt, in answer to a HELO with this nonce.
-#[tactic(auto, using(crate::proofs::Parts::digest_length))]
 pub fn ping(alloc: Global, ring: &Ring, salt: &[u8], nonce: &[u8]) -> Result<Bytes, Memory>
     requires host { length ring.now.host < 2 ^ 32 }
     requires salt { length salt.now < 2 ^ 32 }
     requires nonce { length nonce.now < 2 ^ 32 }
     ensures { IfOk result (λ bytes. bytes ≡ ping ring.now salt.now nonce.now) }
 {
-    let digest = key_digest(alloc, ring, salt, ring.host.as_slice(), nonce)?;
-    ping_with(alloc, ring.host.as_slice(), salt, digest.as_slice())
+    let host = ring.host.as_slice();
+    let digest = key_digest(alloc, ring, salt, host, nonce)?;
+    let digest_text = digest.as_slice();
+    ping_with(alloc, host, salt, digest_text)
 }
 
 /// Returns the PONG of a host with this digest.
@@ -78,13 +79,14 @@ fn pong_with(alloc: Global, host: &[u8], digest: &[u8]) -> Result<Bytes, Memory>
 }
 
 /// Returns the PONG in answer to a PING with this salt, after a HELO with this nonce.
-#[tactic(auto, using(crate::proofs::Parts::digest_length))]
 pub fn pong(alloc: Global, ring: &Ring, salt: &[u8], nonce: &[u8]) -> Result<Bytes, Memory>
     requires host { length ring.now.host < 2 ^ 32 }
     requires salt { length salt.now < 2 ^ 32 }
     requires nonce { length nonce.now < 2 ^ 32 }
     ensures { IfOk result (λ bytes. bytes ≡ pong ring.now salt.now nonce.now) }
 {
-    let digest = key_digest(alloc, ring, salt, ring.host.as_slice(), nonce)?;
-    pong_with(alloc, ring.host.as_slice(), digest.as_slice())
+    let host = ring.host.as_slice();
+    let digest = key_digest(alloc, ring, salt, host, nonce)?;
+    let digest_text = digest.as_slice();
+    pong_with(alloc, host, digest_text)
 }
