@@ -9,11 +9,10 @@ use Rattle.fwd_msgpack.specs.Encodings.{Encodes}
 use Rattle.fwd_msgpack.specs.Decoder.{Read, value_at}
 use Rattle.fwd_msgpack.specs.DecodeAnswers.{EncodesPrefix, IsProperPrefix}
 use Rattle.fwd_msgpack.proofs.Exclusive.{prefix_not_value}
-use Rattle.fwd_handshake.specs.declared.received.Greeted.{Greeted}
 use Rattle.fwd_handshake.specs.declared.received.Greeted.TheVariants as greeted
 use Rattle.fwd_handshake.specs.declared.received.Received.{Received}
 use Rattle.fwd_handshake.specs.declared.received.Received.TheVariants.{More, Right, Wrong}
-use Rattle.fwd_handshake.specs.Judgement.{longest_greeting, short_received, content_received, received_by, received, greeted_of, judged}
+use Rattle.fwd_handshake.specs.Judgement.{longest_greeting, content_received, received_by, received, greeted_of, judged}
 use Rattle.fwd_handshake.proofs.Decoding.{read_value, read_prefix, received_value, received_prefix}
 
 wrong_right : (n : ℕ) (s : List ℕ) → Wrong ≡ Right n s → ⊥

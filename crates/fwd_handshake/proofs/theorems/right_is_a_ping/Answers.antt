@@ -1,4 +1,4 @@
-use Rattle.std.proofs.Common.{◌≡◌, ◌↔◌, ℕ, List, Option, Some}
+use Rattle.std.proofs.Common.{◌≡◌, Some}
 use Rattle.fwd_handshake.proofs.Through.{through}
 use Rattle.fwd_handshake.proofs.Judged.{received_right, judged_right}
 use Rattle.fwd_handshake.specs.Members.{salt_of}
