@@ -3,6 +3,7 @@
 //! say. Comments and empty lines are printed as they are.
 #![tactic(auto)]
 
+mod handshakes;
 mod messages;
 mod payloads;
 mod replies;

@@ -1,5 +1,8 @@
 //! What each operation prints.
 
+use crate::handshakes::{
+    put_helo, put_ping, put_pong, put_read_helo, put_read_ping, put_read_pong,
+};
 use crate::messages::{put_forward, put_message, put_pieces, put_stream};
 use crate::payloads::{put_content, put_request, put_with_field};
 use crate::replies::{put_ack, put_id, put_reply, put_retried, put_wait};
@@ -29,6 +32,12 @@ fn put_answer(
         "ack" => put_ack(alloc, out, first, second),
         "id" => put_id(alloc, out, first, second),
         "wait" => put_wait(out, arguments),
+        "helo" => put_helo(alloc, out, first),
+        "ping" => put_ping(alloc, out, arguments),
+        "pong" => put_pong(alloc, out, arguments),
+        "read_helo" => put_read_helo(alloc, out, first),
+        "read_ping" => put_read_ping(alloc, out, arguments),
+        "read_pong" => put_read_pong(alloc, out, arguments),
         _ => Ok(out.push_str(row)?),
     }
 }
