@@ -8,6 +8,7 @@ pub mod OneByte
 pub mod ReadWhole
 pub mod ConsistentFiles
 pub mod LogGrowth
+pub mod RisingLinks
 pub mod Executions
 pub mod CrashPointLemmas
 pub mod AndThen

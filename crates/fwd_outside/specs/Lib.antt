@@ -5,6 +5,7 @@ pub mod Disk
 pub mod Files
 pub mod Sink
 pub mod Loop
+pub mod NewLinks
 pub mod ConsistentFiles
 pub mod Program
 pub mod Log
