@@ -3,9 +3,9 @@
 use Rattle.std.proofs.Common.{◌≡◌, inr, ℕ, ◌+◌, ◌≤◌, Bool, true, false, List, ◌∷◌, ◌++◌, length, Option, Some, None, IsSome, refl, sym, ◌∙◌, ap, subst, arith}
 use Rattle.std.specs.Prelude.{Contains, ◌==◌, nat_le, IsUtf8}
 use Rattle.std.specs.Str.{bytes_eq}
-use Rattle.std.proofs.lemmas.Bool.{leb-true, eq-eqb, cond-true, and_parts}
+use Rattle.std.proofs.lemmas.Bool.{eq-eqb, cond-true, and_parts}
 use Rattle.std.proofs.lemmas.Slice.Eq.{bytes_eq-Decides}
-use Rattle.fwd_base.specs.Limits.{full_chunk, largest_batch, longest_file, longest_tag}
+use Rattle.fwd_base.specs.Limits.{full_chunk, longest_file, longest_tag}
 use Rattle.fwd_outside.specs.Program.{bind}
 use Rattle.fwd_outside.specs.AtCrashPoints.{HoldsThroughout}
 use Rattle.fwd_outside.proofs.CrashPointLemmas.{holds_bind}
@@ -209,7 +209,7 @@ module _ (s : AllSettings) (settings : MeetsRequirements s) (full : s.service.fu
           let image = settled_image head meta (content h n) m.files file (Some file.bytes) (subst (λ (f : FileState). IsPostCrash f (Some file.bytes)) (sym file.state) (read_is_post_crash_state (whole file.bytes) (sound_whole file.bytes))) in
           let outputs = names_are s settings c.tag in
           let small = x.was.room c among_open in
-          omega (arith, leb-true (length batch) largest_batch store.fits, image.3, image.4, small, length-new_meta c.tag (names_for s c.tag) short_tag outputs.few (are_short (names_for s c.tag) outputs))
+          omega (arith, store.fits, image.3, image.4, small, length-new_meta c.tag (names_for s c.tag) short_tag outputs.few (are_short (names_for s c.tag) outputs))
 
       calls : Allowed s at.past → HoldsThroughout disk.DiskTransition Going Over m.files (appends_kept (InFile head) batch s.service.full)
       calls due =

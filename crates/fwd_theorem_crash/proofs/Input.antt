@@ -1,8 +1,9 @@
 -- Traversal of acceptance and of input.
 use Rattle.std.proofs.Common.{◌≡◌, ℕ, ◌+◌, nat_lt, Bool, true, false, cond, List, [], ◌∷◌, length, Option, Some, None, refl, sym, subst}
 use Rattle.std.specs.Prelude.{Contains}
+use Rattle.std.proofs.lemmas.Bool.{leb-true}
 use Rattle.std.specs.List.{range_with_len}
-use Rattle.fwd_base.specs.Limits.{numbers_end}
+use Rattle.fwd_base.specs.Limits.{largest_batch, numbers_end}
 use Rattle.fwd_outside.specs.Program.{Return, bind}
 use Rattle.fwd_outside.proofs.CrashPointLemmas.{holds_bind}
 use Rattle.fwd_outside.specs.Loop.{Reply, DropConn}
@@ -23,7 +24,7 @@ use Rattle.fwd_model.specs.Streams.{stream_of, said}
 use Rattle.fwd_model.specs.FollowedFiles.{file_at}
 use Rattle.fwd_model.specs.Batches.{completed_lines, piece_batch, end_batch, poll_batch}
 use Rattle.fwd_model.specs.Messages.{completed_messages, becomes_malformed, message_batch, reply_of}
-use Rattle.fwd_model.specs.Chunks.{ChunkInfo, open_chunk, next, is_storable}
+use Rattle.fwd_model.specs.Chunks.{ChunkInfo, open_chunk, next, encoded, is_storable}
 use Rattle.fwd_model.specs.Limits.{is_paused}
 use Rattle.fwd_model.specs.Notes.{note_then, note, is_empty}
 use Rattle.fwd_model.specs.CloseActions.{closes_chunk, closes_if_full, closes_all}
@@ -86,7 +87,7 @@ module _ (s : AllSettings) (sound : MeetsRequirements s) (P K : CrashPoint → T
       (λ some. holds_if P Took (is_empty (outputs_for s b.tag)) m (note_then (Accepted b NoChunk) h taken) stored
       (λ nobody. deed s P K can Took (Accepted b NoChunk) m taken tt kept (λ answer then. taken_now true (after m (Note (Accepted b NoChunk)) answer) then))
       (λ wanted. holds_if P Took (is_storable b.events) m (stores s b (open_chunk h b.input b.tag) h) (refuses b TooLarge h)
-      (λ fits. taken_stores b (open_chunk h b.input b.tag) m refl (record { some = some; wanted = wanted; fits = fits }) writable kept)
+      (λ fits. taken_stores b (open_chunk h b.input b.tag) m refl (record { some = some; wanted = wanted; fits = leb-true (length (encoded b.events)) largest_batch fits }) writable kept)
       (λ large. taken_refuses b TooLarge m kept)))
 
   pub tells_takes : (b : Batch) (m : CrashPoint) → IsWritable b → K m → InputReturnsHistory m (ingests s b (logged m.past))

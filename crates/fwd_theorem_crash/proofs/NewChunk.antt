@@ -1,8 +1,8 @@
 -- A chunk begins with a batch: each crash point is safe, and the order invariant holds afterwards.
 use Rattle.std.proofs.Common.{◌≡◌, ◌≢◌, inl, inr, ℕ, ◌≤◌, ◌<◌, nat_lt, true, false, List, ◌∷◌, length, Option, Some, None, IsSome, refl, sym, subst, arith}
 use Rattle.std.specs.Prelude.{Contains, nat_le}
-use Rattle.std.proofs.lemmas.Bool.{leb-true, ltb-true}
-use Rattle.fwd_base.specs.Limits.{numbers_end, full_chunk, largest_batch}
+use Rattle.std.proofs.lemmas.Bool.{ltb-true}
+use Rattle.fwd_base.specs.Limits.{numbers_end, full_chunk}
 use Rattle.fwd_outside.specs.Program.{bind}
 use Rattle.fwd_outside.specs.AtCrashPoints.{HoldsThroughout}
 use Rattle.fwd_outside.proofs.CrashPointLemmas.{holds_bind}
@@ -47,8 +47,6 @@ use Rattle.fwd_theorem_crash.proofs.NewChunkOrder.{begun_order, begun_memory, un
 use Rattle.fwd_theorem_crash.proofs.RunTraversal.{after, TakenBy}
 use Rattle.fwd_theorem_crash.proofs.DiskPoints.{HoldsAfter, with_all, Ordered, Safe, Kept, Came, safe_now, runs, notes}
 
-storable_is : (n m : ℕ) → nat_le n m ≡ true → n ≤ m
-storable_is n m is = leb-true n m is
 
 module _ (s : AllSettings) (settings : MeetsRequirements s) (first : Files) (b : Batch) (m : CrashPoint) (store : IsToStore s b) (writable : IsWritable b)
     (none : open_chunk (logged m.past) b.input b.tag ≡ None) (left : nat_lt (next (logged m.past)) numbers_end ≡ true) (kept : Kept s first m) where
@@ -164,7 +162,7 @@ module _ (s : AllSettings) (settings : MeetsRequirements s) (first : Files) (b :
       settled last is =
           let outputs = names_are s settings b.tag in
           placed_settled name b.tag (encoded b.events) names last writable.short outputs
-          (omega (arith, storable_is (length (encoded b.events)) largest_batch store.fits, length-new_meta b.tag names writable.short outputs.few (are_short names outputs))) is
+          (omega (arith, store.fits, length-new_meta b.tag names writable.short outputs.few (are_short names outputs))) is
 
       behind : (answer : Option (Unit {0})) (end : CrashPoint) → Came s first at Behind answer end → Taken end (finishes_create s b n g answer)
       behind (Some done) end came =

@@ -32,7 +32,7 @@ use Rattle.fwd_settings.specs.Requirements.{IsTagText, HasTag, MeetsRequirements
 use Rattle.fwd_model.specs.Fact.{History, Batch}
 use Rattle.fwd_model.specs.Settings.{input_at, own_tag, tag_at}
 use Rattle.fwd_model.specs.Clock.{clock}
-use Rattle.fwd_model.specs.Chunks.{is_storable}
+use Rattle.fwd_model.specs.Chunks.{encoded}
 use Rattle.fwd_model.specs.Batches.{events_of, batch_of}
 use Rattle.fwd_model.specs.Messages.{completed_messages, message_batch}
 use Rattle.fwd_chunk.proofs.Conditionals.{both}
@@ -47,8 +47,8 @@ pub record IsWritable (b : Batch) : Type 0 where
   pub shallow : are_shallow b.events ≡ true
 
 -- its encoding is a list of equally many events
-pub writable_are : (b : Batch) → IsWritable b → is_storable b.events ≡ true → AreWritten b.events (encodings b.events)
-writable_are b is fits = events_written b.events (events_fit b.events (all_tell b.events is.shallow) (leb-true (length (encodings b.events)) largest_batch fits))
+pub writable_are : (b : Batch) → IsWritable b → length (encoded b.events) ≤ largest_batch → AreWritten b.events (encodings b.events)
+writable_are b is fits = events_written b.events (events_fit b.events (all_tell b.events is.shallow) fits)
 
 -- ---- tags
 

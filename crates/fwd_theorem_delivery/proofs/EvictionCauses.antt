@@ -1,6 +1,6 @@
 -- An output evicts only if its limit was passed.
 use Rattle.std.proofs.Common.{◌≡◌, ⊎_elim, ℕ, ◌+◌, ◌-◌, ◌<◌, ◌&&◌, not, Bool, true, false, cond, List, [], ◌∷◌, ◌++◌, map, Option, Some, None, refl, subst, arith}
-use Rattle.std.specs.Prelude.{All, Contains, ◌==◌, nat_le, nat_lt}
+use Rattle.std.specs.Prelude.{All, Contains, ◌==◌, nat_le, nat_lt, option_and_then}
 use Rattle.std.specs.List.{flat_map}
 use Rattle.std.proofs.lemmas.Bool.{eqb-true, leb-false, ltb-true, ltb-false}
 use Rattle.fwd_base.specs.declared.ids.ChunkId.{ChunkId}
@@ -9,8 +9,9 @@ use Rattle.fwd_table.specs.Row.{Row}
 use Rattle.fwd_table.specs.Usage.{is_file, size_of}
 use Rattle.fwd_limits.specs.Evictions.{fixed, other_waiting, evicted_among, evicted_for}
 use Rattle.fwd_settings.specs.declared.settings_types.AllSettings.{AllSettings}
+use Rattle.fwd_settings.specs.declared.settings_types.OutputSet.{OutputSet}
 use Rattle.fwd_model.specs.Fact.{Fact, History, Route, OnRoute, Evicted, ChunkClosed}
-use Rattle.fwd_model.specs.Settings.{total_limit_at}
+use Rattle.fwd_model.specs.Settings.{output_at, total_limit_at}
 use Rattle.fwd_model.specs.Chunks.{ChunkInfo, chunks_of, chunk_at}
 use Rattle.fwd_model.specs.Routes.{route, home_of, owed, rows_of}
 use Rattle.fwd_model.specs.Limits.{evictions_to, evictions_for, evicted_at}
@@ -54,9 +55,23 @@ module _ (s : AllSettings) (closed : ℕ) (before : History) where
   abbrev IsOver : History → Route → Type 0
   IsOver h r = IsOverLimit s h r
 
+  -- the output whose limit it is
+  record Limited (output limit : ℕ) : Type 0 where
+    set : OutputSet
+    at_index : output_at s output ≡ Some set
+    limit_is : set.total_limit ≡ Some limit
+
+  limited_by : (output limit : ℕ) → total_limit_at s output ≡ Some limit → Limited output limit
+  limited_by output limit is = by (output_at s output) refl is
+    where
+      by : (set : Option OutputSet) → output_at s output ≡ set → option_and_then (λ (given : OutputSet). given.total_limit) set ≡ Some limit → Limited output limit
+      by None at none = absurd (cc none)
+      by (Some set) at limited = record { set = set; at_index = at; limit_is = limited }
+
   over_output : (output : ℕ) (limit : Option ℕ) (r : Route) (h : History) → total_limit_at s output ≡ limit → ClosedSince closed before h → Contains (evictions_to s at closed output limit) r → IsOver h r
   over_output output None r h limited so has = absurd (omega (arith, has.1))
   over_output output (Some limit) r h limited so has =
+      let limits = limited_by output limit limited in
       let found = from_map (λ (lost : ChunkId). route lost.0 output) (evicted_for (record { 0 = output }) limit (record { 0 = closed }) (rows_of s at)) r has in
       subst (IsOver h) found.2 (record {
         closed = closed;
@@ -64,8 +79,10 @@ module _ (s : AllSettings) (closed : ℕ) (before : History) where
         before = before;
         is = so.is;
         last = so.last;
+        output = limits.set;
+        among = limits.at_index;
         limit = limit;
-        limited = limited;
+        limited = limits.limit_is;
         passed = over_by (record { 0 = output }) limit (record { 0 = closed }) (rows_of s at) found.0 found.1;
         oldest = found.1;
       })

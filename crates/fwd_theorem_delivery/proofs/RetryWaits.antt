@@ -377,7 +377,7 @@ module _ (s : AllSettings) where
       by Unlimited is = absurd (not_unlimited (tries h r) (subst (λ (l : Limit). may_retry l (tries h r) ≡ false) is ended.0))
       by (Times n) is =
           let over = leb-false (saturating_plus (tries h r) 1) n (subst (λ (l : Limit). may_retry l (tries h r) ≡ false) is ended.0) in
-          record { limit = n; limited = is; flushed = begun_exactly r n is (omega (arith, over)) h timed ended.1 over }
+          record { limit = n; limited = λ output at. ap retries_at (sym at) ∙ is; flushed = begun_exactly r n is (omega (arith, over)) h timed ended.1 over }
 
   pub limited_in_life : (ends : Ends) (ticks : Option ℕ) (turns : ℕ) (es : List TraceEntry) (left : Action RunResult) (r : Route) (n : ℕ) → Execution (life s ends ticks turns) es left
       → retries_at (output_at s r.output) ≡ Times n → n < 2 ^ 64 - 1 → begin_count (history_after es []) r ≤ n + 1

@@ -8,8 +8,9 @@ use Rattle.fwd_table.specs.Row.{Row}
 use Rattle.fwd_table.specs.Usage.{size_of}
 use Rattle.fwd_limits.specs.Evictions.{fixed, other_waiting, evicted_for}
 use Rattle.fwd_settings.specs.declared.settings_types.AllSettings.{AllSettings}
+use Rattle.fwd_settings.specs.declared.settings_types.OutputSet.{OutputSet}
 use Rattle.fwd_model.specs.Fact.{Fact, History, Batch, Reason, Route, Happened, Refused, OnRoute, FlushStarted, Exhausted, Evicted, ChunkClosed}
-use Rattle.fwd_model.specs.Settings.{output_at, retries_at, total_limit_at}
+use Rattle.fwd_model.specs.Settings.{output_at}
 use Rattle.fwd_model.specs.Routes.{rows_of}
 use Rattle.fwd_theorem_trace.specs.Allowed.{RefuseAllowed}
 use Rattle.fwd_theorem_delivery.specs.RetryCounts.{begin_count}
@@ -18,7 +19,7 @@ use Rattle.fwd_theorem_delivery.specs.FlushedEvents.{SendsChunk}
 -- as many flushes of the route began as its output's limit of retries, and one more
 pub record AreRetriesUsed (s : AllSettings) (h : History) (r : Route) : Type 0 where
   pub limit : ℕ
-  pub limited : retries_at (output_at s r.output) ≡ Times limit
+  pub limited : (output : OutputSet) → output_at s r.output ≡ Some output → output.retries ≡ Times limit
   pub flushed : begin_count h r ≡ limit + 1
 
 -- the bytes of the closed chunks in files that are pending for an output: this one, those that are in flight
@@ -41,8 +42,10 @@ pub record IsOverLimit (s : AllSettings) (h : History) (r : Route) : Type 0 wher
   pub before : History
   pub is : h ≡ since ++ ChunkClosed closed ∷ before
   pub last : All (λ fact. begins_anew fact ≡ false) since
+  pub output : OutputSet
+  pub among : output_at s r.output ≡ Some output
   pub limit : ℕ
-  pub limited : total_limit_at s r.output ≡ Some limit
+  pub limited : output.total_limit ≡ Some limit
   pub passed : limit
       < pending_bytes (record { 0 = r.output }) (record { 0 = closed }) (rows_of s (ChunkClosed closed ∷ before))
   pub oldest : Contains

@@ -3,14 +3,14 @@ use Rattle.std.specs.Prelude.{◌≡◌, ◌⊎◌, ℕ, true, false, List, [], 
 use Rattle.fwd_outside.specs.Program.{entry, Return, Execution}
 use Rattle.fwd_outside.specs.AtCrashPoints.{Ends}
 use Rattle.fwd_outside.specs.Loop.{Reply}
-use Rattle.fwd_outside.specs.declared.home.Home.TheVariants.{Disk}
 use Rattle.fwd_outside.specs.File.{IsPostCrash, content as content_of_file}
 use Rattle.fwd_outside.specs.DiskStates.{Files}
 use Rattle.fwd_backlog.specs.Recovered.{AreDurable}
 use Rattle.fwd_settings.specs.declared.settings_types.AllSettings.{AllSettings}
+use Rattle.fwd_settings.specs.declared.settings_types.InputSet.{InputSet}
 use Rattle.fwd_model.specs.Fact.{History, Batch, Accepted, NewChunk, AppendedTo}
 use Rattle.fwd_model.specs.Trace.{TraceEntry, OnLoop}
-use Rattle.fwd_model.specs.Settings.{home_at, outputs_for}
+use Rattle.fwd_model.specs.Settings.{input_at, outputs_for}
 use Rattle.fwd_model.specs.Chunks.{ChunkInfo, chunks_of, content, encoded}
 use Rattle.fwd_model.specs.Routes.{route, owed}
 use Rattle.fwd_model.specs.Messages.{message_batch}
@@ -70,8 +70,8 @@ pub record WasAcknowledged (s : AllSettings) (h : History) (older : Past) (conn 
 -- At a crash point of a run: each batch that was accepted from an input that keeps its chunks in files
 -- survives a crash. Each message that was answered before was acknowledged, so its batch is one of these.
 pub record KeepsAccepted (s : AllSettings) (m : CrashPoint) : Type 0 where
-  pub accepted : (b : Batch) (chunk : ℕ) → WasStored (logged m.past) b chunk → home_at s b.input ≡ Disk
-      → SurvivesCrash s m chunk b
+  pub accepted : (b : Batch) (chunk : ℕ) (input : InputSet) → WasStored (logged m.past) b chunk
+      → input_at s b.input ≡ Some input → input.stored ≡ true → SurvivesCrash s m chunk b
   pub acknowledged : (before after : List TraceEntry) (conn : ℕ) (reply : List ℕ) (answer : Option (Unit {0}))
       → m.past ≡ past_after [] (before ++ entry (OnLoop (Reply conn reply)) answer ∷ after)
       → WasAcknowledged s (logged m.past) (past_after [] before) conn reply

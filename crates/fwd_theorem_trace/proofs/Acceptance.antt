@@ -1,8 +1,8 @@
 -- What becomes of a batch that is accepted at some point of a run.
-use Rattle.std.proofs.Common.{◌≡◌, ◌⊎◌, inl, inr, ℕ, nat_lt, cond, List, [], ◌∷◌, ◌++◌, Option, Some, None, refl, sym, ◌∙◌, ap, subst}
+use Rattle.std.proofs.Common.{◌≡◌, ◌⊎◌, inl, inr, ℕ, nat_lt, cond, List, [], ◌∷◌, ◌++◌, length, Option, Some, None, refl, sym, ◌∙◌, ap, subst}
 use Rattle.std.specs.Prelude.{Contains, ◌==◌}
-use Rattle.std.proofs.lemmas.Bool.{eq-eqb, cond-true}
-use Rattle.fwd_base.specs.Limits.{numbers_end}
+use Rattle.std.proofs.lemmas.Bool.{eq-eqb, cond-true, leb-true, leb-false}
+use Rattle.fwd_base.specs.Limits.{largest_batch, numbers_end}
 use Rattle.fwd_outside.specs.Program.{entry, Return, Ask, bind, Execution}
 use Rattle.fwd_outside.specs.Disk.{DiskProgram}
 use Rattle.fwd_outside.specs.declared.ends.Ends.{Ends}
@@ -162,8 +162,8 @@ module _ (s : AllSettings) where
       (λ some. walks_if (Allowed s) Q (is_empty (outputs_for s b.tag)) past (note_then (Accepted b NoChunk) h taken) kept
       (λ nobody. (ready, λ answer. (((some, nobody), ready), IsUnmatched nobody refl refl)))
       (λ wanted. walks_if (Allowed s) Q (is_storable b.events) past (stores s b (open_chunk h b.input b.tag) h) (refuses b TooLarge h)
-      (λ fits. by_stores b (open_chunk h b.input b.tag) past refl (record { some = some; wanted = wanted; fits = fits }) ready)
-      (λ large. (ready, λ answer. ((large, ready), IsRefused TooLarge refl (here (Refused b TooLarge) h) (λ n. refl))))))
+      (λ fits. by_stores b (open_chunk h b.input b.tag) past refl (record { some = some; wanted = wanted; fits = leb-true (length (encoded b.events)) largest_batch fits }) ready)
+      (λ large. (ready, λ answer. ((leb-false (length (encoded b.events)) largest_batch large, ready), IsRefused TooLarge refl (here (Refused b TooLarge) h) (λ n. refl))))))
 
   pub becomes_in_life : (ends : Ends) (ticks : Option ℕ) (turns : ℕ) (before : List TraceEntry) (left : Action RunResult) (b : Batch) (es : List TraceEntry) (a : Acceptance)
       → Execution (life s ends ticks turns) before left → Execution (accepts s b (history_after before [])) es (Return a) → AcceptanceOutcome s b (history_after before []) a

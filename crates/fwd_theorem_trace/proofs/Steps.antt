@@ -1,9 +1,10 @@
 -- What acceptance, reads, polls and steps do to the history.
 use Rattle.std.proofs.Common.{◌≡◌, inl, inr, ℕ, ◌+◌, nat_lt, Bool, true, false, cond, List, [], ◌∷◌, length, Option, Some, None, refl, sym, ap, subst}
 use Rattle.std.specs.Prelude.{Contains}
+use Rattle.std.proofs.lemmas.Bool.{leb-true, leb-false}
 use Rattle.std.specs.List.{range_with_len}
 use Rattle.std.proofs.lemmas.List.Elements.{Contains-append_right}
-use Rattle.fwd_base.specs.Limits.{numbers_end}
+use Rattle.fwd_base.specs.Limits.{largest_batch, numbers_end}
 use Rattle.fwd_outside.specs.Program.{entry, Return, Ask, bind}
 use Rattle.fwd_outside.specs.Loop.{LoopCall, Start, Wait, Reply, DropConn}
 use Rattle.fwd_outside.specs.Disk.{DiskProgram}
@@ -213,8 +214,8 @@ module _ (s : AllSettings) (K : Past → Type 0) (stable : IsKept s IsOuter K) w
       (λ some. walks_if (Allowed s) Q (is_empty (outputs_for s b.tag)) past (note_then (Accepted b NoChunk) h taken) kept
       (λ nobody. (ready.0, λ answer. let then = on (Note (Accepted b NoChunk)) answer past tt (some, nobody) ready in (then.0, (refl, then.1))))
       (λ wanted. walks_if (Allowed s) Q (is_storable b.events) past (stores s b (open_chunk h b.input b.tag) h) (refuses b TooLarge h)
-      (λ fits. taken_stores b (open_chunk h b.input b.tag) past refl (record { some = some; wanted = wanted; fits = fits }) ready)
-      (λ large. taken_refuses b TooLarge past large ready)))
+      (λ fits. taken_stores b (open_chunk h b.input b.tag) past refl (record { some = some; wanted = wanted; fits = leb-true (length (encoded b.events)) largest_batch fits }) ready)
+      (λ large. taken_refuses b TooLarge past (leb-false (length (encoded b.events)) largest_batch large) ready)))
 
   pub told_takes : (b : Batch) (past : Past) → Ready past → StepReturnsHistory past (ingests s b (logged past))
   unfolding ingests

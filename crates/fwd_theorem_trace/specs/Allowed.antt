@@ -1,6 +1,6 @@
 -- When each entry of a run may occur, given the entries before it.
-use Rattle.std.specs.Prelude.{◌≡◌, ◌⊎◌, ℕ, ◌+◌, nat_lt, true, false, List, [], ◌∷◌, length, Contains, Option, Some, None}
-use Rattle.fwd_base.specs.Limits.{longest_wait, numbers_end}
+use Rattle.std.specs.Prelude.{◌≡◌, ◌⊎◌, ℕ, ◌+◌, ◌<◌, ◌≤◌, nat_lt, true, false, List, [], ◌∷◌, length, Contains, Option, Some, None}
+use Rattle.fwd_base.specs.Limits.{longest_wait, largest_batch, numbers_end}
 use Rattle.fwd_outside.specs.Program.{entry}
 use Rattle.fwd_outside.specs.Loop.{LoopCall, Wait, Dial, DropConn}
 use Rattle.fwd_outside.specs.declared.happening.Happening.{Happening}
@@ -12,7 +12,7 @@ use Rattle.fwd_model.specs.Trace.{Call, OnLoop, OnDisk, OnFiles, OnKeeper, Note}
 use Rattle.fwd_model.specs.Settings.{saturating_plus, outputs_for}
 use Rattle.fwd_model.specs.Clock.{clock, stopped}
 use Rattle.fwd_model.specs.FollowedFiles.{settled}
-use Rattle.fwd_model.specs.Chunks.{ChunkInfo, chunks_of, open_chunk, next, is_closed, is_storable}
+use Rattle.fwd_model.specs.Chunks.{ChunkInfo, chunks_of, open_chunk, next, is_closed, encoded}
 use Rattle.fwd_model.specs.Routes.{owes}
 use Rattle.fwd_model.specs.Payloads.{tag_of_chunk}
 use Rattle.fwd_model.specs.Limits.{paused}
@@ -54,7 +54,7 @@ pub record AppendsTo (b : Batch) (chunk : ℕ) (h : History) : Type 0 where
 pub record IsToStore (s : AllSettings) (b : Batch) : Type 0 where
   pub some : is_empty b.events ≡ false
   pub wanted : is_empty (outputs_for s b.tag) ≡ false
-  pub fits : is_storable b.events ≡ true
+  pub fits : length (encoded b.events) ≤ largest_batch
 
 -- it was just offered to a chunk, which was in this state before
 pub record WasOffered (Stood : Batch → ℕ → History → Type 0) (b : Batch) (chunk : ℕ)
@@ -75,7 +75,7 @@ AcceptAllowed s b (NewChunk chunk) h = IsToStore s b × WasOffered StartsChunk b
 AcceptAllowed s b (AppendedTo chunk) h = IsToStore s b × WasOffered AppendsTo b chunk h
 
 abbrev pub RefuseAllowed : AllSettings → Batch → Reason → History → Type 0
-RefuseAllowed s b TooLarge h = is_storable b.events ≡ false
+RefuseAllowed s b TooLarge h = largest_batch < length (encoded b.events)
 RefuseAllowed s b NoNumber h = (open_chunk h b.input b.tag ≡ None) × (nat_lt (next h) numbers_end ≡ false)
 RefuseAllowed s b NotStored h = StoreFailed b h
 

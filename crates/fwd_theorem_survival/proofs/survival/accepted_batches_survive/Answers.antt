@@ -1,11 +1,14 @@
-use Rattle.std.proofs.Common.{◌≡◌, inl, inr, ⊎_elim, ℕ, Bool, true, false, List, [], ◌∷◌, ◌++◌, append_assoc, Option, refl, sym, ◌∙◌, ap, subst}
+use Rattle.std.proofs.Common.{◌≡◌, inl, inr, ⊎_elim, ℕ, Bool, true, false, List, [], ◌∷◌, ◌++◌, append_assoc, Option, Some, refl, sym, ◌∙◌, ap, subst}
 use Rattle.std.specs.Prelude.{Contains, ◌==◌}
+use Rattle.std.specs.Option.{option_map_or}
 use Rattle.std.proofs.lemmas.Bool.{eq-eqb}
 use Rattle.fwd_outside.specs.Program.{entry, Execution}
 use Rattle.fwd_outside.specs.Loop.{Reply}
+use Rattle.fwd_outside.specs.declared.home.Home.TheVariants.{Disk}
+use Rattle.fwd_settings.specs.declared.settings_types.InputSet.{InputSet}
 use Rattle.fwd_model.specs.Fact.{Batch, Placement, NewChunk, AppendedTo, Accepted}
 use Rattle.fwd_model.specs.Trace.{TraceEntry, OnLoop}
-use Rattle.fwd_model.specs.Settings.{outputs_for}
+use Rattle.fwd_model.specs.Settings.{home_at, home_by, input_at, outputs_for}
 use Rattle.fwd_model.specs.Messages.{message_batch}
 use Rattle.fwd_model.specs.Notes.{is_empty}
 use Rattle.fwd_model.specs.Run.{life}
@@ -60,11 +63,14 @@ returns c s ends ticks turns first entries left sane full durable way =
         let due = c.replies_are_due.ensures s ends ticks turns before (after ++ rest) conn reply answer left (subst (λ (es : List TraceEntry). Execution (life s ends ticks turns) es left) whole way) in
         record { due = due; stored = λ some wanted. in_chunk before after e conn reply at (allowed own rest at same past) is due some wanted }
 
+    on_disk : (b : Batch) (input : InputSet) → input_at s b.input ≡ Some input → input.stored ≡ true → home_at s b.input ≡ Disk
+    on_disk b input among kept = ap (λ (o : Option InputSet). home_by (option_map_or (λ (set : InputSet). set.stored) o false)) among ∙ ap home_by kept
+
     keeps : (own rest : List TraceEntry) (at : CrashPoint) → entries ≡ own ++ rest → at.past ≡ past_after [] own → IsSafe s first at → KeepsAccepted s at
     keeps own rest at same past safe = record {
       accepted =
-          λ b n was disk.
+          λ b n input was among kept.
           survives s first (λ m last image loading h chunk. c.safe_chunks_are_recovered.ensures s first m last image loading h chunk)
-          (λ h r. c.pending_iff_unresolved.ensures.resolved s h r) (λ h chunk output. c.pending_iff_unresolved.ensures.owed s h chunk output) at safe b n disk (was_stored at b n (allowed own rest at same past) was);
+          (λ h r. c.pending_iff_unresolved.ensures.resolved s h r) (λ h chunk output. c.pending_iff_unresolved.ensures.owed s h chunk output) at safe b n (on_disk b input among kept) (was_stored at b n (allowed own rest at same past) was);
       acknowledged = λ before after conn reply answer is. acknowledged own rest at same past before after conn reply answer is;
     }
