@@ -36,12 +36,12 @@ use Rattle.fwd_model.specs.Limits.{paused}
 use Rattle.fwd_model.specs.Run.{Over, DiskFailed, KeeperFailed, LoopFailed, TurnsSpent, RunResult, lived, life, run, after_step}
 use Rattle.fwd_model.specs.StepActions.{step}
 use Rattle.fwd_model.proofs.CallLogs.{disk_append}
-use Rattle.fwd_engine.specs.EngineSteps.{IsAt, Turned, TurnOutcome, is_failed}
-use Rattle.fwd_engine.specs.declared.engine.Engine.{Engine}
-use Rattle.fwd_engine.specs.declared.engine.EngineStop.{EngineStop}
-use Rattle.fwd_engine.specs.declared.engine.EngineStop.TheVariants as stop
-use Rattle.fwd_engine.specs.declared.engine.Turn.{Turn}
-use Rattle.fwd_engine.specs.declared.engine.Turn.TheVariants as turn
+use Rattle.fwd_engine_run.specs.EngineSteps.{IsAt, Turned, TurnOutcome, is_failed}
+use Rattle.fwd_engine_run.specs.Engine.{Engine}
+use Rattle.fwd_engine_run.specs.EngineStop.{EngineStop}
+use Rattle.fwd_engine_run.specs.EngineStop.TheVariants as stop
+use Rattle.fwd_engine_run.specs.Turn.{Turn}
+use Rattle.fwd_engine_run.specs.Turn.TheVariants as turn
 use Rattle.fwd_engine_run.proofs.RunTurns.{spent}
 use Rattle.fwd_theorem_trace.specs.Waits.{waits_in}
 use Rattle.fwd_theorem_trace.proofs.WaitCounts.{ArePlain, step_plain}

@@ -15,8 +15,8 @@ use Rattle.fwd_model.specs.Run.{RunResult, DiskFailed, lived, after_recovery, li
 use Rattle.fwd_model.proofs.Actions.{stays, goes_on, leads_inside, begun_bind, begun_trans}
 use Rattle.fwd_engine_state.specs.LoopCounters.{EventsTaken}
 use Rattle.fwd_theorem_trace.specs.Allowed.{IsLoading}
-use Rattle.fwd_engine.specs.EngineSteps.{IsAt}
-use Rattle.fwd_engine.specs.declared.engine.Engine.{Engine}
+use Rattle.fwd_engine_run.specs.EngineSteps.{IsAt}
+use Rattle.fwd_engine_run.specs.Engine.{Engine}
 use Rattle.fwd_engine_run.specs.OffsetRows.{Keeps}
 use Rattle.fwd_engine_run.specs.RunOutcome.{RanToEnd, IsAtEnd, end_of}
 use Rattle.fwd_engine_run.specs.RunOutcome as runs

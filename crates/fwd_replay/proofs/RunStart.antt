@@ -35,8 +35,8 @@ use Rattle.fwd_model.specs.KeptOffsets.{tracked, gets}
 use Rattle.fwd_model.specs.Run.{RunResult, Over, DiskFailed, KeeperFailed, LoopFailed, lived, run, after_start, after_recovery, starts, life}
 use Rattle.fwd_model.proofs.CallLogs.{loop_append, disk_append}
 use Rattle.fwd_engine_state.specs.RefinesAction.{with_disk}
-use Rattle.fwd_engine.specs.EngineSteps.{IsAt}
-use Rattle.fwd_engine.specs.declared.engine.Engine.{Engine}
+use Rattle.fwd_engine_run.specs.EngineSteps.{IsAt}
+use Rattle.fwd_engine_run.specs.Engine.{Engine}
 use Rattle.fwd_engine_run.specs.OffsetRows.{Keeps}
 use Rattle.fwd_engine_run.specs.declared.kept_offsets.KeptOffsets.{KeptOffsets}
 use Rattle.fwd_engine_run.proofs.OffsetActions.{Leave, aside_disk, aside_loop, has_failed, left_of}

@@ -41,12 +41,12 @@ use Rattle.fwd_model.specs.StepActions.{step}
 use Rattle.fwd_model.specs.Run.{Over, LoopFailed, RunResult, lived, goes_on, unless_last, after_step, brought, run, life, is_over}
 use Rattle.fwd_model.proofs.CallLogs.{logs_grew_both, disk_append, loop_append}
 use Rattle.fwd_engine_state.specs.RefinesAction.{with_all}
-use Rattle.fwd_engine.specs.EngineSteps.{TurnOutcome, as_turn, is_failed, waits}
-use Rattle.fwd_engine.specs.declared.engine.Engine.{Engine}
-use Rattle.fwd_engine.specs.declared.engine.EngineStop.{EngineStop}
-use Rattle.fwd_engine.specs.declared.engine.EngineStop.TheVariants as stop
-use Rattle.fwd_engine.specs.declared.engine.Turn.{Turn}
-use Rattle.fwd_engine.specs.declared.engine.Turn.TheVariants as turn
+use Rattle.fwd_engine_run.specs.EngineSteps.{TurnOutcome, as_turn, is_failed, waits}
+use Rattle.fwd_engine_run.specs.Engine.{Engine}
+use Rattle.fwd_engine_run.specs.EngineStop.{EngineStop}
+use Rattle.fwd_engine_run.specs.EngineStop.TheVariants as stop
+use Rattle.fwd_engine_run.specs.Turn.{Turn}
+use Rattle.fwd_engine_run.specs.Turn.TheVariants as turn
 use Rattle.fwd_theorem_trace.proofs.WaitCounts.{ArePlain, is_plain, plain_waitless, step_plain, waits_append}
 use Rattle.fwd_replay.specs.FileChanges.{Course, FilesAt, course_after, after_wait, has_last, is_last_next, next_in}
 use Rattle.fwd_replay.specs.Runs.{Start, course_of, disk_of}

@@ -7,8 +7,8 @@ use Rattle.fwd_model.specs.Trace.{Action}
 use Rattle.fwd_model.specs.CallLogs.{CallLogs, Completes, IsBegun}
 use Rattle.fwd_model.specs.Run.{RunResult, life}
 use Rattle.fwd_theorem_trace.specs.Allowed.{IsLoading}
-use Rattle.fwd_engine.specs.EngineSteps.{IsAt}
-use Rattle.fwd_engine.specs.declared.engine.Engine.{Engine}
+use Rattle.fwd_engine_run.specs.EngineSteps.{IsAt}
+use Rattle.fwd_engine_run.specs.Engine.{Engine}
 use Rattle.fwd_engine_run.specs.OffsetRows.{Keeps}
 use Rattle.fwd_replay.specs.Names.{IsNamed}
 use Rattle.fwd_replay.specs.declared.setup.Setup.{Setup}

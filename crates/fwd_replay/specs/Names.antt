@@ -3,8 +3,8 @@ use Rattle.std.specs.Prelude.{◌≡◌, ℕ, List}
 use Rattle.fwd_settings.specs.declared.settings_types.AllSettings.{AllSettings}
 use Rattle.fwd_settings.specs.declared.settings_types.OutputSet.{OutputSet}
 use Rattle.fwd_model.specs.Fact.{History}
-use Rattle.fwd_engine.specs.EngineSteps.{IsAt}
-use Rattle.fwd_engine.specs.declared.engine.Engine.{Engine}
+use Rattle.fwd_engine_run.specs.EngineSteps.{IsAt}
+use Rattle.fwd_engine_run.specs.Engine.{Engine}
 use Rattle.fwd_engine_run.specs.declared.run_loop.RunEnd.{RunEnd}
 use Rattle.fwd_engine_run.specs.declared.run_loop.RunEnd.TheVariants as run_end
 use Rattle.fwd_replay.specs.Text.{input_names, output_names, stdout_mask}

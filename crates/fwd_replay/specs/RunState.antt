@@ -36,12 +36,12 @@ use Rattle.fwd_model.specs.Limits.{paused}
 use Rattle.fwd_model.specs.RecoveryActions.{recovers}
 use Rattle.fwd_model.specs.Run.{Over, DiskFailed, KeeperFailed, LoopFailed, RunResult, lived, is_over, after_step, run, life}
 use Rattle.fwd_engine_state.specs.RefinesAction.{with_all}
-use Rattle.fwd_engine.specs.EngineSteps.{IsAt, as_turn}
-use Rattle.fwd_engine.specs.declared.engine.Engine.{Engine}
-use Rattle.fwd_engine.specs.declared.engine.EngineStop.{EngineStop}
-use Rattle.fwd_engine.specs.declared.engine.EngineStop.TheVariants as stop
-use Rattle.fwd_engine.specs.declared.engine.Turn.{Turn}
-use Rattle.fwd_engine.specs.declared.engine.Turn.TheVariants as turn
+use Rattle.fwd_engine_run.specs.EngineSteps.{IsAt, as_turn}
+use Rattle.fwd_engine_run.specs.Engine.{Engine}
+use Rattle.fwd_engine_run.specs.EngineStop.{EngineStop}
+use Rattle.fwd_engine_run.specs.EngineStop.TheVariants as stop
+use Rattle.fwd_engine_run.specs.Turn.{Turn}
+use Rattle.fwd_engine_run.specs.Turn.TheVariants as turn
 use Rattle.fwd_engine_run.specs.OffsetRows.{Keeps}
 use Rattle.fwd_theorem_trace.specs.Waits.{waits_in}
 use Rattle.fwd_replay.specs.FileChanges.{FilesAt, content_after, course_after, after_wait, FilesAnswered, is_last_next}

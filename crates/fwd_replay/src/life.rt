@@ -12,7 +12,7 @@ ghost use Rattle.fwd_script.specs.declared.schedule.Life.{Life};
 ghost use Rattle.fwd_script_loop.specs.LinkBytes.{handed};
 ghost use Rattle.fwd_script_loop.specs.Told.{entries_of};
 ghost use Rattle.fwd_model.specs.Fact.{History};
-ghost use Rattle.fwd_engine.specs.EngineSteps.{IsAt};
+ghost use Rattle.fwd_engine_run.specs.EngineSteps.{IsAt};
 ghost use Rattle.fwd_replay.specs.Runs.{Start};
 ghost use Rattle.fwd_replay.specs.Names.{IsNamed, IsNamedOf, printed_mask};
 ghost use Rattle.fwd_replay.specs.RunState.{AreRenewed, OffsetsAreRenewed, EndsBy, EndsAs, ProducesText, ProducesOutcome, DevicesAreReady, LoopHasFailed, HaveAnswered, IsCrashed, IsOver, IsReady, IsSetUp, IsInProgress, HandsOver};

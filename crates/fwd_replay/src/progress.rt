@@ -11,8 +11,7 @@ ghost use Rattle.fwd_replay.specs.Runs.{Start};
 ghost use Rattle.fwd_replay.specs.RunState.{FilesRepresent, IsReady, IsInProgress};
 
 use fwd_base::Memory;
-use fwd_engine::Engine;
-use fwd_engine_run::KeptOffsets;
+use fwd_engine_run::{Engine, KeptOffsets};
 use fwd_script::{Cut, Life, MemFiles, Plan, Planned};
 use fwd_script_loop::{Script, is_last};
 

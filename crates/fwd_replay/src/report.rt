@@ -3,13 +3,13 @@
 ghost use Rattle.std.specs.Prelude.{◌≡◌, IfOk};
 ghost use Rattle.fwd_settings.specs.declared.settings_types.AllSettings.{AllSettings};
 ghost use Rattle.fwd_model.specs.Fact.{History};
-ghost use Rattle.fwd_engine.specs.EngineSteps.{IsAt};
+ghost use Rattle.fwd_engine_run.specs.EngineSteps.{IsAt};
 ghost use Rattle.fwd_replay.specs.Names.{IsNamed, IsNamedOf};
 ghost use Rattle.fwd_replay.specs.Text.{report};
 
 use crate::names::Named;
 use fwd_base::{Bytes, Memory};
-use fwd_engine::Engine;
+use fwd_engine_run::Engine;
 use fwd_report::report;
 use std::alloc::Global;
 

@@ -3,7 +3,7 @@
 ghost use Rattle.std.specs.Prelude.{◌≡◌, ◌++◌, [], map, ℕ, OnOk};
 ghost use Rattle.fwd_disk_mem.specs.declared.entry.MemEntry.TheVariants as mem_entry;
 ghost use Rattle.fwd_disk_mem.specs.DiskState.{Seen};
-ghost use Rattle.fwd_engine.specs.EngineSteps.{IsAt};
+ghost use Rattle.fwd_engine_run.specs.EngineSteps.{IsAt};
 ghost use Rattle.fwd_settings.specs.declared.settings_types.AllSettings.{AllSettings};
 ghost use Rattle.fwd_settings.specs.Endpoints.{ends_of};
 ghost use Rattle.fwd_settings.specs.Requirements.{MeetsRequirements};
@@ -19,8 +19,7 @@ ghost use Rattle.fwd_replay.specs.RunState.{EngineStarts, DevicesAreReady, Files
 use crate::progress::Going;
 use fwd_base::Memory;
 use fwd_disk_mem::MemDisk;
-use fwd_engine::{BeginErr, Engine};
-use fwd_engine_run::{Got, KeptOffsets};
+use fwd_engine_run::{BeginErr, Engine, Got, KeptOffsets};
 use fwd_keeper_mem::MemKeeper;
 use fwd_outside::{Begun, Ends, Loop};
 use fwd_script::{Calls, Life, MemFiles, StoredList};

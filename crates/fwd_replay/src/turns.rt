@@ -9,15 +9,15 @@ ghost use Rattle.fwd_files_mem.specs.FilesAnswers.{IsPlayed};
 ghost use Rattle.fwd_files_mem.specs.MemFiles.{entries_from};
 ghost use Rattle.fwd_script.specs.declared.schedule.Life.{Life};
 ghost use Rattle.fwd_model.specs.Fact.{History};
-ghost use Rattle.fwd_engine.specs.EngineSteps.{IsAt, TurnOutcome, as_turn};
-ghost use Rattle.fwd_engine.specs.declared.engine.Turn.{Turn};
+ghost use Rattle.fwd_engine_run.specs.EngineSteps.{IsAt, TurnOutcome, as_turn};
+ghost use Rattle.fwd_engine_run.specs.Turn.{Turn};
 ghost use Rattle.fwd_replay.specs.Runs.{Start};
 ghost use Rattle.fwd_replay.specs.RunState.{Ended, HasPut, HaveAnswered, IsReady, IsInProgress, IsStepped, Turned, is_out_of_memory, memory};
 
 use crate::progress::{Going, prepare};
 use fwd_base::Memory;
 use fwd_disk_mem::MemDisk;
-use fwd_engine::{EngineStop, Turn};
+use fwd_engine_run::{EngineStop, Turn};
 use fwd_keeper_mem::MemKeeper;
 use fwd_script::{Cut, Life, MemFiles};
 use std::thread::Threads;

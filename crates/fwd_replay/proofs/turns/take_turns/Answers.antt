@@ -1,9 +1,9 @@
 use Rattle.std.proofs.Common.{◌≡◌, true, false, Option, None, Ok, Err, subst, refl, ap, ◌∙◌}
 use Rattle.fwd_script.specs.declared.schedule.Cut.{Cut}
-use Rattle.fwd_engine.specs.EngineSteps.{as_turn}
-use Rattle.fwd_engine.specs.declared.engine.EngineStop.TheVariants as stop
-use Rattle.fwd_engine.specs.declared.engine.Turn.{Turn}
-use Rattle.fwd_engine.specs.declared.engine.Turn.TheVariants as turn
+use Rattle.fwd_engine_run.specs.EngineSteps.{as_turn}
+use Rattle.fwd_engine_run.specs.EngineStop.TheVariants as stop
+use Rattle.fwd_engine_run.specs.Turn.{Turn}
+use Rattle.fwd_engine_run.specs.Turn.TheVariants as turn
 use Rattle.fwd_replay.specs.RunState.{HasPut, IsReady, Turned}
 use Rattle.fwd_replay.proofs.turns.take_turns.Goals as goal
 
