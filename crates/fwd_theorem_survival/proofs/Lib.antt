@@ -2,3 +2,4 @@ pub mod Points
 pub mod StoredBatches
 pub mod TakenMessages
 pub mod BatchSurvival
+pub mod KilledProcess

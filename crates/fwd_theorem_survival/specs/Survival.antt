@@ -58,6 +58,14 @@ SurvivesCrash s m chunk b =
     → Execution (recovers s) entries (Return (Some after)) → Ends LeadsTo (crash_point [] left) entries last
     → Survives s (logged m.past) after chunk b
 
+-- The process was killed at this point, and the machine ran on: the next run with these settings finds the
+-- batch, if no call on the disk fails as it loads. It reads what was written, fsynced or not.
+abbrev pub SurvivesKill : AllSettings → CrashPoint → ℕ → Batch → Type 0
+SurvivesKill s m chunk b =
+    (entries : List TraceEntry) (after : History) (last : CrashPoint)
+    → Execution (recovers s) entries (Return (Some after)) → Ends LeadsTo (crash_point [] m.files) entries last
+    → Survives s (logged m.past) after chunk b
+
 -- A message was acknowledged: it came in whole, and its batch was stored, unless the filters left no event of
 -- it, or no output matches it.
 pub record WasAcknowledged (s : AllSettings) (h : History) (older : Past) (conn : ℕ)
@@ -68,10 +76,13 @@ pub record WasAcknowledged (s : AllSettings) (h : History) (older : Past) (conn 
       → (chunk : ℕ) × WasStored h (message_batch s due.input.0 due.message) chunk
 
 -- At a crash point of a run: each batch that was accepted from an input that keeps its chunks in files
--- survives a crash. Each message that was answered before was acknowledged, so its batch is one of these.
+-- survives a crash of the machine, and the end of the process alone. Each message that was answered before was
+-- acknowledged, so its batch is one of these.
 pub record KeepsAccepted (s : AllSettings) (m : CrashPoint) : Type 0 where
   pub accepted : (b : Batch) (chunk : ℕ) (input : InputSet) → WasStored (logged m.past) b chunk
       → input_at s b.input ≡ Some input → input.stored ≡ true → SurvivesCrash s m chunk b
+  pub killed : (b : Batch) (chunk : ℕ) (input : InputSet) → WasStored (logged m.past) b chunk
+      → input_at s b.input ≡ Some input → input.stored ≡ true → SurvivesKill s m chunk b
   pub acknowledged : (before after : List TraceEntry) (conn : ℕ) (reply : List ℕ) (answer : Option (Unit {0}))
       → m.past ≡ past_after [] (before ++ entry (OnLoop (Reply conn reply)) answer ∷ after)
       → WasAcknowledged s (logged m.past) (past_after [] before) conn reply

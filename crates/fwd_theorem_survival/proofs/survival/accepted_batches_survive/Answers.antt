@@ -17,12 +17,15 @@ use Rattle.fwd_theorem_trace.specs.Allowed.{Allowed}
 use Rattle.fwd_theorem_trace.proofs.Run.{due_since}
 use Rattle.fwd_theorem_delivery.specs.Replies.{IsDueReply}
 use Rattle.fwd_theorem_delivery.proofs.PausedInputs.{due_before}
-use Rattle.fwd_theorem_crash.specs.CrashPoint.{CrashPoint}
+use Rattle.fwd_theorem_crash.specs.CrashPoint.{CrashPoint, crash_point}
 use Rattle.fwd_theorem_crash.specs.Safety.{IsSafe}
-use Rattle.fwd_theorem_survival.specs.Survival.{WasStored, WasAcknowledged, KeepsAccepted}
+use Rattle.fwd_theorem_survival.specs.Survival.{WasStored, SurvivesCrash, WasAcknowledged, KeepsAccepted}
 use Rattle.fwd_theorem_survival.proofs.Points.{after_both, points, same_calls}
 use Rattle.fwd_theorem_survival.proofs.StoredBatches.{Stored, placed, stored}
 use Rattle.fwd_theorem_survival.proofs.BatchSurvival.{survives}
+use Rattle.fwd_outside.proofs.Invariant.{AllInvariant}
+use Rattle.fwd_theorem_crash.proofs.FreshDisk.{sound_fresh}
+use Rattle.fwd_theorem_survival.proofs.KilledProcess.{durable_files, durable_point, are_durable, images, loads_same, with_invariant}
 use Rattle.fwd_theorem_survival.proofs.TakenMessages.{still_logged, was_accepted}
 use Rattle.fwd_theorem_survival.proofs.survival.accepted_batches_survive.Goals as goal
 
@@ -31,7 +34,8 @@ same_number n = eq-eqb n n refl
 
 pub returns : goal.returns
 returns c s ends ticks turns first entries left sane full durable way =
-    points (IsSafe s first) (KeepsAccepted s) [] entries _ refl (λ own rest at same past safe. keeps own rest at same past safe) (c.crash_points_are_safe.ensures s ends ticks turns first entries left sane full durable way)
+    points (λ (m : CrashPoint). IsSafe s first m × AllInvariant m.files) (KeepsAccepted s) [] entries (crash_point [] first) refl (λ own rest at same past safe. keeps own rest at same past safe.0 safe.1)
+    (with_invariant (IsSafe s first) entries (crash_point [] first) (sound_fresh first durable) (c.crash_points_are_safe.ensures s ends ticks turns first entries left sane full durable way))
   where
     allowed : (own rest : List TraceEntry) (at : CrashPoint) → entries ≡ own ++ rest → at.past ≡ past_after [] own → Allowed s at.past
     allowed own rest at same past =
@@ -66,11 +70,18 @@ returns c s ends ticks turns first entries left sane full durable way =
     on_disk : (b : Batch) (input : InputSet) → input_at s b.input ≡ Some input → input.stored ≡ true → home_at s b.input ≡ Disk
     on_disk b input among kept = ap (λ (o : Option InputSet). home_by (option_map_or (λ (set : InputSet). set.stored) o false)) among ∙ ap home_by kept
 
-    keeps : (own rest : List TraceEntry) (at : CrashPoint) → entries ≡ own ++ rest → at.past ≡ past_after [] own → IsSafe s first at → KeepsAccepted s at
-    keeps own rest at same past safe = record {
-      accepted =
-          λ b n input was among kept.
-          survives s first (λ m last image loading h chunk. c.safe_chunks_are_recovered.ensures s first m last image loading h chunk)
-          (λ h r. c.pending_iff_unresolved.ensures.resolved s h r) (λ h chunk output. c.pending_iff_unresolved.ensures.owed s h chunk output) at safe b n (on_disk b input among kept) (was_stored at b n (allowed own rest at same past) was);
+    crash_survived : (own rest : List TraceEntry) (at : CrashPoint) → entries ≡ own ++ rest → at.past ≡ past_after [] own → IsSafe s first at → (b : Batch) (n : ℕ) (input : InputSet) → WasStored (logged at.past) b n
+        → input_at s b.input ≡ Some input → input.stored ≡ true → SurvivesCrash s at n b
+    crash_survived own rest at same past safe b n input was among kept =
+        survives s first (λ m last image loading h chunk. c.safe_chunks_are_recovered.ensures s first m last image loading h chunk)
+        (λ h r. c.pending_iff_unresolved.ensures.resolved s h r) (λ h chunk output. c.pending_iff_unresolved.ensures.owed s h chunk output) at safe b n (on_disk b input among kept) (was_stored at b n (allowed own rest at same past) was)
+
+    keeps : (own rest : List TraceEntry) (at : CrashPoint) → entries ≡ own ++ rest → at.past ≡ past_after [] own → IsSafe s first at → AllInvariant at.files → KeepsAccepted s at
+    keeps own rest at same past safe sound = record {
+      accepted = λ b n input was among kept. crash_survived own rest at same past safe b n input was among kept;
+      killed =
+          λ b n input was among kept loading after last loads leads.
+          crash_survived own rest at same past safe b n input was among kept (durable_files at.files) loading after (durable_point last) (are_durable at.files) (images at.files sound) loads
+          (loads_same s at.files loading (Some after) last loads leads);
       acknowledged = λ before after conn reply answer is. acknowledged own rest at same past before after conn reply answer is;
     }
