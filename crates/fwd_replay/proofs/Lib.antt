@@ -3,7 +3,6 @@ pub mod CallLog
 pub mod Masks
 pub mod NameCounts
 pub mod ShownText
-pub mod LinkNumbers
 pub mod Course
 pub mod StillCalls
 pub mod TurnCalls

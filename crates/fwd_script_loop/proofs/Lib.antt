@@ -9,3 +9,4 @@ pub mod EventQueue
 pub mod LinkByteSteps
 pub mod ChangesOfLines
 pub mod EventPlaces
+pub mod LinkNumbers

@@ -4,16 +4,18 @@ use Rattle.std.specs.Prelude.{◌==◌, if◌then◌else◌}
 use Rattle.std.proofs.lemmas.List.{append-nil}
 use Rattle.std.proofs.lemmas.Bool.{cases_Bool, cases_eq, eq-eqb, ne_eqb}
 use Rattle.fwd_outside.specs.Loop.{LoopEntry}
+use Rattle.fwd_outside.specs.NewLinks.{AreNewLinks, greatest_after}
+use Rattle.fwd_outside.proofs.RisingLinks.{new_append, greatest_append}
 use Rattle.fwd_flush.specs.Outcome.{Event, bytes_pushed}
 use Rattle.fwd_flush.proofs.Outcomes.{bytes_pushed-append}
 use Rattle.fwd_model.specs.Fact.{History, Route, Sent, OnRoute, Outcome}
 use Rattle.fwd_model.specs.Counters.{taken}
-use Rattle.fwd_theorem_delivery.specs.Links.{DialTarget, WasDialled, AreNewLinks, all_on_link, since_dial}
+use Rattle.fwd_theorem_delivery.specs.Links.{DialTarget, WasDialled, all_on_link, since_dial}
 use Rattle.fwd_theorem_delivery.specs.LinkOutcomes.{dial_target}
 use Rattle.fwd_theorem_delivery.specs.TakenBytes.{links_of, taken_over}
 use Rattle.fwd_theorem_delivery.proofs.OwnEvents.{GivesNone, own_more, own_new}
-use Rattle.fwd_theorem_delivery.proofs.Outcomes.{Now, greatest_after}
-use Rattle.fwd_theorem_delivery.proofs.LinkSums.{in_given, links_none, links_append, new_none, new_append, greatest_append, over_append, over_same, over_grown, added_once}
+use Rattle.fwd_theorem_delivery.proofs.Outcomes.{Now}
+use Rattle.fwd_theorem_delivery.proofs.LinkSums.{in_given, links_none, links_append, new_none, over_append, over_same, over_grown, added_once}
 
 -- the sent bytes, without saturation
 abbrev pub exact : History → ℕ → ℕ

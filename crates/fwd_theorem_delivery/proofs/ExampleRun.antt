@@ -2,10 +2,11 @@
 use Rattle.std.proofs.Common.{◌≡◌, [], ◌∷◌, Some, refl, arith}
 use Rattle.fwd_outside.specs.Loop.{Took}
 use Rattle.fwd_outside.specs.declared.ends.Ends.{Ends}
+use Rattle.fwd_outside.specs.NewLinks.{AreNewLinks}
 use Rattle.fwd_flush.specs.Outcome.{Dialed, Pushed, Replied}
 use Rattle.fwd_model.specs.Trace.{loop_part}
 use Rattle.fwd_model.specs.Example.{trace, sent, reply}
-use Rattle.fwd_theorem_delivery.specs.Links.{AreNewLinks, since_dial, close_count}
+use Rattle.fwd_theorem_delivery.specs.Links.{since_dial, close_count}
 use Rattle.fwd_theorem_delivery.specs.TakenBytes.{links_of, taken_over}
 
 pub new_links : (ends : Ends) → AreNewLinks 0 (loop_part (trace ends))

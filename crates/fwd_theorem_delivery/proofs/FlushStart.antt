@@ -29,18 +29,20 @@ use Rattle.fwd_model.specs.Payloads.{delivery, tag_of_chunk}
 use Rattle.fwd_model.specs.Dispatch.{due_routes, may_start, has_place, fits}
 use Rattle.fwd_model.specs.FlushActions.{notes_calls, starts_with, is_complete_read, after_read, begins_as, starts_flush, starts_if_allowed, starts_each, walk}
 use Rattle.fwd_outside.specs.Program.{Ask, bind}
-use Rattle.fwd_theorem_delivery.specs.Links.{DialTarget, WasDialled, DialWasRefused, ReturnsLink, RefusesDial, AreNewLinks, all_on_link, since_dial, close_count}
+use Rattle.fwd_outside.specs.NewLinks.{AreNewLinks, greatest_after}
+use Rattle.fwd_outside.proofs.RisingLinks.{new_append, greatest_append}
+use Rattle.fwd_theorem_delivery.specs.Links.{DialTarget, WasDialled, DialWasRefused, ReturnsLink, RefusesDial, all_on_link, since_dial, close_count}
 use Rattle.fwd_theorem_delivery.specs.LinkOutcomes.{IsLogged, dial_target}
 use Rattle.fwd_theorem_delivery.proofs.OwnEvents.{GivesNone, among_left, among_right, among_either}
 use Rattle.fwd_theorem_delivery.proofs.LinkCalls.{closes_in, closings_here, closings_elsewhere, on_gives_none, on_here, on_elsewhere, on_greatest}
 use Rattle.fwd_theorem_delivery.proofs.Dials.{IsRefused, IsLinked, begins_so}
 use Rattle.fwd_theorem_delivery.proofs.OpenChunks.{IdleRoute, idle_route}
-use Rattle.fwd_theorem_delivery.proofs.Outcomes.{Now, noted, greatest_after, behind_all, ends_bind, ends_loop}
+use Rattle.fwd_theorem_delivery.proofs.Outcomes.{Now, noted, behind_all, ends_bind, ends_loop}
 use Rattle.fwd_theorem_delivery.proofs.FlushInvariant.{FlushState, Kept, CameBy, kept_fact}
 use Rattle.fwd_theorem_delivery.proofs.LinkClosures.{Closed, closed_by, closed_fact, close_count-append, closed_at, closed_refused, closed_landed, grounded_off}
 use Rattle.fwd_theorem_delivery.proofs.Counts.{counted_aside, counted_fact, counted_begun}
 use Rattle.fwd_theorem_delivery.specs.TakenBytes.{links_of}
-use Rattle.fwd_theorem_delivery.proofs.LinkSums.{new_append, new_none, greatest_append, links_append, links_none}
+use Rattle.fwd_theorem_delivery.proofs.LinkSums.{new_none, links_append, links_none}
 use Rattle.fwd_theorem_delivery.proofs.OutcomeFacts.{gives_neither, closes_neither, on_both, reached_at, MayLogOutcome, safe_lands}
 use Rattle.fwd_theorem_delivery.proofs.RunInvariant.{RunInvariant, whole_as, whole_fact, exact_none}
 use Rattle.fwd_theorem_delivery.proofs.FlushEnd.{progress_after, same_self, IsAnswered, Comes, off_elsewhere}

@@ -5,6 +5,7 @@ use Rattle.std.proofs.lemmas.Bool.{eq-eqb, ne_eqb}
 use Rattle.fwd_outside.specs.Program.{Return, Ask, Execution}
 use Rattle.fwd_base.specs.declared.ids.LinkId.{LinkId}
 use Rattle.fwd_outside.specs.Loop.{LoopCall, LoopAnswer, LoopEntry, LoopProgram, Start, Wait, Dial, Push, Close, Reply, DropConn, Word, PushAnswer, Took, Again, Broke}
+use Rattle.fwd_outside.specs.NewLinks.{greatest_by, greatest_after}
 use Rattle.fwd_table.specs.declared.outcome.Answer.{Answer}
 use Rattle.fwd_table.specs.declared.outcome.Answer.TheVariants.{Retry}
 use Rattle.fwd_flush.specs.declared.judgement.Judged.{Judged}
@@ -15,9 +16,8 @@ use Rattle.fwd_flush.specs.FlushProgram.{Progress, Delivery, link_in, ends, cont
 use Rattle.fwd_flush.specs.Outcome.{Occurrence, Room, Back, Broken, program_at, event_of_call, events_of}
 use Rattle.fwd_flush.proofs.Steps.{silent, replies}
 use Rattle.fwd_flush.proofs.Programs.{heard_stage, polls_at, polls_not, backs_writing, backs_awaiting, backs_not, breaks_at, breaks_not}
-use Rattle.fwd_theorem_delivery.specs.Links.{DialTarget, ReturnsLink, greatest_by, on_link, all_on_link, close_of, close_count}
+use Rattle.fwd_theorem_delivery.specs.Links.{DialTarget, ReturnsLink, on_link, all_on_link, close_of, close_count}
 use Rattle.fwd_theorem_delivery.proofs.OwnEvents.{GivesNone}
-use Rattle.fwd_theorem_delivery.proofs.Outcomes.{greatest_after}
 
 abbrev pub IsOn : ℕ → LoopCall → Type 0
 IsOn link (Push other bytes) = other ≡ link

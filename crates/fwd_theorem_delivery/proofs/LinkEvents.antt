@@ -7,6 +7,7 @@ use Rattle.fwd_base.specs.declared.ids.LinkId.{LinkId}
 use Rattle.fwd_outside.specs.Loop.{LoopEntry, Wait}
 use Rattle.fwd_outside.specs.declared.happening.Happening.{Happening}
 use Rattle.fwd_outside.specs.declared.happening.Happening.TheVariants as happening
+use Rattle.fwd_outside.specs.NewLinks.{greatest_after}
 use Rattle.fwd_flush.specs.FlushProgram.{Progress, Delivery, link_in}
 use Rattle.fwd_flush.specs.Outcome.{bytes_pushed, Replied, LinkBroke, Event, Occurrence, events_of_occurrence, program_at, events_of, ProgressRepresents}
 use Rattle.fwd_flush.proofs.Outcomes.{bytes_pushed-append, goes_law}
@@ -20,7 +21,7 @@ use Rattle.fwd_model.specs.FlushActions.{notes_calls, resumes}
 use Rattle.fwd_theorem_delivery.specs.Links.{close_count, event_on, all_on_link, since_dial}
 use Rattle.fwd_theorem_delivery.proofs.OwnEvents.{GivesNone}
 use Rattle.fwd_theorem_delivery.proofs.LinkCalls.{all_closes, closes_in, closings_here, closings_elsewhere, AreOn, StaysOn, speaks_way, speaks_goes, on_gives_none, on_here, on_elsewhere, on_greatest}
-use Rattle.fwd_theorem_delivery.proofs.Outcomes.{Now, asked, noted, greatest_after, behind_all, ends_bind, ends_loop}
+use Rattle.fwd_theorem_delivery.proofs.Outcomes.{Now, asked, noted, behind_all, ends_bind, ends_loop}
 use Rattle.fwd_theorem_delivery.proofs.FlushInvariant.{FlushState, kept_fact, kept_unheard}
 use Rattle.fwd_theorem_delivery.specs.LinkOutcomes.{dial_target}
 use Rattle.fwd_theorem_delivery.proofs.LinkClosures.{closed_by, closed_fact, closed_aside, closed_landed, closed_at, close_count-append, flying_off}

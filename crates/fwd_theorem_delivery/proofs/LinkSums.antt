@@ -3,21 +3,13 @@ use Rattle.std.proofs.Common.{◌≡◌, ℕ, ◌+◌, ◌<◌, ◌≤◌, ◌�
 use Rattle.std.specs.Prelude.{◌==◌, if◌then◌else◌}
 use Rattle.std.proofs.lemmas.Bool.{cases_Bool, eq-eqb, ne_eqb, eqb-true}
 use Rattle.fwd_outside.specs.Loop.{LoopCall, LoopAnswer, LoopEntry, Start, Wait, Dial, Push, Close, Reply, DropConn, Word}
+use Rattle.fwd_outside.specs.NewLinks.{greatest_by, IsNewLink, AreNewLinks, greatest_after}
 use Rattle.fwd_flush.specs.Outcome.{bytes_pushed}
-use Rattle.fwd_theorem_delivery.specs.Links.{DialTarget, ReturnsLink, WasDialled, greatest_by, IsNewLink, AreNewLinks, since_dial}
+use Rattle.fwd_theorem_delivery.specs.Links.{DialTarget, ReturnsLink, WasDialled, since_dial}
 use Rattle.fwd_theorem_delivery.specs.TakenBytes.{links_by, links_of, taken_over}
 use Rattle.fwd_theorem_delivery.proofs.OwnEvents.{GivesNone}
-use Rattle.fwd_theorem_delivery.proofs.Outcomes.{greatest_after}
 
 -- ---- new links
-
-pub new_append : (greatest : ℕ) (xs ys : List LoopEntry) → AreNewLinks greatest xs → AreNewLinks (greatest_after greatest xs) ys → AreNewLinks greatest (xs ++ ys)
-new_append greatest [] ys first second = second
-new_append greatest (e ∷ xs) ys first second = (first.0, new_append (greatest_by greatest e.call e.answer) xs ys first.1 second)
-
-pub greatest_append : (greatest : ℕ) (xs ys : List LoopEntry) → greatest_after greatest (xs ++ ys) ≡ greatest_after (greatest_after greatest xs) ys
-greatest_append greatest [] ys = refl
-greatest_append greatest (e ∷ xs) ys = greatest_append (greatest_by greatest e.call e.answer) xs ys
 
 -- a call that gives no link
 module _ (output : ℕ) where

@@ -3,10 +3,10 @@ use Rattle.std.proofs.Common.{◌≡◌, ℕ, Bool, true, false, cond, List, [],
 use Rattle.std.proofs.lemmas.List.{append-nil}
 use Rattle.fwd_outside.specs.Program.{entry, Return, Ask, bind, Execution}
 use Rattle.fwd_outside.specs.Loop.{LoopCall, LoopAnswer, LoopEntry, LoopProgram}
+use Rattle.fwd_outside.specs.NewLinks.{greatest_by, greatest_after, IsNewLink, AreNewLinks}
 use Rattle.fwd_model.specs.Fact.{Fact, History}
 use Rattle.fwd_model.specs.Trace.{Call, OnLoop, OnDisk, OnFiles, OnKeeper, Note, Action, Answer, TraceEntry, loop_entry, loop_part, history_after, history_after_call}
 use Rattle.fwd_model.specs.DeviceActions.{on_loop}
-use Rattle.fwd_theorem_delivery.specs.Links.{greatest_by, IsNewLink, AreNewLinks}
 
 -- the greatest link number, the calls on the loop, and the facts
 pub record Now : Type 0 where
@@ -102,10 +102,6 @@ ends_test Q true n p q first second = first refl
 ends_test Q false n p q first second = second refl
 
 -- after calls on the loop alone
-abbrev pub greatest_after : ℕ → List LoopEntry → ℕ
-greatest_after greatest [] = greatest
-greatest_after greatest (e ∷ es) = greatest_after (greatest_by greatest e.call e.answer) es
-
 abbrev pub behind_all : List LoopEntry → Now → Now
 behind_all es n = record { greatest = greatest_after n.greatest es; calls = n.calls ++ es; history = n.history }
 

@@ -5,6 +5,7 @@ use Rattle.fwd_outside.specs.Program.{Return, Execution}
 use Rattle.fwd_base.specs.declared.ids.LinkId.{LinkId}
 use Rattle.fwd_outside.specs.Loop.{LoopEntry}
 use Rattle.fwd_outside.specs.declared.ends.Ends.{Ends}
+use Rattle.fwd_outside.specs.NewLinks.{AreNewLinks}
 use Rattle.fwd_table.specs.declared.outcome.Answer.{Answer}
 use Rattle.fwd_table.specs.declared.outcome.Answer.TheVariants.{Good, Retry, Bad}
 use Rattle.fwd_flush.specs.declared.stage.Stage.{Stage}
@@ -17,7 +18,7 @@ use Rattle.fwd_model.specs.Fact.{History, Route}
 use Rattle.fwd_model.specs.Trace.{TraceEntry, loop_part}
 use Rattle.fwd_model.specs.Routes.{flight, begun}
 use Rattle.fwd_model.specs.Run.{RunResult, life}
-use Rattle.fwd_theorem_delivery.specs.Links.{DialTarget, WasDialled, AreNewLinks, since_dial, close_count}
+use Rattle.fwd_theorem_delivery.specs.Links.{DialTarget, WasDialled, since_dial, close_count}
 use Rattle.fwd_theorem_delivery.specs.LinkOutcomes.{delivers, payload, IsTracked, closed_for, HasOutcome, SendsPrefix, SendsAll, IsRejected, IsInProgress, HasRetryCause}
 use Rattle.fwd_model.specs.Counters.{taken}
 use Rattle.fwd_theorem_delivery.specs.TakenBytes.{links_of, taken_over}

@@ -1,5 +1,5 @@
 -- What happened to the flush on one link, by the calls on a loop alone.
-use Rattle.std.specs.Prelude.{◌≡◌, ℕ, ◌+◌, ◌<◌, ◌==◌, ◌⊎◌, Bool, false, if◌then◌else◌, List, [], ◌∷◌, ◌++◌, Some, None}
+use Rattle.std.specs.Prelude.{◌≡◌, ℕ, ◌+◌, ◌==◌, ◌⊎◌, Bool, false, if◌then◌else◌, List, [], ◌∷◌, ◌++◌, Some, None}
 use Rattle.fwd_outside.specs.Loop.{LoopCall, LoopAnswer, LoopEntry, Wait, Dial, Push, Close}
 use Rattle.fwd_outside.specs.declared.happening.Happening.{Happening}
 use Rattle.fwd_outside.specs.declared.happening.Happening.TheVariants as happening
@@ -31,21 +31,6 @@ RefusesDial to call answer = ⊥
 
 abbrev pub DialWasRefused : DialTarget → List LoopEntry → Type 0
 DialWasRefused to es = AnyCall (RefusesDial to) es
-
--- each dial that returned a link returned a greater number than all before; `greatest` is that of the
--- links before
-abbrev pub greatest_by : ℕ → (call : LoopCall) → LoopAnswer call → ℕ
-greatest_by greatest (Dial output tag) (Some link) = link
-greatest_by greatest call answer = greatest
-
-abbrev pub IsNewLink : ℕ → (call : LoopCall) → LoopAnswer call → Type 0
-IsNewLink greatest (Dial output tag) (Some link) = greatest < link
-IsNewLink greatest call answer = Unit {0}
-
-abbrev pub AreNewLinks : ℕ → List LoopEntry → Type 0
-AreNewLinks greatest [] = Unit {0}
-AreNewLinks greatest (e ∷ es) =
-    IsNewLink greatest e.call e.answer × AreNewLinks (greatest_by greatest e.call e.answer) es
 
 -- whether a call returned this link
 abbrev pub returns_link : ℕ → (call : LoopCall) → LoopAnswer call → Bool

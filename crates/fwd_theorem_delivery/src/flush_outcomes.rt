@@ -4,6 +4,7 @@
 ghost use Rattle.std.specs.Prelude.{ℕ, ◌-◌, ◌^◌, ◌≡◌, min, List, Option, Some};
 ghost use Rattle.fwd_outside.specs.Program.{Return, Execution};
 ghost use Rattle.fwd_outside.specs.declared.ends.Ends.{Ends};
+ghost use Rattle.fwd_outside.specs.NewLinks.{AreNewLinks};
 ghost use Rattle.fwd_flush.specs.FlushProgram.{Progress};
 ghost use Rattle.fwd_settings.specs.declared.settings_types.AllSettings.{AllSettings};
 ghost use Rattle.fwd_model.specs.Fact.{Route, OnRoute, Retries, Delivered, Failed, Exhausted};
@@ -11,7 +12,7 @@ ghost use Rattle.fwd_model.specs.Trace.{TraceEntry, loop_part};
 ghost use Rattle.fwd_model.specs.Routes.{flight};
 ghost use Rattle.fwd_model.specs.Counters.{taken};
 ghost use Rattle.fwd_model.specs.Run.{RunResult, life};
-ghost use Rattle.fwd_theorem_delivery.specs.Links.{DialTarget, AreNewLinks, WasDialled};
+ghost use Rattle.fwd_theorem_delivery.specs.Links.{DialTarget, WasDialled};
 ghost use Rattle.fwd_theorem_delivery.specs.TakenBytes.{links_of, taken_over};
 ghost use Rattle.fwd_theorem_delivery.specs.LinkOutcomes.{IsLogged, SendsPrefix, SendsAll, IsRejected, IsInProgress, HasRetryCause};
 

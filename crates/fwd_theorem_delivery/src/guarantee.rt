@@ -1,10 +1,10 @@
 ghost use Rattle.std.specs.Prelude.{ℕ, List, Option};
 ghost use Rattle.fwd_outside.specs.Program.{Return, Execution};
 ghost use Rattle.fwd_outside.specs.declared.ends.Ends.{Ends};
+ghost use Rattle.fwd_outside.specs.NewLinks.{AreNewLinks};
 ghost use Rattle.fwd_settings.specs.declared.settings_types.AllSettings.{AllSettings};
 ghost use Rattle.fwd_model.specs.Trace.{TraceEntry, loop_part};
 ghost use Rattle.fwd_model.specs.Run.{RunResult, life};
-ghost use Rattle.fwd_theorem_delivery.specs.Links.{AreNewLinks};
 ghost use Rattle.fwd_theorem_delivery.specs.Guarantee.{KeepsGuarantee};
 
 use crate::{

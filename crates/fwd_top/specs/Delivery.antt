@@ -5,7 +5,7 @@ use Rattle.fwd_settings.specs.declared.settings_types.AllSettings.{AllSettings}
 use Rattle.fwd_script.specs.declared.schedule.Life.{Life}
 use Rattle.fwd_model.specs.Trace.{loop_part}
 use Rattle.fwd_theorem_trace.specs.Waits.{waits_in}
-use Rattle.fwd_theorem_delivery.specs.Links.{AreNewLinks}
+use Rattle.fwd_outside.specs.NewLinks.{AreNewLinks}
 use Rattle.fwd_theorem_delivery.specs.Guarantee.{KeepsGuarantee}
 use Rattle.fwd_replay.specs.LiveRun.{IsRunLive}
 use Rattle.fwd_replay.specs.Runs.{IsReplayed, Start, first}

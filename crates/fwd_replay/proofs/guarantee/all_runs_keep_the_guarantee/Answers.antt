@@ -1,17 +1,17 @@
 use Rattle.std.proofs.Common.{inl, inr, List, None, subst}
 use Rattle.fwd_outside.specs.Loop.{LoopEntry}
+use Rattle.fwd_outside.specs.NewLinks.{AreNewLinks}
 use Rattle.fwd_script_loop.specs.Lines.{given_of}
 use Rattle.fwd_script_loop.specs.Place.{ArePlayed, beginning}
 use Rattle.fwd_script_loop.proofs.PlayedCalls.{played_first}
+use Rattle.fwd_script_loop.proofs.LinkNumbers.{are_new}
 use Rattle.fwd_settings.specs.Endpoints.{ends_of}
 use Rattle.fwd_model.specs.Trace.{loop_part}
 use Rattle.fwd_model.proofs.CallLogs.{loop_append}
 use Rattle.fwd_model.specs.Run.{Over, TurnsSpent, lived}
 use Rattle.fwd_theorem_trace.specs.Waits.{waits_in}
-use Rattle.fwd_theorem_delivery.specs.Links.{AreNewLinks}
 use Rattle.fwd_theorem_delivery.specs.Guarantee.{KeepsGuarantee}
 use Rattle.fwd_replay.specs.Runs.{IsCutIn}
-use Rattle.fwd_replay.proofs.LinkNumbers.{are_new}
 use Rattle.fwd_replay.proofs.guarantee.all_runs_keep_the_guarantee.Goals as goal
 
 pub returns-clause-lives : goal.returns-clause-lives

@@ -3,8 +3,16 @@ use Rattle.std.proofs.Common.{arith, ◌≡◌, ℕ, zero, suc, ◌+◌, Bool, t
 use Rattle.std.proofs.lemmas.List.{length-set}
 use Rattle.std.specs.Prelude.{if◌then◌else◌}
 use Rattle.fwd_outside.specs.Loop.{LoopCall, LoopAnswer, LoopEntry, Start, Wait, Dial, Push, Close, Reply, DropConn, Word}
-use Rattle.fwd_script_loop.specs.Place.{Place, ArePlayed, answer_at, after, after_push_to, closed, linked_to, output_of}
-use Rattle.fwd_theorem_delivery.specs.Links.{AreNewLinks, IsNewLink, greatest_by}
+use Rattle.fwd_outside.specs.NewLinks.{AreNewLinks, IsNewLink, LogHasNewLinks, greatest_by}
+use Rattle.fwd_script.specs.declared.schedule.Planned.{Planned}
+use Rattle.fwd_script.specs.declared.schedule.Given.{Given}
+use Rattle.fwd_script_loop.specs.declared.answers.Answers.{Answers}
+use Rattle.fwd_script_loop.specs.declared.call_record.LoopNote.{LoopNote}
+use Rattle.fwd_script_loop.specs.declared.queue.Coming.{Coming}
+use Rattle.fwd_script_loop.specs.Lines.{given_in}
+use Rattle.fwd_script_loop.specs.Place.{Place, ArePlayed, answer_at, after, after_push_to, beginning, closed, linked_to, output_of}
+use Rattle.fwd_script_loop.specs.ScriptRun.{IsKept}
+use Rattle.fwd_script_loop.specs.Told.{entries_of}
 
 -- a dial returns a number one above those before, or none
 dials_new : (b : Bool) (links : List (Option ℕ)) (output : ℕ) (tag : List ℕ) (answer : Option ℕ) → answer ≡ (if b then Some (length links + 1) else None)
@@ -38,3 +46,9 @@ are_new place [] played = tt
 are_new place (e ∷ es) played =
     let step = steps_new place e.call e.answer played.0 in
     (step.0, subst (λ (n : ℕ). AreNewLinks n es) (sym step.1) (are_new (after place e.call) es played.1))
+
+-- a script that is to fail at its start keeps no log
+pub log_new : (lines : List Planned) (answers : List Given) (notes : List LoopNote) (ahead : List Coming) (left : Answers) (fails : Bool) → IsKept lines answers notes ahead left
+    → LogHasNewLinks (if fails then None else Some (given_in lines answers, entries_of notes))
+log_new lines answers notes ahead left true kept = tt
+log_new lines answers notes ahead left false kept = are_new (beginning (given_in lines answers)) (entries_of notes) kept.played
