@@ -1,12 +1,12 @@
 //! Theorems on replays and on runs over devices.
 
 ghost use Rattle.std.specs.Prelude.{ℕ, List, Option};
+ghost use Rattle.fwd_outside.specs.NewLinks.{AreNewLinks};
 ghost use Rattle.fwd_settings.specs.declared.settings_types.AllSettings.{AllSettings};
 ghost use Rattle.fwd_script.specs.declared.schedule.Life.{Life};
 ghost use Rattle.fwd_model.specs.Trace.{TraceEntry, loop_part};
 ghost use Rattle.fwd_model.specs.CallLogs.{CallLogs};
 ghost use Rattle.fwd_model.specs.Run.{RunResult};
-ghost use Rattle.fwd_outside.specs.NewLinks.{AreNewLinks};
 ghost use Rattle.fwd_theorem_delivery.specs.Guarantee.{KeepsGuarantee};
 ghost use Rattle.fwd_replay.specs.LiveRun.{RunsToEnd};
 ghost use Rattle.fwd_replay.specs.Runs.{CutRun, IsCut, IsLife, Start};

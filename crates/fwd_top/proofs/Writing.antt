@@ -6,6 +6,7 @@ use Rattle.fwd_outside.specs.Cause.{HasCause}
 use Rattle.fwd_outside.proofs.LogGrowth.{grew_none}
 use Rattle.fwd_outside.specs.Files.{FilesLog}
 use Rattle.fwd_outside.specs.Loop.{LoopCounts}
+use Rattle.fwd_outside.specs.NewLinks.{LogHasNewLinks}
 use Rattle.fwd_outside.specs.Sink.{SinkLog}
 use Rattle.fwd_engine_state.specs.LoopCounters.{EventsTaken}
 use Rattle.fwd_config.specs.Variables.{Values}
@@ -30,11 +31,11 @@ pub still : (o : Platform) → AreNotCalled o o
 still o = record { disk = grew_none o.disk; files = grew_none o.files; loop = grew_none o.loop; keeper = grew_none o.keeper }
 
 -- what holds of each outcome holds of this one
-pub outcome_of : ((turns : ℕ) (case : Case) (old new : Platform) (r : Reported) (comes : Produces turns case old new r) → IsDelivered turns case old new r comes)
+pub outcome_of : ((turns : ℕ) (case : Case) (old new : Platform) (r : Reported) (comes : Produces turns case old new r) → LogHasNewLinks new.loop → IsDelivered turns case old new r comes)
     → ((turns : ℕ) (case : Case) (old new : Platform) (r : Reported) (comes : Produces turns case old new r) → AreSound (settings_for case) → IsCrashConsistent turns case old new r comes)
     → ((turns : ℕ) (case : Case) (old new : Platform) (r : Reported) (comes : Produces turns case old new r) → EachRunKeepsOffsets turns case old new r comes)
-    → (turns : ℕ) (case : Case) (old new : Platform) (r : Reported) → AreSound (settings_for case) → Produces turns case old new r → Outcome turns case old new r
-outcome_of delivers stands keeps turns case old new r sound comes = record { comes = comes; sound = sound; delivered = delivers turns case old new r comes; safe = stands turns case old new r comes sound; offsets = keeps turns case old new r comes }
+    → (turns : ℕ) (case : Case) (old new : Platform) (r : Reported) → AreSound (settings_for case) → Produces turns case old new r → LogHasNewLinks new.loop → Outcome turns case old new r
+outcome_of delivers stands keeps turns case old new r sound comes links = record { comes = comes; sound = sound; delivered = delivers turns case old new r comes links; safe = stands turns case old new r comes sound; offsets = keeps turns case old new r comes }
 
 -- ---- calls and written text
 

@@ -1,11 +1,12 @@
 -- What is run keeps the delivery guarantee.
-use Rattle.std.specs.Prelude.{ℕ, ◌-◌, List, [], ◌∷◌, ◌++◌, Option}
+use Rattle.std.specs.Prelude.{ℕ, ◌-◌, List, [], ◌∷◌, ◌++◌, Option, Some, None}
 use mathlib.Core.Logic.{inl, inr}
+use Rattle.fwd_outside.specs.Loop.{LoopLog}
+use Rattle.fwd_outside.specs.NewLinks.{AreNewLinks}
 use Rattle.fwd_settings.specs.declared.settings_types.AllSettings.{AllSettings}
 use Rattle.fwd_script.specs.declared.schedule.Life.{Life}
-use Rattle.fwd_model.specs.Trace.{loop_part}
+use Rattle.fwd_model.specs.Trace.{TraceEntry, loop_part}
 use Rattle.fwd_theorem_trace.specs.Waits.{waits_in}
-use Rattle.fwd_outside.specs.NewLinks.{AreNewLinks}
 use Rattle.fwd_theorem_delivery.specs.Guarantee.{KeepsGuarantee}
 use Rattle.fwd_replay.specs.LiveRun.{IsRunLive}
 use Rattle.fwd_replay.specs.Runs.{IsReplayed, Start, first}
@@ -26,11 +27,16 @@ EachIsDelivered shown s turns start (planned ∷ lives) reported (inr (inl cut))
     × EachIsDelivered shown s (turns - waits_in (cut.0.before ++ cut.0.turn)) cut.0.next lives cut.2.0 cut.2.1
 EachIsDelivered shown s turns start (planned ∷ lives) reported (inr (inr wanting)) = Unit {0}
 
--- a run over devices does, if the links that its loop returned have rising numbers
+-- A trace does. If the loop keeps no log, the trace needn't have its answers, and does if the links in it have
+-- rising numbers.
+abbrev pub TraceIsDelivered : LoopLog → AllSettings → List TraceEntry → Type 0
+TraceIsDelivered (Some log) s trace = KeepsGuarantee s trace
+TraceIsDelivered None s trace = AreNewLinks 0 (loop_part trace) → KeepsGuarantee s trace
+
+-- a run over devices does
 abbrev pub RunIsDelivered : (s : AllSettings) (ticks : Option ℕ) (turns : ℕ) (old new : Platform)
     (reported : Reported) → IsRunLive s ticks turns (world old) (world new) reported → Type 0
-RunIsDelivered s ticks turns old new reported (inl lived) =
-    AreNewLinks 0 (loop_part lived.did.entries) → KeepsGuarantee s lived.did.entries
+RunIsDelivered s ticks turns old new reported (inl lived) = TraceIsDelivered new.loop s lived.did.entries
 RunIsDelivered s ticks turns old new reported (inr wanting) = Unit {0}
 
 -- each run of the outcome of a case

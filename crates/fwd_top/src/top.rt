@@ -156,6 +156,7 @@ pub fn watched_forwarder<D: Disk, F: Files, L: Loop, K: Keeper, S: Sink>(
     match read_job(alloc, words, env, files, watch) {
         Ok(job) => {
             let reported = run_job(rt, alloc, job, disk, files, outside, keeper, turns, watch);
+            outside.links_are_new();
             write_outcome(out, &reported)
         }
         Err(status) => status,
