@@ -8,7 +8,7 @@ use Rattle.fwd_value.specs.View.{val_of}
 use Rattle.fwd_value.specs.declared.value.Value.{Value}
 use Rattle.fwd_msgpack.specs.declared.errors.DecodeErr.{DecodeErr}
 use Rattle.fwd_msgpack.specs.declared.errors.DecodeErr.TheVariants as errors
-use Rattle.fwd_msgpack.specs.declared.fault.FormatError.TheVariants.{Short, Unused, TooDeep}
+use Rattle.fwd_msgpack.specs.declared.fault.FormatErr.TheVariants.{Short, Unused, TooDeep}
 use Rattle.fwd_msgpack.specs.Decoder.{Read, value_at}
 use Rattle.fwd_msgpack.specs.DecodeAnswers.{EncodesPrefix, IsProperPrefix, ReturnsValue, IsMemory, IsShort}
 use Rattle.fwd_msgpack.proofs.AnswerMeanings.{stop_fits, short_exactly}
