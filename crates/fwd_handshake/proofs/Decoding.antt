@@ -1,5 +1,5 @@
 -- The judgement of a stream is that of the value that the decoder finds at its start.
-use Rattle.std.proofs.Common.{◌≡◌, ◌⊎◌, ◌↔◌, inl, inr, ℕ, ◌-◌, List, length, take, drop, Option, Result, Ok, Err, IfOk, refl, sym, ap, subst, ◌∙◌, arith}
+use Rattle.std.proofs.Common.{◌≡◌, ◌⊎◌, ◌↔◌, inl, inr, ℕ, ◌+◌, ◌-◌, true, false, List, length, take, drop, Option, Result, Ok, Err, IfOk, refl, sym, ap, subst, ◌∙◌, arith}
 use Rattle.std.specs.Prelude.{IsErr}
 use Rattle.std.proofs.lemmas.List.{take_at, take-append-drop, length-append, length-drop}
 use Rattle.fwd_base.specs.declared.memory.Memory.{Memory}
@@ -8,7 +8,7 @@ use Rattle.fwd_value.specs.View.{val_of}
 use Rattle.fwd_value.specs.declared.value.Value.{Value}
 use Rattle.fwd_msgpack.specs.declared.errors.DecodeErr.{DecodeErr}
 use Rattle.fwd_msgpack.specs.declared.errors.DecodeErr.TheVariants as errors
-use Rattle.fwd_msgpack.specs.declared.fault.FormatError.TheVariants.{Short, Unused, TooDeep}
+use Rattle.fwd_msgpack.specs.declared.fault.FormatErr.TheVariants.{Short, Unused, TooDeep}
 use Rattle.fwd_msgpack.specs.Decoder.{Read, value_at}
 use Rattle.fwd_msgpack.specs.DecodeAnswers.{EncodesPrefix, IsProperPrefix, ReturnsValue, IsMemory, IsShort}
 use Rattle.fwd_msgpack.proofs.AnswerMeanings.{stop_fits, short_exactly}

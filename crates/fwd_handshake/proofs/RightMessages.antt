@@ -1,5 +1,5 @@
 -- The content that is found in a value, and what it says of the value's members.
-use Rattle.std.proofs.Common.{◌≡◌, ◌↔◌, inl, inr, Bool, true, false, cond, ◌&&◌, ℕ, List, [], ◌∷◌, length, map, Option, Some, None, option_map, refl, sym, ap, subst, ◌∙◌}
+use Rattle.std.proofs.Common.{◌≡◌, ◌↔◌, inl, inr, Bool, true, false, cond, ◌&&◌, ℕ, ◌<◌, ◌≤◌, List, [], ◌∷◌, length, get_or, map, Option, Some, None, option_map, refl, sym, ap, subst, ◌∙◌, arith}
 use Rattle.std.specs.Str.{bytes_eq}
 use Rattle.std.proofs.lemmas.Slice.Eq.{bytes_eq-Decides}
 use Rattle.fwd_value.specs.Val.{Val, truth, text, bin, list, mapping, no_vals, val, Entries, vals_of, entries_of}
@@ -212,15 +212,62 @@ pong_exactly ring salt nonce host v = (pong_from ring salt nonce host v, pong_to
 
 -- ---- the members by their tests
 
-pub salt_is : (ring : Ring) (nonce : List ℕ) (w h s d u p : Val) (wanted : Option (List ℕ)) (t : Bool) → wanted ≡ ping_digest ring nonce (bytes_of h) (bytes_of s)
+salt_is : (ring : Ring) (nonce : List ℕ) (w h s d u p : Val) (wanted : Option (List ℕ)) (t : Bool) → wanted ≡ ping_digest ring nonce (bytes_of h) (bytes_of s)
     → t ≡ (is_bytes ping_word w && is_digest wanted d) → cond t (bytes_of s) None ≡ salt_of ring nonce (list (val w (val h (val s (val d (val u (val p no_vals)))))))
 salt_is ring nonce w h s d u p wanted t is test =
     ap (λ (b : Bool). cond b (bytes_of s) None) (test ∙ ap (λ (o : Option (List ℕ)). is_bytes ping_word w && is_digest o d) is)
 
-pub host_is : (ring : Ring) (salt nonce : List ℕ) (w a r h d : Val) (wanted : Option (List ℕ)) (t : Bool) → wanted ≡ pong_digest ring salt nonce (bytes_of h)
+abbrev SaltFrom : Ring → List ℕ → (w h s d : Value) → List Value → Type 0
+SaltFrom ring nonce w h s d ms =
+    (wanted : Option (List ℕ)) (t : Bool) → w ≡ get_or ms 0 w → h ≡ get_or ms 1 h → s ≡ get_or ms 2 s → d ≡ get_or ms 3 d
+    → wanted ≡ ping_digest ring nonce (bytes_of (val_of h)) (bytes_of (val_of s)) → t ≡ (is_bytes ping_word (val_of w) && is_digest wanted (val_of d))
+    → cond t (bytes_of (val_of s)) None ≡ salt_of ring nonce (list (vals_of (map val_of ms)))
+
+salt_here : (ring : Ring) (nonce : List ℕ) (w h s d w' h' s' d' u p : Value) → SaltFrom ring nonce w h s d (w' ∷ h' ∷ s' ∷ d' ∷ u ∷ p ∷ [])
+salt_here ring nonce w h s d w' h' s' d' u p wanted t x y z k is test =
+    salt_is ring nonce (val_of w) (val_of h) (val_of s) (val_of d) (val_of u) (val_of p) wanted t is test
+    ∙ ap (λ (a : Value). salt_of ring nonce (list (vals_of (map val_of (a ∷ h ∷ s ∷ d ∷ u ∷ p ∷ []))))) x
+    ∙ ap (λ (a : Value). salt_of ring nonce (list (vals_of (map val_of (w' ∷ a ∷ s ∷ d ∷ u ∷ p ∷ []))))) y
+    ∙ ap (λ (a : Value). salt_of ring nonce (list (vals_of (map val_of (w' ∷ h' ∷ a ∷ d ∷ u ∷ p ∷ []))))) z
+    ∙ ap (λ (a : Value). salt_of ring nonce (list (vals_of (map val_of (w' ∷ h' ∷ s' ∷ a ∷ u ∷ p ∷ []))))) k
+
+pub salt_found : (ring : Ring) (nonce : List ℕ) (w h s d : Value) (ms : List Value) → 6 ≤ length ms → length ms < 7 → SaltFrom ring nonce w h s d ms
+salt_found ring nonce w h s d [] low high = absurd (omega arith)
+salt_found ring nonce w h s d (a ∷ []) low high = absurd (omega arith)
+salt_found ring nonce w h s d (a ∷ b ∷ []) low high = absurd (omega arith)
+salt_found ring nonce w h s d (a ∷ b ∷ c ∷ []) low high = absurd (omega arith)
+salt_found ring nonce w h s d (a ∷ b ∷ c ∷ e ∷ []) low high = absurd (omega arith)
+salt_found ring nonce w h s d (a ∷ b ∷ c ∷ e ∷ f ∷ []) low high = absurd (omega arith)
+salt_found ring nonce w h s d (a ∷ b ∷ c ∷ e ∷ f ∷ g ∷ []) low high = salt_here ring nonce w h s d a b c e f g
+salt_found ring nonce w h s d (a ∷ b ∷ c ∷ e ∷ f ∷ g ∷ i ∷ ms) low high = absurd (omega arith)
+
+host_is : (ring : Ring) (salt nonce : List ℕ) (w a r h d : Val) (wanted : Option (List ℕ)) (t : Bool) → wanted ≡ pong_digest ring salt nonce (bytes_of h)
     → t ≡ (is_true a && (is_bytes pong_word w && is_digest wanted d)) → cond t (bytes_of h) None ≡ host_of ring salt nonce (list (val w (val a (val r (val h (val d no_vals))))))
 host_is ring salt nonce w a r h d wanted t is test =
     ap (λ (b : Bool). cond b (bytes_of h) None) (test ∙ ap (λ (o : Option (List ℕ)). is_true a && (is_bytes pong_word w && is_digest o d)) is)
+
+abbrev HostFrom : Ring → (salt nonce : List ℕ) → (w a h d : Value) → List Value → Type 0
+HostFrom ring salt nonce w a h d ms =
+    (wanted : Option (List ℕ)) (t : Bool) → w ≡ get_or ms 0 w → a ≡ get_or ms 1 a → h ≡ get_or ms 3 h → d ≡ get_or ms 4 d
+    → wanted ≡ pong_digest ring salt nonce (bytes_of (val_of h)) → t ≡ (is_true (val_of a) && (is_bytes pong_word (val_of w) && is_digest wanted (val_of d)))
+    → cond t (bytes_of (val_of h)) None ≡ host_of ring salt nonce (list (vals_of (map val_of ms)))
+
+host_here : (ring : Ring) (salt nonce : List ℕ) (w a h d w' a' r h' d' : Value) → HostFrom ring salt nonce w a h d (w' ∷ a' ∷ r ∷ h' ∷ d' ∷ [])
+host_here ring salt nonce w a h d w' a' r h' d' wanted t x y z k is test =
+    host_is ring salt nonce (val_of w) (val_of a) (val_of r) (val_of h) (val_of d) wanted t is test
+    ∙ ap (λ (v : Value). host_of ring salt nonce (list (vals_of (map val_of (v ∷ a ∷ r ∷ h ∷ d ∷ []))))) x
+    ∙ ap (λ (v : Value). host_of ring salt nonce (list (vals_of (map val_of (w' ∷ v ∷ r ∷ h ∷ d ∷ []))))) y
+    ∙ ap (λ (v : Value). host_of ring salt nonce (list (vals_of (map val_of (w' ∷ a' ∷ r ∷ v ∷ d ∷ []))))) z
+    ∙ ap (λ (v : Value). host_of ring salt nonce (list (vals_of (map val_of (w' ∷ a' ∷ r ∷ h' ∷ v ∷ []))))) k
+
+pub host_found : (ring : Ring) (salt nonce : List ℕ) (w a h d : Value) (ms : List Value) → 5 ≤ length ms → length ms < 6 → HostFrom ring salt nonce w a h d ms
+host_found ring salt nonce w a h d [] low high = absurd (omega arith)
+host_found ring salt nonce w a h d (b ∷ []) low high = absurd (omega arith)
+host_found ring salt nonce w a h d (b ∷ c ∷ []) low high = absurd (omega arith)
+host_found ring salt nonce w a h d (b ∷ c ∷ e ∷ []) low high = absurd (omega arith)
+host_found ring salt nonce w a h d (b ∷ c ∷ e ∷ f ∷ []) low high = absurd (omega arith)
+host_found ring salt nonce w a h d (b ∷ c ∷ e ∷ f ∷ g ∷ []) low high = host_here ring salt nonce w a h d b c e f g
+host_found ring salt nonce w a h d (b ∷ c ∷ e ∷ f ∷ g ∷ i ∷ ms) low high = absurd (omega arith)
 
 -- ---- lists of another length
 

@@ -7,7 +7,7 @@ use Rattle.fwd_value.specs.Limits.{nesting, IsInRange, LengthsFit}
 use Rattle.fwd_msgpack.specs.Canonical.{canonical}
 use Rattle.fwd_msgpack.specs.DecodeAnswers.{EncodesPrefix}
 use Rattle.fwd_msgpack.proofs.Encodable.{fits}
-use Rattle.fwd_msgpack.proofs.CanonicalEncodes.{canonical_spells}
+use Rattle.fwd_msgpack.proofs.CanonicalEncodes.{canonical_encodes}
 use Rattle.fwd_handshake.specs.declared.ring.Ring.{Ring}
 use Rattle.fwd_handshake.specs.declared.received.Received.TheVariants.{Right}
 use Rattle.fwd_handshake.specs.Digest.{key_digest}
@@ -20,7 +20,7 @@ use Rattle.fwd_handshake.proofs.RightMessages.{helo_exactly, ping_exactly, pong_
 use Rattle.fwd_handshake.proofs.Decoding.{received_value}
 
 encoded_front : (v : Val) (more : List ℕ) → IsInRange v → LengthsFit v → nesting v ≤ 64 → EncodesPrefix v (length (canonical v)) (canonical v ++ more)
-encoded_front v more range lengths nested = (omega (arith, length-append (canonical v) more), rw (take_at (canonical v) more (length (canonical v)) refl) (canonical_spells v (fits v range lengths)), nested)
+encoded_front v more range lengths nested = (omega (arith, length-append (canonical v) more), rw (take_at (canonical v) more (length (canonical v)) refl) (canonical_encodes v (fits v range lengths)), nested)
 
 -- what is written is received with its content
 written_right : (content : Val → Option (List ℕ)) (v : Val) (more s : List ℕ) → IsInRange v → LengthsFit v → nesting v ≤ 64 → content v ≡ Some s

@@ -2,7 +2,7 @@
 use Rattle.std.specs.Prelude.{ℕ, ◌-◌, nat_le, List, length, Option, Some, None, Ok, Err, if◌then◌else◌}
 use Rattle.fwd_base.specs.Limits.{deepest}
 use Rattle.fwd_value.specs.Val.{Val}
-use Rattle.fwd_msgpack.specs.declared.fault.FormatError.TheVariants.{Short}
+use Rattle.fwd_msgpack.specs.declared.fault.FormatErr.TheVariants.{Short}
 use Rattle.fwd_msgpack.specs.Decoder.{Read, value_at}
 use Rattle.fwd_handshake.specs.declared.ring.Ring.{Ring}
 use Rattle.fwd_handshake.specs.declared.received.Greeted.{Greeted}

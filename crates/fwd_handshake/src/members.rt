@@ -3,6 +3,7 @@
 ghost use Rattle.std.specs.Prelude.{◌≡◌, ◌&&◌, if◌then◌else◌, map, Some, None, IfOk};
 ghost use Rattle.fwd_value.specs.Val.{list, mapping, vals_of, entries_of};
 ghost use Rattle.fwd_value.specs.View.{val_of};
+ghost use Rattle.fwd_handshake.specs.Messages.{pong_word};
 ghost use Rattle.fwd_handshake.specs.Members.{bytes_of, is_bytes, is_true, is_digest, bytes_read, nonce_in, nonce_of, ping_digest, salt_of, pong_digest, host_of};
 
 use crate::Ring;
@@ -138,7 +139,7 @@ fn ping_digest(
 }
 
 /// Returns the salt, if these are the members of a PING that shows the key.
-#[tactic(auto, using(crate::proofs::RightMessages::not_six, crate::proofs::RightMessages::salt_is))]
+#[tactic(auto, using(crate::proofs::RightMessages::not_six))]
 pub fn salt_of(
     alloc: Global,
     ring: &Ring,
@@ -186,8 +187,16 @@ fn pong_digest(
     }
 }
 
+/// Returns whether a PONG begins with its word, accepts and has the wanted digest.
+fn is_accepted(word: &Value, accepted: &Value, wanted: &Option<Bytes>, digest: &Value) -> bool
+    ensures { result ≡ (is_true (val_of accepted.now)
+        && (is_bytes pong_word (val_of word.now) && is_digest wanted.now (val_of digest.now))) }
+{
+    is_true(accepted) && is_shown(b"PONG", word, wanted, digest)
+}
+
 /// Returns the host, if these are the members of a PONG that accepts and shows the key.
-#[tactic(auto, using(crate::proofs::RightMessages::not_five, crate::proofs::RightMessages::host_is))]
+#[tactic(auto, using(crate::proofs::RightMessages::not_five))]
 pub fn host_of(
     alloc: Global,
     ring: &Ring,
@@ -201,6 +210,5 @@ pub fn host_of(
         return Ok(None);
     };
     let wanted = pong_digest(alloc, ring, salt, nonce, host)?;
-    let is_right = is_true(accepted) && is_shown(b"PONG", word, &wanted, digest);
-    copied_if(alloc, is_right, host)
+    copied_if(alloc, is_accepted(word, accepted, &wanted, digest), host)
 }
