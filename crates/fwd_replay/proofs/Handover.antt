@@ -1,5 +1,5 @@
 -- What a run leaves.
-use Rattle.std.proofs.Common.{arith, ◌≡◌, ℕ, suc, ◌+◌, ◌-◌, ◌%◌, ◌<◌, ◌≤◌, Bool, true, false, if◌then◌else◌, List, [], ◌∷◌, ◌++◌, length, take, drop, Option, Some, None, Result, Ok, Err, inl, inr, refl, sym, subst, ap, ◌∙◌, append_assoc}
+use Rattle.std.proofs.Common.{arith, ◌≡◌, ℕ, suc, ◌+◌, ◌-◌, ◌%◌, ◌<◌, ◌≤◌, Bool, true, false, if◌then◌else◌, List, [], ◌∷◌, ◌++◌, length, take, drop, Option, Some, None, Result, Ok, Err, refl, sym, subst, ap, ◌∙◌, append_assoc}
 use Rattle.std.proofs.lemmas.List.{append-nil, map-append}
 use Rattle.fwd_outside.specs.Program.{Return, Execution}
 use Rattle.fwd_outside.specs.declared.happening.Happening.{Happening}
@@ -46,7 +46,7 @@ use Rattle.fwd_engine_run.proofs.RunTurns.{spent}
 use Rattle.fwd_theorem_trace.specs.Waits.{waits_in}
 use Rattle.fwd_theorem_trace.proofs.WaitCounts.{ArePlain, step_plain}
 use Rattle.fwd_replay.specs.FileChanges.{FilesAt, course_after, content_after, is_last_next}
-use Rattle.fwd_replay.specs.Runs.{EndsIn, IsAnswered, IsCutIn, IsLife, Start, course_of, disk_of, first_calls, has_cut}
+use Rattle.fwd_replay.specs.Runs.{EndsIn, IsAnswered, IsCutIn, InTurn, WasOver, IsLife, Start, course_of, disk_of, first_calls, has_cut}
 use Rattle.fwd_replay.specs.Names.{IsNamed, IsNamedOf}
 use Rattle.fwd_replay.proofs.CallLog.{told_is}
 use Rattle.fwd_replay.specs.RunState.{AreRenewed, OffsetsAreRenewed, EndsBy, ProducesText, EndedAs, DevicesAreReady, LoopHasFailed, HaveAnswered, IsCrashed, IsOver, IsReady, IsInProgress, RunRepresents, HandsOver, is_out_of_memory, memory}
@@ -231,7 +231,7 @@ module _ (s : AllSettings) (start : Start) (planned : Life) where
       is_life s start planned going seen held kept most fits plays trace (lived over.history Over) (course_after course trace).files over.stands
       in
       let same : trace ++ [] ≡ trace = append-nil trace in
-      made_cut most since cut going over.history over.history trace [] over.stands.asked [] seen seen image held renewed kept renewed_kept is (inr (ended.way, refl)) over.stands.uncut
+      made_cut most since cut going over.history over.history trace [] over.stands.asked [] seen seen image held renewed kept renewed_kept is (WasOver ended.way refl) over.stands.uncut
       (subst (λ (es : List TraceEntry). IsAnswered start planned es (over.stands.asked ++ [])) (sym same)
       (subst (λ (l : List MemEntry). IsAnswered start planned trace l) (sym (append-nil over.stands.asked)) (answered s start planned going.script going.taken seen held kept trace (λ more. Return (lived over.history Over)) (course_after course trace).files over.stands plays)))
       over.stands.are over.stands.disk_is (sym (append-nil seen.calls)) since_is crashed again kept_again
@@ -359,13 +359,10 @@ module _ (s : AllSettings) (start : Start) (planned : Life) (going : Going) (see
   turn_cut_in most more last =
       let h = ready.history in
       let count : going.taken + 0 ≡ waits_in ready.trace = let same = ready.stands.waits in omega (arith, same) in
-      inl (
-        (let same = ready.stands.waits in omega (arith, same, more)),
-        subst (λ (p : Action RunResult). Execution (life s (ends_of s) None (waits_in ready.trace)) ready.trace p) (spent s None h)
-            (subst (λ (n : ℕ). Execution (life s (ends_of s) None n) ready.trace (run s None 0 h)) count (ready.stands.way 0)),
-        last,
-        (taken.now, taken.cut_way),
-      )
+      InTurn (let same = ready.stands.waits in omega (arith, same, more))
+      (subst (λ (p : Action RunResult). Execution (life s (ends_of s) None (waits_in ready.trace)) ready.trace p) (spent s None h)
+      (subst (λ (n : ℕ). Execution (life s (ends_of s) None n) ready.trace (run s None 0 h)) count (ready.stands.way 0)))
+      last taken.now taken.cut_way
 
   pub turn_cut : (most since : ℕ) (image : Seen) (renewed : FilesState) (renewed_kept : KeeperState) → going.taken < most → going2.taken ≡ going.taken + 1 → HaveAnswered going2.script seen2 kept → since ≡ length seen.calls → IsCrashed since cut seen2 image
       → AreRenewed held2 renewed → OffsetsAreRenewed kept renewed_kept → HandsOver s most start planned cut going2 ready.history ready.trace image renewed renewed_kept

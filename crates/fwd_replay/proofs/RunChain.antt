@@ -1,5 +1,5 @@
 -- One run after another.
-use Rattle.std.proofs.Common.{◌≡◌, ℕ, ◌+◌, ◌-◌, ◌<◌, ◌≤◌, List, [], ◌∷◌, ◌++◌, length, drop, Option, Some, None, Result, Ok, Err, OnErr, get_or, inl, inr, refl, sym, subst, ap, ◌∙◌, append_assoc}
+use Rattle.std.proofs.Common.{◌≡◌, ℕ, ◌+◌, ◌-◌, ◌<◌, ◌≤◌, List, [], ◌∷◌, ◌++◌, length, drop, Option, Some, None, Result, Ok, Err, OnErr, get_or, refl, sym, subst, ap, ◌∙◌, append_assoc}
 use Rattle.std.proofs.lemmas.List.{append-nil, drop_all, drop_more}
 use Rattle.fwd_settings.specs.declared.settings_types.AllSettings.{AllSettings}
 use Rattle.fwd_disk_mem.specs.DiskState.{Seen}
@@ -15,7 +15,7 @@ use Rattle.fwd_model.specs.Counters.{tally_of}
 use Rattle.fwd_script_loop.specs.LinkBytes.{handed}
 use Rattle.fwd_report.specs.Report.{input_lines, output_lines, owed_part, report_of, total_line}
 use Rattle.fwd_theorem_trace.specs.Waits.{waits_in}
-use Rattle.fwd_replay.specs.Runs.{CutRun, EndsIn, IsCut, IsReplayed, Start, first}
+use Rattle.fwd_replay.specs.Runs.{CutRun, EndsIn, IsCut, IsReplayed, Ended, WasCut, OutOfMemory, Start, first}
 use Rattle.fwd_replay.specs.RunState.{ProducesText, DevicesAreReady, AppendsRun, PassesOn, after_cut}
 use Rattle.fwd_replay.specs.Text.{after_crash, crash_line, input_names, joined, life_text, output_names, report, stdout_mask, out_of_memory, with_line_end}
 use Rattle.fwd_replay.specs.declared.report.Ending.{Ending}
@@ -89,10 +89,10 @@ module _ (shown : Shown) (s : AllSettings) (most : ℕ) (lives : List Life) (tex
 
   module _ (planned : Life) (more : List Life) (goes : Continues shown s most lives text cut left start (planned ∷ more)) where
     pub wants_here : IsReplayed shown s most first lives (reported text ending.Memory)
-    wants_here = nothing_more ending.Memory (goes out_of_memory (inr (inr refl)))
+    wants_here = nothing_more ending.Memory (goes out_of_memory (OutOfMemory refl))
 
     pub ends_here : (own all : List ℕ) (end : Ending) → EndsIn shown s left start planned (reported own end) → all ≡ text ++ after_cut cut own → IsReplayed shown s most first lives (reported all end)
-    ends_here own all end ends is = subst (λ (t : List ℕ). IsReplayed shown s most first lives (reported t end)) (sym is) (goes (reported own end) (inl ends))
+    ends_here own all end ends is = subst (λ (t : List ℕ). IsReplayed shown s most first lives (reported t end)) (sym is) (goes (reported own end) (Ended ends))
 
     pub goes_on : (c : CutRun) (all : List ℕ) (after : Option Cut) (left2 : ℕ) → IsCut s left start planned c → all ≡ text ++ after_cut cut (life_text shown s c.before c.history) → after ≡ Some c.cut
         → left2 ≡ left - waits_in (c.before ++ c.turn) → Continues shown s most lives all after left2 c.next more
@@ -100,7 +100,7 @@ module _ (shown : Shown) (s : AllSettings) (most : ℕ) (lives : List Life) (tex
         let life = life_text shown s c.before c.history in
         let behind = after_crash c.cut rest.text in
         let so : IsReplayed shown s (left - waits_in (c.before ++ c.turn)) c.next more rest = subst (λ (n : ℕ). IsReplayed shown s n c.next more rest) left_is replayed in
-        let whole : IsReplayed shown s most first lives (reported (text ++ after_cut cut (life ++ behind)) rest.ending) = goes (joined life c.cut rest) (inr (inl (c, is_cut, (rest, so, refl)))) in
+        let whole : IsReplayed shown s most first lives (reported (text ++ after_cut cut (life ++ behind)) rest.ending) = goes (joined life c.cut rest) (WasCut c is_cut rest so refl) in
         let same : text ++ after_cut cut (life ++ behind) ≡ all ++ after_cut after rest.text =
         ap (λ (l : List ℕ). text ++ l) (behind_both cut life behind (text_there shown s c.before c.history))
         ∙ sym (append_assoc text (after_cut cut life) behind)
@@ -133,7 +133,7 @@ on_err (Err e) is = is
 -- before the first of some runs
 pub wants_first : (shown : Shown) (s : AllSettings) (most : ℕ) (lives : List Life) → (lives ≡ [] → ⊥) → IsReplayed shown s most first lives (reported [] ending.Memory)
 wants_first shown s most [] some = absurd (some refl)
-wants_first shown s most (planned ∷ lives) some = inr (inr refl)
+wants_first shown s most (planned ∷ lives) some = OutOfMemory refl
 
 -- the outcome of a run, which is handed to what follows it
 pub follows : (shown : Shown) (s : AllSettings) (start : Start) (planned : Life) (old new : Between) (seen : Seen) (held : FilesState) (kept : KeeperState) (text all own : List ℕ) (next : Next) (after : After)

@@ -1,5 +1,5 @@
 -- The outcome of a live run over devices.
-use Rattle.std.specs.Prelude.{◌≡◌, ◌⊎◌, ℕ, [], Option, Result, Ok, Err, MatchResult}
+use Rattle.std.specs.Prelude.{◌≡◌, ℕ, [], Option, Result, Ok, Err, MatchResult}
 use Rattle.fwd_settings.specs.Endpoints.{ends_of}
 use Rattle.fwd_settings.specs.declared.settings_types.AllSettings.{AllSettings}
 use Rattle.fwd_model.specs.Fact.{History}
@@ -30,9 +30,11 @@ abbrev pub BeginsRun : AllSettings → Option ℕ → ℕ → CallLogs → CallL
 BeginsRun s ticks turns old new = IsBegun old new (life s (ends_of s) ticks turns)
 
 -- to its end; or, if memory ran out, its first calls, and then the text is empty
-abbrev pub IsRunLive : AllSettings → Option ℕ → ℕ → CallLogs → CallLogs → Reported → Type 0
-IsRunLive s ticks turns old new reported =
-    RunsToEnd s ticks turns old new reported ⊎ (BeginsRun s ticks turns old new × (reported ≡ out_of_memory))
+pub data IsRunLive (s : AllSettings) (ticks : Option ℕ) (turns : ℕ) (old new : CallLogs)
+    (reported : Reported) : Type 0 where
+  RanToEnd : RunsToEnd s ticks turns old new reported → IsRunLive s ticks turns old new reported
+  RanOutOfMemory : BeginsRun s ticks turns old new → reported ≡ out_of_memory
+      → IsRunLive s ticks turns old new reported
 
 -- the least number of events of a run that ended this way
 abbrev pub heard_in : ℕ → Ending → ℕ

@@ -1,5 +1,5 @@
 -- The outcome of the runs of a schedule.
-use Rattle.std.specs.Prelude.{◌≡◌, ◌⊎◌, ℕ, ◌+◌, ◌-◌, ◌<◌, ◌%◌, Bool, true, false, ◌&&◌, List, [], ◌∷◌, ◌++◌, map, take, Some, None, is_some}
+use Rattle.std.specs.Prelude.{◌≡◌, ℕ, ◌+◌, ◌-◌, ◌<◌, ◌%◌, Bool, true, false, ◌&&◌, List, [], ◌∷◌, ◌++◌, map, take, Some, None, is_some}
 use Rattle.fwd_outside.specs.Program.{Return, Execution}
 use Rattle.fwd_outside.specs.File.{content}
 use Rattle.fwd_disk_mem.specs.declared.entry.MemEntry.{MemEntry}
@@ -95,13 +95,15 @@ pub record EndsIn (shown : Shown) (s : AllSettings) (turns : ℕ) (start : Start
 -- The turn in which it is cut: the run has that many turns left, and the turn's wait returns the event. No
 -- offset is put after it. If the run is over before, the turn makes no call. In this turn a `failed` line is
 -- no failure of the loop.
-abbrev pub IsCutIn : AllSettings → ℕ → Start → Life → List TraceEntry → History → List TraceEntry → Type 0
-IsCutIn s turns start planned before h calls =
-    ((waits_in before < turns)
-    × Execution (life s (ends_of s) None (waits_in before)) before (Return (lived h TurnsSpent))
-    × (is_last_next (paused s h) (course_after (course_of start planned) before) ≡ true)
-    × ((last : History) × Execution (turn s h) calls (Return last)))
-    ⊎ (Execution (life s (ends_of s) None turns) before (Return (lived h Over)) × (calls ≡ []))
+pub data IsCutIn (s : AllSettings) (turns : ℕ) (start : Start) (planned : Life) (before : List TraceEntry)
+    (h : History) (calls : List TraceEntry) : Type 0 where
+  InTurn : waits_in before < turns
+      → Execution (life s (ends_of s) None (waits_in before)) before (Return (lived h TurnsSpent))
+      → is_last_next (paused s h) (course_after (course_of start planned) before) ≡ true
+      → (last : History) → Execution (turn s h) calls (Return last)
+      → IsCutIn s turns start planned before h calls
+  WasOver : Execution (life s (ends_of s) None turns) before (Return (lived h Over)) → calls ≡ []
+      → IsCutIn s turns start planned before h calls
 
 -- the first of these calls, that many
 abbrev pub first_calls : ℕ → List MemEntry → List MemEntry
@@ -135,13 +137,22 @@ pub record IsCut (s : AllSettings) (turns : ℕ) (start : Start) (planned : Life
   pub changes : c.next.changes ≡ (course_after (course_of start planned) (c.before ++ c.turn)).files.changes
   pub offsets : SameOffsets (offsets_after_all start.offsets (keeper_part (c.before ++ c.turn))) c.next.offsets
 
--- Each run in turn, with at most `turns` turns in all: the replay ends with it, or it is cut and the next
--- one follows; or memory ran out in it, and nothing of it is in the text.
+-- The replay ends with this run; or the run is cut, and the next ones follow with the turns that are left; or
+-- memory ran out in it, and nothing of it is in the text. `Next turns start rest` says that the next runs are
+-- replayed with so many turns from this state on, to this text.
+pub data IsRunReplayed (shown : Shown) (s : AllSettings) (turns : ℕ) (start : Start) (planned : Life)
+    (Next : ℕ → Start → Reported → Type 0) (replayed : Reported) : Type 0 where
+  Ended : EndsIn shown s turns start planned replayed
+      → IsRunReplayed shown s turns start planned Next replayed
+  WasCut : (c : CutRun) → IsCut s turns start planned c → (rest : Reported)
+      → Next (turns - waits_in (c.before ++ c.turn)) c.next rest
+      → replayed ≡ joined (life_text shown s c.before c.history) c.cut rest
+      → IsRunReplayed shown s turns start planned Next replayed
+  OutOfMemory : replayed ≡ out_of_memory → IsRunReplayed shown s turns start planned Next replayed
+
+-- each run in turn, with at most `turns` turns in all
 abbrev pub IsReplayed : Shown → AllSettings → ℕ → Start → List Life → Reported → Type 0
 IsReplayed shown s turns start [] replayed = replayed ≡ record { text = []; ending = ending.Over }
 IsReplayed shown s turns start (planned ∷ lives) replayed =
-    EndsIn shown s turns start planned replayed
-    ⊎ ((c : CutRun) × IsCut s turns start planned c
-    × ((rest : Reported) × IsReplayed shown s (turns - waits_in (c.before ++ c.turn)) c.next lives rest
-    × (replayed ≡ joined (life_text shown s c.before c.history) c.cut rest)))
-    ⊎ (replayed ≡ out_of_memory)
+    IsRunReplayed shown s turns start planned
+    (λ left next rest. IsReplayed shown s left next lives rest) replayed

@@ -26,7 +26,7 @@ use Rattle.fwd_model.specs.Run.{Over, TurnsSpent, RunResult, lived, run, life}
 use Rattle.fwd_model.proofs.CallLogs.{loop_append, keeper_append}
 use Rattle.fwd_theorem_trace.specs.Waits.{waits_in}
 use Rattle.fwd_replay.specs.FileChanges.{Course, course_after, after_call, FilesAnswered, is_last_next, brings_last, has_last}
-use Rattle.fwd_replay.specs.Runs.{Start, disk_of, course_of, IsAnswered, CutRun, IsCut}
+use Rattle.fwd_replay.specs.Runs.{Start, disk_of, course_of, IsAnswered, CutRun, IsCut, IsCutIn, InTurn, WasOver}
 use Rattle.fwd_theorem_replay.proofs.AlikeDisks.{Alike, alike_back}
 use Rattle.fwd_theorem_replay.proofs.AlikeKeepers.{same_back, kept_first}
 use Rattle.fwd_theorem_crash.specs.StepBoundaries.{turn}
@@ -100,6 +100,10 @@ CutIn s turns course before h calls =
     × (is_last_next (paused s h) (course_after course before) ≡ true) × ((last : History) × Execution (turn s h) calls (Return last)))
     ⊎ (Execution (life s (ends_of s) None turns) before (Return (lived h Over)) × (calls ≡ []))
 
+cut_in_of : (s : AllSettings) (turns : ℕ) (start : Start) (planned : Life) (before : List TraceEntry) (h : History) (calls : List TraceEntry) → IsCutIn s turns start planned before h calls → CutIn s turns (course_of start planned) before h calls
+cut_in_of s turns start planned before h calls (InTurn waits way last end own) = inl (waits, way, last, (end, own))
+cut_in_of s turns start planned before h calls (WasOver way none) = inr (way, none)
+
 -- what is known of a run that is cut, from its course on
 pub record Cutting (s : AllSettings) (turns : ℕ) (place : Place) (call_log : List MemEntry) (course : Course) (offsets : KeeperGiven) (c : CutRun) : Type 0 where
   pub cut_in : CutIn s turns course c.before c.history c.turn
@@ -113,7 +117,7 @@ not_last cut at last is none = subst (λ (o : Option Cut). (is_some o && last) �
 pub cutting_of : (s : AllSettings) (turns : ℕ) (start : Start) (planned : Life) (c : CutRun) (course : Course) → course_of start planned ≡ course → IsCut s turns start planned c
     → Cutting s turns (beginning (given_of planned)) (disk_of start planned) course start.offsets c
 cutting_of s turns start planned c course is cut = record {
-  cut_in = subst (λ (at : Course). CutIn s turns at c.before c.history c.turn) is cut.cut_in;
+  cut_in = subst (λ (at : Course). CutIn s turns at c.before c.history c.turn) is (cut_in_of s turns start planned c.before c.history c.turn cut.cut_in);
   uncut = subst (λ (at : Course). has_last at c.before ≡ false) is (not_last planned.cut c.cut (has_last (course_of start planned) c.before) cut.is cut.uncut);
   before = first_answers start planned course is c.before c.turn c.asked c.asked_in cut.answered cut.are;
   all = all_answers start planned course is (c.before ++ c.turn) (c.asked ++ c.asked_in) cut.answered;

@@ -1,5 +1,5 @@
 -- The point at which a run is cut is safe.
-use Rattle.std.proofs.Common.{◌≡◌, inl, inr, ℕ, ◌+◌, true, List, [], ◌++◌, map, take, drop, None, refl, sym, ◌∙◌, ap, subst, append_assoc}
+use Rattle.std.proofs.Common.{◌≡◌, ℕ, ◌+◌, true, List, [], ◌++◌, map, take, drop, None, refl, sym, ◌∙◌, ap, subst, append_assoc}
 use Rattle.std.proofs.lemmas.List.{append-nil, take-append-drop}
 use Rattle.fwd_outside.specs.Program.{Return, Execution}
 use Rattle.fwd_outside.specs.AtCrashPoints.{Ends}
@@ -24,7 +24,7 @@ use Rattle.fwd_theorem_trace.specs.Waits.{waits_in}
 use Rattle.fwd_theorem_crash.specs.CrashPoint.{crash_point}
 use Rattle.fwd_theorem_crash.specs.Safety.{IsSafe}
 use Rattle.fwd_theorem_crash.proofs.RunSafety.{all_safe}
-use Rattle.fwd_replay.specs.Runs.{Start, disk_of, CutRun, IsCutIn, IsCut, first_calls}
+use Rattle.fwd_replay.specs.Runs.{Start, disk_of, CutRun, IsCutIn, InTurn, WasOver, IsCut, first_calls}
 use Rattle.fwd_theorem_crash.proofs.MoreTurns.{life_on, turn_runs}
 use Rattle.fwd_theorem_replay.specs.Crashes.{CrashedAfter}
 use Rattle.fwd_theorem_replay.proofs.Entries.{AreNaming, played_naming}
@@ -48,19 +48,19 @@ module _ (s : AllSettings) (turns : ℕ) (start : Start) (planned : Life) (c : C
   cut_life = by cut.cut_in
     where
       by : IsCutIn s turns start planned c.before c.history c.turn → IsBeginning s (c.before ++ c.turn)
-      by (inl on) =
-          let runs = turn_runs s c.history on.3.0 c.turn on.3.1 in
+      by (InTurn waits way last_event end own) =
+          let runs = turn_runs s c.history end c.turn own in
           record {
             turns = waits_in c.before + 1;
             left = runs.0;
             way =
                 way_trans (life s (ends_of s) None (waits_in c.before + 1)) (run s None 1 c.history) runs.0 c.before c.turn
-                (life_on s c.history 1 (ends_of s) (waits_in c.before) (waits_in c.before + 1) refl c.before on.1) runs.1;
+                (life_on s c.history 1 (ends_of s) (waits_in c.before) (waits_in c.before + 1) refl c.before way) runs.1;
           }
-      by (inr over) = record {
+      by (WasOver way none) = record {
         turns = turns;
         left = Return (lived c.history Over);
-        way = subst (λ (es : List TraceEntry). Execution (life s (ends_of s) None turns) es (Return (lived c.history Over))) (sym (ap (λ (es : List TraceEntry). c.before ++ es) over.1 ∙ append-nil c.before)) over.0;
+        way = subst (λ (es : List TraceEntry). Execution (life s (ends_of s) None turns) es (Return (lived c.history Over))) (sym (ap (λ (es : List TraceEntry). c.before ++ es) none ∙ append-nil c.before)) way;
       }
 
   beginning : (gone : List TraceEntry) → CrashedAfter c gone → IsBeginning s gone

@@ -1,5 +1,5 @@
 -- The run after a crash recovers all that the one before had.
-use Rattle.std.proofs.Common.{◌≡◌, inl, inr, ℕ, ◌-◌, ◌%◌, true, List, [], ◌∷◌, ◌++◌, map, Option, sym, ◌∙◌, ap, subst}
+use Rattle.std.proofs.Common.{◌≡◌, ℕ, ◌-◌, ◌%◌, true, List, [], ◌∷◌, ◌++◌, map, Option, sym, ◌∙◌, ap, subst}
 use Rattle.std.proofs.lemmas.List.{append-nil}
 use Rattle.fwd_outside.specs.AtCrashPoints.{Ends}
 use Rattle.fwd_outside.specs.Disk.{DiskEntry}
@@ -23,7 +23,7 @@ use Rattle.fwd_theorem_trace.specs.Waits.{waits_in}
 use Rattle.fwd_theorem_trace.proofs.Traversal.{noted_since}
 use Rattle.fwd_theorem_crash.specs.CrashPoint.{crash_point, LeadsTo}
 use Rattle.fwd_theorem_crash.proofs.Recovery.{found_again}
-use Rattle.fwd_replay.specs.Runs.{Start, first, disk_of, IsAnswered, CutRun, IsCut, IsReplayed}
+use Rattle.fwd_replay.specs.Runs.{Start, first, disk_of, IsAnswered, CutRun, IsCut, IsReplayed, Ended, WasCut, OutOfMemory}
 use Rattle.fwd_replay.specs.declared.report.Reported.{Reported}
 use Rattle.fwd_replay.specs.declared.report.Shown.{Shown}
 use Rattle.fwd_theorem_replay.specs.Crashes.{RecoversAll, LosesNothing, NextLosesNothing, NothingIsLost}
@@ -83,20 +83,20 @@ module _ (s : AllSettings) (settings : MeetsRequirements s) (full : s.service.fu
 
     next_loses : (shown : Shown) (turns_left : ℕ) (lives : List Life) (reported : Reported) (is : IsReplayed shown s turns_left c.next lives reported) → NextLosesNothing shown s turns_left c lives reported is
     next_loses shown turns_left [] reported is = tt
-    next_loses shown turns_left (next ∷ lives) reported (inl ends) = λ none. finds next ends.trace ends.is.asked ends.is.answered none
-    next_loses shown turns_left (next ∷ lives) reported (inr (inl again)) =
-        λ none. finds next (again.0.before ++ again.0.turn) (again.0.asked ++ again.0.asked_in) again.1.answered none
-    next_loses shown turns_left (next ∷ lives) reported (inr (inr wanting)) = tt
+    next_loses shown turns_left (next ∷ lives) reported (Ended ends) = λ none. finds next ends.trace ends.is.asked ends.is.answered none
+    next_loses shown turns_left (next ∷ lives) reported (WasCut again cut_again rest more joins) =
+        λ none. finds next (again.before ++ again.turn) (again.asked ++ again.asked_in) cut_again.answered none
+    next_loses shown turns_left (next ∷ lives) reported (OutOfMemory none) = tt
 
   none_lost_from : (shown : Shown) (turns : ℕ) (start : Start) → AreSettings start.disk → (lives : List Life) (reported : Reported) (is : IsReplayed shown s turns start lives reported) → NothingIsLost shown s turns start lives reported is
   none_lost_from shown turns start set [] reported is = tt
-  none_lost_from shown turns start set (planned ∷ lives) reported (inl ends) = tt
-  none_lost_from shown turns start set (planned ∷ lives) reported (inr (inl cut)) =
-      let left = turns - waits_in (cut.0.before ++ cut.0.turn) in (
-        next_loses turns start planned cut.0 cut.1 set shown left lives cut.2.0 cut.2.1,
-        none_lost_from shown left cut.0.next (set_next turns start planned cut.0 cut.1 set) lives cut.2.0 cut.2.1,
+  none_lost_from shown turns start set (planned ∷ lives) reported (Ended ends) = tt
+  none_lost_from shown turns start set (planned ∷ lives) reported (WasCut c cut rest more joins) =
+      let left = turns - waits_in (c.before ++ c.turn) in (
+        next_loses turns start planned c cut set shown left lives rest more,
+        none_lost_from shown left c.next (set_next turns start planned c cut set) lives rest more,
       )
-  none_lost_from shown turns start set (planned ∷ lives) reported (inr (inr wanting)) = tt
+  none_lost_from shown turns start set (planned ∷ lives) reported (OutOfMemory none) = tt
 
   pub none_lost : (shown : Shown) (turns : ℕ) (lives : List Life) (reported : Reported) (is : IsReplayed shown s turns first lives reported) → NothingIsLost shown s turns first lives reported is
   none_lost shown turns lives reported is = none_lost_from shown turns first tt lives reported is

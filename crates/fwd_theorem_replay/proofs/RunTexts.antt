@@ -23,7 +23,7 @@ use Rattle.fwd_model.specs.Trace.{TraceEntry, disk_part, keeper_part}
 use Rattle.fwd_model.specs.Run.{Over, RunResult, lived, life}
 use Rattle.fwd_theorem_trace.specs.Waits.{waits_in}
 use Rattle.fwd_replay.specs.FileChanges.{Course, course_after, has_last}
-use Rattle.fwd_replay.specs.Runs.{Start, first, disk_of, course_of, EndsIn, CutRun, IsCut, first_calls, IsReplayed}
+use Rattle.fwd_replay.specs.Runs.{Start, first, disk_of, course_of, EndsIn, CutRun, IsCut, first_calls, IsReplayed, IsRunReplayed, Ended, WasCut, OutOfMemory}
 use Rattle.fwd_replay.specs.Text.{life_text, reported_by, out_of_memory, joined}
 use Rattle.fwd_replay.specs.declared.report.Reported.{Reported}
 use Rattle.fwd_replay.specs.declared.report.Ending.TheVariants as ending
@@ -169,11 +169,6 @@ module _ (shown : Shown) (s : AllSettings) (turns : ℕ) (start start2 : Start) 
 -- ---- the runs
 
 module _ (shown : Shown) (s : AllSettings) where
-  -- the run is cut, and the next ones follow
-  abbrev IsCutTo : ℕ → Start → Life → List Life → Reported → Type 0
-  IsCutTo turns start planned lives replayed =
-      (c : CutRun) × IsCut s turns start planned c × ((rest : Reported) × IsReplayed shown s (turns - waits_in (c.before ++ c.turn)) c.next lives rest × (replayed ≡ joined (life_text shown s c.before c.history) c.cut rest))
-
   abbrev HasOneText : List Life → Type 0
   HasOneText lives =
       (turns : ℕ) (start start2 : Start) → Similar start start2 → (one other : Reported) → IsReplayed shown s turns start lives one → IsReplayed shown s turns start2 lives other
@@ -183,23 +178,20 @@ module _ (shown : Shown) (s : AllSettings) where
   one_text_from [] turns start start2 similar one other is is2 wants wants2 = is2 ∙ sym is
   one_text_from (planned ∷ lives) turns start start2 similar one other is is2 wants wants2 = by (one_text_from lives) is is2
     where
-      by : HasOneText lives → (EndsIn shown s turns start planned one ⊎ IsCutTo turns start planned lives one ⊎ (one ≡ out_of_memory)) → (EndsIn shown s turns start2 planned other ⊎ IsCutTo turns start2 planned lives other ⊎ (other ≡ out_of_memory)) → other ≡ one
-      by more (inr (inr none)) b = absurd (wants (ap (λ (r : Reported). r.ending) none))
-      by more a (inr (inr none)) = absurd (wants2 (ap (λ (r : Reported). r.ending) none))
-      by more (inl e) (inl f) = same_end shown s turns start start2 planned similar one other e f
-      by more (inl e) (inr (inl cut)) = no_cut shown s turns start start2 planned similar one cut.0 e cut.1
-      by more (inr (inl cut)) (inl f) = no_cut shown s turns start2 start planned (similar_back start start2 similar) other cut.0 f cut.1
-      by more (inr (inl cut)) (inr (inl cut2)) =
-          let c = cut.0 in
-          let c2 = cut2.0 in
-          let rest = cut.2.0 in
-          let rest2 = cut2.2.0 in
-          let so2 = subst (λ (n : ℕ). IsReplayed shown s n c2.next lives rest2) (turns_is shown s turns start start2 planned similar c c2 cut.1 cut2.1) cut2.2.1 in
+      by : HasOneText lives → IsRunReplayed shown s turns start planned (λ left next rest. IsReplayed shown s left next lives rest) one
+          → IsRunReplayed shown s turns start2 planned (λ left next rest. IsReplayed shown s left next lives rest) other → other ≡ one
+      by more (OutOfMemory none) b = absurd (wants (ap (λ (r : Reported). r.ending) none))
+      by more a (OutOfMemory none) = absurd (wants2 (ap (λ (r : Reported). r.ending) none))
+      by more (Ended e) (Ended f) = same_end shown s turns start start2 planned similar one other e f
+      by more (Ended e) (WasCut c cut rest next joins) = no_cut shown s turns start start2 planned similar one c e cut
+      by more (WasCut c cut rest next joins) (Ended f) = no_cut shown s turns start2 start planned (similar_back start start2 similar) other c f cut
+      by more (WasCut c cut rest next joins) (WasCut c2 cut2 rest2 next2 joins2) =
+          let so2 = subst (λ (n : ℕ). IsReplayed shown s n c2.next lives rest2) (turns_is shown s turns start start2 planned similar c c2 cut cut2) next2 in
           let same : rest2 ≡ rest =
-          more (turns - waits_in (c.before ++ c.turn)) c.next c2.next (similar_next shown s turns start start2 planned similar c c2 cut.1 cut2.1) rest rest2 cut.2.1 so2
-          (λ memory. wants (ap (λ (r : Reported). r.ending) cut.2.2 ∙ memory)) (λ memory. wants2 (ap (λ (r : Reported). r.ending) cut2.2.2 ∙ memory))
+          more (turns - waits_in (c.before ++ c.turn)) c.next c2.next (similar_next shown s turns start start2 planned similar c c2 cut cut2) rest rest2 next so2
+          (λ memory. wants (ap (λ (r : Reported). r.ending) joins ∙ memory)) (λ memory. wants2 (ap (λ (r : Reported). r.ending) joins2 ∙ memory))
           in
-          cut2.2.2 ∙ same_joined shown s turns start start2 planned similar c c2 cut.1 cut2.1 rest rest2 same ∙ sym cut.2.2
+          joins2 ∙ same_joined shown s turns start start2 planned similar c c2 cut cut2 rest rest2 same ∙ sym joins
 
   pub one_text : (turns : ℕ) (lives : List Life) (one other : Reported) → IsReplayed shown s turns first lives one → IsReplayed shown s turns first lives other → one.ending ≢ ending.Memory → other.ending ≢ ending.Memory → other ≡ one
   one_text turns lives one other is is2 = one_text_from lives turns first first (record { disk = alike_itself []; changes = refl; offsets = same_itself [] }) one other is is2

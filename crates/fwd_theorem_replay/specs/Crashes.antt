@@ -1,6 +1,5 @@
 -- What the crashes between the runs of a schedule leave to the next run.
 use Rattle.std.specs.Prelude.{◌≡◌, ℕ, ◌-◌, true, List, [], ◌∷◌, ◌++◌, Contains, Some}
-use mathlib.Core.Logic.{inl, inr}
 use Rattle.fwd_outside.specs.Program.{Return, Execution}
 use Rattle.fwd_outside.specs.declared.home.Home.TheVariants.{Disk}
 use Rattle.fwd_disk_mem.specs.Entry.{entries_of}
@@ -13,7 +12,7 @@ use Rattle.fwd_model.specs.Routes.{is_owed, home_of}
 use Rattle.fwd_model.specs.RecoveryActions.{recovers}
 use Rattle.fwd_theorem_trace.specs.Waits.{waits_in}
 use Rattle.fwd_theorem_crash.specs.Recovery.{IsRecovered}
-use Rattle.fwd_replay.specs.Runs.{Start, CutRun, first_calls, IsReplayed}
+use Rattle.fwd_replay.specs.Runs.{Start, CutRun, first_calls, IsReplayed, Ended, WasCut, OutOfMemory}
 use Rattle.fwd_replay.specs.declared.report.Reported.{Reported}
 use Rattle.fwd_replay.specs.declared.report.Shown.{Shown}
 
@@ -48,19 +47,19 @@ LosesNothing s c next =
 abbrev pub NextLosesNothing : (shown : Shown) (s : AllSettings) (turns : ℕ) (c : CutRun) (lives : List Life)
     (reported : Reported) → IsReplayed shown s turns c.next lives reported → Type 0
 NextLosesNothing shown s turns c [] reported is = Unit {0}
-NextLosesNothing shown s turns c (planned ∷ lives) reported (inl ends) =
+NextLosesNothing shown s turns c (planned ∷ lives) reported (Ended ends) =
     planned.store ≡ [] → LosesNothing s c ends.trace
-NextLosesNothing shown s turns c (planned ∷ lives) reported (inr (inl cut)) =
-    planned.store ≡ [] → LosesNothing s c (cut.0.before ++ cut.0.turn)
-NextLosesNothing shown s turns c (planned ∷ lives) reported (inr (inr wanting)) = Unit {0}
+NextLosesNothing shown s turns c (planned ∷ lives) reported
+    (WasCut again is rest more joins) =
+    planned.store ≡ [] → LosesNothing s c (again.before ++ again.turn)
+NextLosesNothing shown s turns c (planned ∷ lives) reported (OutOfMemory none) = Unit {0}
 
 -- at each crash between the runs of a replay
 abbrev pub NothingIsLost : (shown : Shown) (s : AllSettings) (turns : ℕ) (start : Start) (lives : List Life)
     (reported : Reported) → IsReplayed shown s turns start lives reported → Type 0
 NothingIsLost shown s turns start [] reported is = Unit {0}
-NothingIsLost shown s turns start (planned ∷ lives) reported (inl ends) = Unit {0}
-NothingIsLost shown s turns start (planned ∷ lives) reported (inr (inl cut)) =
-    NextLosesNothing shown s (turns - waits_in (cut.0.before ++ cut.0.turn)) cut.0 lives cut.2.0 cut.2.1
-    × NothingIsLost shown s
-    (turns - waits_in (cut.0.before ++ cut.0.turn)) cut.0.next lives cut.2.0 cut.2.1
-NothingIsLost shown s turns start (planned ∷ lives) reported (inr (inr wanting)) = Unit {0}
+NothingIsLost shown s turns start (planned ∷ lives) reported (Ended ends) = Unit {0}
+NothingIsLost shown s turns start (planned ∷ lives) reported (WasCut c is rest more joins) =
+    let left = turns - waits_in (c.before ++ c.turn) in
+    NextLosesNothing shown s left c lives rest more × NothingIsLost shown s left c.next lives rest more
+NothingIsLost shown s turns start (planned ∷ lives) reported (OutOfMemory none) = Unit {0}

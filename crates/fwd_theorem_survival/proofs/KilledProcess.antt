@@ -1,5 +1,5 @@
 -- Loading from a disk as a killed process left it: it reads what it would read if all of it were fsynced.
-use Rattle.std.proofs.Common.{◌≡◌, ◌≢◌, ◌⊎◌, inl, inr, ℕ, Bool, true, false, IsTrue, List, [], ◌∷◌, ◌++◌, Option, Some, None, refl, sym, ◌∙◌, ap, subst}
+use Rattle.std.proofs.Common.{◌≡◌, ◌≢◌, ◌⊎◌, inl, inr, ℕ, ◌+◌, Bool, true, false, IsTrue, List, [], ◌∷◌, ◌++◌, Option, Some, None, refl, sym, ◌∙◌, ap, subst}
 use Rattle.std.specs.Prelude.{All, Contains, if◌then◌else◌}
 use Rattle.fwd_outside.specs.Program.{Entry, Program, Return, Ask, bind, and_then, with_value, Execution}
 use Rattle.fwd_outside.specs.AtCrashPoints.{Ends, AtCrashPoints}
@@ -14,7 +14,7 @@ use Rattle.fwd_backlog.specs.Listing.{folder_of, path_of, chunks_in, list_folder
 use Rattle.fwd_backlog.specs.LoadProgram.{file_read, read_synced_program, read_files_program, load_program}
 use Rattle.fwd_backlog.specs.Recovered.{AreDurable}
 use Rattle.fwd_settings.specs.declared.settings_types.AllSettings.{AllSettings}
-use Rattle.fwd_model.specs.Fact.{Fact, History}
+use Rattle.fwd_model.specs.Fact.{Fact, History, Found}
 use Rattle.fwd_model.specs.Trace.{Call, Answer, Action, TraceEntry, OnLoop, OnDisk, OnFiles, OnKeeper, Note}
 use Rattle.fwd_model.specs.DeviceActions.{on_disk}
 use Rattle.fwd_model.specs.RecoveryActions.{notes_files, loaded, loads_from, recovers}
@@ -22,16 +22,16 @@ use Rattle.fwd_theorem_crash.specs.CrashPoint.{CrashPoint, crash_point, Changes,
 
 -- ---- the same files, as if all that a read returns were fsynced
 
-by_there : Bool → List ℕ → FileState
+abbrev by_there : Bool → List ℕ → FileState
 by_there there bytes = if there then whole bytes else absent
 
-durable_state : FileState → FileState
+abbrev durable_state : FileState → FileState
 durable_state file = by_there file.there file.bytes
 
-pub durable_files : Files → Files
+abbrev pub durable_files : Files → Files
 durable_files files name = durable_state (files name)
 
-pub durable_point : CrashPoint → CrashPoint
+abbrev pub durable_point : CrashPoint → CrashPoint
 durable_point m = crash_point m.past (durable_files m.files)
 
 pub are_durable : (files : Files) → AreDurable (durable_files files)
@@ -64,7 +64,7 @@ whole_there file there = ap (λ (b : Bool). by_there b file.bytes) there
 
 -- ---- a call that reads, or syncs, has the same answer
 
-pub IsReading : Call → Type 0
+abbrev pub IsReading : Call → Type 0
 IsReading (OnLoop call) = Unit {0}
 IsReading (OnFiles call) = Unit {0}
 IsReading (OnKeeper call) = Unit {0}
@@ -93,9 +93,9 @@ abbrev HasFile : List ℕ → Files → List ℕ → Type 0
 HasFile folder files name = (file : List ℕ) × IsTrue (files file).there × IsUnder folder name file
 
 names_same : (folder : List ℕ) (files : Files) (names : List (List ℕ)) → All (HasFile folder files) names → All (HasFile folder (durable_files files)) names
-names_same folder files [] all = tt
-names_same folder files (name ∷ names) all =
-    ((all.0.0, is_there files all.0.0 all.0.1, all.0.2), names_same folder files names all.1)
+names_same folder files names all k name within =
+    let has = all k name within in
+    (has.0, is_there files has.0 has.1, has.2)
 
 list_same : (folder : List ℕ) (answer : Option (List (List ℕ))) (files : Files) → ListAnswer folder answer files → ListAnswer folder answer (durable_files files)
 list_same folder (Some names) files given = record {
@@ -136,7 +136,7 @@ changes_same (OnFiles call) answer old during new may same = (ap durable_files s
 changes_same (OnKeeper call) answer old during new may same = (ap durable_files same.0, ap durable_files same.1)
 changes_same (Note fact) answer old during new may same = (ap durable_files same.0, ap durable_files same.1)
 
-AllRead : List TraceEntry → Type 0
+abbrev AllRead : List TraceEntry → Type 0
 AllRead [] = Unit {0}
 AllRead (e ∷ es) = IsReading e.call × AllRead es
 
@@ -150,11 +150,11 @@ ends_same (e ∷ es) old last all ends =
 
 -- ---- a run that loads asks only for this
 
-OnlyReads : {R : Type 0} → Action R → Type 0
+abbrev OnlyReads : {R : Type 0} → Action R → Type 0
 OnlyReads (Return x) = Unit {0}
 OnlyReads (Ask call go) = IsReading call × ((answer : Answer call) → OnlyReads (go answer))
 
-DiskReads : {R : Type 0} → DiskProgram R → Type 0
+abbrev DiskReads : {R : Type 0} → DiskProgram R → Type 0
 DiskReads (Return x) = Unit {0}
 DiskReads (Ask call go) = IsReading (OnDisk call) × ((answer : DiskAnswer call) → DiskReads (go answer))
 
@@ -192,7 +192,8 @@ bind_reads (Ask call go) next first second = (first.0, λ answer. bind_reads (go
 
 notes_read : (number : ℕ) (files : List FileRead) (h : History) → OnlyReads (notes_files number files h)
 notes_read number [] h = tt
-notes_read number (read ∷ reads) h = (tt, λ answer. notes_read _ reads _)
+notes_read number (read ∷ more) h =
+    (tt, λ answer. notes_read (number + 1) more (Found number read.file.stream read.file.name read.bytes ∷ h))
 
 loaded_reads : (found : Option (List FileRead)) → OnlyReads (loaded found)
 loaded_reads None = tt

@@ -1,12 +1,12 @@
 -- Each run of a replay keeps the delivery guarantee, since each run does.
-use Rattle.std.proofs.Common.{inl, inr, ℕ, ◌-◌, List, [], ◌∷◌, ◌++◌}
+use Rattle.std.proofs.Common.{ℕ, ◌-◌, List, [], ◌∷◌, ◌++◌}
 use Rattle.fwd_settings.specs.declared.settings_types.AllSettings.{AllSettings}
 use Rattle.fwd_script.specs.declared.schedule.Life.{Life}
 use Rattle.fwd_model.specs.Trace.{TraceEntry}
 use Rattle.fwd_model.specs.Run.{RunResult}
 use Rattle.fwd_theorem_trace.specs.Waits.{waits_in}
 use Rattle.fwd_theorem_delivery.specs.Guarantee.{KeepsGuarantee}
-use Rattle.fwd_replay.specs.Runs.{CutRun, IsCut, IsLife, IsReplayed, Start}
+use Rattle.fwd_replay.specs.Runs.{CutRun, IsCut, IsLife, IsReplayed, Ended, WasCut, OutOfMemory, Start}
 use Rattle.fwd_replay.specs.declared.report.Reported.{Reported}
 use Rattle.fwd_replay.specs.declared.report.Shown.{Shown}
 use Rattle.fwd_top.specs.Delivery.{EachIsDelivered}
@@ -19,6 +19,7 @@ CutKeeps = (s : AllSettings) (turns : ℕ) (start : Start) (planned : Life) (c :
 
 pub each_keeps : LifeKeeps → CutKeeps → (shown : Shown) (s : AllSettings) (turns : ℕ) (start : Start) (lives : List Life) (reported : Reported) (is : IsReplayed shown s turns start lives reported) → EachIsDelivered shown s turns start lives reported is
 each_keeps whole cut shown s turns start [] reported is = tt
-each_keeps whole cut shown s turns start (planned ∷ lives) reported (inl ends) = whole s turns start planned ends.trace ends.comes ends.is
-each_keeps whole cut shown s turns start (planned ∷ lives) reported (inr (inl c)) = (cut s turns start planned c.0 c.1, each_keeps whole cut shown s (turns - waits_in (c.0.before ++ c.0.turn)) c.0.next lives c.2.0 c.2.1)
-each_keeps whole cut shown s turns start (planned ∷ lives) reported (inr (inr wanting)) = tt
+each_keeps whole cut shown s turns start (planned ∷ lives) reported (Ended ends) = whole s turns start planned ends.trace ends.comes ends.is
+each_keeps whole cut shown s turns start (planned ∷ lives) reported (WasCut c is rest more joins) =
+    (cut s turns start planned c is, each_keeps whole cut shown s (turns - waits_in (c.before ++ c.turn)) c.next lives rest more)
+each_keeps whole cut shown s turns start (planned ∷ lives) reported (OutOfMemory none) = tt

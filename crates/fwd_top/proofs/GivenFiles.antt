@@ -1,6 +1,6 @@
 -- Over files whose calls return the existing bytes, the case is that of these bytes.
 use Rattle.std.specs.Prelude.{◌≢◌}
-use Rattle.std.proofs.Common.{◌≡◌, inl, inr, ℕ, List, [], ◌++◌, Option, Some, None, Result, Ok, Err, String, map, string_bytes, refl, sym, subst, ap, ◌∙◌}
+use Rattle.std.proofs.Common.{◌≡◌, ℕ, List, [], ◌++◌, Option, Some, None, Result, Ok, Err, String, map, string_bytes, refl, sym, subst, ap, ◌∙◌}
 use Rattle.fwd_outside.specs.Program.{Return, Ask, bind, Execution}
 use Rattle.fwd_outside.specs.Log.{LogGrew}
 use Rattle.fwd_outside.proofs.LogGrowth.{grew_none, grew_trans}
@@ -16,7 +16,7 @@ use Rattle.fwd_config.proofs.StableFiles.{Ends, ends_loads, way_parts, honest_pa
 use Rattle.fwd_settings.specs.Reading.{Checked}
 use Rattle.fwd_settings.specs.declared.settings_types.AllSettings.{AllSettings}
 use Rattle.fwd_model.specs.Trace.{files_part}
-use Rattle.fwd_replay.specs.LiveRun.{IsRunLive}
+use Rattle.fwd_replay.specs.LiveRun.{IsRunLive, RanToEnd, RanOutOfMemory}
 use Rattle.fwd_replay.specs.declared.report.Reported.{Reported}
 use Rattle.fwd_top.specs.Words.{Command, Run, Replay, ListFolder, Generate, command_of}
 use Rattle.fwd_top.specs.Cases.{Case, Replays, Generates, Runs, Lists, Refuses, Wanted, ToRun, ToReplay, Asked, asked, refused_by, refused_config, wanted_by, with_settings, with_sections, of_config, of_command}
@@ -99,8 +99,8 @@ asked_for turns (Generates s lives) old new verdict is = ([], is.1.comes.1.files
 asked_for turns (Runs s ticks) old new verdict is = run is.1.comes
   where
     run : IsRunLive s ticks turns (world old) (world new) is.0 → (entries : List FilesEntry) × LogGrew old.files new.files entries
-    run (inl lived) = (files_part lived.did.entries, lived.did.asked.files)
-    run (inr begun) = (files_part begun.0.1.entries, begun.0.1.asked.files)
+    run (RanToEnd lived) = (files_part lived.did.entries, lived.did.asked.files)
+    run (RanOutOfMemory begun none) = (files_part begun.1.entries, begun.1.asked.files)
 asked_for turns (Lists root) old new verdict is = ([], is.1.comes.1.0)
 asked_for turns (Refuses other) old new verdict is = ([], is.1.files)
 

@@ -1,5 +1,5 @@
 -- Each run keeps its offsets.
-use Rattle.std.proofs.Common.{inl, inr, ◌≡◌, ◌≤◌, ℕ, ◌-◌, ◌^◌, false, List, [], ◌∷◌, ◌++◌, Option, Some, None, subst}
+use Rattle.std.proofs.Common.{◌≡◌, ◌≤◌, ℕ, ◌-◌, ◌^◌, false, List, [], ◌∷◌, ◌++◌, Option, Some, None, subst}
 use Rattle.std.specs.Prelude.{Contains}
 use Rattle.fwd_outside.specs.Program.{entry, Execution}
 use Rattle.fwd_outside.specs.Loop.{Wait}
@@ -16,7 +16,7 @@ use Rattle.fwd_theorem_trace.specs.Past.{past_after}
 use Rattle.fwd_theorem_trace.specs.Waits.{waits_in}
 use Rattle.fwd_theorem_offsets.specs.Passed.{ArePassed}
 use Rattle.fwd_theorem_offsets.specs.KeptFiles.{IsAlone, SplitsAt, begun_at, last_given, was_cut}
-use Rattle.fwd_replay.specs.Runs.{CutRun, IsCut, IsReplayed, Start}
+use Rattle.fwd_replay.specs.Runs.{CutRun, IsCut, IsCutIn, InTurn, WasOver, IsReplayed, Ended, WasCut, OutOfMemory, Start}
 use Rattle.fwd_replay.specs.declared.report.Reported.{Reported}
 use Rattle.fwd_replay.specs.declared.report.Shown.{Shown}
 use Rattle.fwd_top.specs.Offsets.{EachKeepsOffsets, KeepsOffsets}
@@ -46,14 +46,15 @@ module _ (passed : PassedLaw) (splits : SplitsLaw) (resumes : ResumesLaw) where
   }
 
   cut_keeps : (s : AllSettings) (turns : ℕ) (start : Start) (planned : Life) (c : CutRun) → IsCut s turns start planned c → KeepsOffsets s c.before
-  cut_keeps s turns start planned c is = elim is.cut_in [
-    | inl turn ↦ keeps_offsets s (ends_of s) None (waits_in c.before) c.before _ turn.1
-    | inr over ↦ keeps_offsets s (ends_of s) None turns c.before _ over.0
-  ]
+  cut_keeps s turns start planned c is = by is.cut_in
+    where
+      by : IsCutIn s turns start planned c.before c.history c.turn → KeepsOffsets s c.before
+      by (InTurn waits way last end own) = keeps_offsets s (ends_of s) None (waits_in c.before) c.before _ way
+      by (WasOver way none) = keeps_offsets s (ends_of s) None turns c.before _ way
 
   pub each_keeps_offsets : (shown : Shown) (s : AllSettings) (turns : ℕ) (start : Start) (lives : List Life) (reported : Reported) (is : IsReplayed shown s turns start lives reported) → EachKeepsOffsets shown s turns start lives reported is
   each_keeps_offsets shown s turns start [] reported is = tt
-  each_keeps_offsets shown s turns start (planned ∷ lives) reported (inl ends) = keeps_offsets s (ends_of s) None turns ends.trace _ ends.is.way
-  each_keeps_offsets shown s turns start (planned ∷ lives) reported (inr (inl c)) =
-      (cut_keeps s turns start planned c.0 c.1, each_keeps_offsets shown s (turns - waits_in (c.0.before ++ c.0.turn)) c.0.next lives c.2.0 c.2.1)
-  each_keeps_offsets shown s turns start (planned ∷ lives) reported (inr (inr wanting)) = tt
+  each_keeps_offsets shown s turns start (planned ∷ lives) reported (Ended ends) = keeps_offsets s (ends_of s) None turns ends.trace _ ends.is.way
+  each_keeps_offsets shown s turns start (planned ∷ lives) reported (WasCut c is rest more joins) =
+      (cut_keeps s turns start planned c is, each_keeps_offsets shown s (turns - waits_in (c.before ++ c.turn)) c.next lives rest more)
+  each_keeps_offsets shown s turns start (planned ∷ lives) reported (OutOfMemory none) = tt

@@ -1,6 +1,5 @@
 -- Crash consistency of the outcome of a case.
 use Rattle.std.specs.Prelude.{◌≡◌, ℕ, true, List, [], Option}
-use mathlib.Core.Logic.{inl, inr}
 use Rattle.fwd_outside.specs.AtCrashPoints.{AtCrashPoints}
 use Rattle.fwd_outside.specs.DiskStates.{Files}
 use Rattle.fwd_backlog.specs.Recovered.{AreDurable}
@@ -10,7 +9,7 @@ use Rattle.fwd_theorem_crash.specs.CrashPoint.{crash_point, LeadsTo}
 use Rattle.fwd_theorem_crash.specs.Safety.{IsSafe}
 use Rattle.fwd_theorem_survival.specs.Survival.{KeepsAccepted}
 use Rattle.fwd_theorem_replay.specs.Crashes.{NothingIsLost}
-use Rattle.fwd_replay.specs.LiveRun.{IsRunLive}
+use Rattle.fwd_replay.specs.LiveRun.{IsRunLive, RanToEnd, RanOutOfMemory}
 use Rattle.fwd_replay.specs.Runs.{first}
 use Rattle.fwd_replay.specs.declared.report.Reported.{Reported}
 use Rattle.fwd_replay.specs.declared.report.Shown.TheVariants.{All, Report}
@@ -33,8 +32,9 @@ pub record AreSafe (s : AllSettings) (entries : List TraceEntry) : Type 0 where
 -- a run over devices, with a call log or not, to its end or to where memory ran out
 abbrev pub RunIsSafe : (s : AllSettings) (ticks : Option ℕ) (turns : ℕ) (old new : Platform)
     (reported : Reported) → IsRunLive s ticks turns (world old) (world new) reported → Type 0
-RunIsSafe s ticks turns old new reported (inl lived) = AreSynced s → AreSafe s lived.did.entries
-RunIsSafe s ticks turns old new reported (inr begun) = AreSynced s → AreSafe s begun.0.1.entries
+RunIsSafe s ticks turns old new reported (RanToEnd run) = AreSynced s → AreSafe s run.did.entries
+RunIsSafe s ticks turns old new reported (RanOutOfMemory begun none) =
+    AreSynced s → AreSafe s begun.1.entries
 
 -- the outcome of a case: no crash between the runs of a schedule loses a chunk, and each crash point of a
 -- run is safe

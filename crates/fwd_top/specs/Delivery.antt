@@ -1,6 +1,5 @@
 -- What is run keeps the delivery guarantee.
 use Rattle.std.specs.Prelude.{ℕ, ◌-◌, List, [], ◌∷◌, ◌++◌, Option, Some, None}
-use mathlib.Core.Logic.{inl, inr}
 use Rattle.fwd_outside.specs.Loop.{LoopLog}
 use Rattle.fwd_outside.specs.NewLinks.{AreNewLinks}
 use Rattle.fwd_settings.specs.declared.settings_types.AllSettings.{AllSettings}
@@ -8,8 +7,8 @@ use Rattle.fwd_script.specs.declared.schedule.Life.{Life}
 use Rattle.fwd_model.specs.Trace.{TraceEntry, loop_part}
 use Rattle.fwd_theorem_trace.specs.Waits.{waits_in}
 use Rattle.fwd_theorem_delivery.specs.Guarantee.{KeepsGuarantee}
-use Rattle.fwd_replay.specs.LiveRun.{IsRunLive}
-use Rattle.fwd_replay.specs.Runs.{IsReplayed, Start, first}
+use Rattle.fwd_replay.specs.LiveRun.{IsRunLive, RanToEnd, RanOutOfMemory}
+use Rattle.fwd_replay.specs.Runs.{IsReplayed, Ended, WasCut, OutOfMemory, Start, first}
 use Rattle.fwd_replay.specs.declared.report.Reported.{Reported}
 use Rattle.fwd_replay.specs.declared.report.Shown.{Shown}
 use Rattle.fwd_replay.specs.declared.report.Shown.TheVariants.{All, Report}
@@ -20,12 +19,12 @@ use Rattle.fwd_top.specs.Outcomes.{Platform, Produces, world}
 abbrev pub EachIsDelivered : (shown : Shown) (s : AllSettings) (turns : ℕ) (start : Start) (lives : List Life)
     (reported : Reported) → IsReplayed shown s turns start lives reported → Type 0
 EachIsDelivered shown s turns start [] reported is = Unit {0}
-EachIsDelivered shown s turns start (planned ∷ lives) reported (inl ends) =
+EachIsDelivered shown s turns start (planned ∷ lives) reported (Ended ends) =
     KeepsGuarantee s ends.trace
-EachIsDelivered shown s turns start (planned ∷ lives) reported (inr (inl cut)) =
-    KeepsGuarantee s cut.0.before
-    × EachIsDelivered shown s (turns - waits_in (cut.0.before ++ cut.0.turn)) cut.0.next lives cut.2.0 cut.2.1
-EachIsDelivered shown s turns start (planned ∷ lives) reported (inr (inr wanting)) = Unit {0}
+EachIsDelivered shown s turns start (planned ∷ lives) reported (WasCut c is rest more joins) =
+    KeepsGuarantee s c.before
+    × EachIsDelivered shown s (turns - waits_in (c.before ++ c.turn)) c.next lives rest more
+EachIsDelivered shown s turns start (planned ∷ lives) reported (OutOfMemory none) = Unit {0}
 
 -- A trace does. If the loop keeps no log, the trace needn't have its answers, and does if the links in it have
 -- rising numbers.
@@ -36,8 +35,8 @@ TraceIsDelivered None s trace = AreNewLinks 0 (loop_part trace) → KeepsGuarant
 -- a run over devices does
 abbrev pub RunIsDelivered : (s : AllSettings) (ticks : Option ℕ) (turns : ℕ) (old new : Platform)
     (reported : Reported) → IsRunLive s ticks turns (world old) (world new) reported → Type 0
-RunIsDelivered s ticks turns old new reported (inl lived) = TraceIsDelivered new.loop s lived.did.entries
-RunIsDelivered s ticks turns old new reported (inr wanting) = Unit {0}
+RunIsDelivered s ticks turns old new reported (RanToEnd run) = TraceIsDelivered new.loop s run.did.entries
+RunIsDelivered s ticks turns old new reported (RanOutOfMemory begun none) = Unit {0}
 
 -- each run of the outcome of a case
 abbrev pub IsDelivered : (turns : ℕ) (case : Case) (old new : Platform) (reported : Reported)

@@ -1,6 +1,5 @@
 -- What the program keeps of followed files across runs.
 use Rattle.std.specs.Prelude.{◌≡◌, ℕ, ◌≤◌, ◌-◌, ◌^◌, false, List, [], ◌∷◌, ◌++◌, Contains, Option, Some}
-use mathlib.Core.Logic.{inl, inr}
 use Rattle.fwd_outside.specs.Program.{entry}
 use Rattle.fwd_outside.specs.Loop.{Wait}
 use Rattle.fwd_outside.specs.declared.happening.Happening.{Happening}
@@ -13,8 +12,8 @@ use Rattle.fwd_theorem_trace.specs.Past.{past_after}
 use Rattle.fwd_theorem_trace.specs.Waits.{waits_in}
 use Rattle.fwd_theorem_offsets.specs.Passed.{ArePassed}
 use Rattle.fwd_theorem_offsets.specs.KeptFiles.{IsAlone, SplitsAt, begun_at, last_given, was_cut}
-use Rattle.fwd_replay.specs.LiveRun.{IsRunLive}
-use Rattle.fwd_replay.specs.Runs.{IsReplayed, Start, first}
+use Rattle.fwd_replay.specs.LiveRun.{IsRunLive, RanToEnd, RanOutOfMemory}
+use Rattle.fwd_replay.specs.Runs.{IsReplayed, Ended, WasCut, OutOfMemory, Start, first}
 use Rattle.fwd_replay.specs.declared.report.Reported.{Reported}
 use Rattle.fwd_replay.specs.declared.report.Shown.{Shown}
 use Rattle.fwd_replay.specs.declared.report.Shown.TheVariants.{All, Report}
@@ -43,18 +42,19 @@ pub record KeepsOffsets (s : AllSettings) (entries : List TraceEntry) : Type 0 w
 abbrev pub EachKeepsOffsets : (shown : Shown) (s : AllSettings) (turns : ℕ) (start : Start)
     (lives : List Life) (reported : Reported) → IsReplayed shown s turns start lives reported → Type 0
 EachKeepsOffsets shown s turns start [] reported is = Unit {0}
-EachKeepsOffsets shown s turns start (planned ∷ lives) reported (inl ends) = KeepsOffsets s ends.trace
-EachKeepsOffsets shown s turns start (planned ∷ lives) reported (inr (inl cut)) =
-    KeepsOffsets s cut.0.before
-    × EachKeepsOffsets shown s
-    (turns - waits_in (cut.0.before ++ cut.0.turn)) cut.0.next lives cut.2.0 cut.2.1
-EachKeepsOffsets shown s turns start (planned ∷ lives) reported (inr (inr wanting)) = Unit {0}
+EachKeepsOffsets shown s turns start (planned ∷ lives) reported (Ended ends) = KeepsOffsets s ends.trace
+EachKeepsOffsets shown s turns start (planned ∷ lives) reported
+    (WasCut c is rest more joins) =
+    KeepsOffsets s c.before
+    × EachKeepsOffsets shown s (turns - waits_in (c.before ++ c.turn)) c.next lives rest more
+EachKeepsOffsets shown s turns start (planned ∷ lives) reported (OutOfMemory none) = Unit {0}
 
 -- of a run over devices, to its end or to where memory ran out
 abbrev pub RunKeepsOffsets : (s : AllSettings) (ticks : Option ℕ) (turns : ℕ) (old new : Platform)
     (reported : Reported) → IsRunLive s ticks turns (world old) (world new) reported → Type 0
-RunKeepsOffsets s ticks turns old new reported (inl lived) = KeepsOffsets s lived.did.entries
-RunKeepsOffsets s ticks turns old new reported (inr begun) = KeepsOffsets s begun.0.1.entries
+RunKeepsOffsets s ticks turns old new reported (RanToEnd run) = KeepsOffsets s run.did.entries
+RunKeepsOffsets s ticks turns old new reported (RanOutOfMemory begun none) =
+    KeepsOffsets s begun.1.entries
 
 -- of each run of the outcome of a case
 abbrev pub EachRunKeepsOffsets : (turns : ℕ) (case : Case) (old new : Platform) (reported : Reported)

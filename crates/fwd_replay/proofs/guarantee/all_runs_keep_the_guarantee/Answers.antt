@@ -1,4 +1,4 @@
-use Rattle.std.proofs.Common.{inl, inr, List, None, subst}
+use Rattle.std.proofs.Common.{List, None, subst}
 use Rattle.fwd_outside.specs.Loop.{LoopEntry}
 use Rattle.fwd_outside.specs.NewLinks.{AreNewLinks}
 use Rattle.fwd_script_loop.specs.Lines.{given_of}
@@ -11,7 +11,7 @@ use Rattle.fwd_model.proofs.CallLogs.{loop_append}
 use Rattle.fwd_model.specs.Run.{Over, TurnsSpent, lived}
 use Rattle.fwd_theorem_trace.specs.Waits.{waits_in}
 use Rattle.fwd_theorem_delivery.specs.Guarantee.{KeepsGuarantee}
-use Rattle.fwd_replay.specs.Runs.{IsCutIn}
+use Rattle.fwd_replay.specs.Runs.{IsCutIn, InTurn, WasOver}
 use Rattle.fwd_replay.proofs.guarantee.all_runs_keep_the_guarantee.Goals as goal
 
 pub returns-clause-lives : goal.returns-clause-lives
@@ -33,5 +33,5 @@ returns-clause-cut c s turns start planned cuts is = by is.cut_in
     new_links = are_new (beginning (given_of planned)) (loop_part cuts.before) first_played
 
     by : IsCutIn s turns start planned cuts.before cuts.history cuts.turn → KeepsGuarantee s cuts.before
-    by (inl cut) = c.runs_keep_the_guarantee.ensures s (ends_of s) None (waits_in cuts.before) cuts.before (lived cuts.history TurnsSpent) cut.1 new_links
-    by (inr over) = c.runs_keep_the_guarantee.ensures s (ends_of s) None turns cuts.before (lived cuts.history Over) over.0 new_links
+    by (InTurn waits way last end own) = c.runs_keep_the_guarantee.ensures s (ends_of s) None (waits_in cuts.before) cuts.before (lived cuts.history TurnsSpent) way new_links
+    by (WasOver way none) = c.runs_keep_the_guarantee.ensures s (ends_of s) None turns cuts.before (lived cuts.history Over) way new_links

@@ -1,17 +1,17 @@
-use Rattle.std.proofs.Common.{inl, inr}
 use Rattle.fwd_model.specs.CallLogs.{CallLogs}
 use Rattle.fwd_engine_state.specs.RefinesAction.{with_all}
 use Rattle.fwd_engine_run.specs.OffsetRows.{with_keeper}
+use Rattle.fwd_replay.specs.LiveRun.{RanToEnd, RanOutOfMemory}
 use Rattle.fwd_replay.proofs.LiveRun.{begins_first}
 use Rattle.fwd_replay.proofs.live_run.run_live.Goals as goal
 
 pub returns-in_default-clause-life : goal.returns-in_default-clause-life
 returns-in_default-clause-life g c others =
     let a : CallLogs = with_all (g.L.Loop.call_log c.args.outside.now) (g.D.Disk.call_log c.args.disk.now) (g.F.Files.call_log c.args.files.now) (with_keeper (g.K.Keeper.call_log c.args.keeper.now) others) in
-    inr (begins_first c.args.settings c.args.ticks c.args.most a, c.without_text.ensures)
+    RanOutOfMemory (begins_first c.args.settings c.args.ticks c.args.most a) c.without_text.ensures
 
 pub returns-in-Ok-begin_and_run-clause-life : goal.returns-in-Ok-begin_and_run-clause-life
-returns-in-Ok-begin_and_run-clause-life g c others = inl (rw c.in-Ok.ensures.most at (rw c.in-Ok.ensures.ticks at (c.in-Ok-begin_and_run.ensures.life others)))
+returns-in-Ok-begin_and_run-clause-life g c others = RanToEnd (rw c.in-Ok.ensures.most at (rw c.in-Ok.ensures.ticks at (c.in-Ok-begin_and_run.ensures.life others)))
 
 pub returns-in-Err-clause-life : goal.returns-in-Err-clause-life
-returns-in-Err-clause-life g c others = inr (rw c.in-Ok.ensures.most at (rw c.in-Ok.ensures.ticks at (c.in-Err.ensures.life others)), c.without_text-in-Err.ensures)
+returns-in-Err-clause-life g c others = RanOutOfMemory (rw c.in-Ok.ensures.most at (rw c.in-Ok.ensures.ticks at (c.in-Err.ensures.life others))) c.without_text-in-Err.ensures

@@ -1,4 +1,4 @@
-use Rattle.std.proofs.Common.{inl, inr}
+use Rattle.fwd_replay.specs.LiveRun.{RanToEnd, RanOutOfMemory}
 use Rattle.fwd_settings.specs.Endpoints.{ends_of}
 use Rattle.fwd_replay.specs.declared.report.Shown.TheVariants.{All, Report}
 use Rattle.fwd_top.specs.Outcomes.{Produces}
@@ -12,13 +12,13 @@ returns c turns case old new reported comes sound = by case comes sound
     by : (case : Case) (comes : Produces turns case old new reported) → AreSound (settings_for case) → IsCrashConsistent turns case old new reported comes
     by (Replays s lives) comes sound = λ synced. c.no_crash_loses_a_chunk.ensures All s turns lives reported sound synced comes.0
     by (Generates s lives) comes sound = λ synced. c.no_crash_loses_a_chunk.ensures Report s turns lives reported sound synced comes.0
-    by (Runs s ticks) (inl lived) sound = λ synced. record {
+    by (Runs s ticks) (RanToEnd lived) sound = λ synced. record {
       files = λ start fresh. c.crash_points_are_safe.ensures s (ends_of s) ticks turns start lived.did.entries _ sound synced fresh lived.did.way;
       accepted = λ start fresh. c.accepted_batches_survive.ensures s (ends_of s) ticks turns start lived.did.entries _ sound synced fresh lived.did.way;
     }
-    by (Runs s ticks) (inr begun) sound = λ synced. record {
-      files = λ start fresh. c.crash_points_are_safe.ensures s (ends_of s) ticks turns start begun.0.1.entries begun.0.0 sound synced fresh begun.0.1.way;
-      accepted = λ start fresh. c.accepted_batches_survive.ensures s (ends_of s) ticks turns start begun.0.1.entries begun.0.0 sound synced fresh begun.0.1.way;
+    by (Runs s ticks) (RanOutOfMemory begun none) sound = λ synced. record {
+      files = λ start fresh. c.crash_points_are_safe.ensures s (ends_of s) ticks turns start begun.1.entries begun.0 sound synced fresh begun.1.way;
+      accepted = λ start fresh. c.accepted_batches_survive.ensures s (ends_of s) ticks turns start begun.1.entries begun.0 sound synced fresh begun.1.way;
     }
     by (Lists root) comes sound = tt
     by (Refuses other) comes sound = tt

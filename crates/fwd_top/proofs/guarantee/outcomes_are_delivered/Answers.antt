@@ -1,4 +1,4 @@
-use Rattle.std.proofs.Common.{inl, inr}
+use Rattle.fwd_replay.specs.LiveRun.{RanToEnd, RanOutOfMemory}
 use Rattle.fwd_replay.specs.Runs.{first}
 use Rattle.fwd_replay.specs.declared.report.Shown.TheVariants.{All, Report}
 use Rattle.fwd_top.specs.Outcomes.{Produces, world}
@@ -14,9 +14,9 @@ returns c turns case old new reported comes new_links = by case comes
     by : (case : Case) (comes : Produces turns case old new reported) → IsDelivered turns case old new reported comes
     by (Replays s lives) comes = each_keeps c.all_runs_keep_the_guarantee.ensures.lives c.all_runs_keep_the_guarantee.ensures.cut All s turns first lives reported comes.0
     by (Generates s lives) comes = each_keeps c.all_runs_keep_the_guarantee.ensures.lives c.all_runs_keep_the_guarantee.ensures.cut Report s turns first lives reported comes.0
-    by (Runs s ticks) (inl lived) =
+    by (Runs s ticks) (RanToEnd lived) =
         trace_delivered s old.loop new.loop lived.did.entries lived.did.asked.loop new_links
         (c.all_runs_keep_the_guarantee.ensures.live s ticks turns (world old) (world new) reported lived)
-    by (Runs s ticks) (inr wanting) = tt
+    by (Runs s ticks) (RanOutOfMemory begun none) = tt
     by (Lists root) comes = tt
     by (Refuses other) comes = tt
