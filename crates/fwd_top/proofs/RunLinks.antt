@@ -1,5 +1,5 @@
 -- The links of a run, by the log of its loop.
-use Rattle.std.proofs.Common.{◌≡◌, ℕ, ◌<◌, ◌≤◌, List, [], ◌∷◌, ◌++◌, Some, None, subst, arith}
+use Rattle.std.proofs.Common.{ℕ, ◌≤◌, List, [], ◌∷◌, ◌++◌, Some, None, subst, arith}
 use Rattle.fwd_outside.specs.Log.{LogGrew}
 use Rattle.fwd_outside.specs.Loop.{LoopCall, LoopAnswer, LoopEntry, LoopLog, Start, Wait, Dial, Push, Close, Reply, DropConn, Word}
 use Rattle.fwd_outside.specs.NewLinks.{AreNewLinks, IsNewLink, LogHasNewLinks, greatest_after, greatest_by}
