@@ -1,5 +1,5 @@
 -- The runs of a schedule determine one text.
-use Rattle.std.proofs.Common.{◌≡◌, ◌≢◌, ◌⊎◌, inl, inr, ℕ, ◌-◌, ◌%◌, List, [], ◌∷◌, ◌++◌, map, Some, None, refl, sym, ◌∙◌, ap, subst}
+use Rattle.std.proofs.Common.{◌≡◌, ◌≢◌, inl, inr, ℕ, ◌-◌, ◌%◌, List, [], ◌∷◌, ◌++◌, map, Some, None, refl, sym, ◌∙◌, ap, subst}
 use Rattle.std.proofs.lemmas.List.{append_cancel_left}
 use Rattle.fwd_outside.specs.Program.{Return}
 use Rattle.fwd_outside.specs.File.{content}
@@ -24,7 +24,7 @@ use Rattle.fwd_model.specs.Run.{Over, RunResult, lived, life}
 use Rattle.fwd_theorem_trace.specs.Waits.{waits_in}
 use Rattle.fwd_replay.specs.FileChanges.{Course, course_after, has_last}
 use Rattle.fwd_replay.specs.Runs.{Start, first, disk_of, course_of, EndsIn, CutRun, IsCut, first_calls, IsReplayed, IsRunReplayed, Ended, WasCut, OutOfMemory}
-use Rattle.fwd_replay.specs.Text.{life_text, reported_by, out_of_memory, joined}
+use Rattle.fwd_replay.specs.Text.{life_text, reported_by, joined}
 use Rattle.fwd_replay.specs.declared.report.Reported.{Reported}
 use Rattle.fwd_replay.specs.declared.report.Ending.TheVariants as ending
 use Rattle.fwd_replay.specs.declared.report.Shown.{Shown}
