@@ -35,7 +35,8 @@ const MOST_TICK_AGE: u64 = 10;
 /// The least number of milliseconds between two checks for signals.
 const SIGNAL_CHECK_INTERVAL: u64 = 200;
 
-/// The number of milliseconds between two tries to fill the reserve, and between a failed write and the first.
+/// The number of milliseconds between two tries to fill the reserve, and between a failed write and the
+/// first.
 const PROBE_INTERVAL: u64 = 1_000;
 
 /// The system's part of an event loop.
@@ -124,7 +125,8 @@ impl<'a> Machine<'a> {
         Ok(())
     }
 
-    /// Listens where the pages are to be served. The log says so, or why it can't; the run goes on without them.
+    /// Listens where the pages are to be served. The log says so, or why it can't; the run goes on without
+    /// them.
     fn serve_pages(&mut self) {
         let Some(Address { host, port }) = self.journal.take_server() else {
             return;
@@ -237,8 +239,8 @@ impl<'a> Machine<'a> {
         self.is_stopping
     }
 
-    /// Returns whether the reserve has to be tried again while the disk fails: once a second, and for the first time
-    /// a second after the inputs were held back.
+    /// Returns whether the reserve has to be tried again while the disk fails: once a second, and for the
+    /// first time a second after the inputs were held back.
     pub fn take_probe(&mut self) -> bool {
         let uptime = self.clock.uptime(&self.rt);
         let is_new = !self.sources.is_holding();
@@ -288,8 +290,8 @@ impl<'a> Machine<'a> {
         Ok(None)
     }
 
-    /// Waits for the next event of the loop. When a signal asks the program to stop, returns `Stop` in place of
-    /// a tick, once; the next call returns the tick.
+    /// Waits for the next event of the loop. When a signal asks the program to stop, returns `Stop` in place
+    /// of a tick, once; the next call returns the tick.
     pub fn wait(&mut self, alloc: Global, until: u64, paused: u64) -> Result<Happening, Memory>
         ensures { IfOk result (MayOccur true paused) }
     {
