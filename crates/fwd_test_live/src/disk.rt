@@ -126,5 +126,8 @@ fn a_disk_answers(rt: HostRuntime) {
     let shared = quiet(rt);
     let place = first_other(&mut new_disk(rt, &shared), rt);
     let _ = fs::remove_dir_all(&rt, "fwd_test_live");
-    assert!(rt; place == CALLS.len() && shared.disk_failed.get(), "call {place}");
+    assert!(rt;
+        place == CALLS.len() && shared.disk_failed.get(),
+        "call {place}"
+    );
 }
