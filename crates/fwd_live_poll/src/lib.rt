@@ -14,4 +14,3 @@ mod signals;
 mod sources;
 
 pub use machine::Machine;
-pub use signals::pending_in;

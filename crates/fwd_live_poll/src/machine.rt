@@ -5,7 +5,7 @@ ghost use Rattle.fwd_outside.specs.Loop.{MayOccur};
 ghost use Rattle.fwd_live_sockets.specs.Handed.{TakesAtMost};
 
 use crate::clock::Clock;
-use crate::signals::asked_to_stop;
+use crate::signals::is_stop_pending;
 use crate::sources::Sources;
 use fwd_live_sockets::{
     Budget, Feed, Handed, Input, Link, Patience, Peer, Source, addresses_of, listen, open_to_append,
@@ -235,7 +235,7 @@ impl<'a> Machine<'a> {
             return false;
         }
         self.next_signal_check = uptime.saturating_add(SIGNAL_CHECK_INTERVAL);
-        self.is_stopping = asked_to_stop(&self.rt);
+        self.is_stopping = is_stop_pending(&self.rt);
         self.is_stopping
     }
 
