@@ -1,5 +1,5 @@
-//! The program `fwd`: it makes the devices of a live run and its watcher, passes them to `watched_forwarder`, and
-//! ends with the status that this returns and its line on standard error.
+//! The program `fwd`: it makes the devices of a live run and its watcher, passes them to `watched_forwarder`,
+//! and ends with the status that this returns and its line on standard error.
 #![tactic(auto)]
 
 mod arguments;
@@ -11,7 +11,9 @@ ghost use Rattle.fwd_keeper.specs.Keeper.{KeeperGiven};
 
 use arguments::{environment, words};
 use fwd_base::{Bytes, Memory};
-use fwd_live::{Access, FolderDisk, FolderFiles, Identities, LiveLoop, Shared, StdSink};
+use fwd_live::{
+    Access, FolderDisk, FolderFiles, Identities, LiveLoop, Shared, StdSink, USUAL_PATIENCE,
+};
 use fwd_log::{Journal, Level};
 use fwd_positions::SqliteKeeper;
 use fwd_top::{Status, status_line, watched_forwarder};
@@ -52,8 +54,8 @@ fn is_listing(words: &[String]) -> bool {
 }
 
 /// Makes the devices and runs the program. The caller picks the initial files, on the disk and beside it, the
-/// initial offsets in the databases, and what the loop will bring. Without a loop the status is `LoopFault` or
-/// `Memory`, whatever the words are.
+/// initial offsets in the databases, and what the loop will bring. Without a loop the status is `LoopFault`
+/// or `Memory`, whatever the words are.
 fn run(
     rt: &HostRuntime,
     threads: &(impl Threads + Sync),
@@ -69,7 +71,7 @@ fn run(
     };
     let shared = Shared::new(Journal::new(*rt, first_level(&words)));
     let identities = Identities::new(rt.alloc());
-    let mut outside = match LiveLoop::new(*rt, &shared) {
+    let mut outside = match LiveLoop::new(*rt, &shared, USUAL_PATIENCE) {
         Ok(outside) => outside,
         Err(error) => return status_without_loop(&error),
     };

@@ -6,7 +6,7 @@ use std::io::{self, ErrorKind};
 
 /// Writes a line on a call that failed.
 fn write_failure(journal: &Journal, what: &str, name: &[u8], error: &io::Error) {
-    if !journal.tells(Level::Error) {
+    if !journal.writes(Level::Error) {
         return;
     }
     if let Ok(name) = String::from_utf8_lossy(journal.alloc(), name) {

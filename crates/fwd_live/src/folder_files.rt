@@ -33,8 +33,8 @@ pub struct FolderFiles<'a> {
 }
 
 impl<'a> FolderFiles<'a> {
-    /// Returns the files with an empty log. A followed path goes on in the file that `identities` want for it. The
-    /// caller picks the initial files.
+    /// Returns the files with an empty log. A followed path goes on in the file that `identities` want for
+    /// it. The caller picks the initial files.
     pub fn new(rt: HostRuntime, shared: &'a Shared, identities: &'a Identities) -> Self
         ghost given: { FilesGiven }
         ensures { (result.calls.given ≡ given) × (result.calls.entries ≡ []) }
@@ -57,8 +57,8 @@ impl<'a> FolderFiles<'a> {
         }
     }
 
-    /// Notes for the loop how many descriptors are held, and when the next reading is wanted after one that gave
-    /// this many bytes: at once if they were as many as a read gives at most.
+    /// Notes for the loop how many descriptors are held, and when the next reading is wanted after one that
+    /// gave this many bytes: at once if they were as many as a read gives at most.
     fn share(&self, read: u64) {
         self.shared.held_files.set(self.files.handles());
         if LONGEST_READ <= read {

@@ -188,8 +188,8 @@ fn names_in(rt: &HostRuntime, alloc: Global, folder: &[u8]) -> io::Result<Vec<By
     Ok(names)
 }
 
-/// Returns how many files, or folders, are kept open at most: one in 32 of the descriptors that the process may
-/// have.
+/// Returns how many files, or folders, are kept open at most: one in 32 of the descriptors that the process
+/// may have.
 fn most_open(rt: &HostRuntime) -> usize {
     most_files(rt) / 8
 }
@@ -308,8 +308,8 @@ impl<'a> Folders<'a> {
         }
     }
 
-    /// Writes from an offset on. If there is no room for it, it gets that of the reserve. Returns `None` if the
-    /// system refuses.
+    /// Writes from an offset on. If there is no room for it, it gets that of the reserve. Returns `None` if
+    /// the system refuses.
     pub fn write_at(&mut self, name: &[u8], at: u64, bytes: &[u8]) -> Result<Option<()>, Memory> {
         let shared = self.shared;
         let Some(file) = self.open(name)? else {
@@ -324,9 +324,9 @@ impl<'a> Folders<'a> {
         Ok(ok_or_hold(shared, "written", name, written))
     }
 
-    /// Syncs the bytes of a file and its length by fdatasync. The rest isn't needed to read them, and the file's
-    /// name was synced when it was placed or listed. Returns `None` if the system refuses, now or at an earlier
-    /// sync of this file.
+    /// Syncs the bytes of a file and its length by fdatasync. The rest isn't needed to read them, and the
+    /// file's name was synced when it was placed or listed. Returns `None` if the system refuses, now or at
+    /// an earlier sync of this file.
     pub fn sync(&mut self, name: &[u8]) -> Result<Option<()>, Memory> {
         let shared = self.shared;
         if has_name(&self.unsynced, name) {
@@ -397,8 +397,8 @@ impl<'a> Folders<'a> {
         Ok(())
     }
 
-    /// Lists the names of the complete files in a folder. A run that owns the storage folder fsyncs the folder
-    /// then, so that a crash keeps these files: a run that was killed may have left them without that.
+    /// Lists the names of the complete files in a folder. A run that owns the storage folder fsyncs the
+    /// folder then, so that a crash keeps these files: a run that was killed may have left them without that.
     fn list_folder(&mut self, alloc: Global, folder: &[u8]) -> io::Result<Vec<Bytes>>
         ensures { IfOk result (λ names. All IsFileName names.items) }
     {
@@ -409,8 +409,8 @@ impl<'a> Folders<'a> {
         Ok(names)
     }
 
-    /// Lists the names of the complete files in a folder. Returns `None` if the system refuses, or another run
-    /// has the storage folder.
+    /// Lists the names of the complete files in a folder. Returns `None` if the system refuses, or another
+    /// run has the storage folder.
     pub fn list(&mut self, alloc: Global, folder: &[u8]) -> Result<Option<Names>, Memory>
         ensures { IfOk result (λ answer. IfSome answer IsListing) }
     {

@@ -27,6 +27,7 @@ pub use files_calls::{FilesCalls, FilesRecord, FilesStart};
 pub use folder_disk::FolderDisk;
 pub use folder_files::FolderFiles;
 pub use fwd_live_files::Identities;
+pub use fwd_live_sockets::{Patience, USUAL_PATIENCE};
 pub use live_loop::LiveLoop;
 pub use loop_calls::{LoopCalls, LoopRecord, LoopScript};
 pub use shared::Shared;

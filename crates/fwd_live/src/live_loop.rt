@@ -9,7 +9,7 @@ use crate::answer::answer_of;
 use crate::loop_calls::LoopCalls;
 use crate::shared::Shared;
 use fwd_live_poll::Machine;
-use fwd_live_sockets::{Handed, USUAL_PATIENCE};
+use fwd_live_sockets::{Handed, Patience};
 use fwd_outside::{
     Begun, ConnId, Dialed, Ends, Happening, InputId, LinkId, Loop, Memory, OutputId, Pushed,
     Replied,
@@ -18,8 +18,7 @@ use std::alloc::Global;
 use std::io;
 
 /// The event loop of a live run, which never returns `End`. It breaks the link of an output's peer that is
-/// silent for longer than `USUAL_PATIENCE` of `fwd_live_sockets`, or that sends more than 65,536 bytes before it
-/// has taken its payload.
+/// silent for too long, or that sends more than 65,536 bytes before it has taken its payload.
 #[derive(Drop)]
 pub struct LiveLoop<'a> {
     machine: Machine<'a>,
@@ -34,12 +33,17 @@ pub struct LiveLoop<'a> {
 }
 
 impl<'a> LiveLoop<'a> {
-    /// Returns the loop with an empty log. The caller picks what it is taken to bring.
-    pub fn new(rt: HostRuntime, shared: &'a Shared) -> io::Result<LiveLoop<'a>>
+    /// Returns the loop with an empty log, and how long peers of outputs may be silent. The caller picks what
+    /// it is taken to bring.
+    pub fn new(
+        rt: HostRuntime,
+        shared: &'a Shared,
+        patience: Patience,
+    ) -> io::Result<LiveLoop<'a>>
         ghost brought: { LoopGiven }
         ensures { IfOk result (λ l. (l.calls.given ≡ brought) × (l.calls.entries ≡ [])) }
     {
-        let machine = Machine::new(rt, &shared.journal, USUAL_PATIENCE)?;
+        let machine = Machine::new(rt, &shared.journal, patience)?;
         Ok(LiveLoop {
             machine,
             shared,

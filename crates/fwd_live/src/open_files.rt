@@ -14,7 +14,8 @@ struct OpenFile {
     file: File,
 }
 
-/// Open files by their names, at most so many. If one more is kept, the one that was used longest ago is closed.
+/// Open files by their names, at most so many. If one more is kept, the one that was used longest ago is
+/// closed.
 #[derive(Drop)]
 pub struct OpenFiles {
     /// The file that was used last is the last one.
@@ -64,7 +65,8 @@ impl OpenFiles {
         Some(&self.files.last()?.file)
     }
 
-    /// Keeps a file open, in place of one with its name. Fails only if memory is out; the file is then closed.
+    /// Keeps a file open, in place of one with its name. Fails only if memory is out; the file is then
+    /// closed.
     pub fn keep(&mut self, name: Bytes, file: File) -> Result<(), Memory>
         ensures { OnOk result (Contains self.new.files.items (record { name = name; file = file })) }
     {

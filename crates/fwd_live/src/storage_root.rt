@@ -34,8 +34,8 @@ fn lock_file(rt: &HostRuntime, path: &str) -> io::Result<File> {
     Ok(file)
 }
 
-/// Locks a folder until the end of the run, and fills its reserve. If only the room for it is missing, the run
-/// begins with its inputs held back, so that it can deliver what is there.
+/// Locks a folder until the end of the run, and fills its reserve. If only the room for it is missing, the
+/// run begins with its inputs held back, so that it can deliver what is there.
 pub fn own_folder(rt: &HostRuntime, shared: &Shared, folder: &str) -> io::Result<()> {
     let path = path_in(rt.alloc(), folder, LOCK)?;
     let file = lock_file(rt, path.as_str())?;

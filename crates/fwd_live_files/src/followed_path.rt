@@ -160,8 +160,9 @@ impl FollowedPath {
         }
     }
 
-    /// Decides, before the first read, where it goes on: in the kept file, if the path names it or it is in the
-    /// folder, else at the beginning of the file that has the path. A path without a handle is read by name.
+    /// Decides, before the first read, where it goes on: in the kept file, if the path names it or it is in
+    /// the folder, else at the beginning of the file that has the path. A path without a handle is read by
+    /// name.
     fn settle_wanted(&mut self, rt: &HostRuntime, may_hold: bool) -> io::Result<()> {
         let (Wanted::Kept(kept) | Wanted::Missing(kept)) = self.wanted else {
             return Ok(());

@@ -13,8 +13,8 @@ pub struct KeptFile {
     pub offset: u64,
 }
 
-/// The identities of followed files, by path. `main` makes one, and lends it to the followed files and to the keeper
-/// of their offsets. What it has is in cells; no contract speaks of it.
+/// The identities of followed files, by path. `main` makes one, and lends it to the followed files and to the
+/// keeper of their offsets. What it has is in cells; no contract speaks of it.
 #[derive(Drop)]
 pub struct Identities {
     /// The file that stands for a path, if a handle of it is held.

@@ -7,8 +7,8 @@ use fwd_system::folder_and_name;
 use std::fs::{self, DirEntry};
 use std::io;
 
-/// Opens an entry of the folder, if it is the file. One that is shorter than the offset is another file, which got
-/// the inode of one that was removed.
+/// Opens an entry of the folder, if it is the file. One that is shorter than the offset is another file,
+/// which got the inode of one that was removed.
 fn open_kept(rt: &HostRuntime, entry: &DirEntry, kept: KeptFile) -> io::Result<Option<StreamFile>> {
     let about = entry.metadata()?;
     if identity_of(&about) != kept.identity || !about.is_file() {

@@ -3,8 +3,8 @@
 //!
 //! `FollowedFiles` gives lengths and bytes by path, `FollowedPath` decides which file stands for a path, and
 //! a `StreamFile` is such a file with what was read of it. `find_copy` finds the copy of a file that was
-//! truncated. `Identities` are shared with those who keep offsets: a path whose offset was kept in another file
-//! than it names now goes on in that one, if it is still in the folder.
+//! truncated. `Identities` are shared with those who keep offsets: a path whose offset was kept in another
+//! file than it names now goes on in that one, if it is still in the folder.
 #![tactic(auto)]
 
 mod copies;

@@ -114,8 +114,9 @@ impl StreamFile {
         self.progress == Progress::Unread || at == self.offset.saturating_add(self.added)
     }
 
-    /// Goes on at an offset that was kept, in a file that has this length. An offset that is one greater than the
-    /// length counts a line feed that the stream had and the file hasn't. Returns false if it is greater than that.
+    /// Goes on at an offset that was kept, in a file that has this length. An offset that is one greater than
+    /// the length counts a line feed that the stream had and the file hasn't. Returns false if it is greater
+    /// than that.
     pub fn resume_at(&mut self, offset: u64, length: u64) -> bool
         ensures { IsTrue result ↔ (offset ≤ length + 1) }
     {
@@ -189,7 +190,8 @@ impl StreamFile {
         }
     }
 
-    /// Ends an unfinished last line: the next read at the end gives a line feed. Returns whether there is one.
+    /// Ends an unfinished last line: the next read at the end gives a line feed. Returns whether there is
+    /// one.
     pub fn end_line(&mut self) -> bool {
         if self.last_line == LastLine::Ended {
             return false;

@@ -1,5 +1,5 @@
-//! Requests for pages: what the head of one asks for. Only GET is served, and what follows a question mark in the path
-//! doesn't count.
+//! Requests for pages: what the head of one asks for. Only GET is served, and what follows a question mark in
+//! the path doesn't count.
 
 use fwd_base::limits::LONGEST_HEAD;
 use httparse::Status;

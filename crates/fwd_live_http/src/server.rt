@@ -33,8 +33,8 @@ impl Again {
     }
 }
 
-/// A server of pages. Number 0 is its listener, and the numbers from 1 on are its connections. It takes what the
-/// poll reports of them, and returns which of them have to be looked at.
+/// A server of pages. Number 0 is its listener, and the numbers from 1 on are its connections. It takes what
+/// the poll reports of them, and returns which of them have to be looked at.
 #[derive(Drop)]
 pub struct Server<'j> {
     journal: &'j Journal,
@@ -213,8 +213,8 @@ impl<'j> Server<'j> {
         Ok(None)
     }
 
-    /// Takes the pages from the board, if they are there. Returns the numbers of the connections that have to be
-    /// queued, as their replies can be written.
+    /// Takes the pages from the board, if they are there. Returns the numbers of the connections that have to
+    /// be queued, as their replies can be written.
     pub fn answer(&mut self, alloc: Global) -> Result<Vec<u64>, Memory> {
         let mut numbers = Vec::new(alloc);
         if let Some(pages) = self.journal.take_pages() {

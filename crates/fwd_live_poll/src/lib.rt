@@ -1,10 +1,10 @@
-//! The poll of a live run, with its clock: which sockets may have something, what each of them gives, and when the
-//! next tick comes.
+//! The poll of a live run, with its clock: which sockets may have something, what each of them gives, and
+//! when the next tick comes.
 //!
-//! `Machine` is the system's part of an event loop. Each event that it returns may occur, and comes of no paused
-//! input (`MayOccur`). Errors that no answer reports are counted. A link breaks if its peer is silent for too long,
-//! or sends too much without taking its payload. SIGINT and SIGTERM become an event of the loop if the process blocks
-//! them.
+//! `Machine` is the system's part of an event loop. Each event that it returns may occur, and comes of no
+//! paused input (`MayOccur`). Errors that no answer reports are counted. A link breaks if its peer is silent
+//! for too long, or sends too much without taking its payload. SIGINT and SIGTERM become an event of the loop
+//! if the process blocks them.
 #![tactic(auto)]
 
 mod clock;
@@ -14,4 +14,3 @@ mod signals;
 mod sources;
 
 pub use machine::Machine;
-pub use signals::pending_in;

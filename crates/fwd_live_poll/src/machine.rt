@@ -5,7 +5,7 @@ ghost use Rattle.fwd_outside.specs.Loop.{MayOccur};
 ghost use Rattle.fwd_live_sockets.specs.Handed.{TakesAtMost};
 
 use crate::clock::Clock;
-use crate::signals::asked_to_stop;
+use crate::signals::is_stop_pending;
 use crate::sources::Sources;
 use fwd_live_sockets::{
     Budget, Feed, Handed, Input, Link, Patience, Peer, Source, addresses_of, listen, open_to_append,
@@ -35,7 +35,8 @@ const MOST_TICK_AGE: u64 = 10;
 /// The least number of milliseconds between two checks for signals.
 const SIGNAL_CHECK_INTERVAL: u64 = 200;
 
-/// The number of milliseconds between two tries to fill the reserve, and between a failed write and the first.
+/// The number of milliseconds between two tries to fill the reserve, and between a failed write and the
+/// first.
 const PROBE_INTERVAL: u64 = 1_000;
 
 /// The system's part of an event loop.
@@ -124,7 +125,8 @@ impl<'a> Machine<'a> {
         Ok(())
     }
 
-    /// Listens where the pages are to be served. The log says so, or why it can't; the run goes on without them.
+    /// Listens where the pages are to be served. The log says so, or why it can't; the run goes on without
+    /// them.
     fn serve_pages(&mut self) {
         let Some(Address { host, port }) = self.journal.take_server() else {
             return;
@@ -233,12 +235,12 @@ impl<'a> Machine<'a> {
             return false;
         }
         self.next_signal_check = uptime.saturating_add(SIGNAL_CHECK_INTERVAL);
-        self.is_stopping = asked_to_stop(&self.rt);
+        self.is_stopping = is_stop_pending(&self.rt);
         self.is_stopping
     }
 
-    /// Returns whether the reserve has to be tried again while the disk fails: once a second, and for the first time
-    /// a second after the inputs were held back.
+    /// Returns whether the reserve has to be tried again while the disk fails: once a second, and for the
+    /// first time a second after the inputs were held back.
     pub fn take_probe(&mut self) -> bool {
         let uptime = self.clock.uptime(&self.rt);
         let is_new = !self.sources.is_holding();
@@ -288,8 +290,8 @@ impl<'a> Machine<'a> {
         Ok(None)
     }
 
-    /// Waits for the next event of the loop. When a signal asks the program to stop, returns `Stop` in place of
-    /// a tick, once; the next call returns the tick.
+    /// Waits for the next event of the loop. When a signal asks the program to stop, returns `Stop` in place
+    /// of a tick, once; the next call returns the tick.
     pub fn wait(&mut self, alloc: Global, until: u64, paused: u64) -> Result<Happening, Memory>
         ensures { IfOk result (MayOccur true paused) }
     {

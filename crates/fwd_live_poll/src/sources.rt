@@ -1,4 +1,5 @@
-//! The sources of the poll, and which of them may have something. `inputs` and `links` say what is done with each.
+//! The sources of the poll, and which of them may have something. `inputs` and `links` say what is done with
+//! each.
 
 ghost use Rattle.std.specs.Prelude.{◌≡◌, true, IfOk, IfSome};
 ghost use Rattle.fwd_outside.specs.Loop.{MayOccur};

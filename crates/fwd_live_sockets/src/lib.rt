@@ -1,8 +1,8 @@
-//! Sockets of a live run, without the poll: listeners and standard input, connections of peers to inputs, links of
-//! outputs to peers, files and standard output, one read of a stream, and the budget of descriptors.
+//! Sockets of a live run, without the poll: listeners and standard input, connections of peers to inputs,
+//! links of outputs to peers, files and standard output, one read of a stream, and the budget of descriptors.
 //!
-//! A push takes at most the bytes that it is given (`TakesAtMost`), and a read gives at least one byte and at most
-//! `LONGEST_PIECE`. No contract says what a peer takes or sends.
+//! A push takes at most the bytes that it is given (`TakesAtMost`), and a read gives at least one byte and at
+//! most `LONGEST_PIECE`. No contract says what a peer takes or sends.
 #![tactic(auto)]
 
 mod addresses;

@@ -146,8 +146,8 @@ impl Peer {
         read_from(alloc, &mut stream, part)
     }
 
-    /// Counts bytes that came back, and notes why they refuse, if they do. Returns false if they are too many,
-    /// which happens only while the link waits for room.
+    /// Counts bytes that came back, and notes why they refuse, if they do. Returns false if they are too
+    /// many, which happens only while the link waits for room.
     pub fn note_received(&mut self, journal: &Journal, bytes: &[u8], now: u64) -> bool {
         self.since = now;
         self.bytes_received = self.bytes_received.saturating_add(bytes.len() as u64);
@@ -164,8 +164,8 @@ impl Peer {
         }
     }
 
-    /// Keeps the beginning of an HTTP reply whose status isn't one of success, as the refusal of a delivery of
-    /// the output.
+    /// Keeps the beginning of an HTTP reply whose status isn't one of success, as the refusal of a delivery
+    /// of the output.
     fn note_refusal(&mut self, journal: &Journal, bytes: &[u8]) {
         let is_first = self.bytes_received == bytes.len() as u64;
         if !(is_first && is_refusal(bytes)) && self.refusal.is_empty() {
@@ -213,8 +213,8 @@ impl Peer {
 }
 
 impl Link {
-    /// Pushes as many of the bytes as the link takes, at this monotonic time. An error that broke it is kept in
-    /// `failure`.
+    /// Pushes as many of the bytes as the link takes, at this monotonic time. An error that broke it is kept
+    /// in `failure`.
     pub fn push(
         &mut self,
         rt: &HostRuntime,

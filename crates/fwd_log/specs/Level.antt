@@ -17,7 +17,7 @@ rank level.Warn = 2
 rank level.Info = 3
 rank level.Debug = 4
 
--- whether a log of a level tells a line; one that is off tells none
-abbrev pub is_told : Level → Option Level → Bool
-is_told line None = false
-is_told line (Some most) = nat_le (rank line) (rank most)
+-- whether a log of a level writes a line; one that is off writes none
+abbrev pub is_written : Level → Option Level → Bool
+is_written line None = false
+is_written line (Some most) = nat_le (rank line) (rank most)

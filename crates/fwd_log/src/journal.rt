@@ -13,11 +13,11 @@ use std::fmt::Display;
 use std::io;
 use std::time::{Duration, Instant, SystemTime, UNIX_EPOCH};
 
-/// The most series of which `finish` tells.
+/// The most series whose lines `finish` counts.
 const MOST_SERIES: u32 = 4_096;
 
-/// The log of a run, and the board on which its pages are asked for and put. What it has is in cells, so it is
-/// lent by shared references. A write that fails, or that comes during another one, is passed over.
+/// The log of a run, and the board on which its pages are asked for and put. What it has is in cells, so it
+/// is lent by shared references. A write that fails, or that comes during another one, is passed over.
 #[derive(Drop)]
 pub struct Journal {
     rt: HostRuntime,
@@ -71,12 +71,12 @@ impl Journal {
     }
 
     /// Returns whether lines of a level are written.
-    pub fn tells(&self, level: Level) -> bool {
-        level.is_told(self.level.get())
+    pub fn writes(&self, level: Level) -> bool {
+        level.is_written(self.level.get())
     }
 
-    /// Sets the level, and goes on in a file, if one is given. If that can't be opened, a line says so, and the
-    /// log stays where it is.
+    /// Sets the level, and goes on in a file, if one is given. If that can't be opened, a line says so, and
+    /// the log stays where it is.
     pub fn open(&self, level: Option<Level>, file: Option<&[u8]>) {
         self.level.set(level);
         let Some(path) = file else {
@@ -106,13 +106,13 @@ impl Journal {
         let _ = self.names.try_replace(names);
     }
 
-    /// Notes why a delivery of an output failed. The next line about the output's retries tells it.
+    /// Notes why a delivery of an output failed. The next line about the output's retries has it.
     pub fn note_reason(&self, output: OutputId, reason: &[u8]) {
         self.reasons.keep(self.rt.alloc(), output, reason);
     }
 
-    /// Notes that a delivery of an output failed as the peer refused it, in these words. Reasons that are noted
-    /// later leave them.
+    /// Notes that a delivery of an output failed as the peer refused it, in these words. Reasons that are
+    /// noted later leave them.
     pub fn note_refusal(&self, output: OutputId, text: &[u8]) {
         self.note_reason(output, text);
         self.refusals.keep(self.rt.alloc(), output, text);
@@ -177,7 +177,8 @@ impl Journal {
         }
     }
 
-    /// Decides by the limiter of a series whether a line is told now. Returns how many were passed over, if so.
+    /// Decides by the limiter of a series whether a line is written now. Returns how many were passed over, if
+    /// so.
     fn admit(&self, source: Source, topic: Topic) -> Option<u64> {
         match self.series.try_borrow_mut() {
             Ok(mut series) => {
@@ -212,7 +213,7 @@ impl Journal {
 
     /// Writes a line, if the level asks for it and the limiter of its source and topic allows it.
     pub fn write(&self, level: Level, source: Source, topic: Topic, text: &impl Display) {
-        if self.tells(level) {
+        if self.writes(level) {
             let _ = self.try_write(level, source, topic, text);
         }
     }

@@ -1,7 +1,7 @@
 //! Levels of log lines.
 
 ghost use Rattle.std.specs.Prelude.{◌≡◌};
-ghost use Rattle.fwd_log.specs.Level.{label_of, is_told, rank};
+ghost use Rattle.fwd_log.specs.Level.{label_of, is_written, rank};
 
 /// How much a line matters.
 #[derive(Clone, Copy, Debug, PartialEq, Eq)]
@@ -36,9 +36,9 @@ impl Level {
         }
     }
 
-    /// Returns whether a log of this level tells a line. A log that is off tells none.
-    pub fn is_told(self, log: Option<Level>) -> bool
-        ensures { result ≡ is_told self log }
+    /// Returns whether a log of this level writes a line. A log that is off writes none.
+    pub fn is_written(self, log: Option<Level>) -> bool
+        ensures { result ≡ is_written self log }
     {
         match log {
             Some(most) => self.rank() <= most.rank(),

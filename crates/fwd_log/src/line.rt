@@ -103,8 +103,8 @@ fn push_time(text: &mut Bytes, millis: u64) -> Result<(), Memory>
     Ok(())
 }
 
-/// Returns a line of the log, with its line feed: `[2026/11/29 12:00:00] [ warn] [output tcp.0] text`. The time
-/// is in UTC, from the milliseconds since 1970. Control characters are shown as spaces.
+/// Returns a line of the log, with its line feed: `[2026/11/29 12:00:00] [ warn] [output tcp.0] text`. The
+/// time is in UTC, from the milliseconds since 1970. Control characters are shown as spaces.
 pub fn line_of(
     alloc: Global,
     millis: u64,

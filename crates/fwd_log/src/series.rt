@@ -108,7 +108,7 @@ impl AllSeries {
         Ok(())
     }
 
-    /// Returns the next series with lines that were passed over, and counts them as told.
+    /// Returns the next series with lines that were passed over, and counts them as written.
     pub fn take_passed_over(&mut self) -> Option<Series> {
         for series in self.all.iter_mut() {
             if 0 < series.limiter.passed_over {

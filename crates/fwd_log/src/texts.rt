@@ -5,8 +5,8 @@ use std::alloc::Global;
 use std::cell::RefCell;
 use std::collections::HashMap;
 
-/// The last text of each output. What it has is in a cell; a text that comes during a look at another one, or for
-/// which memory runs out, is passed over.
+/// The last text of each output. What it has is in a cell; a text that comes during a look at another one, or
+/// for which memory runs out, is passed over.
 #[derive(Drop)]
 pub struct Texts {
     last: RefCell<HashMap<u32, Bytes>>,

@@ -21,13 +21,13 @@ pub struct PageServer {
 /// What a configuration says about the log and the pages.
 #[derive(Debug, Drop, PartialEq, Eq)]
 pub struct LogSettings {
-    /// The least important lines that are told; `None` if the log is off.
+    /// The least important lines that are written; `None` if the log is off.
     pub level: Option<Level>,
     /// The file to which the lines are appended; `None` for standard error.
     pub file: Option<Bytes>,
     /// Where the pages are served; `None` if they aren't.
     pub server: Option<PageServer>,
-    /// Whether the page of health tells of chunks that were given up.
+    /// Whether the page of health says that chunks were given up.
     pub checks_health: bool,
 }
 

@@ -1,9 +1,9 @@
 //! What a configuration says about the log of a run and its pages: `Log_Level`, `Log_File`, `HTTP_Server`,
 //! `HTTP_Listen`, `HTTP_Port` and `Health_Check` of the SERVICE sections.
 //!
-//! `log_settings` returns exactly `log_settings_of`: of a key given twice the last entry counts. It refuses nothing:
-//! a value that it can't read counts as not given, and the watcher warns of it at its place. The engine's settings
-//! don't have these values, so no contract of a run speaks of its log.
+//! `log_settings` returns exactly `log_settings_of`: of a key given twice the last entry counts. It refuses
+//! nothing: a value that it can't read counts as not given, and the watcher warns of it at its place. The
+//! engine's settings don't have these values, so no contract of a run speaks of its log.
 #![tactic(auto)]
 
 mod entry;

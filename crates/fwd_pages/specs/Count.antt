@@ -21,7 +21,7 @@ is_counted counted.InFiles row = is_file row.home
 is_counted (counted.MemoryOf input) row = is_from input.0 row.input && not (is_file row.home)
 is_counted (counted.FilesOf input) row = is_from input.0 row.input && is_file row.home
 is_counted (counted.OpenOf input) row = is_from input.0 row.input && not row.shut
-is_counted (counted.OwedTo output) row = bit_at row.owed output.0 == 1
+is_counted (counted.PendingFor output) row = bit_at row.owed output.0 == 1
 
 -- 1 for a row that is counted
 abbrev pub one_seen : Counted → RowSeen → ℕ

@@ -64,7 +64,7 @@ output_family metric names tallies =
 -- how many chunks are pending for an output
 abbrev pub owed_sample : List Row → ℕ → List ℕ → List ℕ
 owed_sample rows n name =
-    sample_line (codes "fuztreb_chunks_owed") name (count_of (counted.OwedTo (record { 0 = n })) rows)
+    sample_line (codes "fuztreb_chunks_owed") name (count_of (counted.PendingFor (record { 0 = n })) rows)
 
 -- the same for each output
 abbrev pub owed_samples : List (List ℕ) → List Row → List ℕ
@@ -103,7 +103,7 @@ prometheus_of inputs outputs rows tally uptime =
 
 -- ---- JSON
 
--- a comma in front of each element but the first
+-- a comma before each element but the first
 abbrev pub comma : ℕ → List ℕ
 comma n = if n == 0 then [] else codes ","
 
@@ -159,7 +159,7 @@ input_chunks rows paused n name =
 -- how many chunks are pending for an output
 unfoldable pub output_chunks : List Row → ℕ → List ℕ → List ℕ
 output_chunks rows n name =
-    name_start n name ++ codes "\"owed\":" ++ decimal (count_of (counted.OwedTo (record { 0 = n })) rows)
+    name_start n name ++ codes "\"owed\":" ++ decimal (count_of (counted.PendingFor (record { 0 = n })) rows)
     ++ codes "}"
 
 abbrev pub all_input_chunks : List Row → ℕ → List (List ℕ) → List ℕ

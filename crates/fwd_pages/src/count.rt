@@ -20,7 +20,7 @@ pub enum Counted {
     /// Chunks that take more events, and came from an input of this run.
     OpenOf(InputId),
     /// Chunks that are pending for an output.
-    OwedTo(OutputId),
+    PendingFor(OutputId),
 }
 
 fn is_from(row: &RowSeen, input: InputId) -> bool
@@ -41,7 +41,7 @@ fn is_counted(which: Counted, row: &RowSeen) -> bool
         Counted::MemoryOf(input) => is_from(row, input) && !is_file(row.home),
         Counted::FilesOf(input) => is_from(row, input) && is_file(row.home),
         Counted::OpenOf(input) => is_from(row, input) && !row.shut,
-        Counted::OwedTo(output) => is_set(row.owed, output.0),
+        Counted::PendingFor(output) => is_set(row.owed, output.0),
     }
 }
 

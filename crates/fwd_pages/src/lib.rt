@@ -1,8 +1,9 @@
 //! The pages of a live run: its counters for Prometheus and as JSON, its chunks, its health and its uptime.
 //!
-//! Each page is exactly its definition of the names, the table and the tally, in the shapes of Fluent Bit's pages,
-//! with what this program counts besides. What isn't counted is left out. Names stand in quotes as they are: those
-//! of inputs and outputs are a plugin's name, a dot and a number. The only error is out of memory.
+//! Each page is exactly its definition of the names, the table and the tally, in the shapes of Fluent Bit's
+//! pages, with what this program counts besides. What isn't counted is left out. Names stand in quotes as
+//! they are: those of inputs and outputs are a plugin's name, a dot and a number. The only error is out of
+//! memory.
 #![tactic(auto)]
 
 mod count;

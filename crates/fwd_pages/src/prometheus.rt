@@ -93,7 +93,7 @@ fn push_output_samples(
 fn push_owed_sample(text: &mut Bytes, output: u32, name: &[u8], table: &Table) -> Result<(), Memory>
     ensures { OnOk result (text.new ≡ text.old ++ owed_sample table.now.rows output name.now) }
 {
-    let owed = count_rows(table, Counted::OwedTo(OutputId(output)));
+    let owed = count_rows(table, Counted::PendingFor(OutputId(output)));
     push_sample(text, b"fuztreb_chunks_owed", name, owed)
 }
 

@@ -49,7 +49,7 @@ pub fn push_total(text: &mut Bytes, metric: &[u8], value: u64) -> Result<(), Mem
     Ok(())
 }
 
-/// Appends a comma in front of each element but the first.
+/// Appends a comma before each element but the first.
 fn push_comma(text: &mut Bytes, index: usize) -> Result<(), Memory>
     ensures { OnOk result (text.new ≡ text.old ++ comma index) }
 {

@@ -53,7 +53,7 @@ fn push_output(text: &mut Bytes, output: u32, name: &[u8], table: &Table) -> Res
     ensures { OnOk result (text.new ≡ text.old ++ output_chunks table.now.rows output name.now) }
 {
     push_name(text, output as usize, name)?;
-    let owed = count_rows(table, Counted::OwedTo(OutputId(output)));
+    let owed = count_rows(table, Counted::PendingFor(OutputId(output)));
     push_count(text, b"\"owed\":", owed)?;
     text.extend_from_slice(b"}")?;
     Ok(())

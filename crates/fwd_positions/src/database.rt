@@ -3,7 +3,7 @@
 ghost use Rattle.std.specs.Prelude.{◌≡◌, ◌<◌, ◌^◌, false, IsSome, OnOk, OnErr};
 
 use crate::errors::{DatabaseErr, Failure};
-use crate::messages::{tell_failure, tell_recovery};
+use crate::messages::{log_failure, log_recovery};
 use crate::table::{Kept, Opened, find_kept, open, text, upsert_kept};
 use fwd_log::Journal;
 use std::time::{Duration, Instant};
@@ -19,7 +19,7 @@ pub struct Database {
     /// When opening it was last tried.
     tried: Option<Instant>,
     /// Whether the last line of the log about it is on a failure.
-    is_told_failed: bool,
+    is_failure_logged: bool,
 }
 
 impl Database {
@@ -27,13 +27,13 @@ impl Database {
 
     /// Returns the database of a name. It isn't open.
     pub fn new(name: Vec<u8>) -> Self
-        ensures { result ≡ record { name = name; opened = None; tried = None; is_told_failed = false } }
+        ensures { result ≡ record { name = name; opened = None; tried = None; is_failure_logged = false } }
     {
         Database {
             name,
             opened: None,
             tried: None,
-            is_told_failed: false,
+            is_failure_logged: false,
         }
     }
 
@@ -84,20 +84,20 @@ impl Database {
     }
 
     /// Has the log say that the database fails, if its last line doesn't.
-    fn tell_failed(&mut self, journal: &Journal, failure: Failure)
-        ensures { self.new ≡ record self.old { is_told_failed = self.new.is_told_failed } }
+    fn note_failure(&mut self, journal: &Journal, failure: Failure)
+        ensures { self.new ≡ record self.old { is_failure_logged = self.new.is_failure_logged } }
     {
-        if !self.is_told_failed && failure != Failure::Waiting {
-            self.is_told_failed = tell_failure(journal, &self.name, failure);
+        if !self.is_failure_logged && failure != Failure::Waiting {
+            self.is_failure_logged = log_failure(journal, &self.name, failure);
         }
     }
 
     /// Has the log say that the database works again, if its last line is on a failure.
-    fn tell_recovered(&mut self, journal: &Journal)
-        ensures { self.new ≡ record self.old { is_told_failed = self.new.is_told_failed } }
+    fn note_recovery(&mut self, journal: &Journal)
+        ensures { self.new ≡ record self.old { is_failure_logged = self.new.is_failure_logged } }
     {
-        if self.is_told_failed {
-            self.is_told_failed = !tell_recovery(journal, &self.name);
+        if self.is_failure_logged {
+            self.is_failure_logged = !log_recovery(journal, &self.name);
         }
     }
 
@@ -107,10 +107,10 @@ impl Database {
         ensures name { self.new.name ≡ self.old.name }
     {
         match outcome {
-            Ok(_) => self.tell_recovered(journal),
+            Ok(_) => self.note_recovery(journal),
             Err(DatabaseErr::Failed(failure)) => {
                 self.opened = None;
-                self.tell_failed(journal, *failure);
+                self.note_failure(journal, *failure);
             }
             Err(DatabaseErr::Memory) => {}
         }

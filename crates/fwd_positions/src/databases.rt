@@ -83,8 +83,8 @@ impl<'a> Databases<'a> {
         }
     }
 
-    /// Returns the offset of a path in a database; no value if the database failed. The reading of the path goes on
-    /// in the file of that offset.
+    /// Returns the offset of a path in a database; no value if the database failed. The reading of the path
+    /// goes on in the file of that offset.
     pub fn get(&mut self, db: &[u8], path: &[u8]) -> Result<Option<Option<u64>>, Memory> {
         let index = self.index_of(db)?;
         match value_of(self.all[index].get(&self.rt, self.journal, path))? {
@@ -97,8 +97,8 @@ impl<'a> Databases<'a> {
         }
     }
 
-    /// Puts the offset of a path into a database, with the file that stands for the path; no value if the database
-    /// failed.
+    /// Puts the offset of a path into a database, with the file that stands for the path; no value if the
+    /// database failed.
     pub fn put(&mut self, db: &[u8], path: &[u8], place: u64) -> Result<Option<()>, Memory>
         ensures { IfOk result (λ put. OnSome put (place < 2 ^ 63)) }
     {

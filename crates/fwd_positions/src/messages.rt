@@ -5,7 +5,7 @@ use fwd_log::{Journal, Level, Source, Topic};
 use std::fmt::Display;
 
 /// Writes a line on a database, unless one on any database was written a moment ago. Returns whether it did.
-fn tell(journal: &Journal, level: Level, text: &impl Display) -> bool {
+fn log(journal: &Journal, level: Level, text: &impl Display) -> bool {
     let is_due = journal.is_due(Source::Files, Topic::Pause);
     if is_due {
         journal.write(level, Source::Files, Topic::Pause, text);
@@ -14,22 +14,22 @@ fn tell(journal: &Journal, level: Level, text: &impl Display) -> bool {
 }
 
 /// Says that offsets aren't kept in a database, and why. Returns false if that has to be said later.
-pub fn tell_failure(journal: &Journal, name: &[u8], failure: Failure) -> bool {
+pub fn log_failure(journal: &Journal, name: &[u8], failure: Failure) -> bool {
     match String::from_utf8_lossy(journal.alloc(), name) {
         Ok(name) => {
             let text = format_args!("offsets of followed files aren't kept in {name}: {failure}");
-            tell(journal, Level::Error, &text)
+            log(journal, Level::Error, &text)
         }
         Err(_) => false,
     }
 }
 
 /// Says that offsets are kept in a database again. Returns false if that has to be said later.
-pub fn tell_recovery(journal: &Journal, name: &[u8]) -> bool {
+pub fn log_recovery(journal: &Journal, name: &[u8]) -> bool {
     match String::from_utf8_lossy(journal.alloc(), name) {
         Ok(name) => {
             let text = format_args!("offsets of followed files are kept in {name} again");
-            tell(journal, Level::Info, &text)
+            log(journal, Level::Info, &text)
         }
         Err(_) => false,
     }

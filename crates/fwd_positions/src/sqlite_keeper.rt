@@ -11,8 +11,8 @@ use fwd_keeper::{KeepErr, Keeper};
 use fwd_live_files::Identities;
 use fwd_log::Journal;
 
-/// Offsets in databases, one file for each. A file is opened at its first call and held until the end, or until
-/// it fails. No other process can open it meanwhile.
+/// Offsets in databases, one file for each. A file is opened at its first call and held until the end, or
+/// until it fails. No other process can open it meanwhile.
 #[derive(Drop)]
 pub struct SqliteKeeper<'a> {
     databases: Databases<'a>,
@@ -21,9 +21,9 @@ pub struct SqliteKeeper<'a> {
 }
 
 impl<'a> SqliteKeeper<'a> {
-    /// Returns a keeper on which no call was made. It tells failures of databases in the journal, puts each offset
-    /// with the file that stands for its path, and wants the reading of a path to go on in the file of the offset
-    /// that it gets. The caller picks the first offsets.
+    /// Returns a keeper on which no call was made. It logs failures of databases in the journal, puts each
+    /// offset with the file that stands for its path, and wants the reading of a path to go on in the file of
+    /// the offset that it gets. The caller picks the first offsets.
     pub fn new(rt: HostRuntime, journal: &'a Journal, identities: &'a Identities) -> Self
         ghost given: { KeeperGiven }
         ensures { (result.calls.given ≡ given) × (result.calls.entries ≡ []) }

@@ -33,7 +33,8 @@ pub fn text(bytes: &[u8], failure: Failure) -> Result<&str, Failure>
     }
 }
 
-/// Opens the database of a name, and makes it if there is none. No other process can open it until it is dropped.
+/// Opens the database of a name, and makes it if there is none. No other process can open it until it is
+/// dropped.
 pub fn open(rt: &HostRuntime, name: &[u8]) -> Result<Opened, DatabaseErr> {
     let mut opened = Connection::open(rt, text(name, Failure::Name)?)?;
     opened.execute(TABLE, &[])?;
@@ -121,8 +122,8 @@ fn take_over(
     }
 }
 
-/// Returns what is kept for a path; `None` if nothing is. If the table has nothing, an offset of Fluent Bit is taken
-/// over.
+/// Returns what is kept for a path; `None` if nothing is. If the table has nothing, an offset of Fluent Bit
+/// is taken over.
 pub fn find_kept(
     rt: &HostRuntime,
     opened: &mut Opened,

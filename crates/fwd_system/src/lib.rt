@@ -1,5 +1,5 @@
-//! Values of the program in the forms of the system's interfaces: paths as text, errors as `io::Error`, and times in
-//! milliseconds.
+//! Values of the program in the forms of the system's interfaces: paths as text, errors as `io::Error`, and
+//! times in milliseconds.
 #![tactic(auto)]
 
 mod errors;

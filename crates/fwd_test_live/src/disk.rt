@@ -2,251 +2,132 @@
 
 use crate::stage::quiet;
 use fwd_live::{Access, FolderDisk, Shared};
-use fwd_outside::{Bytes, Disk, DiskErr, Memory};
+use fwd_outside::{Bytes, Disk, DiskErr};
 use std::alloc::Global;
 use std::fs;
-use std::os::unix::fs::MetadataExt;
-use std::test::Fail;
 
-/// A call on the disk with the answer that is wanted, or what another program does to the folders meanwhile.
+/// A call on the disk, or what another program does to its folders meanwhile.
 #[derive(Clone, Copy)]
-enum Step {
+enum Call {
     Place(&'static str, &'static [u8]),
     Write(&'static str, u64, &'static [u8]),
     Sync(&'static str),
+    Read(&'static str, u64, u64),
+    /// Gives the names with a blank after each.
+    List(&'static str),
     Remove(&'static str),
-    Reads(&'static str, u64, u64, &'static [u8]),
-    Lists(&'static str, &'static [&'static str]),
-    CantPlace(&'static str),
-    CantWrite(&'static str, u64),
-    CantSync(&'static str),
-    CantRemove(&'static str),
-    CantRead(&'static str, u64),
     /// Another program writes a file.
-    Written(&'static str),
+    OtherWrites(&'static str),
     /// Another program removes a folder.
-    Removed(&'static str),
+    OtherRemoves(&'static str),
 }
 
-const STEPS: &[Step] = &[
-    Step::Lists("fwd_test_live/a/b", &[]),
-    Step::Place("fwd_test_live/a/b/2", b"hello"),
-    Step::Place("fwd_test_live/a/b/10", b""),
-    Step::Place("fwd_test_live/a/b/1", b"first"),
-    Step::Write("fwd_test_live/a/b/2", 4, b"p!"),
-    Step::Write("fwd_test_live/a/b/1", 0, b"F"),
-    Step::Sync("fwd_test_live/a/b/2"),
-    Step::Reads("fwd_test_live/a/b/2", 1, u64::MAX, b"ellp!"),
-    Step::Reads("fwd_test_live/a/b/2", 1, 3, b"ell"),
-    Step::Reads("fwd_test_live/a/b/2", 6, 3, b""),
-    Step::Reads("fwd_test_live/a/b/2", 9, 3, b""),
-    Step::Reads("fwd_test_live/a/b/1", 0, 2, b"Fi"),
+/// What a call gives that has nothing to give.
+const DONE: Option<&[u8]> = Some(b"");
+
+/// Calls with the bytes that they give, or without any if they fail.
+const CALLS: &[(Call, Option<&[u8]>)] = &[
+    (Call::List("fwd_test_live/a/b"), DONE),
+    (Call::Place("fwd_test_live/a/b/2", b"hello"), DONE),
+    (Call::Place("fwd_test_live/a/b/10", b""), DONE),
+    (Call::Place("fwd_test_live/a/b/1", b"first"), DONE),
+    (Call::Write("fwd_test_live/a/b/2", 4, b"p!"), DONE),
+    (Call::Write("fwd_test_live/a/b/1", 0, b"F"), DONE),
+    (Call::Sync("fwd_test_live/a/b/2"), DONE),
+    (
+        Call::Read("fwd_test_live/a/b/2", 1, u64::MAX),
+        Some(b"ellp!"),
+    ),
+    (Call::Read("fwd_test_live/a/b/2", 1, 3), Some(b"ell")),
+    (Call::Read("fwd_test_live/a/b/2", 6, 3), DONE),
+    (Call::Read("fwd_test_live/a/b/2", 9, 3), DONE),
+    (Call::Read("fwd_test_live/a/b/1", 0, 2), Some(b"Fi")),
     // A file that is being placed isn't listed.
-    Step::Written("fwd_test_live/a/b/3.tmp"),
-    Step::Lists("fwd_test_live/a/b", &["1", "10", "2"]),
-    Step::Lists("fwd_test_live/a", &["b"]),
-    Step::Lists("fwd_test_live/a/b/2", &[]),
-    Step::Remove("fwd_test_live/a/b/2"),
-    Step::Lists("fwd_test_live/a/b", &["1", "10"]),
-    Step::CantRead("fwd_test_live/a/b/2", 0),
-    Step::CantWrite("fwd_test_live/a/b/2", 0),
-    Step::CantSync("fwd_test_live/a/b/2"),
-    Step::CantRemove("fwd_test_live/a/b/2"),
-    Step::CantRead("fwd_test_live/a/b/1", u64::MAX),
-    Step::CantWrite("fwd_test_live/a/b/1", 1 << 63),
+    (Call::OtherWrites("fwd_test_live/a/b/3.tmp"), DONE),
+    (Call::List("fwd_test_live/a/b"), Some(b"1 10 2 ")),
+    (Call::List("fwd_test_live/a"), Some(b"b ")),
+    (Call::List("fwd_test_live/a/b/2"), DONE),
+    (Call::Remove("fwd_test_live/a/b/2"), DONE),
+    (Call::List("fwd_test_live/a/b"), Some(b"1 10 ")),
+    (Call::Read("fwd_test_live/a/b/2", 0, 1), None),
+    (Call::Write("fwd_test_live/a/b/2", 0, b"x"), None),
+    (Call::Sync("fwd_test_live/a/b/2"), None),
+    (Call::Remove("fwd_test_live/a/b/2"), None),
+    (Call::Read("fwd_test_live/a/b/1", u64::MAX, 1), None),
+    (Call::Write("fwd_test_live/a/b/1", 1 << 63, b"x"), None),
     // A file stands where a folder is needed.
-    Step::CantPlace("fwd_test_live/a/b/1/x"),
+    (Call::Place("fwd_test_live/a/b/1/x", b"x"), None),
     // A folder that was removed is made again.
-    Step::Removed("fwd_test_live/a/b"),
-    Step::Place("fwd_test_live/a/b/4", b"again"),
-    Step::Lists("fwd_test_live/a/b", &["4"]),
+    (Call::OtherRemoves("fwd_test_live/a/b"), DONE),
+    (Call::Place("fwd_test_live/a/b/4", b"again"), DONE),
+    (Call::List("fwd_test_live/a/b"), Some(b"4 ")),
 ];
 
-fn new_disk(rt: HostRuntime, shared: &Shared, access: Access) -> FolderDisk<'_> {
-    FolderDisk::new(rt, shared, access)
+fn new_disk(rt: HostRuntime, shared: &Shared) -> FolderDisk<'_> {
+    FolderDisk::new(rt, shared, Access::Owner)
 }
 
-fn reads(
-    disk: &mut FolderDisk<'_>,
-    alloc: Global,
-    name: &str,
-    at: u64,
-    len: u64,
-    bytes: &[u8],
-) -> Result<bool, DiskErr> {
-    let read = disk.read(alloc, name.as_bytes(), at, len)?;
-    Ok(read.as_slice() == bytes)
-}
-
-fn lists(
-    disk: &mut FolderDisk<'_>,
-    alloc: Global,
-    folder: &str,
-    names: &[&str],
-) -> Result<bool, DiskErr> {
-    let listed = disk.list(alloc, folder.as_bytes())?;
-    if listed.len() != names.len() {
-        return Ok(false);
+fn listed(disk: &mut FolderDisk<'_>, alloc: Global, folder: &str) -> Result<Bytes, DiskErr> {
+    let names = disk.list(alloc, folder.as_bytes())?;
+    let mut text = Bytes::new(alloc);
+    for name in names.iter() {
+        text.extend_from_slice(name.as_slice())?;
+        text.push(b' ')?;
     }
-    for (found, name) in listed.iter().zip(names) {
-        if found.as_slice() != name.as_bytes() {
-            return Ok(false);
-        }
-    }
-    Ok(true)
+    Ok(text)
 }
 
-fn fails<T>(answer: &Result<T, DiskErr>) -> bool {
-    matches!(answer, Err(DiskErr::Failed))
+fn done(alloc: Global, outcome: Result<(), DiskErr>) -> Result<Bytes, DiskErr> {
+    outcome?;
+    Ok(Bytes::new(alloc))
 }
 
-fn is_so(disk: &mut FolderDisk<'_>, rt: HostRuntime, step: Step) -> bool {
+fn failed_if(fails: bool) -> Result<(), DiskErr> {
+    if fails { Err(DiskErr::Failed) } else { Ok(()) }
+}
+
+fn answer(disk: &mut FolderDisk<'_>, rt: HostRuntime, call: Call) -> Result<Bytes, DiskErr> {
     let alloc = rt.alloc();
-    match step {
-        Step::Place(name, bytes) => disk.place(name.as_bytes(), bytes).is_ok(),
-        Step::Write(name, at, bytes) => disk.write_at(name.as_bytes(), at, bytes).is_ok(),
-        Step::Sync(name) => disk.sync(name.as_bytes()).is_ok(),
-        Step::Remove(name) => disk.remove(name.as_bytes()).is_ok(),
-        Step::Reads(name, at, len, bytes) => {
-            matches!(reads(disk, alloc, name, at, len, bytes), Ok(true))
+    match call {
+        Call::Place(name, bytes) => done(alloc, disk.place(name.as_bytes(), bytes)),
+        Call::Write(name, at, bytes) => done(alloc, disk.write_at(name.as_bytes(), at, bytes)),
+        Call::Sync(name) => done(alloc, disk.sync(name.as_bytes())),
+        Call::Read(name, at, len) => disk.read(alloc, name.as_bytes(), at, len),
+        Call::List(folder) => listed(disk, alloc, folder),
+        Call::Remove(name) => done(alloc, disk.remove(name.as_bytes())),
+        Call::OtherWrites(name) => done(alloc, failed_if(fs::write(&rt, name, b"part").is_err())),
+        Call::OtherRemoves(folder) => {
+            done(alloc, failed_if(fs::remove_dir_all(&rt, folder).is_err()))
         }
-        Step::Lists(folder, names) => matches!(lists(disk, alloc, folder, names), Ok(true)),
-        Step::CantPlace(name) => fails(&disk.place(name.as_bytes(), b"x")),
-        Step::CantWrite(name, at) => fails(&disk.write_at(name.as_bytes(), at, b"x")),
-        Step::CantSync(name) => fails(&disk.sync(name.as_bytes())),
-        Step::CantRemove(name) => fails(&disk.remove(name.as_bytes())),
-        Step::CantRead(name, at) => fails(&disk.read(alloc, name.as_bytes(), at, 1)),
-        Step::Written(name) => fs::write(&rt, name, b"part").is_ok(),
-        Step::Removed(folder) => fs::remove_dir_all(&rt, folder).is_ok(),
     }
 }
 
-/// The place of the first step whose answer differs.
+fn is_wanted(answer: &Result<Bytes, DiskErr>, wanted: Option<&[u8]>) -> bool {
+    match (answer, wanted) {
+        (Ok(bytes), Some(wanted)) => bytes.as_slice() == wanted,
+        (Err(error), None) => *error == DiskErr::Failed,
+        (Ok(_), None) | (Err(_), Some(_)) => false,
+    }
+}
+
+/// Returns how many calls give what is wanted, up to the first that doesn't.
 fn first_other(disk: &mut FolderDisk<'_>, rt: HostRuntime) -> usize {
-    for (place, step) in STEPS.iter().enumerate() {
-        if !is_so(disk, rt, *step) {
+    for (place, (call, wanted)) in CALLS.iter().enumerate() {
+        if !is_wanted(&answer(disk, rt, *call), *wanted) {
             return place;
         }
     }
-    STEPS.len()
+    CALLS.len()
 }
 
 #[test]
 fn a_disk_answers(rt: HostRuntime) {
     let _ = fs::remove_dir_all(&rt, "fwd_test_live");
     let shared = quiet(rt);
-    let steps = first_other(&mut new_disk(rt, &shared, Access::Owner), rt);
+    let place = first_other(&mut new_disk(rt, &shared), rt);
     let _ = fs::remove_dir_all(&rt, "fwd_test_live");
-    assert!(rt; steps == STEPS.len(), "step {steps}");
-}
-
-const NOWHERE: &str = "fwd_test_live_nowhere";
-
-const LOCKED: &str = "fwd_test_live_locked";
-
-const LOCK: &str = "fwd_test_live_locked/.lock";
-
-const RESERVED: &str = "fwd_test_live_reserved";
-
-const RESERVE: &str = "fwd_test_live_reserved/.lock";
-
-/// Whether a disk lists a folder, which is empty. The lock stays with what it shares.
-fn is_listed(rt: HostRuntime, shared: &Shared, access: Access, folder: &str) -> bool {
-    let mut disk = new_disk(rt, shared, access);
-    matches!(lists(&mut disk, rt.alloc(), folder, &[]), Ok(true))
-}
-
-fn has_length(rt: HostRuntime, path: &str, length: u64) -> bool {
-    match fs::metadata(&rt, path) {
-        Ok(metadata) => metadata.len() == length,
-        Err(_) => false,
-    }
-}
-
-fn has_mode(rt: HostRuntime, path: &str, mode: u32) -> bool {
-    match fs::metadata(&rt, path) {
-        Ok(metadata) => metadata.mode() & 0o777 == mode,
-        Err(_) => false,
-    }
-}
-
-#[test]
-fn a_reader_makes_nothing(rt: HostRuntime) {
-    let listed = is_listed(rt, &quiet(rt), Access::Reader, NOWHERE);
-    assert!(rt; listed && fs::metadata(&rt, NOWHERE).is_err());
-}
-
-#[test]
-fn a_folder_has_one_owner(rt: HostRuntime) {
-    let shared = quiet(rt);
-    let first = is_listed(rt, &shared, Access::Owner, LOCKED);
-    let second = is_listed(rt, &quiet(rt), Access::Owner, LOCKED);
-    let reader = is_listed(rt, &quiet(rt), Access::Reader, LOCKED);
-    let private = has_mode(rt, LOCKED, 0o700) && has_mode(rt, LOCK, 0o600);
-    let _ = fs::remove_dir_all(&rt, LOCKED);
-    assert!(rt; first && !second && reader && private && !shared.disk_failed.get());
-}
-
-/// Whether a write that finds the disk full gets the room of the reserve.
-fn is_released(shared: &Shared) -> bool {
-    shared.release("written", b"x", &"no room")
-}
-
-fn is_lent(rt: HostRuntime, shared: &Shared) -> bool {
-    let full = has_length(rt, RESERVE, 4_194_304);
-    let lent = is_released(shared) && shared.disk_failed.get() && !is_released(shared);
-    let empty = has_length(rt, RESERVE, 0);
-    shared.probe();
-    full && lent && empty && !shared.disk_failed.get() && has_length(rt, RESERVE, 4_194_304)
-}
-
-#[test]
-fn a_reserve_is_lent_once_and_filled_again(rt: HostRuntime) {
-    let shared = quiet(rt);
-    let owned = is_listed(rt, &shared, Access::Owner, RESERVED);
-    let lent = is_lent(rt, &shared);
-    let _ = fs::remove_dir_all(&rt, RESERVED);
-    assert!(rt; owned && lent);
-}
-
-fn place_nowhere(rt: HostRuntime, shared: &Shared) -> bool {
-    let mut disk = new_disk(rt, shared, Access::Reader);
-    fails(&disk.place(b"/dev/null/x", b"x"))
-}
-
-#[test]
-fn a_write_that_fails_is_noted(rt: HostRuntime) {
-    let shared = quiet(rt);
-    assert!(rt; place_nowhere(rt, &shared) && shared.disk_failed.get());
-}
-
-/// More bytes than any batch has.
-const LARGE: usize = 20_000_000;
-
-fn large(alloc: Global) -> Result<Bytes, Memory> {
-    let mut bytes = Vec::new(alloc);
-    bytes.resize(LARGE, b'x')?;
-    Ok(Bytes::from_vec(bytes))
-}
-
-fn place_large(disk: &mut FolderDisk<'_>, alloc: Global) -> Result<(), DiskErr> {
-    let bytes = large(alloc)?;
-    disk.place(b"fwd_test_live_large/1", bytes.as_slice())?;
-    disk.write_at(b"fwd_test_live_large/1", 1, bytes.as_slice())
-}
-
-fn read_large(disk: &mut FolderDisk<'_>, alloc: Global) -> Result<bool, DiskErr> {
-    let read = disk.read(alloc, b"fwd_test_live_large/1", 0, u64::MAX)?;
-    Ok(read.len() == LARGE + 1)
-}
-
-#[test]
-fn a_large_file_is_written_and_read(rt: HostRuntime) -> Result<(), Fail> {
-    let shared = quiet(rt);
-    let mut disk = new_disk(rt, &shared, Access::Owner);
-    let placed = place_large(&mut disk, rt.alloc());
-    let read = read_large(&mut disk, rt.alloc());
-    fs::remove_dir_all(&rt, "fwd_test_live_large")?;
-    assert!(rt; placed.is_ok() && matches!(read, Ok(true)));
-    Ok(())
+    assert!(rt;
+        place == CALLS.len() && shared.disk_failed.get(),
+        "call {place}"
+    );
 }

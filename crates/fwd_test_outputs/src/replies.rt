@@ -28,7 +28,8 @@ fn status_at(row: &[Bytes], place: usize) -> u16 {
     u16::try_from(number_at(row, place)).unwrap_or(0)
 }
 
-/// `retried|FIRST|LAST|REPLY`: how an HTTP reply is judged if the statuses from FIRST to LAST are retried too.
+/// `retried|FIRST|LAST|REPLY`: how an HTTP reply is judged if the statuses from FIRST to LAST are retried
+/// too.
 pub fn put_retried(alloc: Global, out: &mut String, row: &[Bytes]) -> Result<(), Memory> {
     let range = StatusRange {
         first: status_at(row, 1),

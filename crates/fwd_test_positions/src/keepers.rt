@@ -21,7 +21,7 @@ const LOG: &str = "fwd_test_positions.log";
 /// Milliseconds after which a database that failed is opened again.
 const RETRIED: u64 = 5_100;
 
-/// Databases are told apart, and so are paths. A put replaces an offset.
+/// Databases are kept apart, and so are paths. A put replaces an offset.
 const STEPS: &[Step] = &[
     Step::Gets(FIRST, "/l", None),
     Step::Puts(FIRST, "/l", 4),
@@ -98,13 +98,13 @@ fn is_refused_beside_another(rt: HostRuntime, lent: &Lent, late: &mut SqliteKeep
 }
 
 /// The lines of the log without their times.
-const TOLD: &[&str] = &[
+const LOGGED: &[&str] = &[
     " [error] [files] offsets of followed files aren't kept in fwd_test_positions.taken: database is locked",
     " [ info] [files] offsets of followed files are kept in fwd_test_positions.taken again",
 ];
 
 /// Returns whether the log has these lines and no others.
-fn is_told(rt: HostRuntime, wanted: &[&str]) -> io::Result<bool> {
+fn is_logged(rt: HostRuntime, wanted: &[&str]) -> io::Result<bool> {
     let log = fs::read_to_string(&rt, LOG)?;
     let mut lines = log.as_str().lines();
     for text in wanted {
@@ -145,10 +145,10 @@ fn a_database_has_one_keeper(rt: HostRuntime) -> Result<(), Fail> {
     let lent = quiet(rt);
     lent.journal.open(Some(Level::Info), Some(LOG.as_bytes()));
     take_over(rt, &lent)?;
-    let told = is_told(rt, TOLD)?;
+    let logged = is_logged(rt, LOGGED)?;
     remove(rt, TAKEN)?;
     fs::remove_file(&rt, LOG)?;
-    assert!(rt; told);
+    assert!(rt; logged);
     Ok(())
 }
 

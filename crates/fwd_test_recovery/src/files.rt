@@ -13,7 +13,8 @@ fn preset_one(alloc: Global, disk: &mut MemDisk, number: u64, bytes: &[u8]) -> R
     Ok(disk.preset(path.as_bytes(), bytes)?)
 }
 
-/// Puts so many files into the folder `S/a`, numbered from 1. The file with the number `cut` has only 10 bytes.
+/// Puts so many files into the folder `S/a`, numbered from 1. The file with the number `cut` has only 10
+/// bytes.
 pub fn preset_files(alloc: Global, disk: &mut MemDisk, count: u64, cut: u64) -> Result<(), Fail> {
     for number in 1..=count {
         let bytes = if number == cut { &PLAIN[..10] } else { PLAIN };

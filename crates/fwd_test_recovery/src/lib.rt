@@ -1,7 +1,8 @@
 //! Tests of parallel loading, listing and filtering.
 //!
-//! Contracts say that the answer is that of one thread. The tests show what no contract says: that two threads work at the
-//! same time, that calls on large inputs return an answer, and that loading calls the disk no more after a refused call.
+//! Contracts say that the answer is that of one thread. The tests show what no contract says: that two
+//! threads work at the same time, that calls on large inputs return an answer, and that loading calls the
+//! disk no more after a refused call.
 #![tactic(auto)]
 
 #[cfg(test)]

@@ -1,5 +1,5 @@
-//! Loading calls the disk no more after a call that is refused because memory is out: neither in the group of files in
-//! which that happens, nor in the next one.
+//! Loading calls the disk no more after a call that is refused because memory is out: neither in the group of
+//! files in which that happens, nor in the next one.
 
 use crate::files::preset_files;
 use fwd_backlog::{LoadErr, load_all};
@@ -13,7 +13,8 @@ use std::thread::Threads;
 /// More files than one group has.
 const MANY: u64 = 4_100;
 
-/// Calls on the root and its folder, and the sync and the read of a file in the first group and in the second.
+/// Calls on the root and its folder, and the sync and the read of a file in the first group and in the
+/// second.
 const CALLS: &[u64] = &[1, 2, 3, 4, 8_193, 8_194, 8_195, 8_202];
 
 fn end_of<D: Disk>(rt: &(impl Threads + Sync), alloc: Global, disk: &mut D) -> Ended {

@@ -130,8 +130,8 @@ fn a_batch_in_memory_has_16777216_bytes_at_most(rt: HostRuntime) {
 /// The number of tags.
 const TAGS: u64 = 300;
 
-/// Whether the line goes into the chunk with the number of its tag, which then has so many bytes. Each third chunk is in
-/// memory.
+/// Whether the line goes into the chunk with the number of its tag, which then has so many bytes. Each third
+/// chunk is in memory.
 fn is_taken(
     alloc: Global,
     store: &mut Store,

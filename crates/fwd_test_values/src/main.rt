@@ -1,6 +1,6 @@
-//! Vectors of the codecs, parsers and rules of filters: each row of `stdin` is an operation with its arguments, and
-//! the program prints what comes of it. `stdout` has what the MessagePack specification, the manual of Fluent
-//! Bit and the rules of `docs/` say. Comments and empty lines are printed as they are.
+//! Vectors of the codecs, parsers and rules of filters: each row of `stdin` is an operation with its
+//! arguments, and the program prints what comes of it. `stdout` has what the MessagePack specification, the
+//! manual of Fluent Bit and the rules of `docs/` say. Comments and empty lines are printed as they are.
 #![tactic(auto)]
 
 mod bodies;

@@ -29,7 +29,7 @@ impl Risen {
     }
 
     /// Returns how many chunks were given up.
-    pub fn given_up(self) -> u64 {
+    pub fn discards(self) -> u64 {
         self.refused
             .saturating_add(self.spent)
             .saturating_add(self.evicted)

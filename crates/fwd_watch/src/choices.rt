@@ -2,7 +2,8 @@
 
 use fwd_settings_schema::{OutputPlugin, SectionKind, SettingKind, Target, key_of, same_name};
 
-/// The names of all keys, as they are mostly written. Those that a section doesn't have are left out by `has_key`.
+/// The names of all keys, as they are mostly written. Those that a section doesn't have are left out by
+/// `has_key`.
 const NAMES: &[&str] = &[
     "Name",
     "Flush",

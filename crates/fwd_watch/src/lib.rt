@@ -1,10 +1,10 @@
 //! The watcher of a live run, which makes its log lines and its pages.
 //!
-//! The engine knows the consequences of what happens and the devices know the reasons. Both write into one journal:
-//! a device where an error comes that no answer has room for, and the watcher where a counter rose. A run calls its
-//! watcher when the configuration is read, when the chunks are loaded, behind each reading of the clock, and at its
-//! end, and lends it what the engine shows anyway. So lines on the way cost nothing, and no contract speaks of a
-//! watcher: whatever it does, the run keeps what it promises.
+//! The engine knows the consequences of what happens and the devices know the reasons. Both write into one
+//! journal: a device where an error comes that no answer has room for, and the watcher where a counter rose.
+//! A run calls its watcher when the configuration is read, when the chunks are loaded, after each reading of
+//! the clock, and at its end, and lends it what the engine shows anyway. So lines on the way cost nothing,
+//! and no contract speaks of a watcher: whatever it does, the run keeps what it promises.
 #![tactic(auto)]
 
 mod changes;

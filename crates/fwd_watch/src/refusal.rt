@@ -181,7 +181,8 @@ fn push_place(alloc: Global, text: &mut String, place: &Place) -> Result<(), All
     text.push_str(number.as_str())
 }
 
-/// Returns the line that says why settings are refused: the place, and the section's part, key, value and choices.
+/// Returns the line that says why settings are refused: the place, and the section's part, key, value and
+/// choices.
 pub fn refusal_text(
     alloc: Global,
     sections: &[Section],

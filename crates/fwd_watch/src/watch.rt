@@ -29,8 +29,8 @@ pub trait Watch {
     /// Notes that the program takes the settings of these sections.
     fn note_settings(&mut self, sections: &Sections);
 
-    /// Notes that the engine has loaded the chunks on the disk, and is about to open the inputs. The names are
-    /// those of the inputs and the outputs.
+    /// Notes that the engine has loaded the chunks on the disk, and is about to open the inputs. The names
+    /// are those of the inputs and the outputs.
     fn note_start(&mut self, inputs: &Names, outputs: &Names, snapshot: Snapshot<'_>);
 
     /// Notes names in recovered chunk files that stand for no output, once, after `note_start`.

@@ -121,7 +121,7 @@ impl<'j> Watcher<'j> {
         }
     }
 
-    fn tell(&self, level: Level, source: Source, topic: Topic, text: &impl Display) {
+    fn log(&self, level: Level, source: Source, topic: Topic, text: &impl Display) {
         self.journal.write(level, source, topic, text);
     }
 
@@ -134,8 +134,8 @@ impl<'j> Watcher<'j> {
         }
     }
 
-    /// Returns how the peer of an output refused last, after a colon. If no device said how, returns why the last
-    /// delivery failed.
+    /// Returns how the peer of an output refused last, after a colon. If no device said how, returns why the
+    /// last delivery failed.
     fn refusal(&self, output: OutputId) -> Result<String, Memory> {
         match self.journal.refusal_of(output) {
             Some(refusal) => after_colon(self.journal.alloc(), refusal.as_slice()),
@@ -143,10 +143,10 @@ impl<'j> Watcher<'j> {
         }
     }
 
-    fn tell_retries(&self, output: OutputId, risen: Risen, table: &Table) -> Result<(), Memory> {
+    fn log_retries(&self, output: OutputId, risen: Risen, table: &Table) -> Result<(), Memory> {
         let source = Source::Output(output);
         if !self.journal.is_due(source, Topic::Retry) {
-            self.tell(Level::Warn, source, Topic::Retry, &"");
+            self.log(Level::Warn, source, Topic::Retry, &"");
             return Ok(());
         }
         let reason = self.reason(output)?;
@@ -159,7 +159,7 @@ impl<'j> Watcher<'j> {
                 let chunk = timer.chunk.0;
                 let tries = table.tries(timer.chunk, output);
                 let times = words_for(tries, "try", "tries");
-                self.tell(
+                self.log(
                     Level::Warn,
                     source,
                     Topic::Retry,
@@ -170,7 +170,7 @@ impl<'j> Watcher<'j> {
             }
             None => {
                 let again = words_for(count, "it is tried again", "they are tried again");
-                self.tell(
+                self.log(
                     Level::Warn,
                     source,
                     Topic::Retry,
@@ -181,8 +181,8 @@ impl<'j> Watcher<'j> {
         Ok(())
     }
 
-    /// Tells of chunks that the output gives up.
-    fn tell_given_up(&self, output: OutputId, risen: Risen) -> Result<(), Memory> {
+    /// Logs the chunks that the output gives up.
+    fn log_discards(&self, output: OutputId, risen: Risen) -> Result<(), Memory> {
         let source = Source::Output(output);
         let (refused, spent, evicted) = (risen.refused, risen.spent, risen.evicted);
         if 0 < refused {
@@ -193,7 +193,7 @@ impl<'j> Watcher<'j> {
                 "chunks are given up, as the peer refused them",
             );
             let text = format_args!("{refused} {what}{refusal}");
-            self.tell(Level::Error, source, Topic::Refusal, &text);
+            self.log(Level::Error, source, Topic::Refusal, &text);
         }
         if 0 < spent {
             let reason = self.reason(output)?;
@@ -203,22 +203,22 @@ impl<'j> Watcher<'j> {
                 "chunks are given up, as their retries are used up",
             );
             let text = format_args!("{spent} {what}{reason}");
-            self.tell(Level::Error, source, Topic::GivenUp, &text);
+            self.log(Level::Error, source, Topic::GivenUp, &text);
         }
         if 0 < evicted {
             let what = words_for(evicted, "chunk is given up", "chunks are given up");
             let text = format_args!("{evicted} {what}, as storage.total_limit_size is reached");
-            self.tell(Level::Error, source, Topic::GivenUp, &text);
+            self.log(Level::Error, source, Topic::GivenUp, &text);
         }
         Ok(())
     }
 
-    fn tell_recovery(&mut self, output: OutputId) {
+    fn log_recovery(&mut self, output: OutputId) {
         let bit = bit_of(output.0);
         if self.failing & bit != 0 {
             self.failing &= !bit;
             self.journal.forget_reason(output);
-            self.tell(
+            self.log(
                 Level::Info,
                 Source::Output(output),
                 Topic::Recovery,
@@ -242,16 +242,16 @@ impl<'j> Watcher<'j> {
         self.before.keep_output(index, now);
         let output = OutputId(number_of(index));
         let risen = Risen::between(before, now);
-        if 0 < risen.given_up() {
+        if 0 < risen.discards() {
             self.pages.note_failure(self.journal.age());
             self.failing |= bit_of(output.0);
-            self.tell_given_up(output, risen)?;
+            self.log_discards(output, risen)?;
         }
         if 0 < risen.retried {
             self.failing |= bit_of(output.0);
-            self.tell_retries(output, risen, snapshot.table)?;
-        } else if 0 < risen.delivered && risen.given_up() == 0 {
-            self.tell_recovery(output);
+            self.log_retries(output, risen, snapshot.table)?;
+        } else if 0 < risen.delivered && risen.discards() == 0 {
+            self.log_recovery(output);
         }
         Ok(())
     }
@@ -273,11 +273,11 @@ impl<'j> Watcher<'j> {
                 "batches or messages are refused",
             );
             let text = format_args!("{refused} {what}");
-            self.tell(Level::Warn, source, Topic::Batch, &text);
+            self.log(Level::Warn, source, Topic::Batch, &text);
         }
     }
 
-    /// Tells which inputs were paused, and which go on. At a stop all are paused, which is no news.
+    /// Logs which inputs were paused, and which go on. At a stop all are paused, which is no news.
     fn compare_paused(&mut self, paused: u64, inputs: usize) {
         if paused == self.paused || self.is_stopped {
             return;
@@ -288,13 +288,13 @@ impl<'j> Watcher<'j> {
             let input = number_of(index);
             let source = Source::Input(InputId(input));
             match (is_set(before, input), is_set(paused, input)) {
-                (false, true) => self.tell(
+                (false, true) => self.log(
                     Level::Warn,
                     source,
                     Topic::Pause,
                     &"is paused, as its chunks in memory have reached Mem_Buf_Limit",
                 ),
-                (true, false) => self.tell(Level::Info, source, Topic::Pause, &"goes on"),
+                (true, false) => self.log(Level::Info, source, Topic::Pause, &"goes on"),
                 (false, false) | (true, true) => {}
             }
         }
@@ -310,17 +310,17 @@ impl<'j> Watcher<'j> {
         let text = format_args!(
             "stops: inputs are closed, and {left} {chunks} waited for until Grace is over"
         );
-        self.tell(Level::Info, Source::Engine, Topic::Stop, &text);
+        self.log(Level::Info, Source::Engine, Topic::Stop, &text);
     }
 
-    /// Tells of reads of chunks that found damaged content.
+    /// Logs reads of chunks that found damaged content.
     fn compare_damaged(&mut self, damaged: u64) {
         let risen = damaged.saturating_sub(self.damaged);
         self.damaged = damaged;
         if 0 < risen {
             let reads = words_for(risen, "read of a chunk file", "reads of chunk files");
             let text = format_args!("{risen} {reads} found damaged content");
-            self.tell(Level::Error, Source::Storage, Topic::File, &text);
+            self.log(Level::Error, Source::Storage, Topic::File, &text);
         }
     }
 
@@ -337,7 +337,7 @@ impl<'j> Watcher<'j> {
         Ok(())
     }
 
-    fn tell_loaded(&self, snapshot: Snapshot<'_>) {
+    fn log_loaded(&self, snapshot: Snapshot<'_>) {
         let (loaded, unrouted, left) = (
             snapshot.tally.loaded,
             snapshot.tally.unrouted,
@@ -350,12 +350,12 @@ impl<'j> Watcher<'j> {
             let text = format_args!(
                 "{loaded} {chunks} loaded; {unrouted} {matches} no output, {left} {files}"
             );
-            self.tell(Level::Info, Source::Storage, Topic::Run, &text);
+            self.log(Level::Info, Source::Storage, Topic::Run, &text);
         }
     }
 
     /// Warns of names in chunk files that no output has, in one line.
-    fn tell_strangers(&self, names: &Names) -> Result<(), Memory> {
+    fn log_strangers(&self, names: &Names) -> Result<(), Memory> {
         if names.is_empty() {
             return Ok(());
         }
@@ -363,11 +363,11 @@ impl<'j> Watcher<'j> {
         let text = format_args!(
             "chunk files name outputs that the configuration doesn't have: {names}"
         );
-        self.tell(Level::Warn, Source::Storage, Topic::Stranger, &text);
+        self.log(Level::Warn, Source::Storage, Topic::Stranger, &text);
         Ok(())
     }
 
-    fn tell_left(&self, snapshot: Snapshot<'_>) {
+    fn log_left(&self, snapshot: Snapshot<'_>) {
         let left = left_in(snapshot.table);
         let (chunks, bytes, files) = (left.in_memory, left.bytes_in_memory, left.in_files);
         let in_memory = words_for(chunks, "chunk in memory", "chunks in memory");
@@ -381,19 +381,19 @@ impl<'j> Watcher<'j> {
             let text = format_args!(
                 "breaks off: {chunks} {in_memory} with {bytes} bytes {dropped}, and {files} {in_files}"
             );
-            self.tell(Level::Error, Source::Engine, Topic::GivenUp, &text);
+            self.log(Level::Error, Source::Engine, Topic::GivenUp, &text);
             return;
         }
         if 0 < chunks {
             let text = format_args!("ends: {chunks} {in_memory} with {bytes} bytes {dropped}");
-            self.tell(Level::Warn, Source::Engine, Topic::GivenUp, &text);
+            self.log(Level::Warn, Source::Engine, Topic::GivenUp, &text);
         }
         if 0 < files {
             let text = format_args!("ends: {files} {in_files}");
-            self.tell(Level::Warn, Source::Engine, Topic::Retry, &text);
+            self.log(Level::Warn, Source::Engine, Topic::Retry, &text);
         }
         if chunks == 0 && files == 0 {
-            self.tell(
+            self.log(
                 Level::Info,
                 Source::Engine,
                 Topic::Recovery,
@@ -403,10 +403,10 @@ impl<'j> Watcher<'j> {
     }
 
     /// Warns of values of the log's keys that can't be read, in one line.
-    fn tell_unread(&self, sections: &[Section]) -> Result<(), Memory> {
+    fn log_unread(&self, sections: &[Section]) -> Result<(), Memory> {
         let text = unread_text(self.journal.alloc(), sections)?;
         if !text.is_empty() {
-            self.tell(Level::Warn, Source::Config, Topic::File, &text.as_str());
+            self.log(Level::Warn, Source::Config, Topic::File, &text.as_str());
         }
         Ok(())
     }
@@ -440,12 +440,12 @@ impl<'j> Watcher<'j> {
         Ok(())
     }
 
-    fn tell_start(&self, inputs: &Names, outputs: &Names) {
+    fn log_start(&self, inputs: &Names, outputs: &Names) {
         let (inputs, outputs) = (inputs.len() as u64, outputs.len() as u64);
         let reads = words_for(inputs, "input", "inputs");
         let writes = words_for(outputs, "output", "outputs");
         let text = format_args!("fuztreb begins with {inputs} {reads} and {outputs} {writes}");
-        self.tell(Level::Info, Source::Engine, Topic::Run, &text);
+        self.log(Level::Info, Source::Engine, Topic::Run, &text);
     }
 }
 
@@ -454,7 +454,7 @@ impl<'j> Watch for Watcher<'j> {
         let alloc = self.journal.alloc();
         if let Ok(file) = String::from_utf8_lossy(alloc, place.file.as_slice()) {
             let line = place.line;
-            self.tell(
+            self.log(
                 Level::Error,
                 Source::Config,
                 Topic::Run,
@@ -466,7 +466,7 @@ impl<'j> Watch for Watcher<'j> {
     fn note_refused_settings(&mut self, sections: &Sections, kind: SettingKind, place: &Place) {
         let alloc = self.journal.alloc();
         if let Ok(text) = refusal_text(alloc, sections.as_slice(), kind, place) {
-            self.tell(Level::Error, Source::Config, Topic::Run, &text.as_str());
+            self.log(Level::Error, Source::Config, Topic::Run, &text.as_str());
         }
     }
 
@@ -474,19 +474,19 @@ impl<'j> Watch for Watcher<'j> {
         if let Ok(settings) = log_settings(self.journal.alloc(), sections) {
             self.follow(settings);
         }
-        let _ = self.tell_unread(sections.as_slice());
+        let _ = self.log_unread(sections.as_slice());
     }
 
     fn note_start(&mut self, inputs: &Names, outputs: &Names, snapshot: Snapshot<'_>) {
         let _ = self.name(inputs, outputs);
         let _ = self.before.copy(self.journal.alloc(), snapshot.tally);
         self.paused = snapshot.paused;
-        self.tell_start(inputs, outputs);
-        self.tell_loaded(snapshot);
+        self.log_start(inputs, outputs);
+        self.log_loaded(snapshot);
     }
 
     fn note_strangers(&mut self, names: &Names) {
-        let _ = self.tell_strangers(names);
+        let _ = self.log_strangers(names);
     }
 
     fn note_clock(&mut self, snapshot: Snapshot<'_>) {
@@ -497,7 +497,7 @@ impl<'j> Watch for Watcher<'j> {
     fn note_end(&mut self, snapshot: Snapshot<'_>) {
         let _ = self.compare(snapshot);
         self.pages.answer(self.journal, snapshot);
-        self.tell_left(snapshot);
+        self.log_left(snapshot);
         self.journal.finish();
     }
 }
