@@ -120,9 +120,9 @@ disk_same (Sync name) answer old during new may steps = record {
   others = λ n ne. ap durable_state (steps.others n ne);
 }
 disk_same (Read name at len) answer old during new may steps =
-    (read_same at len answer (old name) steps.0, ap durable_files steps.1.0, ap durable_files steps.1.1)
+    (read_same at len answer (old name) steps.0, (ap durable_files steps.1.0, ap durable_files steps.1.1))
 disk_same (ListNames folder) answer old during new may steps =
-    (list_same folder answer old steps.0, ap durable_files steps.1.0, ap durable_files steps.1.1)
+    (list_same folder answer old steps.0, (ap durable_files steps.1.0, ap durable_files steps.1.1))
 disk_same (Place name bytes) answer old during new may steps = absurd may
 disk_same (WriteAt name at bytes) answer old during new may steps = absurd may
 disk_same (Remove name) answer old during new may steps = absurd may
