@@ -1,6 +1,6 @@
 -- Calls and written text, by status.
 use Rattle.std.specs.Prelude.{◌≢◌}
-use Rattle.std.proofs.Common.{◌≡◌, inl, inr, ℕ, ◌≤◌, Bool, true, false, List, [], map, String, string_bytes, Some, refl, sym, ◌∙◌, arith}
+use Rattle.std.proofs.Common.{◌≡◌, ℕ, ◌≤◌, Bool, true, false, List, [], map, String, string_bytes, Some, refl, sym, ◌∙◌, arith}
 use Rattle.fwd_outside.specs.Log.{LogGrew}
 use Rattle.fwd_outside.specs.Cause.{HasCause}
 use Rattle.fwd_outside.proofs.LogGrowth.{grew_none}
@@ -19,8 +19,8 @@ use Rattle.fwd_top.specs.Outcomes.{Platform, platform_of, AreNotCalled, Produces
 use Rattle.fwd_top.specs.Delivery.{IsDelivered}
 use Rattle.fwd_top.specs.CrashConsistency.{IsCrashConsistent}
 use Rattle.fwd_top.specs.Offsets.{EachRunKeepsOffsets}
-use Rattle.fwd_top.specs.Answers.{Verdict, says, status_of, of_reported, Outcome, IsVerdict, Devices, Asks, Comes, Wrote, Answers, is_over_disk, is_run, IsKeeperFault, IsLoopFault, IsDiskFault, spent, spent_by}
-use Rattle.fwd_top.specs.Results.{HasDiskFailed, HasKeeperFailed, HasLoopFailed, IsRefusal, WritesVerdict, WritesSo, given_by, is_to_run, takes_disk, unless_memory}
+use Rattle.fwd_top.specs.Answers.{Verdict, says, status_of, of_reported, Outcome, IsVerdict, Devices, Asks, Comes, Wrote, WhileAsking, InTheJob, WhileWriting, Answers, is_over_disk, is_run, IsKeeperFault, IsLoopFault, IsDiskFault, spent, spent_by}
+use Rattle.fwd_top.specs.Results.{HasDiskFailed, HasKeeperFailed, HasLoopFailed, IsRefusal, WritesVerdict, WritesSo, WroteTheText, OutFailed, NoMemory, given_by, is_to_run, takes_disk, unless_memory}
 use Rattle.fwd_top.specs.Words.{command_of}
 use Rattle.fwd_top.specs.declared.job.Job.{Job}
 use Rattle.fwd_top.specs.declared.job.Job.TheVariants as job
@@ -58,26 +58,26 @@ module _ {Y : Type 0} (words : List (String Y)) (env : Values) (turns : ℕ) (ol
 
 -- the text written for a verdict with this property
 pub written : (Holds : Verdict → Type 0) (a b : SinkLog) (text : List ℕ) (end : Ending) (result : Status) → Holds (says text (status_of end)) → WritesSo a b text (status_of end) result → Wrote Holds a b result
-written Holds a b text ending.Over result holds (inl wrote) = rw wrote.0 (text, holds, wrote.1)
-written Holds a b text ending.TurnsSpent result holds (inl wrote) = rw wrote.0 (text, holds, wrote.1)
-written Holds a b text ending.DiskFailed result holds (inl wrote) = rw wrote.0 (text, holds, wrote.1)
-written Holds a b text ending.KeeperFailed result holds (inl wrote) = rw wrote.0 (text, holds, wrote.1)
-written Holds a b text ending.LoopFailed result holds (inl wrote) = rw wrote.0 (text, holds, wrote.1)
-written Holds a b text ending.Memory result holds (inl wrote) = rw wrote.0 tt
-written Holds a b text end result holds (inr (inl wrote)) = rw wrote.0 (text, status_of end, holds, wrote.1)
-written Holds a b text end result holds (inr (inr wrote)) = rw wrote.0 tt
+written Holds a b text ending.Over result holds (WroteTheText same wrote) = rw same (text, holds, wrote)
+written Holds a b text ending.TurnsSpent result holds (WroteTheText same wrote) = rw same (text, holds, wrote)
+written Holds a b text ending.DiskFailed result holds (WroteTheText same wrote) = rw same (text, holds, wrote)
+written Holds a b text ending.KeeperFailed result holds (WroteTheText same wrote) = rw same (text, holds, wrote)
+written Holds a b text ending.LoopFailed result holds (WroteTheText same wrote) = rw same (text, holds, wrote)
+written Holds a b text ending.Memory result holds (WroteTheText same wrote) = rw same tt
+written Holds a b text end result holds (OutFailed same wrote) = rw same (text, status_of end, holds, wrote)
+written Holds a b text end result holds (NoMemory same wrote) = rw same tt
 
 module _ {Y : Type 0} (words : List (String Y)) (env : Values) (turns : ℕ) (old new : Devices) where
   -- the outcome of a job was written
   call_log : (text : List ℕ) (end : Ending) (result : Status) → Comes words env turns old new (says text (status_of end)) → WritesSo old.sink new.sink text (status_of end) result → Answers words env turns old new result
-  call_log text ending.Over result comes (inl wrote) = rw wrote.0 (text, comes, wrote.1)
-  call_log text ending.TurnsSpent result comes (inl wrote) = rw wrote.0 (text, comes, wrote.1)
-  call_log text ending.DiskFailed result comes (inl wrote) = rw wrote.0 (text, comes, wrote.1)
-  call_log text ending.KeeperFailed result comes (inl wrote) = rw wrote.0 (text, comes, wrote.1)
-  call_log text ending.LoopFailed result comes (inl wrote) = rw wrote.0 (text, comes, wrote.1)
-  call_log text ending.Memory result comes (inl wrote) = rw wrote.0 (inr (inl (text, comes, wrote.1)))
-  call_log text end result comes (inr (inl wrote)) = rw wrote.0 (text, status_of end, comes, wrote.1)
-  call_log text end result comes (inr (inr wrote)) = rw wrote.0 (inr (inr (text, status_of end, comes, wrote.1)))
+  call_log text ending.Over result comes (WroteTheText same wrote) = rw same (text, comes, wrote)
+  call_log text ending.TurnsSpent result comes (WroteTheText same wrote) = rw same (text, comes, wrote)
+  call_log text ending.DiskFailed result comes (WroteTheText same wrote) = rw same (text, comes, wrote)
+  call_log text ending.KeeperFailed result comes (WroteTheText same wrote) = rw same (text, comes, wrote)
+  call_log text ending.LoopFailed result comes (WroteTheText same wrote) = rw same (text, comes, wrote)
+  call_log text ending.Memory result comes (WroteTheText same wrote) = rw same (InTheJob text comes wrote)
+  call_log text end result comes (OutFailed same wrote) = rw same (text, status_of end, comes, wrote)
+  call_log text end result comes (NoMemory same wrote) = rw same (WhileWriting text (status_of end) comes wrote)
 
   -- there was nothing to do
   pub refused : (result : Status) → IsRefusal result → Asks words env old.files new.files (unless_memory result) → LogGrew old.disk new.disk [] → LogGrew old.loop new.loop [] → LogGrew old.keeper new.keeper [] → LogGrew old.sink new.sink []
@@ -88,7 +88,7 @@ module _ {Y : Type 0} (words : List (String Y)) (env : Values) (turns : ℕ) (ol
   refused status.LoopFault is asks disk loop keeper sink = absurd is
   refused status.KeeperFault is asks disk loop keeper sink = absurd is
   refused status.DiskFault is asks disk loop keeper sink = absurd is
-  refused status.Memory is asks disk loop keeper sink = inl (record { asks = asks; disk = disk; loop = loop; keeper = keeper }, sink)
+  refused status.Memory is asks disk loop keeper sink = WhileAsking (record { asks = asks; disk = disk; loop = loop; keeper = keeper }) sink
   refused other is asks disk loop keeper sink = ([], comes_refused words env turns old new other asks disk loop keeper, sink)
 
   -- a job was done
@@ -100,9 +100,9 @@ module _ {Y : Type 0} (words : List (String Y)) (env : Values) (turns : ℕ) (ol
 
 -- the status of a text is its own, or one of two others
 told_by_one : (text : List ℕ) (a b : SinkLog) (end result other : Status) → WritesSo a b text end result → end ≢ other → status.OutFault ≢ other → status.Memory ≢ other → result ≢ other
-told_by_one text a b end result other (inl wrote) one two three is = one (sym wrote.0 ∙ is)
-told_by_one text a b end result other (inr (inl wrote)) one two three is = two (sym wrote.0 ∙ is)
-told_by_one text a b end result other (inr (inr wrote)) one two three is = three (sym wrote.0 ∙ is)
+told_by_one text a b end result other (WroteTheText same wrote) one two three is = one (sym same ∙ is)
+told_by_one text a b end result other (OutFailed same wrote) one two three is = two (sym same ∙ is)
+told_by_one text a b end result other (NoMemory same wrote) one two three is = three (sym same ∙ is)
 
 heard_all : {a b : LoopCounts} (n most : ℕ) → most ≤ n → EventsTaken n a b → EventsTaken most a b
 heard_all n most least heard = record { happenings = let x = heard.happenings in grind arith; greatest = heard.greatest; endless = heard.endless }
@@ -127,9 +127,9 @@ module _ {Y : Type 0} (words : List (String Y)) (turns : ℕ) (before after : Lo
   unspent n result is heard = rw is (heard_all n 0 (omega arith) heard)
 
   spent_all : (text : List ℕ) (a b : SinkLog) (result : Status) → runs ≡ true → WritesSo a b text status.TurnsSpent result → EventsTaken turns before after → EventsTaken (spent words turns result) before after
-  spent_all text a b result run (inl wrote) heard = rw (wrote.0, run) heard
-  spent_all text a b result run (inr (inl wrote)) heard = unspent turns result (rw wrote.0 refl) heard
-  spent_all text a b result run (inr (inr wrote)) heard = unspent turns result (rw wrote.0 refl) heard
+  spent_all text a b result run (WroteTheText same wrote) heard = rw (same, run) heard
+  spent_all text a b result run (OutFailed same wrote) heard = unspent turns result (rw same refl) heard
+  spent_all text a b result run (NoMemory same wrote) heard = unspent turns result (rw same refl) heard
 
   none_spent : (n : ℕ) (text : List ℕ) (a b : SinkLog) (end result : Status) → WritesSo a b text end result → end ≢ status.TurnsSpent → EventsTaken n before after → EventsTaken (spent words turns result) before after
   none_spent n text a b end result tells other heard = unspent n result (spent_none runs turns result (told_by_one text a b end result status.TurnsSpent tells other (λ is. cc is) (λ is. cc is))) heard
@@ -178,9 +178,9 @@ no_file_failed end is = absurd (cc is)
 
 -- a status other than these two is that of the ending
 end_told : (text : List ℕ) (a b : SinkLog) (end result other : Status) → WritesSo a b text end result → status.OutFault ≢ other → status.Memory ≢ other → result ≡ other → end ≡ other
-end_told text a b end result other (inl wrote) two three is = sym wrote.0 ∙ is
-end_told text a b end result other (inr (inl wrote)) two three is = absurd (two (sym wrote.0 ∙ is))
-end_told text a b end result other (inr (inr wrote)) two three is = absurd (three (sym wrote.0 ∙ is))
+end_told text a b end result other (WroteTheText same wrote) two three is = sym same ∙ is
+end_told text a b end result other (OutFailed same wrote) two three is = absurd (two (sym same ∙ is))
+end_told text a b end result other (NoMemory same wrote) two three is = absurd (three (sym same ∙ is))
 
 module _ {Y : Type 0} (words : List (String Y)) (before after : ℕ) (a b : SinkLog) (result : Status) where
   pub done_loop_cause : (j : Job) (r : Reported) → is_run (command_of (map string_bytes words)) ≡ is_to_run j → WritesVerdict a b (of_reported r) result → HasCause before after (HasLoopFailed j r) → HasCause before after (IsLoopFault words result)

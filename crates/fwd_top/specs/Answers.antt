@@ -114,15 +114,19 @@ Wrote Holds sink out status.OutFault =
 Wrote Holds sink out status.Memory = Unit {0}
 Wrote Holds sink out result = (text : List ℕ) × Holds (says text result) × WroteIt sink out text
 
+-- nothing of a text was written, or a prefix of it
+abbrev pub WroteAtMostAPrefix : SinkLog → SinkLog → List ℕ → Type 0
+WroteAtMostAPrefix old new text = LogGrew old new [] ⊎ WroteAPrefix old new text
+
 -- Memory ran out while words and files were read; or in the run or the listing, or in a run of the
 -- replay, and the texts of those before it are written; or a text wasn't written to its end.
-abbrev pub RanOutOfMemory : {Y : Type 0} → List (String Y) → Values → ℕ → Devices → Devices → Type 0
-RanOutOfMemory words env turns old new =
-    (Begins words env old new × LogGrew old.sink new.sink [])
-    ⊎ (((text : List ℕ) × Comes words env turns old new (says text status.Memory)
-    × WroteIt old.sink new.sink text)
-    ⊎ ((text : List ℕ) × (end : Status) × Comes words env turns old new (says text end)
-    × (LogGrew old.sink new.sink [] ⊎ WroteAPrefix old.sink new.sink text)))
+pub data RanOutOfMemory {Y : Type 0} (words : List (String Y)) (env : Values) (turns : ℕ)
+    (old new : Devices) : Type 0 where
+  WhileAsking : Begins words env old new → LogGrew old.sink new.sink [] → RanOutOfMemory words env turns old new
+  InTheJob : (text : List ℕ) → Comes words env turns old new (says text status.Memory)
+      → WroteIt old.sink new.sink text → RanOutOfMemory words env turns old new
+  WhileWriting : (text : List ℕ) (end : Status) → Comes words env turns old new (says text end)
+      → WroteAtMostAPrefix old.sink new.sink text → RanOutOfMemory words env turns old new
 
 -- the calls on the devices and the text written to the sink, for each status
 abbrev pub Answers : {Y : Type 0} → List (String Y) → Values → ℕ → Devices → Devices → Status → Type 0

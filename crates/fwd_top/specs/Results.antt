@@ -1,5 +1,5 @@
 -- The results of the steps towards an answer.
-use Rattle.std.specs.Prelude.{◌≡◌, ◌⊎◌, ℕ, Bool, true, false, List, [], ◌∷◌, Option, Some, None, Result, Ok, Err, IsErrAnd, option_map}
+use Rattle.std.specs.Prelude.{◌≡◌, ℕ, Bool, true, false, List, [], ◌∷◌, Option, Some, None, Result, Ok, Err, IsErrAnd, option_map}
 use Rattle.fwd_outside.specs.Log.{LogGrew, RunsProgram}
 use Rattle.fwd_outside.specs.Files.{FilesLog}
 use Rattle.fwd_outside.specs.Sink.{SinkLog}
@@ -23,7 +23,7 @@ use Rattle.fwd_replay.specs.LiveRun.{heard_in}
 use Rattle.fwd_replay.specs.declared.report.Ending.TheVariants as ending
 use Rattle.fwd_replay.specs.declared.report.Reported.{Reported}
 use Rattle.fwd_top.specs.Cases.{Case, Runs, Refuses, Wanted, ToRun, ToReplay, AreSettingsOf, Replays, Generates, Lists, asked, load_config, load_schedule, of_config, of_load, refused_by, with_settings, settings_for}
-use Rattle.fwd_top.specs.Answers.{Verdict, WroteIt, WroteAPrefix}
+use Rattle.fwd_top.specs.Answers.{Verdict, WroteIt, WroteAPrefix, WroteAtMostAPrefix}
 use Rattle.fwd_top.specs.declared.job.Job.{Job}
 use Rattle.fwd_top.specs.declared.job.Job.TheVariants as job
 use Rattle.fwd_top.specs.declared.status.ConfigRefusal.TheVariants.{Setting}
@@ -171,15 +171,14 @@ HasDiskFailed (job.List folder) reported = reported.ending ≡ ending.DiskFailed
 abbrev pub Writes : {T : Type 0} → SinkLog → SinkLog → List ℕ → Result T Status → Type 0
 Writes old new text (Ok done) = WroteIt old new text
 Writes old new text (Err status.OutFault) = WroteAPrefix old new text
-Writes old new text (Err status.Memory) = LogGrew old new [] ⊎ WroteAPrefix old new text
+Writes old new text (Err status.Memory) = WroteAtMostAPrefix old new text
 Writes old new text (Err other) = ⊥
 
 -- the status after the writing of a text that is to end this way
-abbrev pub WritesSo : SinkLog → SinkLog → List ℕ → Status → Status → Type 0
-WritesSo old new text end result =
-    ((result ≡ end) × WroteIt old new text)
-    ⊎ (((result ≡ status.OutFault) × WroteAPrefix old new text)
-    ⊎ ((result ≡ status.Memory) × (LogGrew old new [] ⊎ WroteAPrefix old new text)))
+pub data WritesSo (old new : SinkLog) (text : List ℕ) (end result : Status) : Type 0 where
+  WroteTheText : result ≡ end → WroteIt old new text → WritesSo old new text end result
+  OutFailed : result ≡ status.OutFault → WroteAPrefix old new text → WritesSo old new text end result
+  NoMemory : result ≡ status.Memory → WroteAtMostAPrefix old new text → WritesSo old new text end result
 
 -- the text written for a verdict, and the status then
 abbrev pub WritesVerdict : SinkLog → SinkLog → Verdict → Status → Type 0
