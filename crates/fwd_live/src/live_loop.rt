@@ -94,6 +94,7 @@ impl<'a> Loop for LiveLoop<'a> {
     ghost call_log = { λ l. Some (l.calls.given, l.calls.entries) };
 
     fn start(&mut self, ends: &Ends) -> Begun {
+        self.shared.is_started.set(true);
         let Ok(answer) = answer_of(self.machine.start(ends)) else {
             return Begun::Memory;
         };
