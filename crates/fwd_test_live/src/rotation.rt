@@ -81,8 +81,7 @@ const SCENES: &[Scene] = &[
         ],
         next: &[],
     },
-    // An unfinished last line is ended; what comes after it nevertheless is read. The next run knows the line
-    // feed.
+    // An unfinished last line is ended; what comes after it nevertheless is read.
     Scene {
         linger: 0,
         steps: &[
@@ -92,6 +91,18 @@ const SCENES: &[Scene] = &[
             Step::Reads(b"\n"),
             Step::Append(OLD, b"a line"),
             Step::Reads(b"a line"),
+            Step::Reads(b"\n"),
+            Step::Reads(b"new\n"),
+        ],
+        next: &[],
+    },
+    // The next run knows the line feed after an unfinished last line.
+    Scene {
+        linger: 0,
+        steps: &[
+            Step::Grow(b"half"),
+            Step::Rename,
+            Step::Append(LOG, b"new\n"),
             Step::Reads(b"\n"),
         ],
         next: &[Step::Reads(b""), Step::Reads(b"new\n")],

@@ -110,7 +110,6 @@ const SCENES: &[Scene] = &[
             Step::Brings(Event::Room(1)),
             Step::Accept,
             Step::PushMuch,
-            Step::Push(1, b"more", Pushed::Again),
             Step::Send(b"early"),
             Step::Brings(Event::Back(b"early")),
             Step::ReceiveTaken(0),
