@@ -299,8 +299,21 @@ def so_many_ticks(room):
     holds(report[-2:] == ["loaded 0 unrouted 0 left 0 faults 0", "owed 0"], f"the report is another: {report}")
 
 
+# Puts a pipe in the place of the configuration, and writes the configuration to it.
+PIPED = "mv main.conf text && mkfifo main.conf && { cat text >main.conf & }"
+
+
+def piped_configuration(room):
+    """A configuration that comes over a pipe is read to its end, as by `-c /dev/stdin`."""
+    with Program(room, "piped", TO_FILE.format(port=free_port(), path="."), words=("-n", "3"), before=PIPED) as program:
+        status = program.end()
+        report = program.stdout().decode().splitlines()
+    holds(status == 0, f"status {status}: {program.stderr().decode(errors='replace')}")
+    holds(report[:1] == ["input tcp.0: batches 0 events 0 refused 0"], f"the report is another: {report}")
+
+
 def pasted_lines(room):
-    """The configuration that the README shows, at another port."""
+    """The configuration of `examples/quickstart`, at another port."""
     port = free_port()
     with open(os.path.join(TOP, "examples", "quickstart", "main.conf")) as file:
         configuration = file.read().replace("5170", str(port))
@@ -314,7 +327,7 @@ def pasted_lines(room):
     holds(program.lines("app.log") == [printed[0].encode()], f"the file has {program.lines('app.log')}")
 
 
-CASES = (lines_of_five_peers, port_that_is_taken, folder_without_rights, peers_leave_descriptors, so_many_ticks, pasted_lines)
+CASES = (lines_of_five_peers, port_that_is_taken, folder_without_rights, peers_leave_descriptors, so_many_ticks, piped_configuration, pasted_lines)
 
 
 def passes(case, room):

@@ -67,7 +67,8 @@ fn copied_bytes(alloc: Global, value: &Value) -> Result<Option<Bytes>, Memory>
 
 /// Returns whether a message begins with its word and has the wanted digest.
 fn is_shown(wanted_word: &[u8], word: &Value, wanted: &Option<Bytes>, digest: &Value) -> bool
-    ensures { result ≡ (is_bytes wanted_word.now (val_of word.now) && is_digest wanted.now (val_of digest.now)) }
+    ensures { result ≡ (is_bytes wanted_word.now (val_of word.now)
+        && is_digest wanted.now (val_of digest.now)) }
 {
     is_bytes(wanted_word, word) && is_digest(wanted, digest)
 }
@@ -127,7 +128,8 @@ fn ping_digest(
     host: &Value,
     salt: &Value,
 ) -> Result<Option<Bytes>, Memory>
-    ensures { IfOk result (λ digest. digest ≡ ping_digest ring.now nonce.now (bytes_of (val_of host.now)) (bytes_of (val_of salt.now))) }
+    ensures { IfOk result (λ digest. digest
+        ≡ ping_digest ring.now nonce.now (bytes_of (val_of host.now)) (bytes_of (val_of salt.now))) }
 {
     let Some(host) = bytes_of(host) else {
         return Ok(None);
@@ -146,7 +148,8 @@ pub fn salt_of(
     nonce: &[u8],
     members: &[Value],
 ) -> Result<Option<Bytes>, Memory>
-    ensures { IfOk result (λ salt. salt ≡ salt_of ring.now nonce.now (list (vals_of (map val_of members.now)))) }
+    ensures { IfOk result (λ salt. salt
+        ≡ salt_of ring.now nonce.now (list (vals_of (map val_of members.now)))) }
 {
     let [word, host, salt, digest, _, _] = members else {
         return Ok(None);
@@ -179,7 +182,8 @@ fn pong_digest(
     nonce: &[u8],
     host: &Value,
 ) -> Result<Option<Bytes>, Memory>
-    ensures { IfOk result (λ digest. digest ≡ pong_digest ring.now salt.now nonce.now (bytes_of (val_of host.now))) }
+    ensures { IfOk result (λ digest. digest
+        ≡ pong_digest ring.now salt.now nonce.now (bytes_of (val_of host.now))) }
 {
     match bytes_of(host) {
         Some(host) => other_digest(alloc, ring, salt, nonce, host),
@@ -204,7 +208,8 @@ pub fn host_of(
     nonce: &[u8],
     members: &[Value],
 ) -> Result<Option<Bytes>, Memory>
-    ensures { IfOk result (λ host. host ≡ host_of ring.now salt.now nonce.now (list (vals_of (map val_of members.now)))) }
+    ensures { IfOk result (λ host. host
+        ≡ host_of ring.now salt.now nonce.now (list (vals_of (map val_of members.now)))) }
 {
     let [word, accepted, _, host, digest] = members else {
         return Ok(None);

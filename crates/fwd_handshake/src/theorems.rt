@@ -77,8 +77,8 @@ pub fn a_pong_is_right()
 /// A client refuses a PONG that names its own host.
 pub fn own_host_is_refused()
     ensures { (ring : Ring) (salt nonce stream : List ℕ) (len : ℕ) (word accepted reason host digest : Val) →
-        EncodesPrefix (list (val word (val accepted (val reason (val host (val digest no_vals)))))) len stream →
-        IsBytes ring.host host → pong_judged ring salt nonce stream ≡ greeted.Wrong }
+        EncodesPrefix (list (val word (val accepted (val reason (val host (val digest no_vals)))))) len stream
+        → IsBytes ring.host host → pong_judged ring salt nonce stream ≡ greeted.Wrong }
 {}
 
 /// If a stream wants more, and is right with a further piece, then the message ends in that piece.
@@ -87,7 +87,8 @@ pub fn right_is_new()
         helo_judged stream ≡ greeted.More → helo_judged (stream ++ piece) ≡ greeted.Right len →
         length stream < len }
     ensures ping { (ring : Ring) (nonce stream piece : List ℕ) (len : ℕ) →
-        ping_judged ring nonce stream ≡ greeted.More → ping_judged ring nonce (stream ++ piece) ≡ greeted.Right len →
+        ping_judged ring nonce stream ≡ greeted.More →
+        ping_judged ring nonce (stream ++ piece) ≡ greeted.Right len →
         length stream < len }
     ensures pong { (ring : Ring) (salt nonce stream piece : List ℕ) (len : ℕ) →
         pong_judged ring salt nonce stream ≡ greeted.More →

@@ -31,7 +31,8 @@ pub fn complete_name(alloc: Global, name: &str) -> Result<Option<Bytes>, Memory>
 pub fn listing(names: Vec<Bytes>) -> Result<Names, Memory>
     requires { All IsFileName names.items }
     ensures sorted { IfOk result IsListing }
-    ensures same { IfOk result (λ listed. (name : List ℕ) → Contains listed name ↔ Contains names.items name) }
+    ensures same { IfOk result (λ listed. (name : List ℕ)
+        → Contains listed name ↔ Contains names.items name) }
 {
     let mut names = names;
     names.sort()?;

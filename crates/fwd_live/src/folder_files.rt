@@ -14,6 +14,7 @@ use fwd_live_files::{FollowedFiles, Identities};
 use fwd_live_sockets::most_files;
 use fwd_outside::{Bytes, FileErr, Files};
 use std::alloc::Global;
+use std::io;
 use std::time::Duration;
 
 /// For how many milliseconds another file with bytes has had a path before the one that was read to its end
@@ -23,7 +24,8 @@ const LINGER: u64 = 1_000;
 /// Within how many milliseconds a file is read again that is being written.
 const WRITTEN: u64 = 50;
 
-/// Followed files and configuration files. What a path stands for is what `FollowedFiles` says.
+/// Followed files and configuration files. What a path stands for is what `FollowedFiles` says. Before the loop is
+/// started, a path that has no length, as a pipe, is read to its end when its length is asked for.
 #[derive(Drop)]
 pub struct FolderFiles<'a> {
     files: FollowedFiles<'a>,
@@ -85,6 +87,14 @@ impl<'a> FolderFiles<'a> {
     }
 }
 
+/// Returns the length of a path; of one that has none, once it was read to its end.
+fn length_in(files: &mut FollowedFiles<'_>, is_started: bool, path: &[u8]) -> io::Result<u64> {
+    if !is_started {
+        files.read_stream(path)?;
+    }
+    files.length(path)
+}
+
 fn length_of(answer: &Option<Bytes>) -> u64 {
     match answer {
         Some(bytes) => bytes.len() as u64,
@@ -98,7 +108,7 @@ impl<'a> Files for FolderFiles<'a> {
     ghost call_log = { λ files. Some (files.calls.given, files.calls.entries) };
 
     fn length(&mut self, path: &[u8]) -> Result<u64, FileErr> {
-        let outcome = self.files.length(path);
+        let outcome = length_in(&mut self.files, self.shared.is_started.get(), path);
         log_unread(&self.shared.journal, path, &outcome);
         let answer = answer_of(outcome)?;
         self.share(0);

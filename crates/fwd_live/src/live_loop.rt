@@ -35,11 +35,7 @@ pub struct LiveLoop<'a> {
 impl<'a> LiveLoop<'a> {
     /// Returns the loop with an empty log, and how long peers of outputs may be silent. The caller picks what
     /// it is taken to bring.
-    pub fn new(
-        rt: HostRuntime,
-        shared: &'a Shared,
-        patience: Patience,
-    ) -> io::Result<LiveLoop<'a>>
+    pub fn new(rt: HostRuntime, shared: &'a Shared, patience: Patience) -> io::Result<LiveLoop<'a>>
         ghost brought: { LoopGiven }
         ensures { IfOk result (λ l. (l.calls.given ≡ brought) × (l.calls.entries ≡ [])) }
     {
@@ -98,6 +94,7 @@ impl<'a> Loop for LiveLoop<'a> {
     ghost call_log = { λ l. Some (l.calls.given, l.calls.entries) };
 
     fn start(&mut self, ends: &Ends) -> Begun {
+        self.shared.is_started.set(true);
         let Ok(answer) = answer_of(self.machine.start(ends)) else {
             return Begun::Memory;
         };

@@ -16,7 +16,15 @@ impl Model for LoopScript {
 
     ghost coded = { brought_code };
 
-    ghost view = { λ _. record { happenings = []; places = []; dials = []; pushes = []; replies = []; words = []; round = gnil } };
+    ghost view = { λ _. record {
+      happenings = [];
+      places = [];
+      dials = [];
+      pushes = [];
+      replies = [];
+      words = [];
+      round = gnil;
+    } };
 }
 
 /// Represents a loop call with its answer. No value of it is made.

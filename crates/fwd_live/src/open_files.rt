@@ -56,7 +56,8 @@ impl OpenFiles {
 
     /// Returns the file with a name, which counts as used now. `None` if it isn't open.
     pub fn get(&mut self, name: &[u8]) -> Option<&File>
-        ensures { IfSome result (λ file. Contains self.old.files.items (record { name = name.now; file = file.now })) }
+        ensures { IfSome result (λ file.
+            Contains self.old.files.items (record { name = name.now; file = file.now })) }
     {
         let index = self.index_of(name)?;
         let open = self.files.remove(index);

@@ -29,6 +29,9 @@ pub struct Shared {
     /// How many descriptors the followed files hold.
     pub held_files: Cell<usize>,
 
+    /// Whether the loop was started. Before that, only files of the configuration and schedules are read.
+    pub is_started: Cell<bool>,
+
     /// The log of the run.
     pub journal: Journal,
 
@@ -42,6 +45,7 @@ impl Shared {
             disk_failed: Cell::new(false),
             read_within: Cell::new(u64::MAX),
             held_files: Cell::new(0),
+            is_started: Cell::new(false),
             journal,
             lock_file: Cell::new(None),
         }

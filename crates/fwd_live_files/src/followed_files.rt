@@ -66,6 +66,15 @@ impl<'a> FollowedFiles<'a> {
         self.handles = self.handles.saturating_sub(before).saturating_add(now);
     }
 
+    /// Reads what has a path to its end, if that has no length, as a pipe. Its bytes stand for the path then.
+    pub fn read_stream(&mut self, path: &[u8]) -> io::Result<()> {
+        self.ensure_path(path)?;
+        match self.paths.get_mut(path) {
+            Some(followed) => followed.read_stream(&self.rt),
+            None => Err(io::Error::from(ErrorKind::NotFound)),
+        }
+    }
+
     /// Returns the length of a path's stream; 0 where another file begins.
     pub fn length(&mut self, path: &[u8]) -> io::Result<u64> {
         self.ensure_path(path)?;

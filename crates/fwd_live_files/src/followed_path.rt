@@ -6,7 +6,7 @@ use crate::copies::find_copy;
 use crate::identities::{Identities, KeptFile};
 use crate::identity::{identity_at, identity_of};
 use crate::kept_file::find_kept;
-use crate::reading::read_named;
+use crate::reading::{part_of, read_named, read_stream};
 use crate::stream_file::{Finding, Progress, StreamFile};
 use fwd_base::Bytes;
 use std::alloc::Global;
@@ -26,6 +26,8 @@ enum Hold {
     Open(StreamFile),
     /// Each call opens the file that then has the path.
     Named,
+    /// The path has no length, as a pipe. These are all its bytes.
+    Stream(Bytes),
 }
 
 /// A file that has got the path while an older one is read.
@@ -109,7 +111,7 @@ impl FollowedPath {
     pub fn note_identity(&self, alloc: Global, path: &[u8], identities: &Identities) {
         match &self.hold {
             Hold::Open(file) => identities.note(alloc, path, file.identity()),
-            Hold::Named => identities.forget(path),
+            Hold::Named | Hold::Stream(_) => identities.forget(path),
             Hold::Closed(_) => {}
         }
     }
@@ -120,7 +122,7 @@ impl FollowedPath {
             Hold::Open(_) => 1,
             Hold::Closed(Progress::Restarted) => 1,
             Hold::Closed(Progress::Unread | Progress::Reading) => 0,
-            Hold::Named => 0,
+            Hold::Named | Hold::Stream(_) => 0,
         };
         self.newer.len().saturating_add(own)
     }
@@ -135,7 +137,7 @@ impl FollowedPath {
     fn ensure_open(&mut self, rt: &HostRuntime, may_hold: bool) -> io::Result<()> {
         let progress = match &self.hold {
             Hold::Closed(progress) => *progress,
-            Hold::Open(_) | Hold::Named => return Ok(()),
+            Hold::Open(_) | Hold::Named | Hold::Stream(_) => return Ok(()),
         };
         if may_hold || progress == Progress::Restarted {
             let opened = StreamFile::open(rt, self.path.as_str(), progress)?;
@@ -189,6 +191,7 @@ impl FollowedPath {
                 let _ = note_newer(rt, self.path.as_str(), file, &mut self.newer);
                 file.find()
             }
+            Hold::Stream(bytes) => Ok(Finding::Length(bytes.len() as u64)),
             Hold::Closed(_) | Hold::Named => Ok(Finding::Unidentified),
         };
         if found.is_err() {
@@ -228,7 +231,7 @@ impl FollowedPath {
     fn end_line(&mut self) -> bool {
         match &mut self.hold {
             Hold::Open(file) => file.end_line(),
-            Hold::Closed(_) | Hold::Named => false,
+            Hold::Closed(_) | Hold::Named | Hold::Stream(_) => false,
         }
     }
 
@@ -239,6 +242,17 @@ impl FollowedPath {
             None => Hold::Closed(Progress::Restarted),
         };
         self.ensure_open(rt, true)
+    }
+
+    /// Reads what has the path to its end, if that has no length, as a pipe. Its bytes stand for the path then.
+    pub fn read_stream(&mut self, rt: &HostRuntime) -> io::Result<()> {
+        if let Hold::Closed(_) = self.hold {
+            let about = fs::metadata(rt, self.path.as_str())?;
+            if !about.is_file() && !about.is_dir() {
+                self.hold = Hold::Stream(read_stream(rt, self.path.as_str())?);
+            }
+        }
+        Ok(())
     }
 
     /// Returns the length of the path's stream. It is 0 where another file begins. If the path has no handle
@@ -275,7 +289,7 @@ impl FollowedPath {
     fn is_expected(&self, at: u64) -> bool {
         match &self.hold {
             Hold::Open(file) => file.is_expected(at),
-            Hold::Closed(_) | Hold::Named => true,
+            Hold::Closed(_) | Hold::Named | Hold::Stream(_) => true,
         }
     }
 
@@ -295,6 +309,7 @@ impl FollowedPath {
         }
         match &mut self.hold {
             Hold::Open(file) => file.read_at(alloc, at, max),
+            Hold::Stream(bytes) => part_of(alloc, bytes.as_slice(), at, max),
             Hold::Closed(_) | Hold::Named => read_named(rt, alloc, self.path.as_str(), at, max),
         }
     }

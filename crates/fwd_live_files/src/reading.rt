@@ -1,4 +1,4 @@
-//! Reads of files from an offset on.
+//! Reads of files: from an offset on, and of those without a length to their end.
 
 ghost use Rattle.std.specs.Prelude.{◌≤◌, IfOk, length};
 
@@ -6,7 +6,7 @@ use fwd_base::Bytes;
 use fwd_base::limits::LONGEST_READ;
 use std::alloc::Global;
 use std::fs::{self, File};
-use std::io::{self, ErrorKind};
+use std::io::{self, ErrorKind, Read};
 use std::os::unix::fs::FileExt;
 
 /// The largest offset that the system takes.
@@ -56,4 +56,49 @@ pub fn read_named(
 {
     let file = fs::open(rt, path)?;
     read_part(&file, alloc, at, max)
+}
+
+/// The most bytes of a file that has no length.
+const LONGEST_STREAM: usize = 16_777_216;
+
+/// The most bytes of one read of it.
+const STREAM_PART: usize = 4_096;
+
+/// Appends what one read gives. Returns false at the end.
+fn append_read(file: &mut File, bytes: &mut Vec<u8>) -> io::Result<bool> {
+    let mut part = [0; STREAM_PART];
+    match file.read(&mut part) {
+        Ok(count) => {
+            bytes.extend_from_slice(&part[..count])?;
+            Ok(0 < count)
+        }
+        Err(error) if error.kind() == ErrorKind::Interrupted => Ok(true),
+        Err(error) => Err(error),
+    }
+}
+
+/// Reads a file that has no length, as a pipe, to its end. Fails if it has more than `LONGEST_STREAM` bytes.
+pub fn read_stream(rt: &HostRuntime, path: &str) -> io::Result<Bytes> {
+    let mut file = fs::open(rt, path)?;
+    let mut bytes = Vec::new(rt.alloc());
+    for _ in 0..=LONGEST_STREAM {
+        if !append_read(&mut file, &mut bytes)? {
+            return Ok(Bytes::from_vec(bytes));
+        }
+        if LONGEST_STREAM < bytes.len() {
+            break;
+        }
+    }
+    Err(io::Error::from(ErrorKind::FileTooLarge))
+}
+
+/// Returns at most `max` bytes of a stream's bytes from a position on.
+pub fn part_of(alloc: Global, bytes: &[u8], at: u64, max: u64) -> io::Result<Bytes>
+    ensures { IfOk result (λ part. length part ≤ max) }
+{
+    let from = at.min(bytes.len() as u64) as usize;
+    let rest = &bytes[from..];
+    let count = max.min(rest.len() as u64) as usize;
+    let part = Vec::from_slice(alloc, &rest[..count])?;
+    Ok(Bytes::from_vec(part))
 }

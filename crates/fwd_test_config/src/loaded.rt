@@ -84,7 +84,7 @@ fn put_load(alloc: Global, text: &mut String, files: &[Bytes]) -> Result<(), Mem
     }
 }
 
-fn loaded(alloc: Global, files: &[Bytes]) -> Result<String, Memory> {
+fn load_text(alloc: Global, files: &[Bytes]) -> Result<String, Memory> {
     let mut text = String::new(alloc);
     put_load(alloc, &mut text, files)?;
     Ok(text)
@@ -93,7 +93,7 @@ fn loaded(alloc: Global, files: &[Bytes]) -> Result<String, Memory> {
 /// `load|PATH|BYTES|PATH|BYTES..`: the sections and entries of the first file with their places, or the
 /// refusal.
 pub fn put_loaded(alloc: Global, out: &mut String, files: &[Bytes]) -> Result<(), Memory> {
-    let text = loaded(alloc, files)?;
+    let text = load_text(alloc, files)?;
     put_bytes(out, text.as_str().as_bytes())
 }
 

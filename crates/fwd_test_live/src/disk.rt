@@ -67,7 +67,7 @@ fn new_disk(rt: HostRuntime, shared: &Shared) -> FolderDisk<'_> {
     FolderDisk::new(rt, shared, Access::Owner)
 }
 
-fn listed(disk: &mut FolderDisk<'_>, alloc: Global, folder: &str) -> Result<Bytes, DiskErr> {
+fn names_in(disk: &mut FolderDisk<'_>, alloc: Global, folder: &str) -> Result<Bytes, DiskErr> {
     let names = disk.list(alloc, folder.as_bytes())?;
     let mut text = Bytes::new(alloc);
     for name in names.iter() {
@@ -93,7 +93,7 @@ fn answer(disk: &mut FolderDisk<'_>, rt: HostRuntime, call: Call) -> Result<Byte
         Call::Write(name, at, bytes) => done(alloc, disk.write_at(name.as_bytes(), at, bytes)),
         Call::Sync(name) => done(alloc, disk.sync(name.as_bytes())),
         Call::Read(name, at, len) => disk.read(alloc, name.as_bytes(), at, len),
-        Call::List(folder) => listed(disk, alloc, folder),
+        Call::List(folder) => names_in(disk, alloc, folder),
         Call::Remove(name) => done(alloc, disk.remove(name.as_bytes())),
         Call::OtherWrites(name) => done(alloc, failed_if(fs::write(&rt, name, b"part").is_err())),
         Call::OtherRemoves(folder) => {

@@ -81,8 +81,7 @@ const SCENES: &[Scene] = &[
         ],
         next: &[],
     },
-    // An unfinished last line is ended; what comes after it nevertheless is read. The next run knows the line
-    // feed.
+    // An unfinished last line is ended; what comes after it nevertheless is read.
     Scene {
         linger: 0,
         steps: &[
@@ -92,6 +91,18 @@ const SCENES: &[Scene] = &[
             Step::Reads(b"\n"),
             Step::Append(OLD, b"a line"),
             Step::Reads(b"a line"),
+            Step::Reads(b"\n"),
+            Step::Reads(b"new\n"),
+        ],
+        next: &[],
+    },
+    // The next run knows the line feed after an unfinished last line.
+    Scene {
+        linger: 0,
+        steps: &[
+            Step::Grow(b"half"),
+            Step::Rename,
+            Step::Append(LOG, b"new\n"),
             Step::Reads(b"\n"),
         ],
         next: &[Step::Reads(b""), Step::Reads(b"new\n")],
@@ -268,7 +279,7 @@ fn good_steps_of_next(
 
 /// Plays both runs. The first one's handles stay open, so that no inode is used again. Returns how many steps
 /// of each go as they say.
-fn played(rt: HostRuntime, scene: &Scene) -> Result<(usize, usize), Memory> {
+fn play(rt: HostRuntime, scene: &Scene) -> Result<(usize, usize), Memory> {
     let identities = Identities::new(rt.alloc());
     let mut files = new_files(rt, &identities, scene.linger);
     let mut places = [0u64; 2];
@@ -282,7 +293,7 @@ fn rotated_files_are_read(rt: HostRuntime) -> Result<(), Fail> {
     for (number, scene) in SCENES.iter().enumerate() {
         let _ = fs::remove_dir_all(&rt, "fwd_test_live_rotated");
         fs::create_dir(&rt, "fwd_test_live_rotated")?;
-        let (first, next) = played(rt, scene)?;
+        let (first, next) = play(rt, scene)?;
         fs::remove_dir_all(&rt, "fwd_test_live_rotated")?;
         let is_good = first == scene.steps.len() && next == scene.next.len();
         assert!(rt; is_good, "scene {number}: step {first}, then {next}");

@@ -110,7 +110,6 @@ const SCENES: &[Scene] = &[
             Step::Brings(Event::Room(1)),
             Step::Accept,
             Step::PushMuch,
-            Step::Push(1, b"more", Pushed::Again),
             Step::Send(b"early"),
             Step::Brings(Event::Back(b"early")),
             Step::ReceiveTaken(0),
@@ -157,7 +156,7 @@ fn first_other(stage: &mut Stage<'_>, rt: HostRuntime, steps: &[Step]) -> usize 
     steps.len()
 }
 
-fn played(rt: HostRuntime, scene: &Scene) -> Result<usize, Fail> {
+fn play(rt: HostRuntime, scene: &Scene) -> Result<usize, Fail> {
     let shared = quiet(rt);
     let mut stage = new_stage(rt, &shared, scene.patience)?;
     Ok(first_other(&mut stage, rt, scene.steps))
@@ -166,7 +165,7 @@ fn played(rt: HostRuntime, scene: &Scene) -> Result<usize, Fail> {
 #[test]
 fn scenes_go_as_they_say(rt: HostRuntime) -> Result<(), Fail> {
     for scene in SCENES.iter() {
-        let place = played(rt, scene)?;
+        let place = play(rt, scene)?;
         assert!(rt; place == scene.steps.len(), "{}: step {place}", scene.name);
     }
     Ok(())

@@ -55,7 +55,7 @@ pub enum Step {
     /// The dial of an output for the tag `fwd_test_live.a/b` gives this link.
     Dial(OutputId, u64),
     Push(u64, &'static [u8], Pushed),
-    /// Pushes to the first link until no more is taken.
+    /// Pushes to the first link until it is full.
     PushMuch,
     CloseLink(u64),
     /// A file has this text. It is removed.
@@ -148,16 +148,17 @@ fn reply_much(live: &mut LiveLoop<'_>) -> u64 {
     taken
 }
 
-/// Returns how many bytes were taken.
+/// Returns how many bytes were taken; 0 if the link wasn't full then.
 fn push_much(live: &mut LiveLoop<'_>) -> u64 {
     let mut taken = 0u64;
     for _ in 0..PARTS {
-        let Pushed::Took(count) = live.push(LinkId(1), &PART) else {
-            return taken;
-        };
-        taken = taken.saturating_add(count);
+        match live.push(LinkId(1), &PART) {
+            Pushed::Took(count) => taken = taken.saturating_add(count),
+            Pushed::Again => return taken,
+            Pushed::Broken | Pushed::Memory => return 0,
+        }
     }
-    taken
+    0
 }
 
 fn dials(live: &mut LiveLoop<'_>, output: OutputId, number: u64) -> bool {

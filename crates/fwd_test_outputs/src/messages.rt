@@ -17,7 +17,7 @@ fn push_event(bytes: &mut Bytes, event: &Event) -> Result<(), Memory> {
     Ok(())
 }
 
-fn stored(alloc: Global, events: &Events) -> Result<Bytes, Memory> {
+fn encode_events(alloc: Global, events: &Events) -> Result<Bytes, Memory> {
     let mut bytes = Bytes::new(alloc);
     for event in events {
         push_event(&mut bytes, event)?;
@@ -26,7 +26,7 @@ fn stored(alloc: Global, events: &Events) -> Result<Bytes, Memory> {
 }
 
 fn put_stored(alloc: Global, out: &mut String, events: &Events) -> Result<(), Memory> {
-    let bytes = stored(alloc, events)?;
+    let bytes = encode_events(alloc, events)?;
     put_bytes(out, bytes.as_slice())
 }
 
@@ -138,7 +138,7 @@ fn feed_all(conn: &mut ForwardConn, size: usize, stream: &[u8]) -> Result<Came, 
     Ok(came)
 }
 
-fn fed(alloc: Global, size: usize, stream: &[u8]) -> Result<Came, Memory>
+fn feed_new(alloc: Global, size: usize, stream: &[u8]) -> Result<Came, Memory>
     requires { 0 < size }
 {
     let mut conn = ForwardConn::new(alloc);
@@ -156,7 +156,7 @@ pub fn put_pieces(
     if size == 0 {
         return Ok(());
     }
-    let came = fed(alloc, size, stream)?;
+    let came = feed_new(alloc, size, stream)?;
     write!(out, "{} messages {}", came.messages, fault_word(came.fault))?;
     Ok(())
 }

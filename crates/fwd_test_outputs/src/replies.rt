@@ -40,7 +40,7 @@ pub fn put_retried(alloc: Global, out: &mut String, row: &[Bytes]) -> Result<(),
 }
 
 /// The judgement on a reply where an id is to be acknowledged; without an id none is.
-fn judged(alloc: Global, id: &[u8], reply: &[u8]) -> Result<Judged, Memory> {
+fn judge_reply(alloc: Global, id: &[u8], reply: &[u8]) -> Result<Judged, Memory> {
     if id.is_empty() {
         return EndReader::Quiet.judge(alloc, reply);
     }
@@ -50,7 +50,7 @@ fn judged(alloc: Global, id: &[u8], reply: &[u8]) -> Result<Judged, Memory> {
 
 /// Appends how a reply of a forward peer is judged.
 pub fn put_ack(alloc: Global, out: &mut String, id: &[u8], reply: &[u8]) -> Result<(), Memory> {
-    put_judged(out, judged(alloc, id, reply)?)
+    put_judged(out, judge_reply(alloc, id, reply)?)
 }
 
 /// Appends the id of a chunk that is sent to an output.

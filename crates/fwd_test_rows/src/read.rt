@@ -39,7 +39,7 @@ fn push_text(bytes: &mut Bytes, text: &str) -> Result<(), Memory> {
     Ok(())
 }
 
-fn decoded(alloc: Global, text: &str) -> Result<Bytes, Memory> {
+fn decode(alloc: Global, text: &str) -> Result<Bytes, Memory> {
     let mut bytes = Bytes::new(alloc);
     push_text(&mut bytes, text)?;
     Ok(bytes)
@@ -55,7 +55,7 @@ fn push_often(bytes: &mut Bytes, count: u32, text: &[u8]) -> Result<(), Memory> 
 /// Appends the text of a part `COUNT TEXT` as often as it says.
 fn push_repeated(alloc: Global, bytes: &mut Bytes, part: &str) -> Result<(), Memory> {
     let (count, text) = part.split_once(' ').unwrap_or(("0", ""));
-    let text = decoded(alloc, text)?;
+    let text = decode(alloc, text)?;
     push_often(bytes, count.parse::<u32>().unwrap_or(0), text.as_slice())
 }
 

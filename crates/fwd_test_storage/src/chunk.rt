@@ -18,7 +18,7 @@ const NEW_FILE: &[u8] =
     \x92\x92\xd7\0\0\0\0\0\0\0\0\0\x80\x81\xa3log\xa3one";
 
 /// Places a file with the tag `app` and a batch.
-fn created(
+fn create_file(
     alloc: Global,
     disk: &mut MemDisk,
     batch: &[u8],
@@ -34,7 +34,7 @@ fn created(
 
 fn place(alloc: Global, disk: &mut MemDisk, batch: &[u8]) -> Result<ChunkHead, DiskErr> {
     let names = outputs(alloc)?;
-    created(alloc, disk, batch, &names)
+    create_file(alloc, disk, batch, &names)
 }
 
 fn has_bytes(alloc: Global, disk: &mut MemDisk, wanted: &[u8]) -> Result<bool, DiskErr> {

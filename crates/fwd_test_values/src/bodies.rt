@@ -42,13 +42,13 @@ fn condition(asked: &[u8], key: Bytes, value: Bytes) -> Condition {
     }
 }
 
-fn copied(alloc: Global, text: &[u8]) -> Result<Bytes, Memory> {
+fn copy_of(alloc: Global, text: &[u8]) -> Result<Bytes, Memory> {
     Bytes::from_slice(alloc, text)
 }
 
 fn new_change(alloc: Global, rule: &[u8], key: &[u8], other: &[u8]) -> Result<Change, Memory> {
-    let key = copied(alloc, key)?;
-    Ok(change(rule, key, copied(alloc, other)?))
+    let key = copy_of(alloc, key)?;
+    Ok(change(rule, key, copy_of(alloc, other)?))
 }
 
 fn new_condition(
@@ -57,8 +57,8 @@ fn new_condition(
     key: &[u8],
     value: &[u8],
 ) -> Result<Condition, Memory> {
-    let key = copied(alloc, key)?;
-    Ok(condition(asked, key, copied(alloc, value)?))
+    let key = copy_of(alloc, key)?;
+    Ok(condition(asked, key, copy_of(alloc, value)?))
 }
 
 fn changes(alloc: Global, rule: &[u8], key: &[u8], other: &[u8]) -> Result<Changes, Memory> {
@@ -103,7 +103,7 @@ pub fn put_modified_if(alloc: Global, out: &mut String, row: &[Bytes]) -> Result
 }
 
 fn push_name(alloc: Global, names: &mut Names, name: &[u8]) -> Result<(), Memory> {
-    let name = copied(alloc, name)?;
+    let name = copy_of(alloc, name)?;
     names.push(name)
 }
 
@@ -117,21 +117,21 @@ fn wildcards(alloc: Global, text: &[u8]) -> Result<Names, Memory> {
 
 fn nest_rule(alloc: Global, names: &[u8], prefix: &[u8], under: &[u8]) -> Result<NestRule, Memory> {
     let wildcards = wildcards(alloc, names)?;
-    let remove_prefix = copied(alloc, prefix)?;
+    let remove_prefix = copy_of(alloc, prefix)?;
     Ok(NestRule {
         wildcards,
-        under: copied(alloc, under)?,
+        under: copy_of(alloc, under)?,
         remove_prefix,
         add_prefix: Bytes::new(alloc),
     })
 }
 
 fn lift_rule(alloc: Global, under: &[u8], prefix: &[u8]) -> Result<LiftRule, Memory> {
-    let under = copied(alloc, under)?;
+    let under = copy_of(alloc, under)?;
     Ok(LiftRule {
         under,
         remove_prefix: Bytes::new(alloc),
-        add_prefix: copied(alloc, prefix)?,
+        add_prefix: copy_of(alloc, prefix)?,
     })
 }
 
@@ -168,7 +168,7 @@ pub fn put_lifted(alloc: Global, out: &mut String, row: &[Bytes]) -> Result<(), 
 }
 
 fn grep_rule(alloc: Global, exclude: bool, pattern: &[u8]) -> Result<GrepRule, PatternErr> {
-    let key = copied(alloc, b"k")?;
+    let key = copy_of(alloc, b"k")?;
     Ok(GrepRule {
         exclude,
         key,

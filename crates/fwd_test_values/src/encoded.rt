@@ -21,7 +21,7 @@ pub fn put_error(out: &mut String, error: &impl Display) -> Result<(), Memory> {
 }
 
 /// What is encoded for a value.
-fn encoded(alloc: Global, value: &Value) -> Result<Bytes, Memory>
+fn encode_value(alloc: Global, value: &Value) -> Result<Bytes, Memory>
     requires nested { nesting (val_of value.now) ≤ deepest }
     requires lengths { LengthsFit (val_of value.now) }
 {
@@ -34,7 +34,7 @@ fn put_encoded(alloc: Global, out: &mut String, value: &Value) -> Result<(), Mem
     requires nested { nesting (val_of value.now) ≤ deepest }
     requires lengths { LengthsFit (val_of value.now) }
 {
-    let bytes = encoded(alloc, value)?;
+    let bytes = encode_value(alloc, value)?;
     put_bytes(out, bytes.as_slice())
 }
 
@@ -113,14 +113,14 @@ fn push_events(bytes: &mut Bytes, events: &Events) -> Result<(), Memory> {
     Ok(())
 }
 
-fn stored(alloc: Global, events: &Events) -> Result<Bytes, Memory> {
+fn encode_events(alloc: Global, events: &Events) -> Result<Bytes, Memory> {
     let mut bytes = Bytes::new(alloc);
     push_events(&mut bytes, events)?;
     Ok(bytes)
 }
 
 fn put_stored(alloc: Global, out: &mut String, events: &Events) -> Result<(), Memory> {
-    let bytes = stored(alloc, events)?;
+    let bytes = encode_events(alloc, events)?;
     write!(out, "{} ", events.len())?;
     put_bytes(out, bytes.as_slice())
 }

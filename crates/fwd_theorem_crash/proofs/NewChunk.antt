@@ -47,7 +47,6 @@ use Rattle.fwd_theorem_crash.proofs.NewChunkOrder.{begun_order, begun_memory, un
 use Rattle.fwd_theorem_crash.proofs.RunTraversal.{after, TakenBy}
 use Rattle.fwd_theorem_crash.proofs.DiskPoints.{HoldsAfter, with_all, Ordered, Safe, Kept, Came, safe_now, runs, notes}
 
-
 module _ (s : AllSettings) (settings : MeetsRequirements s) (first : Files) (b : Batch) (m : CrashPoint) (store : IsToStore s b) (writable : IsWritable b)
     (none : open_chunk (logged m.past) b.input b.tag ≡ None) (left : nat_lt (next (logged m.past)) numbers_end ≡ true) (kept : Kept s first m) where
   abbrev h : History

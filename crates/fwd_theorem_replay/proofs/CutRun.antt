@@ -38,13 +38,13 @@ set_disk start planned set =
     (set_each (λ (number : ℕ). FailAt number) (λ number. tt) planned.disk_fails)
 
 -- a run that was cut is the beginning of a run
-record IsBeginning (s : AllSettings) (es : List TraceEntry) : Type 0 where
+pub record IsBeginning (s : AllSettings) (es : List TraceEntry) : Type 0 where
   pub turns : ℕ
   pub left : Action RunResult
   pub way : Execution (life s (ends_of s) None turns) es left
 
 module _ (s : AllSettings) (turns : ℕ) (start : Start) (planned : Life) (c : CutRun) (cut : IsCut s turns start planned c) where
-  cut_life : IsBeginning s (c.before ++ c.turn)
+  pub cut_life : IsBeginning s (c.before ++ c.turn)
   cut_life = by cut.cut_in
     where
       by : IsCutIn s turns start planned c.before c.history c.turn → IsBeginning s (c.before ++ c.turn)

@@ -143,10 +143,12 @@ AllRead (e ∷ es) = IsReading e.call × AllRead es
 ends_same : (es : List TraceEntry) (old last : CrashPoint) → AllRead es → Ends LeadsTo old es last → Ends LeadsTo (durable_point old) es (durable_point last)
 ends_same [] old last all ends = ap durable_point ends
 ends_same (e ∷ es) old last all ends =
-    let step = ends.2 in
-    (durable_point ends.0, durable_point ends.1,
-    (changes_same e.call e.answer old.files (ends.0).files (ends.1).files all.0 step.0, step.1, step.2),
-    ends_same es ends.1 last all.1 ends.3)
+    let step = ends.2 in (
+      durable_point ends.0,
+      durable_point ends.1,
+      (changes_same e.call e.answer old.files (ends.0).files (ends.1).files all.0 step.0, step.1, step.2),
+      ends_same es ends.1 last all.1 ends.3,
+    )
 
 -- ---- a run that loads asks only for this
 

@@ -19,6 +19,7 @@ use Rattle.fwd_top.specs.Outcomes.{Platform, platform_of, AreNotCalled, Produces
 use Rattle.fwd_top.specs.Delivery.{IsDelivered}
 use Rattle.fwd_top.specs.CrashConsistency.{IsCrashConsistent}
 use Rattle.fwd_top.specs.Offsets.{EachRunKeepsOffsets}
+use Rattle.fwd_top.specs.Contents.{EachRunSendsContents}
 use Rattle.fwd_top.specs.Answers.{Verdict, says, status_of, of_reported, Outcome, IsVerdict, Devices, Asks, Comes, Wrote, WhileAsking, InTheJob, WhileWriting, Answers, is_over_disk, is_run, IsKeeperFault, IsLoopFault, IsDiskFault, spent, spent_by}
 use Rattle.fwd_top.specs.Results.{HasDiskFailed, HasKeeperFailed, HasLoopFailed, IsRefusal, WritesVerdict, WritesSo, WroteTheText, OutFailed, NoMemory, given_by, is_to_run, takes_disk, unless_memory}
 use Rattle.fwd_top.specs.Words.{command_of}
@@ -34,8 +35,9 @@ still o = record { disk = grew_none o.disk; files = grew_none o.files; loop = gr
 pub outcome_of : ((turns : ℕ) (case : Case) (old new : Platform) (r : Reported) (comes : Produces turns case old new r) → LogHasNewLinks new.loop → IsDelivered turns case old new r comes)
     → ((turns : ℕ) (case : Case) (old new : Platform) (r : Reported) (comes : Produces turns case old new r) → AreSound (settings_for case) → IsCrashConsistent turns case old new r comes)
     → ((turns : ℕ) (case : Case) (old new : Platform) (r : Reported) (comes : Produces turns case old new r) → EachRunKeepsOffsets turns case old new r comes)
+    → ((turns : ℕ) (case : Case) (old new : Platform) (r : Reported) (comes : Produces turns case old new r) → AreSound (settings_for case) → EachRunSendsContents turns case old new r comes)
     → (turns : ℕ) (case : Case) (old new : Platform) (r : Reported) → AreSound (settings_for case) → Produces turns case old new r → LogHasNewLinks new.loop → Outcome turns case old new r
-outcome_of delivers stands keeps turns case old new r sound comes links = record { comes = comes; sound = sound; delivered = delivers turns case old new r comes links; safe = stands turns case old new r comes sound; offsets = keeps turns case old new r comes }
+outcome_of delivers stands keeps sends turns case old new r sound comes links = record { comes = comes; sound = sound; delivered = delivers turns case old new r comes links; safe = stands turns case old new r comes sound; offsets = keeps turns case old new r comes; contents = sends turns case old new r comes sound }
 
 -- ---- calls and written text
 

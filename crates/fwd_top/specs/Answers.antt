@@ -22,6 +22,7 @@ use Rattle.fwd_top.specs.declared.status.Status.TheVariants as status
 use Rattle.fwd_top.specs.Outcomes.{Platform, platform_of, AreNotCalled, Produces}
 use Rattle.fwd_top.specs.Delivery.{IsDelivered}
 use Rattle.fwd_top.specs.CrashConsistency.{IsCrashConsistent}
+use Rattle.fwd_top.specs.Contents.{EachRunSendsContents}
 use Rattle.fwd_top.specs.Offsets.{EachRunKeepsOffsets}
 
 -- a text to be written, unless it is empty, and the status after it
@@ -44,15 +45,16 @@ status_of ending.Memory = status.Memory
 abbrev pub of_reported : Reported → Verdict
 of_reported reported = says reported.text (status_of reported.ending)
 
--- What came of a case, and what holds of it: its settings meet what an engine requires, each of its runs keeps
--- the delivery guarantee, no crash loses a pending chunk, and each kept offset of a followed file has nothing
--- lost before it.
+-- What came of a case, and what holds of it: its settings meet what an engine requires, each of its runs
+-- keeps the delivery guarantee, no crash loses a pending chunk, each kept offset of a followed file has
+-- nothing lost before it, and each flush sends the content of its chunk.
 pub record Outcome (turns : ℕ) (case : Case) (old new : Platform) (reported : Reported) : Type 0 where
   pub comes : Produces turns case old new reported
   pub sound : AreSound (settings_for case)
   pub delivered : IsDelivered turns case old new reported comes
   pub safe : IsCrashConsistent turns case old new reported comes
   pub offsets : EachRunKeepsOffsets turns case old new reported comes
+  pub contents : EachRunSendsContents turns case old new reported comes
 
 -- the verdict of a case is that of its outcome
 abbrev pub IsVerdict : ℕ → Case → Platform → Platform → Verdict → Type 0

@@ -6,5 +6,6 @@ pub mod Answers
 pub mod Results
 pub mod Views
 pub mod Delivery
+pub mod Contents
 pub mod CrashConsistency
 pub mod Offsets

@@ -11,6 +11,7 @@
 //! clauses `promise` and `crashes` in words.
 #![tactic(auto)]
 
+mod contents;
 mod crash_consistency;
 mod guarantee;
 mod job;

@@ -10,6 +10,7 @@ ghost use Rattle.fwd_top.specs.Outcomes.{IsListed, Produces, platform_of};
 ghost use Rattle.fwd_replay.specs.declared.report.Ending.TheVariants as ending;
 ghost use Rattle.fwd_top.specs.Results.{HasDiskFailed, HasKeeperFailed, HasLoopFailed, WritesVerdict, Writes, given_by, of_job, settings_in};
 
+use crate::contents::outcomes_send_contents;
 use crate::crash_consistency::outcomes_are_crash_consistent;
 use crate::guarantee::outcomes_are_delivered;
 use crate::job::{Job, read_job};
@@ -153,6 +154,7 @@ pub fn watched_forwarder<D: Disk, F: Files, L: Loop, K: Keeper, S: Sink>(
     outcomes_are_delivered();
     outcomes_are_crash_consistent();
     outcomes_keep_offsets();
+    outcomes_send_contents();
     match read_job(alloc, words, env, files, watch) {
         Ok(job) => {
             let reported = run_job(rt, alloc, job, disk, files, outside, keeper, turns, watch);
@@ -200,6 +202,9 @@ pub fn log_forwarder<D: Disk, F: Files, L: Loop, K: Keeper, S: Sink>(
     // on the disk, whatever a crash leaves has the file of each such chunk. The next run that loads it finds
     // each batch that was accepted before, and so each forward message that was answered before: whole, and
     // pending for each output that matches it and hadn't resolved it.
+    // If no file had unsynced state when a live run began, each of its flushes began with the events of its
+    // chunk, also if appends aren't fsynced (`Outcome.contents`): for a chunk in a file, those of all bytes that
+    // were accepted into it, or recovered. In a replay each flush does.
     // Each offset of a followed file that is put has nothing lost before it (`Outcome.offsets`): each batch that
     // was complete by then was accepted, or refused and counted, or has no events. The next run reads on from
     // the offset that the keeper gives.

@@ -1,6 +1,6 @@
 use Rattle.std.proofs.Common.{[], ◌∷◌, arith}
 use Rattle.fwd_chunk.proofs.Creation.{length-new_meta, are_short}
-use Rattle.fwd_test_storage.proofs.chunk.created.Goals as goal
+use Rattle.fwd_test_storage.proofs.chunk.create_file.Goals as goal
 
 pub create-requires-clause-fits : goal.create-requires-clause-fits
 create-requires-clause-fits c =

@@ -1,0 +1,12 @@
+pub mod FileBytes
+pub mod KeptContent
+pub mod Histories
+pub mod FileEffects
+pub mod Points
+pub mod ContentReads
+pub mod Removal
+pub mod OutcomeRecord
+pub mod Append
+pub mod NewChunk
+pub mod Loading
+pub mod Life

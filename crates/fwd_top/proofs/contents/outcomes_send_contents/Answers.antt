@@ -1,0 +1,18 @@
+use Rattle.fwd_settings.specs.Endpoints.{ends_of}
+use Rattle.fwd_replay.specs.LiveRun.{RanToEnd, RanOutOfMemory}
+use Rattle.fwd_replay.specs.declared.report.Shown.TheVariants.{All, Report}
+use Rattle.fwd_top.specs.Outcomes.{Produces}
+use Rattle.fwd_top.specs.Cases.{AreSound, Case, Replays, Generates, Runs, Lists, Refuses, settings_for}
+use Rattle.fwd_top.specs.Contents.{EachRunSendsContents}
+use Rattle.fwd_top.proofs.contents.outcomes_send_contents.Goals as goal
+
+pub returns : goal.returns
+returns c turns case old new reported comes sound = by case comes sound
+  where
+    by : (case : Case) (comes : Produces turns case old new reported) → AreSound (settings_for case) → EachRunSendsContents turns case old new reported comes
+    by (Replays s lives) comes sound = c.replays_send_their_chunks.ensures All s turns lives reported sound comes.0
+    by (Generates s lives) comes sound = c.replays_send_their_chunks.ensures Report s turns lives reported sound comes.0
+    by (Runs s ticks) (RanToEnd lived) sound = λ start last fresh along. c.flushes_send_their_chunks.ensures s (ends_of s) ticks turns start lived.did.entries _ last sound fresh lived.did.way along
+    by (Runs s ticks) (RanOutOfMemory begun none) sound = λ start last fresh along. c.flushes_send_their_chunks.ensures s (ends_of s) ticks turns start begun.1.entries begun.0 last sound fresh begun.1.way along
+    by (Lists root) comes sound = tt
+    by (Refuses other) comes sound = tt
