@@ -68,6 +68,8 @@ class Case:
     after: Callable = None
     quiet: bool = False
     before: str = CAP
+    # Whether the case takes minutes, so that it runs only if it is named.
+    slow: bool = False
     # Why the case fails today, if it does, and a pattern that matches everything that is then found wrong.
     known: str = ""
     shows: str = ""

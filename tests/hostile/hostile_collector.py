@@ -23,6 +23,7 @@ class HostileCollector:
         self.treat = treat
         self.good = self.closing = False
         self.links = []
+        self.lasted = []
         self.numbers = set()
         self.sent = 0
         self.listener = socket.socket()
@@ -193,6 +194,20 @@ def byte_at_a_time(collector, link, number):
     for byte in b"HTTP/1.1 503 Service Unavailable\r\nContent-Length: 0\r\n\r\n" * 10:
         link.sendall(bytes([byte]))
         time.sleep(0.1)
+
+
+def byte_a_while(collector, link, number):
+    """An answer without an end, a byte every 40 seconds. It notes for how many seconds the program bears it."""
+    collector.request(link)
+    begun = last = time.monotonic()
+    try:
+        while not collector.good:
+            if time.monotonic() > last + 40:
+                last = time.monotonic()
+                link.sendall(b"O")
+            collector.receive(link)
+    except (OSError, Gone):
+        collector.lasted.append(time.monotonic() - begun)
 
 
 def answers_before_it_reads(collector, link, number):

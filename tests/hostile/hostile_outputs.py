@@ -36,8 +36,9 @@ FLUSHES = "four flushes of a chunk each, and their replies; other chunks are in 
 HEAD = "8,192 bytes of a reply up to the end of its header, and a read of 65,536, for each of four flushes"
 ACK = "1,024 bytes of a reply, and a read of 65,536, for each of four flushes"
 UNREAD = "65,536 bytes of reply before the payload is taken, and a read of 65,536, for each of four flushes"
-# The loop breaks a link that is silent for this many seconds.
+# The loop breaks a link that is silent for this many seconds, and one that takes nothing for so many.
 SILENCE = 60
+ANSWER = 300
 
 KNOWN_TCP = "a tcp output has no acknowledgement: what the socket took counts as delivered"
 
@@ -71,6 +72,17 @@ def outlive(trial):
         trial.complain("no line came to the collector, which treats all but four connections as it should")
 
 
+def outlast(trial):
+    """The program breaks the four links of a collector whose answers have no end."""
+    try:
+        until(lambda: len(trial.collector.lasted) >= 4 or not trial.alive(), "", ANSWER + 15)
+    except Failed:
+        pass
+    lasted = [round(seconds) for seconds in trial.collector.lasted]
+    trial.tell(f"links were broken after {lasted} seconds")
+    trial.hopes(len(lasted) >= 4 and all(abs(seconds - ANSWER) <= 5 for seconds in lasted), f"links ended after {lasted} seconds, and {ANSWER} are borne")
+
+
 def collected(name, treats, kind, limit, memory=64, inputs=STORED, bursts=False, **more):
     """A case in which a collector of a kind treats its connections so."""
 
@@ -81,6 +93,8 @@ def collected(name, treats, kind, limit, memory=64, inputs=STORED, bursts=False,
         trial.rest()
         if treats is treat.first_four_are_silent:
             outlive(trial)
+        if treats is treat.byte_a_while:
+            outlast(trial)
         trial.count(peers=len(trial.collector.links), sent=trial.collector.sent)
 
     attack.__name__ = name
@@ -97,7 +111,7 @@ CHUNKS = 10_000
     64,
     good=GoodSender,
     after=pending_lines_come,
-    known="an output starts four flushes at a tick, so lines that queue after 10,000 chunks come late",
+    known="an output has four flushes at a time, so lines that queue after 10,000 chunks come late",
     shows="don't come to the collector",
 )
 def many_chunks_wait_for_a_silent_collector(trial):
@@ -129,20 +143,31 @@ TO_STANDARD = """[OUTPUT]
 """
 
 
-@case(
-    LINES_TO_FILE + TO_STANDARD,
-    "Mem_Buf_Limit 16M, and a chunk and its payload",
-    64,
-    quiet=True,
-    before=CAP + "; mkfifo pipe; exec >pipe",
-    prepare=begin_pipe,
-    known="a write to standard output blocks the program",
-    shows="good line|timed out",
-)
+def to_pipe(attack):
+    """A case in which standard output is a pipe."""
+    limit = "Mem_Buf_Limit 16M, and a chunk and its payload"
+    before = CAP + "; mkfifo pipe; exec >pipe"
+    return case(LINES_TO_FILE + TO_STANDARD, limit, 64, quiet=True, before=before, prepare=begin_pipe)(attack)
+
+
+@to_pipe
 def standard_output_is_not_read(trial):
     """Standard output is a pipe that nobody reads."""
     burst(trial)
     trial.rest()
+    threading.Thread(target=read_pipe, args=(trial.pipe,), daemon=True).start()
+
+
+@to_pipe
+def standard_output_is_read_slowly(trial):
+    """Of a pipe that is standard output a page is read twenty times a second."""
+    burst(trial)
+    while trial.goes_on():
+        try:
+            os.read(trial.pipe, 4_096)
+        except BlockingIOError:  # it is empty
+            pass
+        time.sleep(0.05)
     threading.Thread(target=read_pipe, args=(trial.pipe,), daemon=True).start()
 
 
@@ -152,6 +177,7 @@ CASES = (
     collected("http_head_without_end", treat.head_without_end, "http", HEAD),
     collected("http_body_without_end", treat.body_without_end, "http", HEAD),
     collected("http_a_byte_at_a_time", treat.byte_at_a_time, "http", HEAD, quiet=True),
+    collected("http_a_byte_every_forty_seconds", treat.byte_a_while, "http", HEAD, quiet=True, slow=True),
     collected("http_never_answers", treat.reads_and_is_silent, "http", FLUSHES, quiet=True),
     collected("http_answers_before_it_reads", treat.answers_before_it_reads, "http", UNREAD, bursts=True),
     collected("forward_never_acknowledges", treat.reads_and_is_silent, "forward", FLUSHES, quiet=True),
@@ -184,4 +210,5 @@ CASES = (
     ),
     many_chunks_wait_for_a_silent_collector,
     standard_output_is_not_read,
+    standard_output_is_read_slowly,
 )

@@ -27,7 +27,7 @@ def options_of(words):
     parser.add_argument("--row-connections", type=int, default=0, help="how many come, in place of a time")
     parser.add_argument("--stream-bytes", type=int, default=1_000_000_000, help="bytes without a line feed (%(default)s)")
     parser.add_argument("--page", action="store_true", help="print the table as tests/hostile/results.md has it")
-    parser.add_argument("cases", nargs="*", metavar="CASE", help="only these: " + ", ".join(it.name for it in CASES))
+    parser.add_argument("cases", nargs="*", metavar="CASE", help="only these: " + ", ".join(it.name for it in CASES) + "; unless they are named, not those that take minutes: " + ", ".join(it.name for it in CASES if it.slow))
     return parser.parse_args(words)
 
 
@@ -39,7 +39,7 @@ def main(words):
     with tempfile.TemporaryDirectory(prefix="fwd-hostile-") as path:
         room = Room(path, options.program)
         for case in CASES:
-            if not options.cases or case.name in options.cases:
+            if case.name in options.cases or not (options.cases or case.slow):
                 rows.append(tried(case, room, options))
                 told(rows[-1])
     (page if options.page else table)(rows)

@@ -1,4 +1,5 @@
 """Live runs that hand on: from one program to another with acknowledgements, and to a server over HTTP."""
+import os
 import re
 import socket
 import threading
@@ -134,4 +135,61 @@ def a_server_is_busy_and_refuses(room):
     holds(report.endswith("owed 0\n"), f"something is owed: {report}")
 
 
-CASES = (one_program_hands_to_another, a_server_is_busy_and_refuses)
+TO_PIPE = """[SERVICE]
+    Flush 0.2
+    Grace 30
+[INPUT]
+    Name tcp
+    Listen 127.0.0.1
+    Port {port}
+[INPUT]
+    Name stdin
+[OUTPUT]
+    Name stdout
+[OUTPUT]
+    Name stdout
+"""
+
+
+class Reader:
+    """Reads a pipe of a program slowly, to its end."""
+
+    def __init__(self, path):
+        self.path = path
+        self.taken = b""
+        self.thread = threading.Thread(target=self.work, daemon=True)
+        self.thread.start()
+
+    def work(self):
+        until(lambda: os.path.exists(self.path), "the pipe is there", 10)
+        with open(self.path, "rb", buffering=0) as pipe:
+            while part := pipe.read(5_000):
+                self.taken += part
+                time.sleep(0.001)
+
+    def all(self):
+        self.thread.join(PATIENCE)
+        holds(not self.thread.is_alive(), "the pipe has no end")
+        return self.taken.decode()
+
+
+def two_outputs_share_a_slow_pipe(room):
+    """Standard output is a pipe that is read slowly. Both of its outputs write each line there, whole."""
+    port = free_port()
+    with Program(room, "pipe", TO_PIPE.format(port=port), before="mkfifo pipe; exec >pipe") as program:
+        reader = Reader(program.path("pipe"))
+        program.send(port, b"".join(b'{"n":%d}\n' % number for number in range(LINES)))
+        until(lambda: reader.taken.count(b"\n") >= 2 * LINES, "all lines are read", 60)
+        status = program.stop()
+        out = reader.all()
+    holds(status == 0, f"status {status}: {program.stderr().decode(errors='replace')}")
+    report = out.index("input tcp.0: ")
+    lines = out[:report].splitlines()
+    found = [re.fullmatch(r'\{"date":[0-9.]+,"n":([0-9]+)\}', line) for line in lines]
+    holds(all(found), f"a line isn't whole: {[line for line, it in zip(lines, found) if not it][:1]}")
+    numbers = sorted(int(it[1]) for it in found)
+    holds(numbers == sorted([*range(LINES), *range(LINES)]), f"{len(numbers)} lines came, of {2 * LINES}")
+    holds(out.endswith("owed 0\n") and re.search(rf"output stdout\.1: ok [0-9]+ retry 0 error 0 spent 0 lost 0 taken {report // 2}\n", out), f"the report is another: {out[report:]}")
+
+
+CASES = (one_program_hands_to_another, a_server_is_busy_and_refuses, two_outputs_share_a_slow_pipe)

@@ -3,8 +3,9 @@
 //!
 //! `Machine` is the system's part of an event loop. Each event that it returns may occur, and comes of no
 //! paused input (`MayOccur`). Errors that no answer reports are counted. A link breaks if its peer is silent
-//! for too long, or sends too much without taking its payload. SIGINT and SIGTERM become an event of the loop
-//! if the process blocks them.
+//! for too long, sends for too long without taking anything, or sends too much without taking its payload.
+//! Standard output that isn't read makes its links wait. SIGINT and SIGTERM become an event of the loop if
+//! the process blocks them.
 #![tactic(auto)]
 
 mod clock;

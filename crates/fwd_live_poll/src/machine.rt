@@ -8,7 +8,8 @@ use crate::clock::Clock;
 use crate::signals::is_stop_pending;
 use crate::sources::Sources;
 use fwd_live_sockets::{
-    Budget, Feed, Handed, Input, Link, Patience, Peer, Source, addresses_of, listen, open_to_append,
+    Budget, Feed, Handed, Input, Link, Patience, Peer, Source, StandardOutput, StdoutLink, addresses_of,
+    listen, open_to_append,
 };
 use fwd_log::{Address, Journal, Level, Source as About, Topic};
 use fwd_outside::{ConnId, Ends, Happening, InEnd, InputId, LinkId, Memory, OutEnd, OutputId};
@@ -47,13 +48,14 @@ pub struct Machine<'a> {
     poll: Poll,
     events: Events,
     outputs: Vec<OutEnd>,
+    stdout: StandardOutput,
     sources: Sources<'a>,
     looks: u32,
     clock: Clock,
     /// The time of the last tick.
     last_tick: u64,
     /// Within how many milliseconds of it the next tick comes, whatever the deadline is.
-    read_within: u64,
+    next_within: u64,
     /// Whether no event was returned since then.
     is_after_tick: bool,
     /// How many other events come before the next tick.
@@ -81,11 +83,12 @@ impl<'a> Machine<'a> {
             poll: Poll::new(&rt)?,
             events: Events::with_capacity(alloc, EVENTS)?,
             outputs: Vec::new(alloc),
+            stdout: StandardOutput::new(rt)?,
             sources: Sources::new(rt, journal, patience).map_err(memory_error)?,
             looks: 0,
             clock: Clock::new(&rt)?,
             last_tick: 0,
-            read_within: u64::MAX,
+            next_within: u64::MAX,
             is_after_tick: false,
             turns: 0,
             next_signal_check: 0,
@@ -199,13 +202,14 @@ impl<'a> Machine<'a> {
     /// Notes what the followed files say: within how many milliseconds of the last tick they are to be read
     /// again, and how many descriptors they hold.
     pub fn note_files(&mut self, read_within: u64, held: usize) {
-        self.read_within = self.read_within.min(read_within);
+        self.next_within = self.next_within.min(read_within);
         self.sources.held_files = held;
     }
 
-    /// Returns the latest time of the next tick: the deadline, or the next reading of followed files.
+    /// Returns the latest time of the next tick: the deadline, the next reading of followed files, or the
+    /// next start of flushes.
     fn tick_at(&self, until: u64) -> u64 {
-        until.min(self.last_tick.saturating_add(self.read_within))
+        until.min(self.last_tick.saturating_add(self.next_within))
     }
 
     /// Returns whether the next event has to be a tick.
@@ -225,11 +229,11 @@ impl<'a> Machine<'a> {
         }
         self.is_after_tick = true;
         self.last_tick = now;
-        self.read_within = u64::MAX;
+        self.next_within = u64::MAX;
     }
 
-    /// Checks for signals, if a check is due. Returns whether it finds, for the first time, that one asks the
-    /// program to stop.
+    /// Checks for signals, if a check is due. Returns whether it finds, for the first time, that one asks
+    /// the program to stop.
     fn finds_stop(&mut self, uptime: u64) -> bool {
         if self.is_stopping || uptime < self.next_signal_check {
             return false;
@@ -297,6 +301,9 @@ impl<'a> Machine<'a> {
     {
         self.sources.pause(paused)?;
         self.sources.answer_pages()?;
+        if self.stdout.take_freed() {
+            self.sources.queue_stdout_links()?;
+        }
         for _ in 0..u64::MAX {
             let Ok(now) = self.clock.read(&self.rt) else {
                 return Ok(Happening::Failed);
@@ -304,6 +311,7 @@ impl<'a> Machine<'a> {
             self.sources.set_now(now)?;
             let uptime = self.clock.uptime(&self.rt);
             self.sources.set_uptime(uptime)?;
+            self.stdout.begin_turn(uptime);
             if self.is_tick_due(now, until) {
                 if self.finds_stop(uptime) {
                     let said = "a signal asks for the end";
@@ -367,7 +375,7 @@ impl<'a> Machine<'a> {
     fn open(&mut self, output: OutputId, tag: &[u8], link: LinkId) -> io::Result<Link> {
         match self.outputs.get(output.0 as usize) {
             None => Err(io::Error::from(ErrorKind::NotFound)),
-            Some(OutEnd::Stdout) => Ok(Link::Stdout(output)),
+            Some(OutEnd::Stdout) => Ok(Link::Stdout(StdoutLink::new(output, link))),
             Some(OutEnd::Folder { path, file }) => {
                 let name = match file {
                     Some(name) => Some(name.as_slice()),
@@ -404,7 +412,8 @@ impl<'a> Machine<'a> {
         match self.sources.links.get_mut(&link.0) {
             Some(link) => {
                 let mut failure = None;
-                let handed = link.push(&self.rt, bytes, uptime, &mut failure);
+                let registry = self.poll.registry();
+                let handed = link.push(&mut self.stdout, registry, bytes, uptime, &mut failure);
                 if let Some(error) = failure {
                     note_failure(self.journal, link.output(), &error);
                 }
@@ -414,9 +423,14 @@ impl<'a> Machine<'a> {
         }
     }
 
-    /// Closes a link.
+    /// Closes a link. If its output has made others wait, they start at the next tick, which comes soon.
     pub fn close(&mut self, link: LinkId) {
-        self.sources.links.remove(&link.0);
+        if let Some(closed) = self.sources.links.remove(&link.0) {
+            if closed.has_waited() {
+                self.next_within = self.next_within.min(MOST_TICK_AGE);
+            }
+        }
+        self.stdout.release(link);
     }
 
     /// Sends a reply over a connection: the whole reply, or it fails.

@@ -14,6 +14,7 @@ mod output_file;
 mod patience;
 mod piece;
 mod source;
+mod standard_output;
 
 pub use addresses::addresses_of;
 pub use conn::Conn;
@@ -24,3 +25,4 @@ pub use output_file::open_to_append;
 pub use patience::{Patience, USUAL_PATIENCE};
 pub use piece::{Unread, error_of, read_from};
 pub use source::Source;
+pub use standard_output::{StandardOutput, StdoutLink};

@@ -5,8 +5,10 @@ ghost use Rattle.fwd_live_sockets.specs.Handed.{TakesAtMost};
 use crate::conn::write_some;
 use crate::patience::Patience;
 use crate::piece::{Unread, read_from};
+use crate::standard_output::{StandardOutput, StdoutLink};
 use fwd_log::Journal;
 use fwd_outside::{Bytes, OutputId};
+use mio::Registry;
 use mio::net::TcpStream;
 use std::alloc::Global;
 use std::fs::File;
@@ -61,6 +63,8 @@ pub struct Peer {
     bytes_received: u64,
     /// The monotonic time of its dial, or of its last progress.
     since: u64,
+    /// The monotonic time of its dial, or at which it was established or took bytes last.
+    taken_at: u64,
     /// The beginning of an HTTP reply whose status isn't one of success.
     refusal: Bytes,
 }
@@ -68,13 +72,13 @@ pub struct Peer {
 /// The endpoint of a link.
 #[derive(Drop)]
 pub enum Link {
-    Stdout(OutputId),
+    Stdout(StdoutLink),
     Appended(OutputId, File),
     Connected(Peer),
 }
 
 /// Returns the answer of a link to one write. An error that broke it is kept in `failure`.
-fn taken_of(written: io::Result<usize>, bytes: &[u8], failure: &mut Option<io::Error>) -> Handed
+pub fn taken_of(written: io::Result<usize>, bytes: &[u8], failure: &mut Option<io::Error>) -> Handed
     ensures { TakesAtMost bytes.now result }
 {
     match written {
@@ -101,6 +105,7 @@ impl Peer {
             queued: false,
             bytes_received: 0,
             since: now,
+            taken_at: now,
             refusal: Bytes::new(alloc),
         }
     }
@@ -118,14 +123,32 @@ impl Peer {
     pub fn open(&mut self, now: u64) {
         self.state = PeerState::Open;
         self.since = now;
+        self.taken_at = now;
     }
 
-    /// Returns the time at which its silence becomes too long.
+    /// Returns the time at which its silence, or its answer, has taken too long.
     pub fn silent_at(&self, patience: Patience) -> u64 {
         match self.state {
             PeerState::Connecting => self.since.saturating_add(patience.dial),
-            PeerState::Open => self.since.saturating_add(patience.silence),
+            PeerState::Open => {
+                let answered_by = self.taken_at.saturating_add(patience.answer());
+                answered_by.min(self.since.saturating_add(patience.silence))
+            }
             PeerState::Over => u64::MAX,
+        }
+    }
+
+    /// Returns why it is broken at this time, if it is for its silence or its answer.
+    pub fn silence(&self, patience: Patience, now: u64) -> &'static str {
+        match self.state {
+            PeerState::Connecting => "no answer to the connection",
+            PeerState::Open | PeerState::Over => {
+                if now < self.since.saturating_add(patience.silence) {
+                    "the peer's answer took too long"
+                } else {
+                    "the peer was silent for too long"
+                }
+            }
         }
     }
 
@@ -201,6 +224,7 @@ impl Peer {
                 }
                 Ok(taken) => {
                     self.since = now;
+                    self.taken_at = now;
                     Handed::Took(taken.min(bytes.len()) as u64)
                 }
                 Err(error) => {
@@ -214,10 +238,11 @@ impl Peer {
 
 impl Link {
     /// Pushes as many of the bytes as the link takes, at this monotonic time. An error that broke it is kept
-    /// in `failure`.
+    /// in `failure`. A full link to standard output has the poll report room.
     pub fn push(
         &mut self,
-        rt: &HostRuntime,
+        stdout: &mut StandardOutput,
+        registry: &Registry,
         bytes: &[u8],
         now: u64,
         failure: &mut Option<io::Error>,
@@ -225,16 +250,27 @@ impl Link {
         ensures { TakesAtMost bytes.now result }
     {
         match self {
-            Link::Stdout(_) => taken_of(rt.stdout().write(bytes), bytes, failure),
+            Link::Stdout(link) => link.push(stdout, registry, bytes, now, failure),
             Link::Appended(_, file) => taken_of(file.write(bytes), bytes, failure),
             Link::Connected(peer) => peer.push(bytes, now, failure),
+        }
+    }
+
+    /// Returns whether a delivery over the link took several turns, and the peer hasn't ended it. A file has
+    /// none such.
+    pub fn has_waited(&self) -> bool {
+        match self {
+            Link::Stdout(link) => link.has_waited(),
+            Link::Appended(_, _) => false,
+            Link::Connected(peer) => peer.state == PeerState::Open,
         }
     }
 
     /// Returns the output of the link.
     pub fn output(&self) -> OutputId {
         match self {
-            Link::Stdout(output) | Link::Appended(output, _) => *output,
+            Link::Stdout(link) => link.output,
+            Link::Appended(output, _) => *output,
             Link::Connected(peer) => peer.output,
         }
     }

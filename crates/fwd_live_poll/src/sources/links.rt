@@ -15,14 +15,6 @@ use std::mem;
 /// The least time in milliseconds between two scans for silent links.
 const SCAN_INTERVAL: u64 = 1_000;
 
-/// Returns why a silent link is broken.
-fn silence_of(state: PeerState) -> &'static str {
-    match state {
-        PeerState::Connecting => "no answer to the connection",
-        PeerState::Open | PeerState::Over => "the peer was silent for too long",
-    }
-}
-
 impl<'a> Sources<'a> {
     /// Returns how many connections to an output's peer were never established.
     pub fn failed_dials(&self, output: OutputId) -> u64 {
@@ -75,10 +67,25 @@ impl<'a> Sources<'a> {
                 }
                 !mem::replace(&mut peer.queued, true)
             }
-            Some(Link::Stdout(_)) => false,
+            Some(Link::Stdout(link)) => link.mark(),
             Some(Link::Appended(_, _)) => false,
             None => false,
         }
+    }
+
+    /// Queues the links to standard output that wait for room.
+    pub fn queue_stdout_links(&mut self) -> Result<(), Memory> {
+        for (number, link) in self.links.iter_mut() {
+            match link {
+                Link::Stdout(to) => {
+                    if to.mark() {
+                        self.ready.push_back(Source::Link(LinkId(*number)))?;
+                    }
+                }
+                Link::Appended(_, _) | Link::Connected(_) => {}
+            }
+        }
+        Ok(())
     }
 
     /// Keeps why a link of an output broke or never opened, for the line on its retries.
@@ -100,7 +107,24 @@ impl<'a> Sources<'a> {
         self.miss();
     }
 
+    /// Looks at a link that may have something: room, bytes that came back, or its end.
     pub fn look_at_link(&mut self, alloc: Global, link: LinkId) -> Result<Option<Happening>, Memory>
+        ensures { (paused : ℕ) → IfOk result (λ found. IfSome found (MayOccur true paused)) }
+    {
+        match self.links.get_mut(&link.0) {
+            Some(Link::Connected(_)) => self.look_at_peer(alloc, link),
+            Some(Link::Stdout(to)) => {
+                if to.take_room_event() {
+                    Ok(Some(Happening::Room { link }))
+                } else {
+                    Ok(None)
+                }
+            }
+            Some(Link::Appended(_, _)) | None => Ok(None),
+        }
+    }
+
+    fn look_at_peer(&mut self, alloc: Global, link: LinkId) -> Result<Option<Happening>, Memory>
         ensures { (paused : ℕ) → IfOk result (λ found. IfSome found (MayOccur true paused)) }
     {
         let Some(Link::Connected(peer)) = self.links.get_mut(&link.0) else {
@@ -167,7 +191,7 @@ impl<'a> Sources<'a> {
                 if self.uptime < peer.silent_at(self.patience) {
                     return Ok(None);
                 }
-                let why = silence_of(peer.state);
+                let why = peer.silence(self.patience, self.uptime);
                 self.fail_link(link, &why);
                 Ok(Some(Happening::Broken { link }))
             }
