@@ -8,8 +8,8 @@ use crate::clock::Clock;
 use crate::signals::is_stop_pending;
 use crate::sources::Sources;
 use fwd_live_sockets::{
-    Budget, Feed, Handed, Input, Link, Patience, Peer, Source, StandardOutput, StdoutLink, addresses_of,
-    listen, open_to_append,
+    Budget, Feed, Handed, Input, Link, Patience, Peer, Source, StandardOutput, StdoutLink,
+    addresses_of, listen, open_to_append,
 };
 use fwd_log::{Address, Journal, Level, Source as About, Topic};
 use fwd_outside::{ConnId, Ends, Happening, InEnd, InputId, LinkId, Memory, OutEnd, OutputId};
