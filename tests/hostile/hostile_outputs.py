@@ -83,8 +83,8 @@ def outlast(trial):
     trial.hopes(len(lasted) >= 4 and all(abs(seconds - ANSWER) <= 5 for seconds in lasted), f"links ended after {lasted} seconds, and {ANSWER} are borne")
 
 
-def collected(name, treats, kind, limit, memory=64, inputs=STORED, bursts=False, **more):
-    """A case in which a collector of a kind treats its connections so."""
+def collected(name, treats, kind, limit, memory=64, inputs=STORED, bursts=False, patience=40, **more):
+    """A case in which a collector of a kind treats its connections so, and has all lines so many seconds after it turned good."""
 
     def attack(trial):
         trial.collector = HostileCollector(trial.other, kind, treats, narrow=bursts)
@@ -99,7 +99,7 @@ def collected(name, treats, kind, limit, memory=64, inputs=STORED, bursts=False,
 
     attack.__name__ = name
     configuration = to_collector(kind, inputs)
-    return Case(attack, configuration, GoodPeer, of_megabytes(memory), limit, after=pending_lines_come, **more)
+    return Case(attack, configuration, GoodPeer, of_megabytes(memory), limit, after=lambda trial: pending_lines_come(trial, patience), **more)
 
 
 CHUNKS = 10_000
@@ -177,7 +177,7 @@ CASES = (
     collected("http_head_without_end", treat.head_without_end, "http", HEAD),
     collected("http_body_without_end", treat.body_without_end, "http", HEAD),
     collected("http_a_byte_at_a_time", treat.byte_at_a_time, "http", HEAD, quiet=True),
-    collected("http_a_byte_every_forty_seconds", treat.byte_a_while, "http", HEAD, quiet=True, slow=True),
+    collected("http_a_byte_every_forty_seconds", treat.byte_a_while, "http", HEAD, patience=180, quiet=True, slow=True),
     collected("http_never_answers", treat.reads_and_is_silent, "http", FLUSHES, quiet=True),
     collected("http_answers_before_it_reads", treat.answers_before_it_reads, "http", UNREAD, bursts=True),
     collected("forward_never_acknowledges", treat.reads_and_is_silent, "forward", FLUSHES, quiet=True),
