@@ -10,3 +10,4 @@ pub mod Append
 pub mod NewChunk
 pub mod Loading
 pub mod Life
+pub mod SyncedDisk

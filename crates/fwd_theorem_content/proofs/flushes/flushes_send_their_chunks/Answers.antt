@@ -1,5 +1,8 @@
 use Rattle.fwd_theorem_content.proofs.Life.{hands_by_then}
+use Rattle.fwd_theorem_content.proofs.SyncedDisk.{synced_files, are_durable, leads_synced}
 use Rattle.fwd_theorem_content.proofs.flushes.flushes_send_their_chunks.Goals as goal
 
 pub returns : goal.returns
-returns c s ends ticks turns first entries left last settings fresh way along = hands_by_then s settings first ends ticks turns entries left last fresh way along
+returns c s ends ticks turns first entries left last settings known way along =
+    let synced = leads_synced entries first last known along in
+    hands_by_then s settings (synced_files first) ends ticks turns entries left synced.0 (are_durable first) way synced.1
