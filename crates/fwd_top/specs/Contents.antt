@@ -2,11 +2,11 @@
 use Rattle.std.specs.Prelude.{ℕ, List, [], Option}
 use Rattle.fwd_outside.specs.AtCrashPoints.{Ends}
 use Rattle.fwd_outside.specs.DiskStates.{Files}
-use Rattle.fwd_backlog.specs.Recovered.{AreDurable}
 use Rattle.fwd_settings.specs.declared.settings_types.AllSettings.{AllSettings}
 use Rattle.fwd_model.specs.Trace.{TraceEntry, history_after}
 use Rattle.fwd_theorem_crash.specs.CrashPoint.{CrashPoint, crash_point, LeadsTo}
 use Rattle.fwd_theorem_crash.specs.FlushEvents.{FlushesSendTheirChunks}
+use Rattle.fwd_theorem_content.specs.KnownNames.{NamesAreKnown}
 use Rattle.fwd_theorem_replay.specs.SentContents.{EachSendsContents}
 use Rattle.fwd_replay.specs.LiveRun.{IsRunLive, RanToEnd, RanOutOfMemory}
 use Rattle.fwd_replay.specs.Runs.{first}
@@ -15,13 +15,13 @@ use Rattle.fwd_replay.specs.declared.report.Shown.TheVariants.{All, Report}
 use Rattle.fwd_top.specs.Cases.{Case, Replays, Generates, Runs, Lists, Refuses}
 use Rattle.fwd_top.specs.Outcomes.{Platform, Produces, world}
 
--- If a disk without unsynced state could have answered these calls this way, each flush began with the
--- events of its chunk: in memory the accepted ones, and in a file those of the bytes that were accepted or
--- recovered.
+-- If a disk could have answered these calls this way, on which each name had a file, or had none that a crash
+-- could bring back, each flush began with the events of its chunk: in memory the accepted ones, and in a file
+-- those of the bytes that were accepted or recovered.
 abbrev pub SendContents : AllSettings → List TraceEntry → Type 0
 SendContents s entries =
-    (start : Files) (last : CrashPoint) → AreDurable start → Ends LeadsTo (crash_point [] start) entries last
-    → FlushesSendTheirChunks s (history_after entries [])
+    (start : Files) (last : CrashPoint) → NamesAreKnown start
+    → Ends LeadsTo (crash_point [] start) entries last → FlushesSendTheirChunks s (history_after entries [])
 
 -- a run over devices, with a call log or not, to its end or to where memory ran out
 abbrev pub RunSendsContents : (s : AllSettings) (ticks : Option ℕ) (turns : ℕ) (old new : Platform)

@@ -202,9 +202,9 @@ pub fn log_forwarder<D: Disk, F: Files, L: Loop, K: Keeper, S: Sink>(
     // on the disk, whatever a crash leaves has the file of each such chunk. The next run that loads it finds
     // each batch that was accepted before, and so each forward message that was answered before: whole, and
     // pending for each output that matches it and hadn't resolved it.
-    // If no file had unsynced state when a live run began, each of its flushes began with the events of its
-    // chunk, also if appends aren't fsynced (`Outcome.contents`): for a chunk in a file, those of all bytes that
-    // were accepted into it, or recovered. In a replay each flush does.
+    // Each flush began with the events of its chunk, also if appends aren't fsynced (`Outcome.contents`): for a
+    // chunk in a file, those of all bytes that were accepted into it, or recovered. For a live run this assumes
+    // that, when it began, each name had a file, or had none that a crash could bring back.
     // Each offset of a followed file that is put has nothing lost before it (`Outcome.offsets`): each batch that
     // was complete by then was accepted, or refused and counted, or has no events. The next run reads on from
     // the offset that the keeper gives.
