@@ -8,7 +8,7 @@ pub struct DiskStart;
 
 impl Model for DiskStart {
     ghost use Rattle.fwd_outside.specs.Disk.{DiskGiven};
-    ghost use Rattle.fwd_live.specs.DiskCode.{stood_code};
+    ghost use Rattle.fwd_outside.specs.DiskCode.{stood_code};
     ghost use base.Stored.{gnil};
     ghost use Rattle.std.specs.Prelude.{[]};
 
@@ -25,7 +25,7 @@ pub struct DiskRecord;
 impl Model for DiskRecord {
     ghost use Rattle.fwd_outside.specs.Program.{entry};
     ghost use Rattle.fwd_outside.specs.Disk.{DiskEntry, FailAt};
-    ghost use Rattle.fwd_live.specs.DiskCode.{disk_code};
+    ghost use Rattle.fwd_outside.specs.DiskCode.{disk_code};
 
     ghost Value = { DiskEntry };
 

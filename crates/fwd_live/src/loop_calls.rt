@@ -8,7 +8,7 @@ pub struct LoopScript;
 
 impl Model for LoopScript {
     ghost use Rattle.fwd_outside.specs.Loop.{LoopGiven};
-    ghost use Rattle.fwd_live.specs.LoopCode.{brought_code};
+    ghost use Rattle.fwd_outside.specs.LoopCode.{brought_code};
     ghost use base.Stored.{gnil};
     ghost use Rattle.std.specs.Prelude.{[]};
 
@@ -33,7 +33,7 @@ pub struct LoopRecord;
 impl Model for LoopRecord {
     ghost use Rattle.fwd_outside.specs.Program.{entry};
     ghost use Rattle.fwd_outside.specs.Loop.{LoopEntry, Word};
-    ghost use Rattle.fwd_live.specs.LoopCode.{loop_code};
+    ghost use Rattle.fwd_outside.specs.LoopCode.{loop_code};
 
     ghost Value = { LoopEntry };
 

@@ -8,6 +8,8 @@ pub mod Loop
 pub mod NewLinks
 pub mod ConsistentFiles
 pub mod Program
+pub mod DiskCode
+pub mod LoopCode
 pub mod Log
 pub mod Cause
 pub mod AtCrashPoints
