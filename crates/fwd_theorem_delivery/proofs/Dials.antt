@@ -6,7 +6,7 @@ use Rattle.fwd_outside.specs.Loop.{LoopEntry, Dial}
 use Rattle.fwd_table.specs.declared.outcome.Answer.TheVariants.{Retry}
 use Rattle.fwd_flush.specs.declared.stage.Stage.TheVariants.{Writing, Ended}
 use Rattle.fwd_flush.specs.FlushProgram.{Progress, Delivery, not_started, link_in, writes, dialed_on, starts}
-use Rattle.fwd_theorem_delivery.proofs.LinkCalls.{AreOn, StaysOn, all_closes, closes_in, speaks_way, speaks_writes}
+use Rattle.fwd_theorem_delivery.proofs.LinkCalls.{AreOn, StaysOn, CloseIsLast, all_closes, closes_in, closes_last, speaks_way, speaks_writes}
 
 pub record IsRefused (output : ℕ) (tag : List ℕ) (es : List LoopEntry) (q : Progress) : Type 0 where
   pub calls : es ≡ entry (Dial output tag) None ∷ []
@@ -17,6 +17,7 @@ pub record IsLinked (output : ℕ) (tag : List ℕ) (es : List LoopEntry) (q : P
   pub behind : List LoopEntry
   pub calls : es ≡ entry (Dial output tag) (Some link) ∷ behind
   pub on : AreOn link behind
+  pub last : CloseIsLast behind
   pub stays : StaysOn link (link_in q.stage)
   pub shut : all_closes behind ≡ closes_in (link_in q.stage)
 
@@ -31,8 +32,9 @@ module _ (d : Delivery) (output : ℕ) (tag : List ℕ) (q : Progress) where
       let link : LinkId = record { 0 = number } in
       let program = writes d link (record not_started { stage = Writing link }) in
       let spoke = speaks_way number 0 program (speaks_writes d link (record not_started { stage = Writing link })) es q way in
+      let last = closes_last number 0 program (speaks_writes d link (record not_started { stage = Writing link })) es q way in
       let count : 0 + all_closes es ≡ closes_in (link_in q.stage) = spoke.2 in
-      inr (record { link = number; behind = es; calls = refl; on = spoke.0; stays = spoke.1; shut = omega (arith, count) })
+      inr (record { link = number; behind = es; calls = refl; on = spoke.0; last = last; stays = spoke.1; shut = omega (arith, count) })
 
   pub begins_so : (es : List LoopEntry) → Execution (starts d output tag not_started) es (Return q) → IsRefused output tag es q ⊎ IsLinked output tag es q
   unfolding starts

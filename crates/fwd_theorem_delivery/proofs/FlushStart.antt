@@ -43,6 +43,8 @@ use Rattle.fwd_theorem_delivery.proofs.LinkClosures.{Closed, closed_by, closed_f
 use Rattle.fwd_theorem_delivery.proofs.Counts.{counted_aside, counted_fact, counted_begun}
 use Rattle.fwd_theorem_delivery.specs.TakenBytes.{links_of}
 use Rattle.fwd_theorem_delivery.proofs.LinkSums.{new_none, links_append, links_none}
+use Rattle.fwd_theorem_delivery.specs.OpenLinks.{AreOnOpenLinks}
+use Rattle.fwd_theorem_delivery.proofs.OpenLinks.{opened_aside, opened_flush}
 use Rattle.fwd_theorem_delivery.proofs.OutcomeFacts.{gives_neither, closes_neither, on_both, reached_at, MayLogOutcome, safe_lands}
 use Rattle.fwd_theorem_delivery.proofs.RunInvariant.{RunInvariant, whole_as, whole_fact, exact_none}
 use Rattle.fwd_theorem_delivery.proofs.FlushEnd.{progress_after, same_self, IsAnswered, Comes, off_elsewhere}
@@ -82,6 +84,7 @@ module _ (s : AllSettings) (n : Now) (whole : RunInvariant s n) (r : Route) (idl
           counted = counted_fact (OnRoute r outcome ∷ tallied.history) (record { greatest = n.greatest; calls = n.calls ++ (es ++ ys); history = n.history })
               (λ output. exact_none r output more n.history none_more) (counted_aside n whole.counted (es ++ ys) none (λ link. ap bytes_pushed (nothing link)));
           closed = closed_refused tallied closed_tallied (es ++ ys) r outcome none (λ link. closes_neither link es ys (ap (close_count link) so.calls) (aside.unclosed link)) (settled comes) idle.grounded;
+          opened = opened_aside n.calls (es ++ ys) whole.opened nothing (λ link. closes_neither link es ys (ap (close_count link) so.calls) (aside.unclosed link));
         })
       where
         dial_gives_none : GivesNone (entry (Dial r.output tag) None ∷ [])
@@ -120,6 +123,7 @@ module _ (s : AllSettings) (n : Now) (whole : RunInvariant s n) (r : Route) (idl
           counted = counted_begun n whole.counted (es ++ ys) r so.link apart_known outcome more new_now top_now links_now (ap (λ (events : List Event). length (bytes_pushed events)) owned ∙ sym so_many) elsewhere;
           closed = closed_landed tallied closed_tallied (es ++ ys) r outcome so.link so.link (omega (arith, fresh)) (omega arith) (λ to other is. (given to other is).0) shut_now unclosed_now
               (λ other apart. off_elsewhere q outcome so.link other comes so.stays apart) (λ other apart. grounded_off n.history r other idle.grounded);
+          opened = opened_now;
         })
       where
         greatest_is : greatest_after n.greatest es ≡ so.link
@@ -187,6 +191,15 @@ module _ (s : AllSettings) (n : Now) (whole : RunInvariant s n) (r : Route) (idl
             let shut : close_count so.link so.behind ≡ closes_in (link_in q.stage) = closings_here so.link so.behind so.on ∙ so.shut in
             let at : closed_by (route_on_link (OnRoute r outcome ∷ tallied.history) so.link) ≡ closes_in (link_in q.stage) = closed_at (OnRoute r outcome ∷ tallied.history) so.link r (begun_by n.history r) q (link_in q.stage) ours.at in
             omega (arith, before, all, now, aside_none, its_own, shut, at)
+
+        -- the new link is open for its own calls
+        opened_now : AreOnOpenLinks [] (n.calls ++ (es ++ ys))
+        opened_now =
+            let before : close_count so.link n.calls ≡ 0 = whole.closed.later so.link fresh in
+            let all : close_count so.link (n.calls ++ entry (Dial r.output tag) (Some so.link) ∷ []) ≡ close_count so.link n.calls + (0 + 0) = close_count-append so.link n.calls (entry (Dial r.output tag) (Some so.link) ∷ []) in
+            let given_now : WasDialled to_tag so.link (n.calls ++ entry (Dial r.output tag) (Some so.link) ∷ []) = among_right (ReturnsLink to_tag so.link) n.calls (entry (Dial r.output tag) (Some so.link) ∷ []) (inl (refl, refl)) in
+            subst (λ (l : List LoopEntry). AreOnOpenLinks [] (n.calls ++ (l ++ ys))) (sym so.calls)
+            (opened_flush n.calls (entry (Dial r.output tag) (Some so.link)) so.behind ys so.link whole.opened tt (record { dialed = (to_tag, given_now); unclosed = omega (arith, before, all) }) so.on so.last aside.nothing aside.unclosed)
 
         unclosed_now : (other : ℕ) → so.link ≢ other → close_count other (es ++ ys) ≡ 0
         unclosed_now other apart =

@@ -40,6 +40,7 @@ pub mod Counts
 pub mod FlushEnd
 pub mod OutcomeCauses
 pub mod LinkClosures
+pub mod OpenLinks
 pub mod RunInvariant
 pub mod QuietActions
 pub mod QuietInvariant

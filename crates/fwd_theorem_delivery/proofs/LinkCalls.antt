@@ -1,5 +1,5 @@
 -- The calls of a flush are on its own link.
-use Rattle.std.proofs.Common.{arith, ◌≡◌, ◌≢◌, ℕ, zero, suc, ◌+◌, min, Bool, true, false, nat_lt, if◌then◌else◌, List, [], ◌∷◌, length, drop, Option, Some, None, inl, inr, refl, sym, ◌∙◌, ap, subst}
+use Rattle.std.proofs.Common.{arith, ◌≡◌, ◌≢◌, ◌⊎◌, ℕ, zero, suc, ◌+◌, min, Bool, true, false, nat_lt, if◌then◌else◌, List, [], ◌∷◌, length, drop, Option, Some, None, inl, inr, refl, sym, ◌∙◌, ap, subst}
 use Rattle.std.specs.Prelude.{◌==◌}
 use Rattle.std.proofs.lemmas.Bool.{eq-eqb, ne_eqb}
 use Rattle.fwd_outside.specs.Program.{Return, Ask, Execution}
@@ -46,11 +46,11 @@ abbrev pub closes_in : Option LinkId → ℕ
 closes_in None = 1
 closes_in (Some link) = 0
 
--- for all answers, the program's calls are on this link, and close it at the end; `n` closes were made
--- before
+-- For all answers, the program's calls are on this link. They may close it, as the last call. `n` closes
+-- were made before.
 abbrev pub CallsOnLink : ℕ → ℕ → LoopProgram Progress → Type 0
 CallsOnLink link n (Return p) = StaysOn link (link_in p.stage) × (n ≡ closes_in (link_in p.stage))
-CallsOnLink link n (Ask call go) = IsOn link call × ((answer : LoopAnswer call) → CallsOnLink link (n + closes_link call) (go answer))
+CallsOnLink link n (Ask call go) = (n ≡ 0) × IsOn link call × ((answer : LoopAnswer call) → CallsOnLink link (n + closes_link call) (go answer))
 
 pub speaks_way : (link n : ℕ) (program : LoopProgram Progress) → CallsOnLink link n program → (es : List LoopEntry) (q : Progress) → Execution program es (Return q)
     → AreOn link es × StaysOn link (link_in q.stage) × (n + all_closes es ≡ closes_in (link_in q.stage))
@@ -62,23 +62,42 @@ speaks_way link n (Return p) speaks [] q way =
 speaks_way link n (Return p) speaks (e ∷ es) q way = absurd way
 speaks_way link n (Ask call go) speaks [] q way = absurd (cc way)
 speaks_way link n (Ask call go) speaks (e ∷ es) q way =
-    let rest = speaks_way link (n + closes_link call) (go way.0) (speaks.1 way.0) es q way.2 in
+    let rest = speaks_way link (n + closes_link call) (go way.0) (speaks.2 way.0) es q way.2 in
     let here : closes_link e.call ≡ closes_link call = ap (λ (x : LoopEntry). closes_link x.call) way.1 in
     let count : (n + closes_link call) + all_closes es ≡ closes_in (link_in q.stage) = rest.2 in
-    ((subst (λ (x : LoopEntry). IsOn link x.call) (sym way.1) speaks.0, rest.0), rest.1, omega (arith, here, count))
+    ((subst (λ (x : LoopEntry). IsOn link x.call) (sym way.1) speaks.1, rest.0), rest.1, omega (arith, here, count))
+
+-- no call comes after a close
+abbrev pub CloseIsLast : List LoopEntry → Type 0
+CloseIsLast [] = Unit {0}
+CloseIsLast (e ∷ es) = ((closes_link e.call ≡ 0) ⊎ (es ≡ [])) × CloseIsLast es
+
+open_at_call : (link n : ℕ) (program : LoopProgram Progress) → CallsOnLink link n program → (e : LoopEntry) (es : List LoopEntry) (q : Progress) → Execution program (e ∷ es) (Return q) → n ≡ 0
+open_at_call link n (Return p) speaks e es q way = absurd way
+open_at_call link n (Ask call go) speaks e es q way = speaks.0
+
+pub closes_last : (link n : ℕ) (program : LoopProgram Progress) → CallsOnLink link n program → (es : List LoopEntry) (q : Progress) → Execution program es (Return q) → CloseIsLast es
+closes_last link n (Return p) speaks [] q way = tt
+closes_last link n (Return p) speaks (e ∷ es) q way = absurd way
+closes_last link n (Ask call go) speaks [] q way = absurd (cc way)
+closes_last link n (Ask call go) speaks (e ∷ []) q way = (inr refl, tt)
+closes_last link n (Ask call go) speaks (e ∷ f ∷ es) q way =
+    let none : n + closes_link call ≡ 0 = open_at_call link (n + closes_link call) (go way.0) (speaks.2 way.0) f es q way.2 in
+    let here : closes_link e.call ≡ closes_link call = ap (λ (x : LoopEntry). closes_link x.call) way.1 in
+    (inl (omega (arith, none, here)), closes_last link (n + closes_link call) (go way.0) (speaks.2 way.0) (f ∷ es) q way.2)
 
 speaks_by : (link : LinkId) (p : Progress) (j : Judged) → CallsOnLink link.0 0 (continues_by link p j)
 speaks_by link p More = (refl, refl)
-speaks_by link p Right = (refl, λ _. (tt, refl))
-speaks_by link p Wrong = (refl, λ _. (tt, refl))
-speaks_by link p Fatal = (refl, λ _. (tt, refl))
+speaks_by link p Right = (refl, refl, λ _. (tt, refl))
+speaks_by link p Wrong = (refl, refl, λ _. (tt, refl))
+speaks_by link p Fatal = (refl, refl, λ _. (tt, refl))
 
 speaks_confirms : (d : Delivery) (link : LinkId) (p : Progress) → CallsOnLink link.0 0 (confirms_payload d link p)
 speaks_confirms d link p = by d.wanted refl
   where
     by : (b : Bool) → d.wanted ≡ b → CallsOnLink link.0 0 (confirms_payload d link p)
     by true wanted = subst (λ (x : LoopProgram Progress). CallsOnLink link.0 0 x) (sym (replies d link p (d.judged p.reply) wanted refl)) (speaks_by link p (d.judged p.reply))
-    by false wanted = subst (λ (x : LoopProgram Progress). CallsOnLink link.0 0 x) (sym (silent d link p wanted)) (refl, λ _. (tt, refl))
+    by false wanted = subst (λ (x : LoopProgram Progress). CallsOnLink link.0 0 x) (sym (silent d link p wanted)) (refl, refl, λ _. (tt, refl))
 
 module _ (d : Delivery) (link : LinkId) where
   abbrev Pushing : ℕ → Type 0
@@ -88,10 +107,10 @@ module _ (d : Delivery) (link : LinkId) where
   speaks_on left go p rest (Took n) = by (n == 0)
     where
       by : (b : Bool) → CallsOnLink link.0 0 (if b then ends link Retry p else pushes left d link (record p { taken = p.taken + min n (length rest) }))
-      by true = (refl, λ _. (tt, refl))
+      by true = (refl, refl, λ _. (tt, refl))
       by false = go _
   speaks_on left go p rest Again = (refl, refl)
-  speaks_on left go p rest Broke = (refl, λ _. (tt, refl))
+  speaks_on left go p rest Broke = (refl, refl, λ _. (tt, refl))
 
   speaks_pushes : (left : ℕ) → Pushing left
   speaks_pushes zero p = speaks_confirms d link p
@@ -99,7 +118,7 @@ module _ (d : Delivery) (link : LinkId) where
     where
       by : (b : Bool) → Pushing left
           → CallsOnLink link.0 0 (if b then Ask (Push link.0 (drop p.taken d.payload)) (pushed_on (pushes left d link) link (drop p.taken d.payload) p) else confirms_payload d link p)
-      by true go = (refl, λ answer. speaks_on left go p (drop p.taken d.payload) answer)
+      by true go = (refl, refl, λ answer. speaks_on left go p (drop p.taken d.payload) answer)
       by false go = speaks_confirms d link p
 
   pub speaks_writes : (p : Progress) → CallsOnLink link.0 0 (writes d link p)
@@ -132,7 +151,7 @@ module _ (d : Delivery) (p : Progress) (link : LinkId) where
   pub speaks_goes : (turn : Occurrence) → link_in p.stage ≡ Some link → CallsOnLink link.0 0 (program_at d turn p)
   speaks_goes Room has = speaks_room p.stage refl has
   speaks_goes (Back bytes) has = speaks_back p.stage bytes refl has
-  speaks_goes Broken has = subst (λ (x : LoopProgram Progress). CallsOnLink link.0 0 x) (sym (breaks_at p link has)) (refl, λ _. (tt, refl))
+  speaks_goes Broken has = subst (λ (x : LoopProgram Progress). CallsOnLink link.0 0 x) (sym (breaks_at p link has)) (refl, refl, λ _. (tt, refl))
 
 -- one that has no link any more makes no calls
 pub rests : (d : Delivery) (p : Progress) (turn : Occurrence) (answer : Answer) → p.stage ≡ Ended answer → program_at d turn p ≡ Return p

@@ -18,14 +18,16 @@ use Rattle.fwd_model.specs.DeviceActions.{on_loop}
 use Rattle.fwd_model.specs.Routes.{flight, begun, uses_link, route_on_link}
 use Rattle.fwd_model.specs.Payloads.{delivery}
 use Rattle.fwd_model.specs.FlushActions.{notes_calls, resumes}
-use Rattle.fwd_theorem_delivery.specs.Links.{close_count, event_on, all_on_link, since_dial}
-use Rattle.fwd_theorem_delivery.proofs.OwnEvents.{GivesNone}
-use Rattle.fwd_theorem_delivery.proofs.LinkCalls.{all_closes, closes_in, closings_here, closings_elsewhere, AreOn, StaysOn, speaks_way, speaks_goes, on_gives_none, on_here, on_elsewhere, on_greatest}
+use Rattle.fwd_theorem_delivery.specs.Links.{ReturnsLink, close_count, event_on, all_on_link, since_dial}
+use Rattle.fwd_theorem_delivery.proofs.OwnEvents.{GivesNone, among_left}
+use Rattle.fwd_theorem_delivery.proofs.LinkCalls.{all_closes, closes_in, closings_here, closings_elsewhere, AreOn, StaysOn, CloseIsLast, closes_last, speaks_way, speaks_goes, on_gives_none, on_here, on_elsewhere, on_greatest}
 use Rattle.fwd_theorem_delivery.proofs.Outcomes.{Now, asked, noted, behind_all, ends_bind, ends_loop}
 use Rattle.fwd_theorem_delivery.proofs.FlushInvariant.{FlushState, kept_fact, kept_unheard}
 use Rattle.fwd_theorem_delivery.specs.LinkOutcomes.{dial_target}
 use Rattle.fwd_theorem_delivery.proofs.LinkClosures.{closed_by, closed_fact, closed_aside, closed_landed, closed_at, close_count-append, flying_off}
 use Rattle.fwd_theorem_delivery.proofs.Counts.{counted_aside, counted_pushed}
+use Rattle.fwd_theorem_delivery.specs.OpenLinks.{AreOnOpenLinks}
+use Rattle.fwd_theorem_delivery.proofs.OpenLinks.{opened_one, opened_flush}
 use Rattle.fwd_theorem_delivery.proofs.OutcomeFacts.{gives_neither, closes_neither, on_both, reached_at, MayLogOutcome, safe_lands}
 use Rattle.fwd_theorem_delivery.proofs.RunInvariant.{RunInvariant, whole_as}
 use Rattle.fwd_theorem_delivery.proofs.FlushEnd.{on_flies, off_elsewhere}
@@ -66,6 +68,9 @@ module _ (s : AllSettings) (n : Now) (whole : RunInvariant s n) (until paused : 
       spoke : AreOn link xs × StaysOn link (link_in q.stage) × (0 + all_closes xs ≡ closes_in (link_in q.stage))
       spoke = let id : LinkId = record { 0 = link } in speaks_way link 0 (program_at delivers turn p) (speaks_goes delivers p id turn (has_it s n whole.kept link r p on flies)) xs q way
 
+      last : CloseIsLast xs
+      last = let id : LinkId = record { 0 = link } in closes_last link 0 (program_at delivers turn p) (speaks_goes delivers p id turn (has_it s n whole.kept link r p on flies)) xs q way
+
       stood : ProgressRepresents delivers (since_dial link n.calls ++ (events_of_occurrence turn ++ events_of xs)) q
       stood = goes_law delivers turn (since_dial link n.calls) xs p q (flown_on s n whole.kept link r p on flies).stands way
 
@@ -81,6 +86,7 @@ module _ (s : AllSettings) (n : Now) (whole : RunInvariant s n) (until paused : 
                 (whole.kept.known (dial_target n.history r) link mine_before.given) (λ to other is. absurd (none to other is)) shut_now
                 (λ other apart. closes_neither other (waited ∷ xs) ys (waited_more other (closings_elsewhere link other xs spoke.0 apart)) (aside.unclosed other))
                 (λ other apart. off_elsewhere q outcome link other comes spoke.1 apart) (λ other apart. flying_off n.history r p link other flies (has_it s n whole.kept link r p on flies) apart);
+            opened = opened_now;
           })
         where
           calls_are : ((n.calls ++ waited ∷ []) ++ xs) ++ ys ≡ n.calls ++ ((waited ∷ xs) ++ ys)
@@ -105,10 +111,22 @@ module _ (s : AllSettings) (n : Now) (whole : RunInvariant s n) (until paused : 
           ours =
               mine s (noted (Sent r.output more) n) (kept_fact s (Sent r.output more) n tt whole.kept) link r p on flies ((waited ∷ xs) ++ ys) none (events_of_occurrence turn ++ events_of xs) here_now elsewhere_now q outcome comes spoke.1 stood
 
+          -- its link is open for its calls
+          unclosed_before : close_count link n.calls ≡ 0
+          unclosed_before = whole.closed.per (dial_target n.history r) link mine_before.given ∙ ap closed_by on
+
+          opened_now : AreOnOpenLinks [] (n.calls ++ ((waited ∷ xs) ++ ys))
+          opened_now =
+              let before : close_count link n.calls ≡ 0 = unclosed_before in
+              let all : close_count link (n.calls ++ waited ∷ []) ≡ close_count link n.calls + (0 + 0) = close_count-append link n.calls (waited ∷ []) in
+              opened_flush n.calls waited xs ys link whole.opened tt
+              (record { dialed = (dial_target n.history r, among_left (ReturnsLink (dial_target n.history r) link) n.calls (waited ∷ []) mine_before.given); unclosed = omega (arith, before, all) })
+              spoke.0 last aside.nothing aside.unclosed
+
           -- it was closed as often as its flush closed it
           shut_now : close_count link (n.calls ++ ((waited ∷ xs) ++ ys)) ≡ closed_by (route_on_link (OnRoute r outcome ∷ (Sent r.output more ∷ n.history)) link)
           shut_now =
-              let before : close_count link n.calls ≡ 0 = whole.closed.per (dial_target n.history r) link mine_before.given ∙ ap closed_by on in
+              let before : close_count link n.calls ≡ 0 = unclosed_before in
               let all : close_count link (n.calls ++ ((waited ∷ xs) ++ ys)) ≡ close_count link n.calls + close_count link ((waited ∷ xs) ++ ys) = close_count-append link n.calls ((waited ∷ xs) ++ ys) in
               let now_all : close_count link ((waited ∷ xs) ++ ys) ≡ close_count link (waited ∷ xs) + close_count link ys = close_count-append link (waited ∷ xs) ys in
               let aside_none : close_count link ys ≡ 0 = aside.unclosed link in
@@ -152,6 +170,7 @@ module _ (s : AllSettings) (n : Now) (whole : RunInvariant s n) (until paused : 
       kept = kept_unheard s n link turn off (waited ∷ []) wait_gives_none (append-nil (event_on link brought) ∙ here) (λ other apart. append-nil (event_on other brought) ∙ elsewhere other apart) whole.kept;
       counted = counted_aside n whole.counted (waited ∷ []) wait_gives_none (λ other. ap bytes_pushed (append-nil (event_on other brought)) ∙ came_untaken other brought);
       closed = closed_aside n whole.closed (waited ∷ []) wait_gives_none (λ other. refl);
+      opened = opened_one n.calls waited whole.opened tt;
     },
   )
   safe_on (Some r) on = safe_flight r on (flight n.history r) refl

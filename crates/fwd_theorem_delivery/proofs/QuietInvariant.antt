@@ -15,6 +15,7 @@ use Rattle.fwd_theorem_delivery.proofs.Outcomes.{Now, asked, noted, Ends, ends_b
 use Rattle.fwd_theorem_delivery.proofs.FlushInvariant.{CameBy}
 use Rattle.fwd_theorem_delivery.proofs.LinkClosures.{closed_refused}
 use Rattle.fwd_theorem_delivery.proofs.Counts.{counted_fact, counted_aside}
+use Rattle.fwd_theorem_delivery.proofs.OpenLinks.{opened_aside}
 use Rattle.fwd_theorem_delivery.proofs.OutcomeCauses.{refused}
 use Rattle.fwd_theorem_delivery.proofs.RunInvariant.{RunInvariant, whole_as, whole_fact, whole_aside}
 use Rattle.fwd_theorem_delivery.proofs.QuietActions.{MayBecome, MayDo, IsAside, TouchesNoFlush, Same, OpenHaveNoFlush}
@@ -48,6 +49,7 @@ module _ (s : AllSettings) where
         kept = refused s n whole.kept r grounded [] none_given (λ link. refl) outcome out by;
         counted = counted_fact (OnRoute r outcome ∷ n.history) (record { greatest = n.greatest; calls = n.calls ++ []; history = n.history }) (λ output. refl) (counted_aside n whole.counted [] none_given (λ link. refl));
         closed = closed_refused n whole.closed [] r outcome none_given (λ link. refl) out grounded;
+        opened = opened_aside n.calls [] whole.opened (λ link. refl) (λ link. refl);
       })
 
   pub whole_begun : (n : Now) (r : Route) (events : List LogEvent) → flight n.history r ≡ None → RunInvariant s n → RunInvariant s (noted (OnRoute r (FlushStarted events)) n)

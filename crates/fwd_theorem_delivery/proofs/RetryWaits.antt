@@ -70,7 +70,7 @@ module _ (s : AllSettings) where
     where
       by : (b : Bool) → n == r.chunk ≡ b → due s (later ++ h) r ≡ due s h r → cond b (clock (later ++ h)) (due s (later ++ h) r) ≡ due s h r
       by true is more =
-          let off : is_closed (later ++ h) r.chunk ≡ false = subst (λ (m : ℕ). is_closed (later ++ h) m ≡ false) (eqb-true n r.chunk is) timed.0 in
+          let off : is_closed (later ++ h) r.chunk ≡ false = subst (λ (m : ℕ). is_closed (later ++ h) m ≡ false) (eqb-true n r.chunk is) timed.0.0 in
           absurd (cc (sym off ∙ stays_shut later h r.chunk shut))
       by false is more = more
   due_stays (OnRoute other outcome ∷ later) h r none shut timed = by (same_route other r) refl none (λ still. due_stays later h r still shut timed.1)
@@ -214,7 +214,7 @@ module _ (s : AllSettings) where
         by : (o : Outcome) → same_route r r ≡ true → RouteTimed s r o h → Limited (OnRoute r o ∷ h)
         by (FlushStarted events) is (by_now, (idle, (calm, sends))) =
             let means = idle_means h r idle in
-            let none : open_or_ended h ≡ 0 = rw (not_under_way h means.1 calm, means.0) refl in
+            let none : open_or_ended h ≡ 0 = rw (not_under_way h means.1 (calm r), means.0) refl in
             let most = was.most in
             record {
               most = rw is (omega (arith, most, none));

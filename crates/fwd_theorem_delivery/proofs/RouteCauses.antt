@@ -28,7 +28,7 @@ module _ (s : AllSettings) where
         let at = noted_at s (past_after [] es) later (Refused b why) before (due_since s ends ticks turns es left way) (noted_since [] es ∙ is) in
         subst (λ (h : History). RefuseAllowed s b why h) at.is at.may;
     exhausted = λ later before r is. let timed = from later (OnRoute r Exhausted) before is in used_up s before r timed.1 timed.0;
-    evicted = λ later before r is. (from later (OnRoute r Evicted) before is).0;
+    evicted = λ later before r is. (from later (OnRoute r Evicted) before is).0.0;
     sent = λ later before r events is. (from later (OnRoute r (FlushStarted events)) before is).0.1.1.1;
   }
     where

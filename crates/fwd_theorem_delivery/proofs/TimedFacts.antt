@@ -1,5 +1,5 @@
 -- When closings, beginnings and retries may be logged; resolving and closing keep to it.
-use Rattle.std.proofs.Common.{◌≡◌, ℕ, ◌≤◌, not, Bool, true, false, cond, List, [], ◌∷◌, ◌++◌, filter, Option, Some, None, refl, sym, ap, subst, arith}
+use Rattle.std.proofs.Common.{◌≡◌, ℕ, ◌≤◌, not, Bool, true, false, cond, List, [], ◌∷◌, ◌++◌, filter, Option, Some, None, refl, sym, ◌∙◌, ap, subst, arith}
 use Rattle.std.specs.Prelude.{All, Contains, ◌==◌, nat_le}
 use Rattle.std.proofs.lemmas.Bool.{ne_eqb}
 use Rattle.std.proofs.lemmas.List.Elements.{All-nil, All-cons}
@@ -56,30 +56,45 @@ on_the_way [] r = false
 on_the_way (OnRoute other outcome ∷ h) r = cond (same_route other r) (is_on_the_way outcome) (on_the_way h r)
 on_the_way (fact ∷ h) r = on_the_way h r
 
--- A route begins when it is due and idle, no flush of it began just now, and with its chunk's events. Its flush is in progress when it
--- goes on, is to be retried, which it may be, or has used its retries. It is evicted over its output's limit.
+-- no flush began just now
+abbrev pub NoneBegun : History → Type 0
+NoneBegun h = (r : Route) → just_begun h r ≡ false
+
+abbrev pub rest_of : List Route → List Route
+rest_of [] = []
+rest_of (r ∷ rs) = rs
+
+-- the evictions that the last closing still owes
+abbrev pub owing : AllSettings → History → List Route
+owing s [] = []
+owing s (ChunkClosed chunk ∷ h) = evicted_at s (ChunkClosed chunk ∷ h) chunk
+owing s (OnRoute r Evicted ∷ h) = rest_of (owing s h)
+owing s (fact ∷ h) = owing s h
+
+-- no flush began just now, and no eviction is owed
+abbrev pub Calm : AllSettings → History → Type 0
+Calm s h = NoneBegun h × (owing s h ≡ [])
+
+-- A route begins when it is due and idle, no flush began just now, and with its chunk's events. Its flush is in progress when it
+-- goes on, is to be retried, which it may be, or has used its retries. It is evicted over its output's limit, as the next that the last closing owes.
 abbrev pub RouteTimed : AllSettings → Route → Outcome → History → Type 0
-RouteTimed s r (FlushStarted events) h = (due s h r ≤ clock h) × ((is_idle s h r ≡ true) × ((just_begun h r ≡ false) × SendsChunk s h r events))
+RouteTimed s r (FlushStarted events) h = (due s h r ≤ clock h) × ((is_idle s h r ≡ true) × (NoneBegun h × SendsChunk s h r events))
 RouteTimed s r (InFlight progress) h = on_the_way h r ≡ true
 RouteTimed s r (Retries word) h = (may_retry (retries_at (output_at s r.output)) (tries h r) ≡ true) × (on_the_way h r ≡ true)
 RouteTimed s r Delivered h = Unit {0}
 RouteTimed s r Failed h = Unit {0}
 RouteTimed s r Exhausted h = (may_retry (retries_at (output_at s r.output)) (tries h r) ≡ false) × (on_the_way h r ≡ true)
-RouteTimed s r Evicted h = IsOverLimit s h r
+RouteTimed s r Evicted h = IsOverLimit s h r × ((rest : List Route) × (owing s h ≡ r ∷ rest))
 
--- and a chunk closes while it is open
+-- and a chunk closes while it is open, and no eviction is owed
 abbrev pub FactTimed : AllSettings → Fact → History → Type 0
-FactTimed s (ChunkClosed chunk) h = is_closed h chunk ≡ false
+FactTimed s (ChunkClosed chunk) h = (is_closed h chunk ≡ false) × (owing s h ≡ [])
 FactTimed s (OnRoute r outcome) h = RouteTimed s r outcome h
 FactTimed s fact h = Unit {0}
 
 abbrev pub Timed : AllSettings → History → Type 0
 Timed s [] = Unit {0}
 Timed s (fact ∷ h) = FactTimed s fact h × Timed s h
-
--- no flush began just now
-abbrev pub Calm : History → Type 0
-Calm h = (r : Route) → just_begun h r ≡ false
 
 -- the facts after an outcome of a route
 abbrev pub IsTail : Fact → Type 0
@@ -95,21 +110,45 @@ IsTail fact = ⊥
 abbrev pub IsKeptByTails : (History → Type 0) → Type 0
 IsKeptByTails K = (fact : Fact) (h : History) → IsTail fact → K h → K (fact ∷ h)
 
-pub calm_tails : IsKeptByTails Calm
-calm_tails (Sent output bytes) h is calm = calm
-calm_tails (MarkStarted r) h is calm = calm
-calm_tails (Marked r) h is calm = calm
-calm_tails (Removed chunk) h is calm = calm
-calm_tails (FileLeft chunk) h is calm = calm
-calm_tails IoFailed h is calm = calm
-calm_tails fact h is calm = absurd is
+none_tails : IsKeptByTails NoneBegun
+none_tails (Sent output bytes) h is calm = calm
+none_tails (MarkStarted r) h is calm = calm
+none_tails (Marked r) h is calm = calm
+none_tails (Removed chunk) h is calm = calm
+none_tails (FileLeft chunk) h is calm = calm
+none_tails IoFailed h is calm = calm
+none_tails fact h is calm = absurd is
 
-pub calm_outcome : (q : Route) (outcome : Outcome) (h : History) → is_begun outcome ≡ false → Calm h → Calm (OnRoute q outcome ∷ h)
-calm_outcome q outcome h not_begun calm r = by (same_route q r) (calm r)
+none_outcome : (q : Route) (outcome : Outcome) (h : History) → is_begun outcome ≡ false → NoneBegun h → NoneBegun (OnRoute q outcome ∷ h)
+none_outcome q outcome h not_begun calm r = by (same_route q r) (calm r)
   where
     by : (b : Bool) → just_begun h r ≡ false → cond b (is_begun outcome) (just_begun h r) ≡ false
     by true before = not_begun
     by false before = before
+
+owing_tails : (s : AllSettings) (fact : Fact) (h : History) → IsTail fact → owing s (fact ∷ h) ≡ owing s h
+owing_tails s (Sent output bytes) h is = refl
+owing_tails s (MarkStarted r) h is = refl
+owing_tails s (Marked r) h is = refl
+owing_tails s (Removed chunk) h is = refl
+owing_tails s (FileLeft chunk) h is = refl
+owing_tails s IoFailed h is = refl
+owing_tails s fact h is = absurd is
+
+pub owing_outcome : (s : AllSettings) (q : Route) (outcome : Outcome) (h : History) → owing s h ≡ [] → owing s (OnRoute q outcome ∷ h) ≡ []
+owing_outcome s q Evicted h none = ap rest_of none
+owing_outcome s q (FlushStarted events) h none = none
+owing_outcome s q (InFlight progress) h none = none
+owing_outcome s q (Retries word) h none = none
+owing_outcome s q Delivered h none = none
+owing_outcome s q Failed h none = none
+owing_outcome s q Exhausted h none = none
+
+pub calm_tails : (s : AllSettings) → IsKeptByTails (Calm s)
+calm_tails s fact h is calm = (none_tails fact h is calm.0, owing_tails s fact h is ∙ calm.1)
+
+pub calm_outcome : (s : AllSettings) (q : Route) (outcome : Outcome) (h : History) → is_begun outcome ≡ false → Calm s h → Calm s (OnRoute q outcome ∷ h)
+calm_outcome s q outcome h not_begun calm = (none_outcome q outcome h not_begun calm.0, owing_outcome s q outcome h calm.1)
 
 module _ (s : AllSettings) where
   -- an allowed entry is also in time
@@ -204,17 +243,25 @@ module _ (s : AllSettings) where
     tells_settles r past in_time so =
         tells_if K (owes s (logged past) r.chunk) past (records s r (logged past)) (drops s r.chunk (logged past)) (λ yes. tells_records r past in_time so) (λ no. tells_drops r.chunk past in_time so)
 
-    -- ---- closing
+  -- ---- closing
 
-    module _ (losses : (r : Route) (h : History) → K h → K (OnRoute r Evicted ∷ h)) where
-      tells_loses : (rs : List Route) (past : Past) → ((r : Route) → Contains rs r → (h : History) → K h → IsOverLimit s h r) → InTime past → K (logged past) → ReturnsTimed K past (loses s rs (logged past))
-      tells_loses [] past over in_time so = nothing K past in_time so
-      tells_loses (r ∷ rs) past over in_time so =
-          deed K (OnRoute r Evicted) past (λ at. bind (marks_or_removes s r at) (loses s rs)) (λ _ _. over r (here r rs) (logged past) so) in_time
-          (λ answer later.
-          let at : Past = entry (Note (OnRoute r Evicted)) answer ∷ past in
-          tells_then K K at (marks_or_removes s r (logged at)) (loses s rs) (tells_settles r at later (losses r (logged past) so))
-          (λ now grown still more. tells_loses rs now (λ q has. over q (deeper r rs q has)) still more))
+  -- so much is owed
+  abbrev Owes : (History → Type 0) → List Route → History → Type 0
+  Owes K rs h = K h × (owing s h ≡ rs)
+
+  owes_tails : (K : History → Type 0) (rs : List Route) → IsKeptByTails K → IsKeptByTails (Owes K rs)
+  owes_tails K rs tails fact h is so = (tails fact h is so.0, owing_tails s fact h is ∙ so.1)
+
+  module _ (K : History → Type 0) (tails : IsKeptByTails K) (losses : (r : Route) (h : History) → K h → K (OnRoute r Evicted ∷ h)) where
+    tells_loses : (rs : List Route) (past : Past) → ((r : Route) → Contains rs r → (h : History) → K h → IsOverLimit s h r) → InTime past → Owes K rs (logged past) → ReturnsTimed (Owes K []) past (loses s rs (logged past))
+    tells_loses [] past over in_time so = nothing (Owes K []) past in_time so
+    tells_loses (r ∷ rs) past over in_time so =
+        deed (Owes K []) (OnRoute r Evicted) past (λ at. bind (marks_or_removes s r at) (loses s rs)) (λ _ _. (over r (here r rs) (logged past) so.0, (rs, so.1))) in_time
+        (λ answer later.
+        let at : Past = entry (Note (OnRoute r Evicted)) answer ∷ past in
+        tells_then (Owes K rs) (Owes K []) at (marks_or_removes s r (logged at)) (loses s rs)
+        (tells_settles (Owes K rs) (owes_tails K rs tails) r at later (losses r (logged past) so.0, ap rest_of so.1))
+        (λ now grown still more. tells_loses rs now (λ q has. over q (deeper r rs q has)) still more))
 
   -- ---- a chunk closes
 
@@ -234,29 +281,30 @@ module _ (s : AllSettings) where
   closed_tails closed before fact h is so = closed_before closed before fact h (tails_follow fact is) so
 
   module _ (K : History → Type 0) (tails : IsKeptByTails K) (losses : (r : Route) (h : History) → K h → K (OnRoute r Evicted ∷ h)) where
-    tells_shuts : (chunk : ℕ) (past : Past) → (Allowed s past → is_closed (logged past) chunk ≡ false) → InTime past → K (ChunkClosed chunk ∷ logged past) → ReturnsTimed K past (closes_chunk s chunk (logged past))
+    tells_shuts : (chunk : ℕ) (past : Past) → (Allowed s past → is_closed (logged past) chunk ≡ false) → InTime past → owing s (logged past) ≡ [] → K (ChunkClosed chunk ∷ logged past)
+        → ReturnsTimed (Owes K []) past (closes_chunk s chunk (logged past))
     unfolding closes_chunk
-    tells_shuts chunk past off in_time so =
+    tells_shuts chunk past off in_time none so =
         let Both : History → Type 0 = λ (h : History). K h × ClosedSince chunk (logged past) h in
-        deed K (ChunkClosed chunk) past (λ at. loses s (evicted_at s at chunk) at) (λ due _. off due) in_time
+        deed (Owes K []) (ChunkClosed chunk) past (λ at. loses s (evicted_at s at chunk) at) (λ due _. (off due, none)) in_time
         (λ answer later.
         let at : Past = entry (Note (ChunkClosed chunk)) answer ∷ past in
-        traverses_map InTime (λ (h : History) (now : Past). (h ≡ logged now) × Both (logged now)) (λ (h : History) (now : Past). (h ≡ logged now) × K (logged now)) at
-        (loses s (evicted_at s (logged at) chunk) (logged at)) (λ h now grown is. (is.0, is.1.0))
+        traverses_map InTime (λ (h : History) (now : Past). (h ≡ logged now) × Owes Both [] (logged now)) (λ (h : History) (now : Past). (h ≡ logged now) × Owes K [] (logged now)) at
+        (loses s (evicted_at s (logged at) chunk) (logged at)) (λ h now grown is. (is.0, (is.1.0.0, is.1.1)))
         (tells_loses Both (λ fact h is both. (tails fact h is both.0, closed_tails chunk (logged past) fact h is both.1))
         (λ r h both. (losses r h both.0, closed_before chunk (logged past) (OnRoute r Evicted) h refl both.1))
-        (evicted_at s (logged at) chunk) at (λ r has h both. evicted_over s chunk (logged past) r h both.1 has) later (so, record { since = []; is = refl; last = All-nil Follows })))
+        (evicted_at s (logged at) chunk) at (λ r has h both. evicted_over s chunk (logged past) r h both.1 has) later ((so, record { since = []; is = refl; last = All-nil Follows }), refl)))
 
-  calm_losses : (r : Route) (h : History) → Calm h → Calm (OnRoute r Evicted ∷ h)
-  calm_losses r h calm = calm_outcome r Evicted h refl calm
+  none_losses : (r : Route) (h : History) → NoneBegun h → NoneBegun (OnRoute r Evicted ∷ h)
+  none_losses r h none = none_outcome r Evicted h refl none
 
-  pub calm_shuts : (chunk : ℕ) (past : Past) → (Allowed s past → is_closed (logged past) chunk ≡ false) → InTime past → Calm (logged past) → ReturnsTimed Calm past (closes_chunk s chunk (logged past))
-  calm_shuts chunk past off in_time calm = tells_shuts Calm calm_tails calm_losses chunk past off in_time calm
+  pub calm_shuts : (chunk : ℕ) (past : Past) → (Allowed s past → is_closed (logged past) chunk ≡ false) → InTime past → Calm s (logged past) → ReturnsTimed (Calm s) past (closes_chunk s chunk (logged past))
+  calm_shuts chunk past off in_time calm = tells_shuts NoneBegun none_tails none_losses chunk past off in_time calm.1 calm.0
 
-  pub calm_fills : (chunk : ℕ) (past : Past) → (Allowed s past → is_closed (logged past) chunk ≡ false) → InTime past → Calm (logged past) → ReturnsTimed Calm past (closes_if_full s chunk (logged past))
+  pub calm_fills : (chunk : ℕ) (past : Past) → (Allowed s past → is_closed (logged past) chunk ≡ false) → InTime past → Calm s (logged past) → ReturnsTimed (Calm s) past (closes_if_full s chunk (logged past))
   unfolding closes_if_full
   calm_fills chunk past off in_time calm =
-      tells_if Calm (nat_le full_chunk (size (logged past) chunk)) past (closes_chunk s chunk (logged past)) (Return (logged past)) (λ yes. calm_shuts chunk past off in_time calm) (λ no. nothing Calm past in_time calm)
+      tells_if (Calm s) (nat_le full_chunk (size (logged past) chunk)) past (closes_chunk s chunk (logged past)) (Return (logged past)) (λ yes. calm_shuts chunk past off in_time calm) (λ no. nothing (Calm s) past in_time calm)
 
   -- ---- several chunks close
 
@@ -282,7 +330,7 @@ module _ (s : AllSettings) where
   Others n old h = (m : ℕ) → (n == m) ≡ false → is_closed old m ≡ false → is_closed h m ≡ false
 
   abbrev CalmOthers : ℕ → History → History → Type 0
-  CalmOthers n old h = Calm h × Others n old h
+  CalmOthers n old h = NoneBegun h × Others n old h
 
   others_tails : (n : ℕ) (old : History) → IsKeptByTails (CalmOthers n old)
   others_tails n old (Sent output bytes) h is so = so
@@ -308,14 +356,14 @@ module _ (s : AllSettings) where
   pub due_grown : (past now : Past) → Extends past now → Allowed s now → Allowed s past
   due_grown past now grown due = due_over grown.0 past (subst (Allowed s) grown.1 due)
 
-  tells_closes : (cs : List ChunkInfo) (past : Past) → (Allowed s past → AreOpen (logged past) cs) → InTime past → Calm (logged past) → ReturnsTimed Calm past (closes_each s cs (logged past))
-  tells_closes [] past are in_time calm = nothing Calm past in_time calm
+  tells_closes : (cs : List ChunkInfo) (past : Past) → (Allowed s past → AreOpen (logged past) cs) → InTime past → Calm s (logged past) → ReturnsTimed (Calm s) past (closes_each s cs (logged past))
+  tells_closes [] past are in_time calm = nothing (Calm s) past in_time calm
   tells_closes (c ∷ cs) past are in_time calm =
-      tells_then (CalmOthers c.number (logged past)) Calm past (closes_chunk s c.number (logged past)) (closes_each s cs)
-      (tells_shuts (CalmOthers c.number (logged past)) (others_tails c.number (logged past)) (λ r h so. (calm_losses r h so.0, so.1)) c.number past (λ due. (are due).0) in_time (calm, others_now c.number (logged past)))
+      tells_then (Owes (CalmOthers c.number (logged past)) []) (Calm s) past (closes_chunk s c.number (logged past)) (closes_each s cs)
+      (tells_shuts (CalmOthers c.number (logged past)) (others_tails c.number (logged past)) (λ r h so. (none_losses r h so.0, so.1)) c.number past (λ due. (are due).0) in_time calm.1 (calm.0, others_now c.number (logged past)))
       (λ now grown later so.
-      tells_closes cs now (λ due. let was = are (due_grown past now grown due) in still_open c.number (logged past) (logged now) cs so.1 was.1.0 was.1.1) later so.0)
+      tells_closes cs now (λ due. let was = are (due_grown past now grown due) in still_open c.number (logged past) (logged now) cs so.0.1 was.1.0 was.1.1) later (so.0.0, so.1))
 
-  pub calm_closes_all : (past : Past) → InTime past → Calm (logged past) → ReturnsTimed Calm past (closes_all s (logged past))
+  pub calm_closes_all : (past : Past) → InTime past → Calm s (logged past) → ReturnsTimed (Calm s) past (closes_all s (logged past))
   unfolding closes_all
   calm_closes_all past in_time calm = tells_closes (open_chunks (logged past)) past (λ due. rise_open (logged past) (chunks_of (logged past)) (sound s past due).rising) in_time calm

@@ -19,17 +19,17 @@ module _ (s : AllSettings) where
   timed_behind (Note fact) h plain timed = absurd plain
   timed_behind call h plain timed = timed
 
-  calm_loading : (h : History) → IsLoading h → Calm h
-  calm_loading [] loading r = refl
-  calm_loading (Found number stream name bytes ∷ h) loading r = calm_loading h loading.1 r
-  calm_loading (fact ∷ h) loading r = absurd loading
+  calm_loading : (h : History) → IsLoading h → Calm s h
+  calm_loading [] loading = (λ r. refl, refl)
+  calm_loading (Found number stream name bytes ∷ h) loading = calm_loading h loading.1
+  calm_loading (fact ∷ h) loading = absurd loading
 
-  timed_aside : (fact : Fact) (answer : Unit {0}) (past : Past) → IsOffsetFact fact → InTime s past × Calm (logged past) → InTime s (entry (Note fact) answer ∷ past) × Calm (fact ∷ logged past)
+  timed_aside : (fact : Fact) (answer : Unit {0}) (past : Past) → IsOffsetFact fact → InTime s past × Calm s (logged past) → InTime s (entry (Note fact) answer ∷ past) × Calm s (fact ∷ logged past)
   timed_aside (Resumed input index place) answer past is (in_time, calm) = (λ due. (tt, in_time due.1), calm)
   timed_aside (Saved input index place) answer past is (in_time, calm) = (λ due. (tt, in_time due.1), calm)
   timed_aside fact answer past is so = absurd is
 
-  timed_lasts : Lasts s (InTime s) (λ (past : Past). Calm (logged past))
+  pub timed_lasts : Lasts s (InTime s) (λ (past : Past). Calm s (logged past))
   timed_lasts = record {
     first = λ due. tt;
     onward = λ call answer past plain is in_time due. timed_behind call (logged past) plain (in_time due.1);
@@ -40,4 +40,4 @@ module _ (s : AllSettings) where
   }
 
   pub timed_life : (ends : Ends) (ticks : Option ℕ) (turns : ℕ) (es : List TraceEntry) (left : Action RunResult) → Execution (life s ends ticks turns) es left → Timed s (logged (past_after [] es))
-  timed_life ends ticks turns es left way = at_each s (InTime s) (λ (past : Past). Calm (logged past)) timed_lasts ends ticks turns es left way (due_since s ends ticks turns es left way)
+  timed_life ends ticks turns es left way = at_each s (InTime s) (λ (past : Past). Calm s (logged past)) timed_lasts ends ticks turns es left way (due_since s ends ticks turns es left way)

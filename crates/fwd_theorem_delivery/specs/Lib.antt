@@ -9,5 +9,6 @@ pub mod RetryCounts
 pub mod Causes
 pub mod FlushedEvents
 pub mod Links
+pub mod OpenLinks
 pub mod LinkOutcomes
 pub mod TakenBytes

@@ -1,7 +1,7 @@
 //! Theorems on the flushes of a run. They assume of the platform that each dial that returns a link
 //! returns a greater number than all before, and hold of a run up to any step.
 
-ghost use Rattle.std.specs.Prelude.{ℕ, ◌-◌, ◌^◌, ◌≡◌, min, List, Option, Some};
+ghost use Rattle.std.specs.Prelude.{ℕ, ◌-◌, ◌^◌, ◌≡◌, min, List, [], Option, Some};
 ghost use Rattle.fwd_outside.specs.Program.{Return, Execution};
 ghost use Rattle.fwd_outside.specs.declared.ends.Ends.{Ends};
 ghost use Rattle.fwd_outside.specs.NewLinks.{AreNewLinks};
@@ -13,6 +13,7 @@ ghost use Rattle.fwd_model.specs.Routes.{flight};
 ghost use Rattle.fwd_model.specs.Counters.{taken};
 ghost use Rattle.fwd_model.specs.Run.{RunResult, life};
 ghost use Rattle.fwd_theorem_delivery.specs.Links.{DialTarget, WasDialled};
+ghost use Rattle.fwd_theorem_delivery.specs.OpenLinks.{AreOnOpenLinks};
 ghost use Rattle.fwd_theorem_delivery.specs.TakenBytes.{links_of, taken_over};
 ghost use Rattle.fwd_theorem_delivery.specs.LinkOutcomes.{IsLogged, SendsPrefix, SendsAll, IsRejected, IsInProgress, HasRetryCause};
 
@@ -24,6 +25,13 @@ pub fn links_send_prefixes()
     ensures { (s : AllSettings) (ends : Ends) (ticks : Option ℕ) (turns : ℕ) (trace : List TraceEntry) (lived : RunResult) (to : DialTarget) (link : ℕ)
         → Execution (life s ends ticks turns) trace (Return lived) → AreNewLinks 0 (loop_part trace) → WasDialled to link (loop_part trace)
         → SendsPrefix s lived.history (loop_part trace) to link }
+{}
+
+/// A run pushes only to links that are open, and closes only those: a dial returned the link before, and it
+/// wasn't closed since.
+pub fn calls_are_on_open_links()
+    ensures { (s : AllSettings) (ends : Ends) (ticks : Option ℕ) (turns : ℕ) (trace : List TraceEntry) (lived : RunResult)
+        → Execution (life s ends ticks turns) trace (Return lived) → AreNewLinks 0 (loop_part trace) → AreOnOpenLinks [] (loop_part trace) }
 {}
 
 /// A route is delivered only if the pushes on one link of its output took the whole payload of a flush of

@@ -1,0 +1,15 @@
+mod Stops
+mod RunEnd
+mod LastTick
+mod FactCounts
+mod Room
+mod Counts
+mod Flights
+mod FlightLimits
+mod Sums
+mod Losses
+mod ClosingRoom
+mod StorageLimits
+mod StoredChunks
+mod KeptBytes
+mod Backlog

@@ -1,0 +1,6 @@
+pub mod RunEnd
+pub mod LastTick
+pub mod FactCounts
+pub mod Room
+pub mod FlushLimits
+pub mod StorageLimits

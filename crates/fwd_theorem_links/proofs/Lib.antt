@@ -1,0 +1,10 @@
+pub mod Simulation
+pub mod FlushPrograms
+pub mod Histories
+pub mod Rows
+pub mod Counts
+pub mod Actions
+pub mod Life
+pub mod Dialed
+pub mod Places
+pub mod NoFollowedFiles

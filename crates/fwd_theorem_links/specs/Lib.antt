@@ -1,0 +1,2 @@
+pub mod RenamedLinks
+pub mod DialedLinks

@@ -1,0 +1,5 @@
+pub mod Binding
+pub mod MoreTurns
+pub mod LastTick
+pub mod TickedRun
+pub mod EmptyRecovery
