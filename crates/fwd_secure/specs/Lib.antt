@@ -1,0 +1,17 @@
+pub mod Keys
+pub mod Kept
+pub mod RandomBytes
+pub mod Handshakes
+pub mod Outcome
+pub mod Readable
+pub mod Inputs
+pub mod Outputs
+pub mod Rules
+pub mod LoopBelow
+pub mod LoopCode
+pub mod HandshakesCode
+pub mod Counts
+pub mod Allowed
+pub mod Carried
+pub mod Secure
+pub mod SecureCode

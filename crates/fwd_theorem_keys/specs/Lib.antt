@@ -1,0 +1,4 @@
+pub mod Traffic
+pub mod Streams
+pub mod Links
+pub mod Drops
