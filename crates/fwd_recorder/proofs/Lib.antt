@@ -1,0 +1,10 @@
+pub mod LinkNumbers
+pub mod NotedCalls
+pub mod AllowedCalls
+pub mod KeptNotes
+pub mod NotedLinks
+pub mod RecordingSteps
+pub mod Failing
+pub mod Writing
+pub mod Playing
+pub mod RecordedLines

@@ -1,0 +1,16 @@
+pub mod Seen
+pub mod Links
+pub mod Recorded
+pub mod Notes
+pub mod Allowed
+pub mod LoopBelow
+pub mod LoopBelowCode
+pub mod SeenCode
+pub mod Recording
+pub mod RecordingCode
+pub mod DiskBelowCode
+pub mod DiskStart
+pub mod Failures
+pub mod Counting
+pub mod CountingCode
+pub mod Played
