@@ -10,12 +10,13 @@ import sys
 import tempfile
 
 import hostile_forward
+import hostile_keys
 import hostile_lines
 import hostile_outputs
 from hostile_case import page, table, told, tried
 from live_room import Room
 
-CASES = hostile_lines.CASES + hostile_forward.CASES + hostile_outputs.CASES
+CASES = hostile_lines.CASES + hostile_forward.CASES + hostile_outputs.CASES + hostile_keys.CASES
 
 
 def options_of(words):

@@ -169,6 +169,8 @@ REFUSALS = [
     ("[OUTPUT]\n    Name http\n    Header X-Team\n", 3, "BadChoice", "Header X-Team: a name and a value"),
     ("[OUTPUT]\n    Name stdout\n    storage.id a b\n", 3, "BadChoice", "storage.id a b: a name without blanks"),
     ("[INPUT]\n    Name\n", 2, "NoValue", "a value is missing"),
+    ("[INPUT]\n    Name tcp\n    Shared_Key k\n", 3, "UnknownKey", "tcp has no key Shared_Key; it has "),
+    (f"[INPUT]\n    Name forward\n    Self_Hostname {'h' * 256}\n", 3, "BadChoice", f"Self_Hostname {'h' * 256}: a text of at most 255 bytes"),
 ]
 
 

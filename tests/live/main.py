@@ -15,6 +15,7 @@ import time
 
 import live_disk
 import live_followed
+import live_keys
 import live_log
 import live_offsets
 import live_outputs
@@ -344,7 +345,7 @@ def passes(case, room):
 def main(program, names):
     with tempfile.TemporaryDirectory(prefix="fwd-live-") as path:
         room = Room(path, program)
-        results = [passes(case, room) for case in CASES + live_log.CASES + live_prometheus.CASES + live_outputs.CASES + live_stop.CASES + live_stored.CASES + live_disk.CASES + live_followed.CASES + live_offsets.CASES if not names or case.__name__ in names]
+        results = [passes(case, room) for case in CASES + live_log.CASES + live_prometheus.CASES + live_outputs.CASES + live_keys.CASES + live_stop.CASES + live_stored.CASES + live_disk.CASES + live_followed.CASES + live_offsets.CASES if not names or case.__name__ in names]
     print(f"{sum(results)} passed, {len(results) - sum(results)} failed")
     return 0 if all(results) else 1
 

@@ -41,6 +41,7 @@ fn copy_followed_input(alloc: Global, set: &InputSet) -> Result<InputSet, Memory
             shape: Shape::Plain,
             time: None,
         },
+        shared: None,
     })
 }
 

@@ -10,8 +10,6 @@
 //! `More` exactly if at most 4,096 bytes are a proper prefix of a value. `read_helo`, `read_ping` and
 //! `read_pong` also return the nonce, the salt or the host. A client refuses a PONG with its own host name,
 //! so a digest that was sent back to its sender shows nothing.
-//!
-//! The program doesn't use it: forward inputs and outputs have no shared keys.
 #![tactic(auto)]
 
 mod digest;

@@ -2,8 +2,6 @@
 
 ghost use Rattle.std.specs.Prelude.{◌≡◌, ◌+◌, ◌≤◌, [], Some, true, IfOk, IfSome};
 ghost use Rattle.fwd_outside.specs.Loop.{LoopGiven};
-ghost use Rattle.fwd_outside.specs.NewLinks.{AreNewLinks, greatest_after};
-ghost use Rattle.fwd_live.specs.LinkNumbers.{AreNewLinks-prop};
 
 use crate::answer::answer_of;
 use crate::loop_calls::LoopCalls;
@@ -27,9 +25,6 @@ pub struct LiveLoop<'a> {
     happenings: u64,
     greatest: u64,
     calls: LoopCalls,
-
-    ghost rising: { AreNewLinks 0 calls.entries } by { AreNewLinks-prop 0 calls.entries },
-    ghost newest: { greatest_after 0 calls.entries ≡ greatest },
 }
 
 impl<'a> LiveLoop<'a> {
@@ -199,9 +194,5 @@ impl<'a> Loop for LiveLoop<'a> {
         };
         self.calls = self.calls.then(&word);
         Ok(word)
-    }
-
-    fn links_are_new(&self) {
-        let _ = &self.shared;
     }
 }

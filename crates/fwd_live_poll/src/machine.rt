@@ -441,8 +441,16 @@ impl<'a> Machine<'a> {
         }
     }
 
-    /// Drops a connection.
+    /// Drops a connection. If its peer hasn't shown the shared key, writes a line.
     pub fn drop_conn(&mut self, conn: ConnId) {
+        let stranger = match self.sources.conns.get(&conn.0) {
+            Some(there) if there.owes_key => Some(there.input),
+            Some(_) | None => None,
+        };
+        if let Some(input) = stranger {
+            let text = "a peer is dropped, as it didn't show the shared key";
+            self.sources.log_peer(Level::Warn, input, &text);
+        }
         self.sources.leave(conn);
     }
 

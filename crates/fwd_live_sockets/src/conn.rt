@@ -8,6 +8,9 @@ use std::io::{self, ErrorKind, Write};
 /// The most bytes of replies that are buffered while the socket is full.
 const MOST_BUFFERED: usize = 65_536;
 
+/// What the first reply of an input with a shared key begins with.
+const HELO: &[u8] = b"\x92\xa4HELO";
+
 /// How often an interrupted call is retried.
 const MOST_TRIES: u32 = 16;
 
@@ -22,6 +25,8 @@ pub struct Conn {
     pub ending: bool,
     /// Whether its end was returned as an event. It stays for the replies that the peer hasn't taken.
     pub over: bool,
+    /// Whether its last reply was the HELO of a handshake, so that the peer hasn't shown the key.
+    pub owes_key: bool,
     /// Replies that the socket hasn't taken.
     replies: Vec<u8>,
 }
@@ -48,6 +53,7 @@ impl Conn {
             queued: false,
             ending: false,
             over: false,
+            owes_key: false,
             replies: Vec::new(alloc),
         }
     }
@@ -74,6 +80,7 @@ impl Conn {
             return Err(io::Error::from(ErrorKind::StorageFull));
         }
         self.replies.extend_from_slice(rest)?;
+        self.owes_key = bytes.starts_with(HELO);
         Ok(())
     }
 

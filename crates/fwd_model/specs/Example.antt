@@ -59,6 +59,7 @@ settings = record {
         mem_limit = None;
         db = None;
         parser = plain;
+        shared = None;
       }
       ∷ record {
         name = codes "tail.0";
@@ -68,6 +69,7 @@ settings = record {
         mem_limit = None;
         db = None;
         parser = plain;
+        shared = None;
       }
       ∷ [];
   filters = [];
@@ -79,6 +81,7 @@ settings = record {
         kind = output_kind.Stdout JsonLines;
         retries = Times 1;
         total_limit = None;
+        shared = None;
       }
       ∷ record {
         name = codes "forward.0";
@@ -87,6 +90,7 @@ settings = record {
         kind = output_kind.Forward localhost 24225 true false;
         retries = Times 2;
         total_limit = None;
+        shared = None;
       }
       ∷ [];
 }

@@ -39,6 +39,7 @@ settings = record {
         mem_limit = None;
         db = Some (codes "d");
         parser = plain;
+        shared = None;
       }
       ∷ [];
   filters = [];

@@ -1,6 +1,6 @@
 -- Each link of a loop has a number that is greater than all before it.
 use Rattle.std.specs.Prelude.{ℕ, ◌<◌, List, [], ◌∷◌, Some, None}
-use Rattle.fwd_outside.specs.Loop.{LoopCall, LoopAnswer, LoopEntry, LoopLog, Dial}
+use Rattle.fwd_outside.specs.Loop.{LoopCall, LoopAnswer, LoopEntry, Dial}
 
 -- the greatest number of a link after a call; `greatest` is that before it
 abbrev pub greatest_by : ℕ → (call : LoopCall) → LoopAnswer call → ℕ
@@ -22,8 +22,3 @@ AreNewLinks greatest (e ∷ es) =
 abbrev pub greatest_after : ℕ → List LoopEntry → ℕ
 greatest_after greatest [] = greatest
 greatest_after greatest (e ∷ es) = greatest_after (greatest_by greatest e.call e.answer) es
-
--- all links of the log, if the loop keeps one
-abbrev pub LogHasNewLinks : LoopLog → Type 0
-LogHasNewLinks None = Unit {0}
-LogHasNewLinks (Some log) = AreNewLinks 0 log.1

@@ -4,7 +4,6 @@ ghost use Rattle.std.specs.Prelude.{◌≡◌, ℕ, ◌≤◌, IfOk};
 ghost use Rattle.fwd_outside.specs.Log.{LogGrew, log_of_call};
 ghost use Rattle.fwd_outside.specs.Cause.{HasCause};
 ghost use Rattle.fwd_outside.specs.Loop.{LoopLog, LoopCounts, Start, Wait, Dial, Push, Close, Reply, DropConn, Word, start_outcome, dial_outcome, push_outcome, reply_outcome, loop_outcome, counts_after_wait, counts_after_dial, IsNewLink, TakesAtMost, PushFails, WaitFails, MayOccur};
-ghost use Rattle.fwd_outside.specs.NewLinks.{LogHasNewLinks};
 ghost use Rattle.fwd_outside.specs.declared.answers.Begun.TheVariants as begun;
 ghost use Rattle.fwd_outside.specs.declared.answers.Dialed.TheVariants as dialed;
 ghost use Rattle.fwd_outside.specs.declared.answers.Replied.TheVariants as replied;
@@ -78,8 +77,4 @@ pub trait Loop {
         ensures call_log { LogGrew (call_log self.old) (call_log self.new) (log_of_call Word (loop_outcome result)) }
         ensures later { faults self.old ≤ faults self.new }
         ensures same { counts self.new ≡ counts self.old };
-
-    /// States that each link so far has a number greater than all before it. It does nothing.
-    fn links_are_new(&self)
-        ensures { LogHasNewLinks (call_log self.now) };
 }

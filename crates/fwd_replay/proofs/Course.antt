@@ -125,16 +125,6 @@ plain_last course [] plain = refl
 plain_last course (e ∷ es) plain =
     or_from (brings_last e.call course) (has_last (after_call e.call course) es) (no_last_call e.call course plain.0) (plain_last (after_call e.call course) es plain.1)
 
--- a turn in which the run isn't to be cut
-pub turn_uncut : (cut : Option Cut) (course : Course) (until paused : ℕ) (x : Happening) (es : List TraceEntry) → ArePlain es → None ≡ (if is_last_next paused course then cut else None)
-    → (is_some cut && has_last course (entry (OnLoop (Wait until paused)) x ∷ es)) ≡ false
-turn_uncut None course until paused x es plain is = refl
-turn_uncut (Some cut) course until paused x es plain is = by (is_last_next paused course) is (plain_last (after_call (OnLoop (Wait until paused)) course) es plain)
-  where
-    by : (last : Bool) → None ≡ (if last then Some cut else None) → has_last (after_call (OnLoop (Wait until paused)) course) es ≡ false → (last || has_last (after_call (OnLoop (Wait until paused)) course) es) ≡ false
-    by true e none = absurd (cc e)
-    by false e none = none
-
 -- ---- the files by their call log, and at a position
 
 pub record Alike (given : FilesGiven) (call_log : List FilesEntry) (files : FilesAt) : Type 0 where

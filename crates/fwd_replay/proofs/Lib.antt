@@ -5,8 +5,12 @@ pub mod NameCounts
 pub mod ShownText
 pub mod Course
 pub mod StillCalls
+pub mod KeyedCalls
+pub mod KeyedTurns
 pub mod TurnCalls
 pub mod RunStart
 pub mod LiveRun
+pub mod LoopFailure
+pub mod KeyedRun
 pub mod Handover
 pub mod RunChain

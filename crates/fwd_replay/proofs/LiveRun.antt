@@ -23,7 +23,7 @@ use Rattle.fwd_engine_run.specs.RunOutcome as runs
 use Rattle.fwd_engine_run.specs.declared.run_loop.RunEnd.{RunEnd}
 use Rattle.fwd_engine_run.specs.declared.run_loop.RunEnd.TheVariants as run_end
 use Rattle.fwd_engine_run.proofs.EventCounts.{events_all}
-use Rattle.fwd_replay.specs.LiveRun.{BeginsRun, IsToRun, RunsToEnd, RunProduces, ActionProduces, heard_in, ending_of}
+use Rattle.fwd_replay.specs.LiveRun.{IsToRun, HasRun, RunProduces, ActionProduces, heard_in, ending_of}
 use Rattle.fwd_replay.specs.Names.{IsNamed, IsNamedUnlessFailed}
 use Rattle.fwd_replay.specs.Text.{report, reported_by}
 use Rattle.fwd_replay.specs.declared.names.Named.{Named}
@@ -42,12 +42,15 @@ pub to_run : (setup : Setup) (engine : Engine) (s : AllSettings) (h : History) �
 to_run setup engine s h is at loading keeps = record { settings = s; history = h; at = at; loading = loading; keeps = keeps; is = is }
 
 module _ (s : AllSettings) (ticks : Option ℕ) (turns : ℕ) where
+  abbrev whole_life : Action RunResult
+  whole_life = life s (ends_of s) ticks turns
+
   -- memory ran out before a call
-  pub begins_first : (w : CallLogs) → BeginsRun s ticks turns w w
-  begins_first w = (life s (ends_of s) ticks turns, stays w (life s (ends_of s) ticks turns))
+  pub begins_first : (w : CallLogs) → IsBegun w w whole_life
+  begins_first w = (whole_life, stays w whole_life)
 
   -- and while the disk was loaded
-  pub begins_load : (a b : CallLogs) → IsBegun a b (recovers s) → BeginsRun s ticks turns a b
+  pub begins_load : (a b : CallLogs) → IsBegun a b (recovers s) → IsBegun a b whole_life
   unfolding life
   begins_load a b began = begun_bind (after_recovery s (ends_of s) ticks turns) began
 
@@ -56,11 +59,11 @@ module _ (s : AllSettings) (ticks : Option ℕ) (turns : ℕ) where
   loaded a b found did = leads_inside (after_recovery s (ends_of s) ticks turns) did
 
   -- a call on the disk failed
-  pub disk_failed : (a b : CallLogs) (reported : Reported) → Completes a b (recovers s) None → reported ≡ record { text = []; ending = ending.DiskFailed } → RunsToEnd s ticks turns a b reported
+  pub disk_failed : (a b : CallLogs) (reported : Reported) → Completes a b (recovers s) None → reported ≡ record { text = []; ending = ending.DiskFailed } → HasRun s whole_life a b reported
   disk_failed a b reported did is = record { lived = lived [] DiskFailed; did = loaded a b None did; reports = is }
 
   -- memory ran out while it ran
-  begins_run : (a b c : CallLogs) (ends : Ends) (h : History) → ends ≡ ends_of s → Completes a b (recovers s) (Some h) → IsBegun b c (after_recovery s ends ticks turns (Some h)) → BeginsRun s ticks turns a c
+  begins_run : (a b c : CallLogs) (ends : Ends) (h : History) → ends ≡ ends_of s → Completes a b (recovers s) (Some h) → IsBegun b c (after_recovery s ends ticks turns (Some h)) → IsBegun a c whole_life
   begins_run a b c ends h are did began = begun_trans (loaded a b (Some h) did) (subst (λ (x : Ends). IsBegun b c (after_recovery s x ticks turns (Some h))) are began)
 
   whole_run : (a b c : CallLogs) (ends : Ends) (h : History) (lived : RunResult) → ends ≡ ends_of s → Completes a b (recovers s) (Some h) → Completes b c (after_recovery s ends ticks turns (Some h)) lived → Completes a c (life s (ends_of s) ticks turns) lived
@@ -89,16 +92,7 @@ heard_live a b most run_end.LoopFailed text (Ok x) is heard = rw is heard
 heard_live a b most run_end.TurnsSpent text (Ok x) is heard = rw is heard
 heard_live a b most end text (Err e) is heard = events_all (runs.heard_in most (whole end)) 0 (omega arith) heard
 
--- a run ends because the loop failed only if a failure was counted
-pub loop_cause_live : {E : Type 0} (before now : ℕ) (end : RunEnd) (text : List ℕ) (r : Result Reported E) → IfOk r (λ x. x ≡ reported_by text (end_of end)) → HasCause before now (whole end ≡ whole run_end.LoopFailed)
-    → HasCause before now (ending_of r ≡ ending.LoopFailed)
-loop_cause_live before now run_end.Over text (Ok x) is cause = record { later = cause.later; cause = λ failed. let no : ending.Over ≡ ending.LoopFailed = rw is at failed in absurd (cc no) }
-loop_cause_live before now run_end.KeeperFailed text (Ok x) is cause = record { later = cause.later; cause = λ failed. let no : ending.KeeperFailed ≡ ending.LoopFailed = rw is at failed in absurd (cc no) }
-loop_cause_live before now run_end.LoopFailed text (Ok x) is cause = record { later = cause.later; cause = λ failed. cause.cause refl }
-loop_cause_live before now run_end.TurnsSpent text (Ok x) is cause = record { later = cause.later; cause = λ failed. let no : ending.TurnsSpent ≡ ending.LoopFailed = rw is at failed in absurd (cc no) }
-loop_cause_live before now end text (Err e) is cause = record { later = cause.later; cause = λ failed. absurd (cc failed) }
-
--- and because the keeper failed only if one of its failures was counted
+-- a run ends because the keeper failed only if one of its failures was counted
 pub keeper_cause_live : {E : Type 0} (before now : ℕ) (end : RunEnd) (text : List ℕ) (r : Result Reported E) → IfOk r (λ x. x ≡ reported_by text (end_of end)) → HasCause before now (whole end ≡ whole run_end.KeeperFailed)
     → HasCause before now (ending_of r ≡ ending.KeeperFailed)
 keeper_cause_live before now run_end.Over text (Ok x) is cause = record { later = cause.later; cause = λ failed. let no : ending.Over ≡ ending.KeeperFailed = rw is at failed in absurd (cc no) }

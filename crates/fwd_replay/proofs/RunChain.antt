@@ -94,15 +94,15 @@ module _ (shown : Shown) (s : AllSettings) (most : ℕ) (lives : List Life) (tex
     pub ends_here : (own all : List ℕ) (end : Ending) → EndsIn shown s left start planned (reported own end) → all ≡ text ++ after_cut cut own → IsReplayed shown s most first lives (reported all end)
     ends_here own all end ends is = subst (λ (t : List ℕ). IsReplayed shown s most first lives (reported t end)) (sym is) (goes (reported own end) (Ended ends))
 
-    pub goes_on : (c : CutRun) (all : List ℕ) (after : Option Cut) (left2 : ℕ) → IsCut s left start planned c → all ≡ text ++ after_cut cut (life_text shown s c.before c.history) → after ≡ Some c.cut
+    pub goes_on : (c : CutRun) (all : List ℕ) (after : Option Cut) (left2 : ℕ) → IsCut s left start planned c → all ≡ text ++ after_cut cut (life_text shown s c.below c.history) → after ≡ Some c.cut
         → left2 ≡ left - waits_in (c.before ++ c.turn) → Continues shown s most lives all after left2 c.next more
     goes_on c all after left2 is_cut all_is after_is left_is rest replayed =
-        let life = life_text shown s c.before c.history in
+        let life = life_text shown s c.below c.history in
         let behind = after_crash c.cut rest.text in
         let so : IsReplayed shown s (left - waits_in (c.before ++ c.turn)) c.next more rest = subst (λ (n : ℕ). IsReplayed shown s n c.next more rest) left_is replayed in
         let whole : IsReplayed shown s most first lives (reported (text ++ after_cut cut (life ++ behind)) rest.ending) = goes (joined life c.cut rest) (WasCut c is_cut rest so refl) in
         let same : text ++ after_cut cut (life ++ behind) ≡ all ++ after_cut after rest.text =
-        ap (λ (l : List ℕ). text ++ l) (behind_both cut life behind (text_there shown s c.before c.history))
+        ap (λ (l : List ℕ). text ++ l) (behind_both cut life behind (text_there shown s c.below c.history))
         ∙ sym (append_assoc text (after_cut cut life) behind)
         ∙ ap (λ (l : List ℕ). l ++ behind) (sym all_is)
         ∙ ap (λ (k : Option Cut). all ++ after_cut k rest.text) (sym after_is)

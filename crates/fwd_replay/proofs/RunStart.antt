@@ -2,11 +2,14 @@
 use Rattle.std.proofs.Common.{◌≡◌, ℕ, ◌+◌, Bool, true, false, ◌&&◌, is_some, List, [], ◌∷◌, ◌++◌, map, Option, Some, None, refl, Result, Ok, Err, IfOk, OnOk, sym, ◌∙◌, ap, subst, arith}
 use Rattle.std.proofs.lemmas.List.{append-nil}
 use Rattle.fwd_outside.specs.Program.{entry, Return, Execution}
-use Rattle.fwd_outside.specs.Log.{LogGrew}
+use Rattle.fwd_outside.specs.Log.{LogGrew, log_of_call}
+use Rattle.fwd_outside.specs.declared.answers.Begun.{Begun as LoopBegun}
+use Rattle.fwd_outside.specs.declared.answers.Begun.TheVariants as loop_begun
 use Rattle.fwd_outside.proofs.Executions.{way_bind, way_trans}
 use Rattle.fwd_outside.specs.Disk.{DiskEntry}
-use Rattle.fwd_outside.specs.Files.{FilesGiven, found}
-use Rattle.fwd_outside.specs.Loop.{LoopEntry, LoopGiven, Start as Starting}
+use Rattle.fwd_outside.specs.Files.{FilesEntry, FilesGiven, found}
+use Rattle.fwd_outside.specs.NewLinks.{AreNewLinks}
+use Rattle.fwd_outside.specs.Loop.{LoopEntry, LoopGiven, Start as Starting, start_outcome}
 use Rattle.fwd_outside.specs.declared.ends.Ends.{Ends}
 use Rattle.fwd_disk_mem.specs.declared.entry.MemEntry.{MemEntry}
 use Rattle.fwd_disk_mem.specs.declared.entry.MemEntry.TheVariants as mem_entry
@@ -22,24 +25,21 @@ use Rattle.fwd_files_mem.specs.declared.files.FilesNote.{FilesNote}
 use Rattle.fwd_files_mem.specs.declared.files.FilesNote.TheVariants as note
 use Rattle.fwd_script.specs.declared.schedule.Life.{Life}
 use Rattle.fwd_script.specs.declared.schedule.Stored.{Stored}
-use Rattle.fwd_script_loop.specs.ScriptRun.{new_script, told_of}
-use Rattle.fwd_script_loop.specs.Lines.{given_in, given_of}
+use Rattle.fwd_script_loop.specs.Lines.{given_of}
 use Rattle.fwd_script_loop.specs.Place as place
-use Rattle.fwd_script_loop.specs.ScriptState.{ScriptState}
-use Rattle.fwd_script_loop.specs.Told.{entries_of}
 use Rattle.fwd_model.specs.Fact.{History}
 use Rattle.fwd_model.specs.Trace.{Action, TraceEntry, OnLoop, loop_part, disk_part, files_part, keeper_part}
 use Rattle.fwd_model.specs.CallLogs.{CallLogs, Completes}
 use Rattle.fwd_model.specs.RecoveryActions.{recovers}
 use Rattle.fwd_model.specs.KeptOffsets.{tracked, gets}
 use Rattle.fwd_model.specs.Run.{RunResult, Over, DiskFailed, KeeperFailed, LoopFailed, lived, run, after_start, after_recovery, starts, life}
-use Rattle.fwd_model.proofs.CallLogs.{loop_append, disk_append}
+use Rattle.fwd_model.proofs.CallLogs.{loop_append, disk_append, files_append}
 use Rattle.fwd_engine_state.specs.RefinesAction.{with_disk}
 use Rattle.fwd_engine_run.specs.EngineSteps.{IsAt}
 use Rattle.fwd_engine_run.specs.Engine.{Engine}
 use Rattle.fwd_engine_run.specs.OffsetRows.{Keeps}
 use Rattle.fwd_engine_run.specs.declared.kept_offsets.KeptOffsets.{KeptOffsets}
-use Rattle.fwd_engine_run.proofs.OffsetActions.{Leave, aside_disk, aside_loop, has_failed, left_of}
+use Rattle.fwd_engine_run.proofs.OffsetActions.{Leave, aside_disk, aside_files, aside_loop, has_failed, left_of}
 use Rattle.fwd_keeper.specs.Keeper.{KeeperEntry, KeeperGiven}
 use Rattle.fwd_keeper_mem.specs.KeeperAnswers as keeper
 use Rattle.fwd_keeper_mem.specs.KeeperState.{KeeperState}
@@ -47,12 +47,19 @@ use Rattle.fwd_keeper_mem.specs.MemKeeper as kept_log
 use Rattle.fwd_keeper_mem.specs.declared.mem_keeper.KeeperNote.{KeeperNote}
 use Rattle.fwd_replay.specs.FileChanges.{Course, course_after}
 use Rattle.fwd_replay.specs.Runs.{Start, disk_of, course_of}
-use Rattle.fwd_replay.proofs.CallLog.{told_grown, told_is}
-use Rattle.fwd_replay.specs.RunState.{FilesRepresent, DevicesAreReady, IsRecovered, IsSetUp, IsInProgress, EndedAs, EngineStarts, LoopStarts, Starts}
+use Rattle.fwd_replay.specs.RunState.{FilesRepresent, DevicesAreReady, HasBegun, IsFresh, IsRecovered, IsSetUp, IsInProgress, EndedAs, KeyedLoopStarts, ScriptPlays, WasStarted}
 use Rattle.fwd_replay.proofs.StillCalls.{AreStill, answers_of, aside_still, keeper_append, no_cut, no_waits, stays_behind, still_both, still_of}
 use Rattle.fwd_replay.specs.declared.progress.Going.{Going}
-use Rattle.fwd_replay.specs.declared.start.StartErr.{StartErr}
-use Rattle.fwd_replay.specs.declared.start.StartErr.TheVariants as why
+use Rattle.fwd_replay.specs.declared.start.Begun.{Begun}
+use Rattle.fwd_replay.proofs.KeyedTurns.{CallsBelow, calls_below, log_played, standing_keys, standing_start, start_below, start_entry, unlooped}
+use Rattle.fwd_secure.specs.Handshakes.{no_handshakes}
+use Rattle.fwd_secure.specs.Carried.{Carries}
+use Rattle.fwd_secure.specs.LoopBelow.{LoopBelow}
+use Rattle.fwd_secure.specs.LoopCode.{given_to}
+use Rattle.fwd_secure.specs.Secure.{Secure, IsSecure, log_of}
+use Rattle.fwd_secure_settings.specs.Keys.{keys_of}
+use Rattle.fwd_secure_trace.specs.Secured.{IsSecured}
+use Rattle.fwd_secure_trace.proofs.Secured.{Joined, joined, secured_append}
 
 -- ---- the setup of disk and files
 
@@ -152,26 +159,9 @@ recovered_so s start planned old new h call_log did played =
       played = played;
     }
 
-all_left : (more : ℕ) → more ≡ 0 + more
-all_left more = omega arith
-
 loads_on : (s : AllSettings) (turns : ℕ) (result : Option History) (trace : List TraceEntry) → Execution (recovers s) trace (Return result) → Execution (life s (ends_of s) None turns) trace (after_recovery s (ends_of s) None turns result)
 unfolding life
 loads_on s turns result trace way = way_bind (recovers s) (Return result) trace (after_recovery s (ends_of s) None turns) way
-
--- the call log of a loop in memory that was started
-pub told_start : (planned : Life) (old new : ScriptState) (ends : Ends) (answer : Option (Unit {0})) → old ≡ new_script planned → LogGrew (told_of old) (told_of new) (entry (Starting ends) answer ∷ [])
-    → told_of new ≡ Some (given_of planned, entry (Starting ends) answer ∷ [])
-told_start planned old new ends answer is grew =
-    let at : LogGrew (told_of (new_script planned)) (told_of new) (entry (Starting ends) answer ∷ []) = subst (λ (held : ScriptState). LogGrew (told_of held) (told_of new) (entry (Starting ends) answer ∷ [])) is grew in
-    told_grown new (given_of planned) [] (entry (Starting ends) answer ∷ []) at
-
--- one that couldn't start
-pub failed_start : (planned : Life) (old new : ScriptState) (ends : Ends) → old ≡ new_script planned → LogGrew (told_of old) (told_of new) (entry (Starting ends) None ∷ [])
-    → place.IsPlayed (given_in new.lines new.answers) (entries_of new.notes) → LoopStarts planned ends (Err why.LoopFailed)
-failed_start planned old new ends is grew played =
-    let call_log = told_is new (given_of planned) (entry (Starting ends) None ∷ []) (told_start planned old new ends None is grew) in
-    subst (λ (es : List LoopEntry). place.IsPlayed (given_of planned) es) call_log.1 (subst (λ (g : LoopGiven). place.IsPlayed g (entries_of new.notes)) call_log.0 played)
 
 -- a call on the disk failed while it was loaded
 pub load_fails : (s : AllSettings) (start : Start) (planned : Life) (old new : Seen) (held : FilesState) (kept : KeeperState) → IsSetUp start planned old held kept
@@ -183,6 +173,10 @@ load_fails s start planned old new held kept ready did played =
       trace = loaded.trace;
       is = λ turns. record {
         way = loads_on s turns None loaded.trace loaded.way;
+        links = subst (λ (es : List LoopEntry). AreNewLinks 0 es) (sym loaded.no_loop) tt;
+        below = loaded.trace;
+        handshakes = no_handshakes;
+        secured = unlooped (keys_of s) no_handshakes loaded.trace loaded.no_loop;
         asked = loaded.asked;
         answered = record {
           loop = subst (λ (es : List LoopEntry). place.IsPlayed (given_of planned) es) (sym loaded.no_loop) tt;
@@ -211,6 +205,9 @@ module _ (s : AllSettings) (start : Start) (planned : Life) (seen : Seen) (h : H
   got_loop : loop_part (recovered.trace ++ es) ≡ []
   got_loop = loop_append recovered.trace es ∙ ap (λ (l : List LoopEntry). l ++ loop_part es) recovered.no_loop ∙ aside_loop es leave.aside
 
+  got_no_files : files_part (recovered.trace ++ es) ≡ []
+  got_no_files = files_append recovered.trace es ∙ ap (λ (l : List FilesEntry). l ++ files_part es) recovered.no_files ∙ aside_files es leave.aside
+
   got_disk : disk.entries_of recovered.asked ≡ disk_part (recovered.trace ++ es)
   got_disk =
       recovered.are ∙ sym (append-nil (disk_part recovered.trace)) ∙ ap (λ (l : List DiskEntry). disk_part recovered.trace ++ l) (sym (aside_disk es leave.aside)) ∙ sym (disk_append recovered.trace es)
@@ -238,6 +235,10 @@ module _ (s : AllSettings) (start : Start) (planned : Life) (seen : Seen) (h : H
         trace = recovered.trace ++ es;
         is = λ turns. record {
           way = subst (λ (x : RunResult). Execution (life s (ends_of s) None turns) (recovered.trace ++ es) (left_of (starts s (ends_of s) None turns) x)) is (got_way turns);
+          links = subst (λ (l : List LoopEntry). AreNewLinks 0 l) (sym got_loop) tt;
+          below = recovered.trace ++ es;
+          handshakes = no_handshakes;
+          secured = unlooped (keys_of s) no_handshakes (recovered.trace ++ es) got_loop;
           asked = recovered.asked;
           answered = record {
             loop = subst (λ (l : List LoopEntry). place.IsPlayed (given_of planned) l) (sym got_loop) tt;
@@ -250,87 +251,163 @@ module _ (s : AllSettings) (start : Start) (planned : Life) (seen : Seen) (h : H
         };
       }
 
-  module _ (now : History) (done : r ≡ lived now Over) (answer : Option (Unit {0})) where
-    abbrev start_entry : List TraceEntry
-    start_entry = entry (OnLoop (Starting (ends_of s))) answer ∷ []
+  -- the offsets are got
+  pub has_begun : (now : History) → r ≡ lived now Over → (held : FilesState) (begun : Begun) → FilesRepresent held (course_of start planned).files → IsAt begun.engine s now → Keeps s begun.offsets now → HasBegun s start planned begun now seen held kept2
+  has_begun now done held begun files at keeps = record {
+    at = at;
+    keeps = keeps;
+    trace = recovered.trace ++ es;
+    way = λ turns. subst (λ (x : RunResult). Execution (life s (ends_of s) None turns) (recovered.trace ++ es) (left_of (starts s (ends_of s) None turns) x)) done (got_way turns);
+    no_loop = got_loop;
+    no_files = got_no_files;
+    asked = recovered.asked;
+    disk_is = recovered.disk_is;
+    are = got_disk;
+    disk = disk_played;
+    files = files;
+    kept_given = got_given;
+    kept_calls = got_keeper;
+    keeper = keeper_played (recovered.trace ++ es) got_keeper;
+  }
 
-    abbrev whole : List TraceEntry
-    whole = (recovered.trace ++ es) ++ start_entry
+-- ---- the start of the loop
 
-    whole_way : (turns : ℕ) → Execution (life s (ends_of s) None turns) whole (after_start s None turns now answer)
-    whole_way turns =
-        way_trans (life s (ends_of s) None turns) (starts s (ends_of s) None turns now) (after_start s None turns now answer) (recovered.trace ++ es) start_entry
-        (subst (λ (x : RunResult). Execution (life s (ends_of s) None turns) (recovered.trace ++ es) (left_of (starts s (ends_of s) None turns) x)) done (got_way turns)) (answer, refl, refl)
+module _ (s : AllSettings) (start : Start) (planned : Life) (begun : Begun) (h : History) (seen : Seen) (held : FilesState) (kept : KeeperState) (has : HasBegun s start planned begun h seen held kept) (answer : Option (Unit {0})) (secure : Secure)
+    (started : WasStarted s planned (ends_of s) answer secure) where
+  abbrev entries : List TraceEntry
+  entries = start_entry (keys_of s) no_handshakes (ends_of s) answer
 
-    whole_still : AreStill whole
-    whole_still = still_both (recovered.trace ++ es) start_entry got_still (tt, tt)
+  abbrev whole : List TraceEntry
+  whole = has.trace ++ entries
 
-    whole_loop : loop_part whole ≡ entry (Starting (ends_of s)) answer ∷ []
-    whole_loop = loop_append (recovered.trace ++ es) start_entry ∙ ap (λ (l : List LoopEntry). l ++ entry (Starting (ends_of s)) answer ∷ []) got_loop
+  whole_way : (turns : ℕ) → Execution (life s (ends_of s) None turns) whole (after_start s None turns h answer)
+  whole_way turns = way_trans (life s (ends_of s) None turns) (starts s (ends_of s) None turns h) (after_start s None turns h answer) has.trace entries (has.way turns) (answer, refl, refl)
 
-    whole_disk : disk.entries_of recovered.asked ≡ disk_part whole
-    whole_disk = got_disk ∙ sym (append-nil (disk_part (recovered.trace ++ es))) ∙ sym (disk_append (recovered.trace ++ es) start_entry)
+  whole_still : AreStill whole
+  whole_still = still_both has.trace entries (still_of has.trace has.no_loop has.no_files) (tt, tt)
 
-    whole_keeper : kept_log.entries_of kept2.notes ≡ keeper_part whole
-    whole_keeper = got_keeper ∙ sym (append-nil (keeper_part (recovered.trace ++ es))) ∙ sym (keeper_append (recovered.trace ++ es) start_entry)
+  whole_loop : loop_part whole ≡ entry (Starting (ends_of s)) answer ∷ []
+  whole_loop = loop_append has.trace entries ∙ ap (λ (l : List LoopEntry). l ++ entry (Starting (ends_of s)) answer ∷ []) has.no_loop
 
-  -- the loop couldn't start
-  loop_failed : (now : History) → r ≡ lived now Over → place.IsPlayed (given_of planned) (entry (Starting (ends_of s)) None ∷ []) → EndedAs s start planned (lived now LoopFailed)
-  loop_failed now done plays =
-      record {
-        trace = whole now done None;
-        is = λ turns. record {
-          way = whole_way now done None turns;
-          asked = recovered.asked;
-          answered = record {
-            loop = subst (λ (l : List LoopEntry). place.IsPlayed (given_of planned) l) (sym (whole_loop now done None)) plays;
-            disk = disk_played;
-            are = whole_disk now done None;
-            files = answers_of (course_of start planned) (whole now done None) (whole_still now done None);
-            keeper = keeper_played (whole now done None) (whole_keeper now done None);
-          };
-          uncut = no_cut start planned (whole now done None) (whole_still now done None);
+  whole_disk : disk.entries_of has.asked ≡ disk_part whole
+  whole_disk = has.are ∙ sym (append-nil (disk_part has.trace)) ∙ sym (disk_append has.trace entries)
+
+  whole_keeper : keeper_part has.trace ≡ keeper_part whole
+  whole_keeper = sym (append-nil (keeper_part has.trace)) ∙ sym (keeper_append has.trace entries)
+
+  made : CallsBelow (keys_of s) (given_of planned) secure
+  made = calls_below (keys_of s) (given_of planned) secure started.keys started.memory started.start started.is
+
+  so : Joined (keys_of s) no_handshakes made.calls entries secure.state
+  so = joined (keys_of s) no_handshakes secure.state made.calls entries (subst (λ (l : List LoopEntry). Carries (keys_of s) no_handshakes made.calls l secure.state) started.above made.carries)
+
+  same : so.below ≡ entries
+  same = start_below (keys_of s) no_handshakes (ends_of s) answer secure.state so.below so.so
+
+  calls_are : made.calls ≡ loop_part whole
+  calls_are = sym so.is ∙ ap loop_part same ∙ sym whole_loop
+
+  whole_secured : IsSecured (keys_of s) no_handshakes whole whole secure.state
+  whole_secured =
+      secured_append (keys_of s) no_handshakes no_handshakes secure.state has.trace entries has.trace entries (unlooped (keys_of s) no_handshakes has.trace has.no_loop)
+      (subst (λ (l : List TraceEntry). IsSecured (keys_of s) no_handshakes entries l secure.state) same so.so)
+
+  whole_links : AreNewLinks 0 (loop_part whole)
+  whole_links = subst (λ (l : List LoopEntry). AreNewLinks 0 l) (sym whole_loop) (tt, tt)
+
+  whole_played : place.IsPlayed (given_of planned) (loop_part whole)
+  whole_played = subst (λ (l : List LoopEntry). place.IsPlayed (given_of planned) l) calls_are (log_played (given_of planned) made.calls secure.below.call_log made.log started.played)
+
+-- the loop couldn't start
+pub loop_failed : (s : AllSettings) (start : Start) (planned : Life) (begun : Begun) (h : History) (seen : Seen) (held : FilesState) (kept : KeeperState) (has : HasBegun s start planned begun h seen held kept) (secure : Secure) → WasStarted s planned (ends_of s) None secure
+    → EndedAs s start planned (lived h LoopFailed)
+loop_failed s start planned begun h seen held kept has secure started =
+    let trace = whole s start planned begun h seen held kept has None secure started in
+    let still = whole_still s start planned begun h seen held kept has None secure started in
+    record {
+      trace = trace;
+      is = λ turns. record {
+        way = whole_way s start planned begun h seen held kept has None secure started turns;
+        links = whole_links s start planned begun h seen held kept has None secure started;
+        below = trace;
+        handshakes = secure.state;
+        secured = whole_secured s start planned begun h seen held kept has None secure started;
+        asked = has.asked;
+        answered = record {
+          loop = whole_played s start planned begun h seen held kept has None secure started;
+          disk = has.disk;
+          are = whole_disk s start planned begun h seen held kept has None secure started;
+          files = answers_of (course_of start planned) trace still;
+          keeper = subst (λ (l : List KeeperEntry). keeper.IsPlayed start.offsets [] l) (whole_keeper s start planned begun h seen held kept has None secure started) has.keeper;
         };
-      }
+        uncut = no_cut start planned trace still;
+      };
+    }
 
-  -- it has started
-  under_way : (now : History) → r ≡ lived now Over → (held : FilesState) (going : Going) → FilesRepresent held (course_of start planned).files → IsAt going.engine s now → Keeps s going.offsets now
-      → LoopStarts planned (ends_of s) (Ok going.script) → going.changed ≡ 0 → going.taken ≡ 0 → IsInProgress s start planned going seen held kept2
-  under_way now done held going stand at keeps call_log unchanged untaken =
-      let trace = whole now done (Some tt) in
-      let still = whole_still now done (Some tt) in
-      let stays : course_after (course_of start planned) trace ≡ course_of start planned = stays_behind (course_of start planned) trace still in
-      record {
-        history = now;
-        at = at;
-        trace = trace;
-        stands = record {
-          way = λ more. rw untaken (subst (λ (n : ℕ). Execution (life s (ends_of s) None n) trace (run s None more now)) (all_left more) (whole_way now done (Some tt) more));
-          waits = no_waits trace still ∙ sym untaken;
-          uncut = no_cut start planned trace still;
-          loop = call_log ∙ ap (λ (l : List LoopEntry). Some (given_of planned, l)) (sym (whole_loop now done (Some tt)));
-          asked = recovered.asked;
-          disk_is = recovered.disk_is;
-          are = whole_disk now done (Some tt);
-          answered = answers_of (course_of start planned) trace still;
-          files_stand = subst (λ (c : Course). FilesRepresent held c.files) (sym stays) stand;
-          kept_given = got_given;
-          kept_calls = whole_keeper now done (Some tt);
+all_left : (more : ℕ) → more ≡ 0 + more
+all_left more = omega arith
+
+-- it has started
+pub under_way : (s : AllSettings) (start : Start) (planned : Life) (begun : Begun) (h : History) (seen : Seen) (held : FilesState) (kept : KeeperState) (has : HasBegun s start planned begun h seen held kept) (going : Going)
+    → WasStarted s planned (ends_of s) (Some tt) going.secure → going.engine ≡ begun.engine → going.offsets ≡ begun.offsets → going.changed ≡ 0 → going.taken ≡ 0 → IsInProgress s start planned going seen held kept
+under_way s start planned begun h seen held kept has going started engine offsets unchanged untaken =
+    let secure = going.secure in
+    let trace = whole s start planned begun h seen held kept has (Some tt) secure started in
+    let still = whole_still s start planned begun h seen held kept has (Some tt) secure started in
+    let calls = made s start planned begun h seen held kept has (Some tt) secure started in
+    let are = calls_are s start planned begun h seen held kept has (Some tt) secure started in
+    let stays : course_after (course_of start planned) trace ≡ course_of start planned = stays_behind (course_of start planned) trace still in
+    record {
+      history = h;
+      at = subst (λ (e : Engine). IsAt e s h) (sym engine) has.at;
+      trace = trace;
+      below = trace;
+      stands = record {
+        way = λ more.
+            rw untaken (subst (λ (n : ℕ). Execution (life s (ends_of s) None n) trace (run s None more h)) (all_left more) (whole_way s start planned begun h seen held kept has (Some tt) secure started more));
+        waits = no_waits trace still ∙ sym untaken;
+        secured = whole_secured s start planned begun h seen held kept has (Some tt) secure started;
+        links = whole_links s start planned begun h seen held kept has (Some tt) secure started;
+        loop = record {
+          keys = started.keys;
+          memory = started.memory;
+          start = started.start;
+          above = started.above ∙ sym (whole_loop s start planned begun h seen held kept has (Some tt) secure started);
+          below = calls.log ∙ ap (λ (l : List LoopEntry). Some (given_of planned, l)) are;
+          played = whole_played s start planned begun h seen held kept has (Some tt) secure started;
         };
-        changed = unchanged ∙ sym (ap (λ (c : Course). c.changed) stays);
-        keeps = keeps;
-      }
+        uncut = no_cut start planned trace still;
+        asked = has.asked;
+        disk_is = has.disk_is;
+        are = whole_disk s start planned begun h seen held kept has (Some tt) secure started;
+        answered = answers_of (course_of start planned) trace still;
+        files_stand = subst (λ (c : Course). FilesRepresent held c.files) (sym stays) has.files;
+        kept_given = has.kept_given;
+        kept_calls = has.kept_calls ∙ whole_keeper s start planned begun h seen held kept has (Some tt) secure started;
+      };
+      changed = unchanged ∙ sym (ap (λ (c : Course). c.changed) stays);
+      keeps = subst (λ (o : KeptOffsets). Keeps s o h) (sym offsets) has.keeps;
+    }
 
-  -- the offsets are got, and the loop has started or not
-  pub loop_starts : (now : History) → r ≡ lived now Over → (held : FilesState) (ends : Ends) (engine : Engine) (offsets : KeptOffsets) → FilesRepresent held (course_of start planned).files → ends ≡ ends_of s → IsAt engine s now → Keeps s offsets now
-      → (result : Result Going StartErr) → EngineStarts planned ends engine offsets result → Starts s start planned seen held kept2 result
-  loop_starts now done held ends engine offsets stand are at keeps (Ok going) begun =
-      let here : IsAt going.engine s now = subst (λ (e : Engine). IsAt e s now) (sym begun.0) at in
-      let rows : Keeps s going.offsets now = subst (λ (o : KeptOffsets). Keeps s o now) (sym begun.1) keeps in
-      let so : LoopStarts planned (ends_of s) (Ok going.script) = subst (λ (x : Ends). LoopStarts planned x (Ok going.script)) are begun.2 in
-      (under_way now done held going stand here rows so begun.3 begun.4, begun.4)
-  loop_starts now done held ends engine offsets stand are at keeps (Err why.DiskFailed) begun = absurd begun
-  loop_starts now done held ends engine offsets stand are at keeps (Err why.KeeperFailed) begun = absurd begun
-  loop_starts now done held ends engine offsets stand are at keeps (Err why.LoopFailed) begun =
-      (now, loop_failed now done (subst (λ (x : Ends). LoopStarts planned x (Err why.LoopFailed)) are begun))
-  loop_starts now done held ends engine offsets stand are at keeps (Err why.Memory) begun = tt
+-- ---- a start in code
+
+grew_from : (given now : LoopGiven) (above new : List LoopEntry) (more : List LoopEntry) → above ≡ [] → (now ≡ given) × (new ≡ above ++ more) → new ≡ more
+grew_from given now above new more none grew = grew.1 ∙ ap (λ (l : List LoopEntry). l ++ more) none
+
+-- a keyed loop that was just made, after its start
+pub was_started : (s : AllSettings) (planned : Life) (ends : Ends) (answer : Option (Unit {0})) (old new : Secure) → IsFresh s planned old → LogGrew (log_of old) (log_of new) (entry (Starting ends) answer ∷ []) → IsSecure new → new.out_of_memory ≡ false
+    → ScriptPlays new.below.call_log → WasStarted s planned ends answer new
+was_started s planned ends answer old new fresh grew is memory plays = record {
+  keys = standing_keys old new grew.0 ∙ fresh.keys;
+  start = ap (λ (b : LoopBelow). b.call_log) (standing_start old new grew.0) ∙ fresh.start;
+  above = grew_from (given_to old.name old.keys old.start) (given_to new.name new.keys new.start) old.above new.above (entry (Starting ends) answer ∷ []) fresh.above grew;
+  memory = memory;
+  is = is;
+  played = plays;
+}
+
+pub loop_starts : (s : AllSettings) (planned : Life) (ends : Ends) (old new : Secure) (result : LoopBegun) → IsFresh s planned old → LogGrew (log_of old) (log_of new) (log_of_call (Starting ends) (start_outcome result)) → IsSecure new → new.out_of_memory ≡ false
+    → ScriptPlays new.below.call_log → KeyedLoopStarts s planned ends new result
+loop_starts s planned ends old new loop_begun.Ready fresh grew is memory plays = was_started s planned ends (Some tt) old new fresh grew is memory plays
+loop_starts s planned ends old new loop_begun.Failed fresh grew is memory plays = was_started s planned ends None old new fresh grew is memory plays
+loop_starts s planned ends old new loop_begun.Memory fresh grew is memory plays = tt

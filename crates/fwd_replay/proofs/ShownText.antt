@@ -2,18 +2,16 @@
 use Rattle.std.proofs.Common.{◌≡◌, ℕ, zero, suc, ◌==◌, Bool, false, if◌then◌else◌, List, [], ◌∷◌, ◌++◌, Option, Some, None, refl, ap, ◌∙◌}
 use Rattle.std.proofs.lemmas.Nat.Bits.{bit_at-zero}
 use Rattle.std.specs.Prelude.{slice_get}
-use Rattle.fwd_outside.specs.Loop.{LoopCall, LoopAnswer, LoopEntry, Start, Wait, Dial, Push, Close, Reply, DropConn, Word}
+use Rattle.fwd_outside.specs.Loop.{LoopCall, LoopAnswer, LoopEntry, LoopLog, Start, Wait, Dial, Push, Close, Reply, DropConn, Word}
 use Rattle.fwd_settings.specs.declared.settings_types.AllSettings.{AllSettings}
 use Rattle.fwd_script_loop.specs.LinkBytes.{dialed_by, handed, is_one_of, leads_to, taken_by, taken_of}
-use Rattle.fwd_script_loop.specs.ScriptRun.{told_of}
 use Rattle.fwd_script_loop.specs.Lines.{given_of}
-use Rattle.fwd_script_loop.specs.ScriptState.{ScriptState}
 use Rattle.fwd_script_loop.specs.Told.{entries_of}
 use Rattle.fwd_script.specs.declared.schedule.Life.{Life}
 use Rattle.fwd_model.specs.Fact.{History}
 use Rattle.fwd_model.specs.Trace.{TraceEntry, loop_part}
 use Rattle.fwd_replay.proofs.CallLog.{told_is}
-use Rattle.fwd_replay.specs.Names.{printed_mask}
+use Rattle.fwd_replay.specs.RunState.{IsTextOf}
 use Rattle.fwd_replay.specs.Text.{life_text, report, stdout_mask, with_line_end}
 use Rattle.fwd_replay.specs.declared.report.Shown.{Shown}
 use Rattle.fwd_replay.specs.declared.report.Shown.TheVariants.{All, Report}
@@ -46,11 +44,9 @@ none_handed links (e ∷ es) =
 
 -- ---- the text of a run
 
--- given its script
-abbrev pub text_behind : Shown → AllSettings → ScriptState → History → List ℕ
-text_behind shown s script h = with_line_end (handed (printed_mask shown s.outputs) [] (entries_of script.notes)) ++ report s h
-
-pub text_is : (shown : Shown) (s : AllSettings) (planned : Life) (script : ScriptState) (trace : List TraceEntry) (h : History) → told_of script ≡ Some (given_of planned, loop_part trace)
-    → text_behind shown s script h ≡ life_text shown s trace h
-text_is All s planned script trace h call_log = ap (λ (es : List LoopEntry). with_line_end (handed (stdout_mask s.outputs) [] es) ++ report s h) (told_is script (given_of planned) (loop_part trace) call_log).1
-text_is Report s planned script trace h call_log = ap (λ (l : List ℕ). with_line_end l ++ report s h) (none_handed [] (entries_of script.notes))
+pub text_is : (shown : Shown) (s : AllSettings) (planned : Life) (log : LoopLog) (below : List TraceEntry) (h : History) (text : List ℕ) → log ≡ Some (given_of planned, loop_part below) → IsTextOf shown s log h text → text ≡ life_text shown s below h
+text_is All s planned log below h text is of =
+    let script = of.1.0 in
+    let told = told_is script (given_of planned) (loop_part below) (of.1.1 ∙ is) in
+    of.2 ∙ ap (λ (bytes : List ℕ). with_line_end bytes ++ report s h) (of.1.2 ∙ ap (λ (es : List LoopEntry). handed (stdout_mask s.outputs) [] es) told.1)
+text_is Report s planned log below h text is of = of.2 ∙ ap (λ (bytes : List ℕ). with_line_end bytes ++ report s h) (of.1.2 ∙ none_handed [] (entries_of of.1.0.notes))

@@ -3,10 +3,11 @@ use Rattle.std.proofs.Common.{◌≡◌, ℕ, suc, ◌+◌, Bool, true, false, i
 use Rattle.std.proofs.lemmas.List.{append-nil, map-append}
 use Rattle.fwd_outside.specs.Program.{entry, Return, bind, Execution}
 use Rattle.fwd_outside.specs.Log.{LogGrew}
+use Rattle.fwd_outside.specs.NewLinks.{AreNewLinks}
 use Rattle.fwd_outside.proofs.Executions.{way_trans, way_bind}
 use Rattle.fwd_outside.specs.declared.happening.Happening.{Happening}
 use Rattle.fwd_outside.specs.declared.happening.Happening.TheVariants as happening
-use Rattle.fwd_outside.specs.Loop.{LoopEntry, LoopLog, Wait}
+use Rattle.fwd_outside.specs.Loop.{LoopEntry, Wait}
 use Rattle.fwd_outside.specs.Disk.{DiskEntry}
 use Rattle.fwd_outside.specs.Files.{FilesEntry, FilesGiven}
 use Rattle.fwd_disk_mem.specs.declared.entry.MemEntry.{MemEntry}
@@ -39,7 +40,7 @@ use Rattle.fwd_model.specs.Clock.{clock}
 use Rattle.fwd_model.specs.Limits.{paused}
 use Rattle.fwd_model.specs.StepActions.{step}
 use Rattle.fwd_model.specs.Run.{Over, LoopFailed, RunResult, lived, goes_on, unless_last, after_step, brought, run, life, is_over}
-use Rattle.fwd_model.proofs.CallLogs.{logs_grew_both, disk_append, loop_append}
+use Rattle.fwd_model.proofs.CallLogs.{logs_grew_both, disk_append, files_append, loop_append}
 use Rattle.fwd_engine_state.specs.RefinesAction.{with_all}
 use Rattle.fwd_engine_run.specs.EngineSteps.{TurnOutcome, as_turn, is_failed, waits}
 use Rattle.fwd_engine_run.specs.Engine.{Engine}
@@ -48,7 +49,14 @@ use Rattle.fwd_engine_run.specs.EngineStop.TheVariants as stop
 use Rattle.fwd_engine_run.specs.Turn.{Turn}
 use Rattle.fwd_engine_run.specs.Turn.TheVariants as turn
 use Rattle.fwd_theorem_trace.proofs.WaitCounts.{ArePlain, is_plain, plain_waitless, step_plain, waits_append}
-use Rattle.fwd_replay.specs.FileChanges.{Course, FilesAt, course_after, after_wait, has_last, is_last_next, next_in}
+use Rattle.fwd_secure.specs.Handshakes.{Handshakes, no_handshakes}
+use Rattle.fwd_secure.specs.Keys.{has_keys}
+use Rattle.fwd_secure.specs.Kept.{holds}
+use Rattle.fwd_secure.specs.Secure.{Secure, IsSecure, log_of}
+use Rattle.fwd_secure_settings.specs.Keys.{keys_of}
+use Rattle.fwd_secure_trace.specs.Secured.{IsSecured}
+use Rattle.fwd_secure_trace.proofs.Secured.{same_part, secured_append}
+use Rattle.fwd_replay.specs.FileChanges.{Course, FilesAt, course_after, FilesAnswered, has_last, next_in}
 use Rattle.fwd_replay.specs.Runs.{Start, course_of, disk_of}
 use Rattle.fwd_replay.proofs.CallLog.{told_is}
 use Rattle.fwd_base.specs.declared.memory.Memory.{Memory}
@@ -58,13 +66,15 @@ use Rattle.fwd_keeper_mem.specs.MemKeeper as kept_log
 use Rattle.fwd_engine_run.specs.OffsetRows.{IsOverAlike, IsRow, Keeps, PutsOutcome, with_keeper}
 use Rattle.fwd_engine_run.specs.declared.kept_offsets.KeptOffset.{KeptOffset}
 use Rattle.fwd_engine_run.specs.declared.kept_offsets.KeptOffsets.{KeptOffsets}
-use Rattle.fwd_replay.specs.RunState.{FilesRepresent, HasPut, IsOver, IsReady, IsInProgress, IsStepped, RunRepresents}
+use Rattle.fwd_replay.specs.RunState.{FilesRepresent, HasPut, IsKeyedLoop, IsOver, IsReady, IsInProgress, IsStepped, RunRepresents, TookTurn, TurnedIn, before_wait, takes_last}
 use Rattle.fwd_replay.specs.RunState as stage
 use Rattle.fwd_replay.specs.declared.progress.Going.{Going}
 use Rattle.fwd_engine_run.proofs.OffsetActions.{AreAside, aside_disk, aside_loop, is_done, puts_leave}
 use Rattle.fwd_engine_run.proofs.StepOffsets.{step_keeps_offsets}
 use Rattle.fwd_replay.proofs.StillCalls.{AreStill, answers_of, aside_still, keeper_append, no_waits, none_last, stays_behind}
-use Rattle.fwd_replay.proofs.Course.{Alike, ahead_is, alike_held, answered_append, behind_append, held_alike, lines_stay, plain_alike, plain_answered, plain_changed, played_second, turn_uncut, uncut_append}
+use Rattle.fwd_replay.proofs.Course.{Alike, ahead_is, alike_held, answered_append, behind_append, held_alike, lines_stay, plain_alike, plain_answered, plain_changed, played_second, uncut_append}
+use Rattle.fwd_replay.proofs.KeyedCalls.{unkeyed_state}
+use Rattle.fwd_replay.proofs.KeyedTurns.{Grown, TurnBelow, grown, turn_below, turn_uncut, unlooped}
 
 -- ---- the calls of a turn
 
@@ -111,13 +121,6 @@ pub no_keeper : (es : List TraceEntry) → ArePlain es → keeper_part es ≡ []
 no_keeper [] plain = refl
 no_keeper (e ∷ es) plain = plain_no_keeper e.call e.answer es plain.0 (no_keeper es plain.1)
 
-grew_told : {G X : Type 0} (old new : Option (G × List X)) (given : G) (xs more : List X) → old ≡ Some (given, xs) → LogGrew old new more → new ≡ Some (given, xs ++ more)
-grew_told {G = G} {X = X} old new given xs more is grew = by new (subst (λ (o : Option (G × List X)). LogGrew o new more) is grew)
-  where
-    by : (new : Option (G × List X)) → LogGrew (Some (given, xs)) new more → new ≡ Some (given, xs ++ more)
-    by (Some now) g = ap (λ (o : G). Some (o, now.1)) g.0 ∙ ap (λ (l : List X). Some (given, l)) g.1
-    by None g = absurd g
-
 -- files with more calls
 files_behind_turn : (held held2 : FilesState) (course : Course) (es : List TraceEntry) → ArePlain es → FilesRepresent held course.files → LogGrew (files.told_of held) (files.told_of held2) (files_part es) → FilesRepresent held2 (course_after course es).files
 files_behind_turn held held2 course es plain stands grew =
@@ -135,20 +138,46 @@ played_behind_turn held held2 es grew played =
     let two : IsPlayed held.given [] (call_log ++ es) = subst (λ (g : FilesGiven). IsPlayed g [] (call_log ++ es)) grew.0 one in
     played_second held.given [] call_log es two
 
-module _ (s : AllSettings) (start : Start) (planned : Life) (h : History) (trace : List TraceEntry) (call_log : LoopLog) (taken : ℕ) (seen : Seen) (held : FilesState) (kept : KeeperState) where
-  pub turn_stands : (told2 : LoopLog) (seen2 : Seen) (held2 : FilesState) (x : Happening) (es : List TraceEntry) (left : ℕ → Action RunResult)
-      → RunRepresents s start planned call_log taken seen held kept trace (λ more. run s None more h) (after_wait (paused s h) (course_after (course_of start planned) trace)).files
-      → None ≡ (if is_last_next (paused s h) (course_after (course_of start planned) trace) then planned.cut else None)
+-- the calls on the devices that the engine made itself
+pub disk_same : (s : AllSettings) (k u : Handshakes) (above below : List TraceEntry) → IsSecured (keys_of s) k above below u → disk_part below ≡ disk_part above
+disk_same s k u above below so = same_part disk_part refl disk_append (λ e. refl) (keys_of s) k u above below so
+
+pub files_same : (s : AllSettings) (k u : Handshakes) (above below : List TraceEntry) → IsSecured (keys_of s) k above below u → files_part below ≡ files_part above
+files_same s k u above below so = same_part files_part refl files_append (λ e. refl) (keys_of s) k u above below so
+
+pub keeper_same : (s : AllSettings) (k u : Handshakes) (above below : List TraceEntry) → IsSecured (keys_of s) k above below u → keeper_part below ≡ keeper_part above
+keeper_same s k u above below so = same_part keeper_part refl keeper_append (λ e. refl) (keys_of s) k u above below so
+
+-- without keys no bytes are kept
+none_kept : (s : AllSettings) (mask : ℕ) (k : Handshakes) (above below : List TraceEntry) → IsSecured (keys_of s) no_handshakes above below k → has_keys (keys_of s) ≡ false → holds mask k.kept ≡ false
+none_kept s mask k above below so none = ap (λ (u : Handshakes). holds mask u.kept) (unkeyed_state (keys_of s) none no_handshakes k above below so)
+
+module _ (s : AllSettings) (start : Start) (planned : Life) (h : History) (trace below : List TraceEntry) (secure : Secure) (taken : ℕ) (seen : Seen) (held : FilesState) (kept : KeeperState) where
+  abbrev here : Course
+  here = course_after (course_of start planned) below
+
+  -- whether the wait of the turn gives kept bytes
+  abbrev gives : Bool
+  gives = holds (paused s h) secure.state.kept
+
+  pub turn_stands : (secure2 : Secure) (seen2 : Seen) (held2 : FilesState) (x : Happening) (es : List TraceEntry) (left : ℕ → Action RunResult)
+      → RunRepresents s start planned secure taken seen held kept trace below (λ more. run s None more h) (before_wait gives (paused s h) here).files
+      → None ≡ (if takes_last gives (paused s h) here then planned.cut else None)
       → ArePlain es → ((more : ℕ) → Execution (run s None (suc more) h) (wait_of s h x ∷ es) (left more))
-      → LogGrew call_log told2 (loop_part (wait_of s h x ∷ es)) → LogGrew (disk.log_of seen.calls) (disk.log_of seen2.calls) (disk_part es) → LogGrew (files.told_of held) (files.told_of held2) (files_part es)
+      → (more : Grown s planned secure secure2 trace below (wait_of s h x ∷ es)) → LogGrew (disk.log_of seen.calls) (disk.log_of seen2.calls) (disk_part es) → LogGrew (files.told_of held) (files.told_of held2) (files_part es)
       → IsPlayed held2.given [] (entries_from held2.given held2.notes)
-      → RunRepresents s start planned told2 (taken + 1) seen2 held2 kept (trace ++ wait_of s h x ∷ es) left (course_after (course_of start planned) (trace ++ wait_of s h x ∷ es)).files
-  turn_stands told2 seen2 held2 x es left stands uncut plain ways grew_loop grew_disk grew_files played =
+      → RunRepresents s start planned secure2 (taken + 1) seen2 held2 kept (trace ++ wait_of s h x ∷ es) (below ++ more.next) left (course_after (course_of start planned) (below ++ more.next)).files
+  turn_stands secure2 seen2 held2 x es left stands uncut plain ways grown grew_disk grew_files played =
       let turn : List TraceEntry = wait_of s h x ∷ es in
+      let next = grown.next in
       let course = course_of start planned in
-      let place = course_after course trace in
-      let waited = after_wait (paused s h) place in
+      let mask = paused s h in
+      let waited = before_wait gives mask here in
+      let until = saturating_plus (clock h) 250 in
+      let shape : TurnBelow gives mask here next = turn_below s secure.state secure2.state until mask x es next here plain (none_kept s mask secure.state trace below stands.secured) grown.secured in
       let made = split_entries seen.calls seen2.calls (disk_part es) grew_disk.1 in
+      let on_files : files_part es ≡ files_part shape.rest = sym (files_same s secure.state secure2.state turn next grown.secured) ∙ shape.files in
+      let grew : LogGrew (files.told_of held) (files.told_of held2) (files_part shape.rest) = subst (λ (l : List FilesEntry). LogGrew (files.told_of held) (files.told_of held2) l) on_files grew_files in
       record {
         way = λ more.
             let moved : taken + suc more ≡ (taken + 1) + more = omega arith in
@@ -158,28 +187,28 @@ module _ (s : AllSettings) (start : Start) (planned : Life) (h : History) (trace
             let here = stands.waits in
             let none = plain_waitless es plain in
             waits_append trace turn ∙ omega (arith, here, none);
-        uncut = uncut_append planned.cut course trace turn stands.uncut (turn_uncut planned.cut place (saturating_plus (clock h) 250) (paused s h) x es plain uncut);
-        loop =
-            grew_told call_log told2 (given_of planned) (loop_part trace) (loop_part turn) stands.loop grew_loop
-            ∙ ap (λ (l : List LoopEntry). Some (given_of planned, l)) (sym (loop_append trace turn));
+        secured = secured_append (keys_of s) no_handshakes secure.state secure2.state trace turn below next stands.secured grown.secured;
+        links = grown.links;
+        loop = grown.loop;
+        uncut = uncut_append planned.cut course below next stands.uncut (turn_uncut planned.cut gives mask here next shape uncut);
         asked = stands.asked ++ made.0;
         disk_is = made.1 ∙ ap (λ (l : List MemEntry). l ++ made.0) stands.disk_is ∙ append_assoc (disk_of start planned) stands.asked made.0;
         are =
             map-append disk.entry_of stands.asked made.0
             ∙ ap (λ (l : List DiskEntry). l ++ disk.entries_of made.0) stands.are
-            ∙ ap (λ (l : List DiskEntry). disk_part trace ++ l) made.2
-            ∙ sym (disk_append trace turn);
+            ∙ ap (λ (l : List DiskEntry). disk_part below ++ l) (made.2 ∙ sym (disk_same s secure.state secure2.state turn next grown.secured))
+            ∙ sym (disk_append below next);
         answered =
-            answered_append course trace turn stands.answered
-            (tt, plain_answered held.given (entries_from held.given held.notes) waited es plain (alike_held held waited.files stands.files_stand) (played_behind_turn held held2 (files_part es) grew_files played));
+            answered_append course below next stands.answered
+            (shape.answers (plain_answered held.given (entries_from held.given held.notes) waited shape.rest shape.plain (alike_held held waited.files stands.files_stand) (played_behind_turn held held2 (files_part shape.rest) grew played)));
         files_stand =
-            subst (λ (c : Course). FilesRepresent held2 c.files) (sym (behind_append course trace turn)) (files_behind_turn held held2 waited es plain stands.files_stand grew_files);
+            subst (λ (c : Course). FilesRepresent held2 c.files) (sym (behind_append course below next ∙ shape.behind)) (files_behind_turn held held2 waited shape.rest shape.plain stands.files_stand grew);
         kept_given = stands.kept_given;
         kept_calls =
             stands.kept_calls
-            ∙ sym (append-nil (keeper_part trace))
-            ∙ ap (λ (l : List KeeperEntry). keeper_part trace ++ l) (sym (no_keeper es plain))
-            ∙ sym (keeper_append trace turn);
+            ∙ sym (append-nil (keeper_part below))
+            ∙ ap (λ (l : List KeeperEntry). keeper_part below ++ l) (sym (keeper_same s secure.state secure2.state turn next grown.secured ∙ no_keeper es plain))
+            ∙ sym (keeper_append below next);
       }
 
 -- calls that don't advance a run don't cut it
@@ -190,53 +219,73 @@ no_cut_after (Some cut) course es still = none_last course es still
 -- ---- a turn is prepared
 
 -- the event that a script would return is the next one of its run
-next_is : (start : Start) (planned : Life) (script : ScriptState) (trace : List TraceEntry) (mask : ℕ) → told_of script ≡ Some (given_of planned, loop_part trace)
-    → script_next mask script ≡ next_in mask (course_after (course_of start planned) trace)
-next_is start planned script trace mask call_log =
-    let same = told_is script (given_of planned) (loop_part trace) call_log in
+next_is : (start : Start) (planned : Life) (script : ScriptState) (below : List TraceEntry) (mask : ℕ) → told_of script ≡ Some (given_of planned, loop_part below)
+    → script_next mask script ≡ next_in mask (course_after (course_of start planned) below)
+next_is start planned script below mask call_log =
+    let same = told_is script (given_of planned) (loop_part below) call_log in
     ap (λ (l : List Coming). find (hears mask) (ahead_after_calls l (entries_of script.notes))) (coming_is script.lines planned.lines script.answers planned.answers same.0)
     ∙ ap (λ (es : List LoopEntry). find (hears mask) (ahead_after_calls (coming 0 planned.lines) es)) same.1
-    ∙ ap (λ (l : List Coming). find (hears mask) l) (ahead_is (course_of start planned) trace)
+    ∙ ap (λ (l : List Coming). find (hears mask) l) (ahead_is (course_of start planned) below)
 
 module _ (s : AllSettings) (start : Start) (planned : Life) (going : Going) (seen : Seen) (held held2 : FilesState) (kept : KeeperState) (under : IsInProgress s start planned going seen held kept) where
-  pub prepared : (place : Option (ℕ × ℕ)) (mask upto changes : ℕ) (cut : Option Cut) → mask ≡ paused s under.history → place ≡ place_in (script_next mask going.script)
-      → ((next : Option Coming) → place ≡ place_in next → upto ≡ line_ahead planned.lines next)
+  abbrev course : Course
+  course = course_after (course_of start planned) under.below
+
+  -- the files are as the next wait finds them
+  ready_with : (changes : ℕ) (cut : Option Cut) (held_first : Bool) → held_first ≡ holds (paused s under.history) going.secure.state.kept → FilesRepresent held2 (before_wait held_first (paused s under.history) course).files
+      → changes ≡ (before_wait held_first (paused s under.history) course).changed → cut ≡ (if takes_last held_first (paused s under.history) course then planned.cut else None)
+      → IsReady s start planned (record going { changed = changes }) seen held2 kept cut
+  ready_with changes cut held_first is files changed cutting = record {
+    history = under.history;
+    at = under.at;
+    trace = under.trace;
+    below = under.below;
+    stands = record {
+      way = under.stands.way;
+      waits = under.stands.waits;
+      secured = under.stands.secured;
+      links = under.stands.links;
+      loop = under.stands.loop;
+      uncut = under.stands.uncut;
+      asked = under.stands.asked;
+      disk_is = under.stands.disk_is;
+      are = under.stands.are;
+      answered = under.stands.answered;
+      files_stand = subst (λ (b : Bool). FilesRepresent held2 (before_wait b (paused s under.history) course).files) is files;
+      kept_given = under.stands.kept_given;
+      kept_calls = under.stands.kept_calls;
+    };
+    changed = changed ∙ ap (λ (b : Bool). (before_wait b (paused s under.history) course).changed) is;
+    cut_is = cutting ∙ ap (λ (b : Bool). if takes_last b (paused s under.history) course then planned.cut else None) is;
+    keeps = under.keeps;
+  }
+
+  pub prepared : (script : ScriptState) (place : Option (ℕ × ℕ)) (mask upto changes : ℕ) (cut : Option Cut) → mask ≡ paused s under.history → holds mask going.secure.state.kept ≡ false → told_of script ≡ going.secure.below.call_log
+      → place ≡ place_in (script_next mask script) → ((next : Option Coming) → place ≡ place_in next → upto ≡ line_ahead planned.lines next)
       → ((at : FilesAt) → FilesRepresent held at → FilesRepresent held2 (record at { changes = at.changes ++ changes_between planned.lines going.changed upto }))
       → changes ≡ max going.changed upto → ((next : Option Coming) → place ≡ place_in next → cut ≡ (if ends_life planned.lines next then planned.cut else None))
       → IsReady s start planned (record going { changed = changes }) seen held2 kept cut
-  prepared place mask upto changes cut masked placed line makes most cutting =
+  prepared script place mask upto changes cut masked asks told placed line makes most cutting =
       let h = under.history in
-      let course = course_after (course_of start planned) under.trace in
       let next : Option Coming = next_in (paused s h) course in
-      let lines : planned.lines ≡ course.lines = sym (lines_stay (course_of start planned) under.trace) in
-      let here : place ≡ place_in next = placed ∙ ap place_in (next_is start planned going.script under.trace mask under.stands.loop) ∙ ap (λ (m : ℕ). place_in (next_in m course)) masked in
+      let lines : planned.lines ≡ course.lines = sym (lines_stay (course_of start planned) under.below) in
+      let here : place ≡ place_in next = placed ∙ ap place_in (next_is start planned script under.below mask (told ∙ under.stands.loop.below)) ∙ ap (λ (m : ℕ). place_in (next_in m course)) masked in
       let there : upto ≡ line_ahead course.lines next = line next here ∙ ap (λ (l : List Planned). line_ahead l next) lines in
       let before : changes_between planned.lines going.changed upto ≡ changes_between course.lines course.changed (line_ahead course.lines next) =
       ap (λ (l : List Planned). changes_between l going.changed upto) lines
       ∙ ap (λ (n : ℕ). changes_between course.lines n upto) under.changed
       ∙ ap (λ (n : ℕ). changes_between course.lines course.changed n) there
       in
-      record {
-        history = h;
-        at = under.at;
-        trace = under.trace;
-        stands = record {
-          way = under.stands.way;
-          waits = under.stands.waits;
-          uncut = under.stands.uncut;
-          loop = under.stands.loop;
-          asked = under.stands.asked;
-          disk_is = under.stands.disk_is;
-          are = under.stands.are;
-          answered = under.stands.answered;
-          files_stand = subst (λ (l : List FileChange). FilesRepresent held2 (record course.files { changes = course.files.changes ++ l })) before (makes course.files under.stands.files_stand);
-          kept_given = under.stands.kept_given;
-          kept_calls = under.stands.kept_calls;
-        };
-        changed = most ∙ ap (λ (n : ℕ). max n upto) under.changed ∙ ap (λ (n : ℕ). max course.changed n) there;
-        cut_is = cutting next here ∙ ap (λ (l : List Planned). if ends_life l next then planned.cut else None) lines;
-        keeps = under.keeps;
-      }
+      ready_with changes cut false (sym asks ∙ ap (λ (m : ℕ). holds m going.secure.state.kept) masked)
+      (subst (λ (l : List FileChange). FilesRepresent held2 (record course.files { changes = course.files.changes ++ l })) before (makes course.files under.stands.files_stand))
+      (most ∙ ap (λ (n : ℕ). max n upto) under.changed ∙ ap (λ (n : ℕ). max course.changed n) there)
+      (cutting next here ∙ ap (λ (l : List Planned). if ends_life l next then planned.cut else None) lines)
+
+-- a wait that gives kept bytes
+pub prepared_kept : (s : AllSettings) (start : Start) (planned : Life) (going : Going) (seen : Seen) (held : FilesState) (kept : KeeperState) (under : IsInProgress s start planned going seen held kept) (mask : ℕ) → mask ≡ paused s under.history
+    → holds mask going.secure.state.kept ≡ true → IsReady s start planned going seen held kept None
+prepared_kept s start planned going seen held kept under mask masked gives =
+    ready_with s start planned going seen held held kept under going.changed None true (sym gives ∙ ap (λ (m : ℕ). holds m going.secure.state.kept) masked) under.stands.files_stand under.changed refl
 
 -- ---- a turn is taken
 
@@ -258,82 +307,104 @@ keeps_same s offsets h now same keeps = record {
   each = λ k row t here there. let is : IsRow h row t = keeps.each k row t here there in record { input = is.input; index = is.index; db = is.db; path = is.path; kept = is.kept ∙ sym (same t.input t.index) };
 }
 
-module _ (s : AllSettings) (start : Start) (planned : Life) (going : Going) (seen : Seen) (held : FilesState) (kept : KeeperState) (ready : IsReady s start planned going seen held kept None) (engine2 : Engine) (script2 : ScriptState) (seen2 : Seen) (held2 : FilesState)
+module _ (s : AllSettings) (start : Start) (planned : Life) (going : Going) (seen : Seen) (held : FilesState) (kept : KeeperState) (ready : IsReady s start planned going seen held kept None) (engine2 : Engine) (secure2 : Secure) (seen2 : Seen) (held2 : FilesState)
     (played : IsPlayed held2.given [] (entries_from held2.given held2.notes)) where
+  abbrev after : Going
+  after = record { engine = engine2; offsets = going.offsets; secure = secure2; changed = going.changed; taken = going.taken + 1 }
+
   abbrev old : CallLogs
-  old = with_all (told_of going.script) (disk.log_of seen.calls) (files.told_of held) Nowhere
+  old = with_all (log_of going.secure) (disk.log_of seen.calls) (files.told_of held) Nowhere
 
   abbrev new : CallLogs
-  new = with_all (told_of script2) (disk.log_of seen2.calls) (files.told_of held2) Nowhere
+  new = with_all (log_of secure2) (disk.log_of seen2.calls) (files.told_of held2) Nowhere
+
+  more_of : {result : Result Turn EngineStop} → TookTurn s ready.history going seen held after seen2 held2 result → (es : List TraceEntry) → LogGrew (log_of going.secure) (log_of secure2) (loop_part es) → Grown s planned going.secure secure2 ready.trace ready.below es
+  more_of took es grew = grown s planned going.secure secure2 ready.trace ready.below es ready.stands.loop ready.stands.secured grew took.is took.has_memory took.played
 
   stands_then : (x : Happening) (es : List TraceEntry) (left : ℕ → Action RunResult) → ArePlain es → ((more : ℕ) → Execution (run s None (suc more) ready.history) (wait_of s ready.history x ∷ es) (left more))
-      → LogsGrew old new (wait_of s ready.history x ∷ es)
-      → RunRepresents s start planned (told_of script2) (going.taken + 1) seen2 held2 kept (ready.trace ++ wait_of s ready.history x ∷ es) left (course_after (course_of start planned) (ready.trace ++ wait_of s ready.history x ∷ es)).files
-  stands_then x es left plain ways asked =
-      turn_stands s start planned ready.history ready.trace (told_of going.script) going.taken seen held kept (told_of script2) seen2 held2 x es left ready.stands ready.cut_is plain ways asked.loop asked.disk asked.files played
+      → (asked : LogsGrew old new (wait_of s ready.history x ∷ es)) → (more : Grown s planned going.secure secure2 ready.trace ready.below (wait_of s ready.history x ∷ es))
+      → RunRepresents s start planned secure2 (going.taken + 1) seen2 held2 kept (ready.trace ++ wait_of s ready.history x ∷ es) (ready.below ++ more.next) left (course_after (course_of start planned) (ready.below ++ more.next)).files
+  stands_then x es left plain ways asked more =
+      turn_stands s start planned ready.history ready.trace ready.below going.secure going.taken seen held kept secure2 seen2 held2 x es left ready.stands ready.cut_is plain ways more asked.disk asked.files played
 
-  abbrev after : Going
-  after = record { engine = engine2; offsets = going.offsets; script = script2; changed = going.changed; taken = going.taken + 1 }
-
-  pub took : (result : Result Turn EngineStop) → TurnOutcome old new s ready.history engine2 result → stage.Turned s start planned after seen2 held2 kept result
-  took (Ok which) turns =
+  pub took : (result : Result Turn EngineStop) → TookTurn s ready.history going seen held after seen2 held2 result → stage.Turned s start planned after seen2 held2 kept result
+  took (Ok which) turn =
       let h = ready.history in
+      let turns = turn.turn in
       let x = turns.brought in
       let stepped = turns.steps.1 in
       let es = stepped.did.entries in
       let plain = step_plain s x h es (Return stepped.history) stepped.did.way in
+      let asked = asked_turn old turns.between new s h x es turns.waited stepped.did.asked in
+      let more = more_of turn (wait_of s h x ∷ es) asked.loop in
+      let gives = holds (paused s h) going.secure.state.kept in
+      let here = course_after (course_of start planned) ready.below in
+      let shape : TurnBelow gives (paused s h) here more.next =
+      turn_below s going.secure.state secure2.state (saturating_plus (clock h) 250) (paused s h) x es more.next here plain (none_kept s (paused s h) going.secure.state ready.trace ready.below ready.stands.secured) more.secured
+      in
       record {
         history = stepped.history;
         at = stepped.at;
         trace = ready.trace ++ wait_of s h x ∷ es;
+        below = ready.below ++ more.next;
         brought = x;
-        stands =
-            stands_then x es (λ more. after_step s None (run s None more) x stepped.history) plain
-            (turn_stepped s h x es stepped.history turns.steps.0 stepped.did.way)
-            (asked_turn old turns.between new s h x es turns.waited stepped.did.asked);
+        stands = stands_then x es (λ more. after_step s None (run s None more) x stepped.history) plain (turn_stepped s h x es stepped.history turns.steps.0 stepped.did.way) asked more;
         changed =
             ready.changed
-            ∙ sym (plain_changed (after_wait (paused s h) (course_after (course_of start planned) ready.trace)) es plain)
-            ∙ ap (λ (c : Course). c.changed) (sym (behind_append (course_of start planned) ready.trace (wait_of s h x ∷ es)));
+            ∙ sym (plain_changed (before_wait gives (paused s h) here) shape.rest shape.plain)
+            ∙ ap (λ (c : Course). c.changed) (sym (behind_append (course_of start planned) ready.below more.next ∙ shape.behind));
         keeps = keeps_same s going.offsets h stepped.history (step_keeps_offsets s x h stepped.history es stepped.did.way) ready.keeps;
         over = stepped.over;
       }
-  took (Err stop.LoopFault) turns =
+  took (Err stop.LoopFault) turn =
       let h = ready.history in
+      let turns = turn.turn in
       let x = turns.brought in
+      let asked = asked_wait old turns.between new s h x turns.waited turns.steps.1 in
+      let more = more_of turn (wait_of s h x ∷ []) asked.loop in
       record {
         history = h;
         trace = ready.trace ++ wait_of s h x ∷ [];
-        stands = stands_then x [] (λ more. Return (lived h LoopFailed)) tt (turn_failed s h x turns.steps.0) (asked_wait old turns.between new s h x turns.waited turns.steps.1);
+        below = ready.below ++ more.next;
+        stands = stands_then x [] (λ more. Return (lived h LoopFailed)) tt (turn_failed s h x turns.steps.0) asked more;
       }
-  took (Err stop.Memory) turns = tt
+  took (Err stop.Memory) turn = tt
+
+  pub took_unless : (result : Result Turn EngineStop) → TurnedIn s ready.history going seen held after seen2 held2 result → stage.Turned s start planned after seen2 held2 kept result
+  took_unless (Ok which) turned = took (Ok which) (turned refl)
+  took_unless (Err stop.LoopFault) turned = took (Err stop.LoopFault) (turned refl)
+  took_unless (Err stop.Memory) turned = tt
 
 -- ---- the puts after a turn
 
-module _ (s : AllSettings) (start : Start) (planned : Life) (call_log : LoopLog) (taken : ℕ) (seen : Seen) (held : FilesState) (kept kept2 : KeeperState) (trace es : List TraceEntry) (left left2 : ℕ → Action RunResult) where
+module _ (s : AllSettings) (start : Start) (planned : Life) (secure : Secure) (taken : ℕ) (seen : Seen) (held : FilesState) (kept kept2 : KeeperState) (trace below es : List TraceEntry) (left left2 : ℕ → Action RunResult) where
   -- the state of a run after calls on the keeper alone
-  pub aside_stands : RunRepresents s start planned call_log taken seen held kept trace left (course_after (course_of start planned) trace).files
+  pub aside_stands : RunRepresents s start planned secure taken seen held kept trace below left (course_after (course_of start planned) below).files
       → AreAside es → ((more : ℕ) → Execution (left more) es (left2 more)) → LogGrew (kept_log.log_of kept) (kept_log.log_of kept2) (keeper_part es)
-      → RunRepresents s start planned call_log taken seen held kept2 (trace ++ es) left2 (course_after (course_of start planned) (trace ++ es)).files
+      → RunRepresents s start planned secure taken seen held kept2 (trace ++ es) (below ++ es) left2 (course_after (course_of start planned) (below ++ es)).files
   aside_stands stands aside ways grew =
       let course = course_of start planned in
       let still = aside_still es aside in
-      let stays : course_after course (trace ++ es) ≡ course_after course trace = behind_append course trace es ∙ stays_behind (course_after course trace) es still in
+      let stays : course_after course (below ++ es) ≡ course_after course below = behind_append course below es ∙ stays_behind (course_after course below) es still in
+      let no_loop : (before : List TraceEntry) → loop_part (before ++ es) ≡ loop_part before =
+      λ before. loop_append before es ∙ ap (λ (l : List LoopEntry). loop_part before ++ l) (aside_loop es aside) ∙ append-nil (loop_part before)
+      in
       record {
         way = λ more. way_trans (life s (ends_of s) None (taken + more)) (left more) (left2 more) trace es (stands.way more) (ways more);
         waits = let here = stands.waits in let none = no_waits es still in waits_append trace es ∙ omega (arith, here, none);
-        uncut = uncut_append planned.cut course trace es stands.uncut (no_cut_after planned.cut (course_after course trace) es still);
+        secured = secured_append (keys_of s) no_handshakes secure.state secure.state trace es below es stands.secured (unlooped (keys_of s) secure.state es (aside_loop es aside));
+        links = subst (λ (l : List LoopEntry). AreNewLinks 0 l) (sym (no_loop trace)) stands.links;
         loop =
-            stands.loop
-            ∙ ap (λ (l : List LoopEntry). Some (given_of planned, l))
-            (sym (append-nil (loop_part trace)) ∙ ap (λ (l : List LoopEntry). loop_part trace ++ l) (sym (aside_loop es aside)) ∙ sym (loop_append trace es));
+            subst (λ (l : List LoopEntry). IsKeyedLoop s planned secure l (loop_part (below ++ es))) (sym (no_loop trace))
+            (subst (λ (l : List LoopEntry). IsKeyedLoop s planned secure (loop_part trace) l) (sym (no_loop below)) stands.loop);
+        uncut = uncut_append planned.cut course below es stands.uncut (no_cut_after planned.cut (course_after course below) es still);
         asked = stands.asked;
         disk_is = stands.disk_is;
-        are = stands.are ∙ sym (append-nil (disk_part trace)) ∙ ap (λ (l : List DiskEntry). disk_part trace ++ l) (sym (aside_disk es aside)) ∙ sym (disk_append trace es);
-        answered = answered_append course trace es stands.answered (answers_of (course_after course trace) es still);
+        are = stands.are ∙ sym (append-nil (disk_part below)) ∙ ap (λ (l : List DiskEntry). disk_part below ++ l) (sym (aside_disk es aside)) ∙ sym (disk_append below es);
+        answered = answered_append course below es stands.answered (answers_of (course_after course below) es still);
         files_stand = subst (λ (c : Course). FilesRepresent held c.files) (sym stays) stands.files_stand;
         kept_given = grew.0 ∙ stands.kept_given;
-        kept_calls = grew.1 ∙ ap (λ (l : List KeeperEntry). l ++ keeper_part es) stands.kept_calls ∙ sym (keeper_append trace es);
+        kept_calls = grew.1 ∙ ap (λ (l : List KeeperEntry). l ++ keeper_part es) stands.kept_calls ∙ sym (keeper_append below es);
       }
 
 -- which end of a turn it is
@@ -372,13 +443,14 @@ module _ (s : AllSettings) (start : Start) (planned : Life) (going : Going) (see
         history = now;
         at = put.1;
         trace = stepped.trace ++ es;
+        below = stepped.below ++ es;
         stands =
-            aside_stands s start planned (told_of going.script) going.taken seen held kept kept2 stepped.trace es (λ more. after_step s None (run s None more) x h) (λ more. run s None more now) stepped.stands leave.aside
+            aside_stands s start planned going.secure going.taken seen held kept kept2 stepped.trace stepped.below es (λ more. after_step s None (run s None more) x h) (λ more. run s None more now) stepped.stands leave.aside
             (λ more.
             subst (λ (b : Bool). Execution (after_step s None (run s None more) x h) es (if b then Return (lived now Over) else unless_last s None (run s None more) x now)) over
             (leave.ways (goes_on s (unless_last s None (run s None more) x) x)))
             put.4.asked.keeper;
-        changed = stepped.changed ∙ ap (λ (c : Course). c.changed) (sym (behind_append course stepped.trace es ∙ stays_behind (course_after course stepped.trace) es (aside_still es leave.aside)));
+        changed = stepped.changed ∙ ap (λ (c : Course). c.changed) (sym (behind_append course stepped.below es ∙ stays_behind (course_after course stepped.below) es (aside_still es leave.aside)));
         keeps = put.2;
       }
   put_so turn.Over stepped put =
@@ -392,8 +464,9 @@ module _ (s : AllSettings) (start : Start) (planned : Life) (going : Going) (see
         history = now;
         at = put.1;
         trace = stepped.trace ++ es;
+        below = stepped.below ++ es;
         stands =
-            aside_stands s start planned (told_of going.script) going.taken seen held kept kept2 stepped.trace es (λ more. after_step s None (run s None more) x h) (λ more. Return (lived now Over)) stepped.stands leave.aside
+            aside_stands s start planned going.secure going.taken seen held kept kept2 stepped.trace stepped.below es (λ more. after_step s None (run s None more) x h) (λ more. Return (lived now Over)) stepped.stands leave.aside
             (λ more.
             subst (λ (b : Bool). Execution (after_step s None (run s None more) x h) es (if b then Return (lived now Over) else unless_last s None (run s None more) x now)) over
             (leave.ways (goes_on s (unless_last s None (run s None more) x) x)))

@@ -1,15 +1,24 @@
 -- The outcome of a live run over devices.
-use Rattle.std.specs.Prelude.{◌≡◌, ℕ, [], Option, Result, Ok, Err, MatchResult}
+use Rattle.std.specs.Prelude.{◌≡◌, ◌⊎◌, ℕ, ◌+◌, ◌/◌, List, [], ◌++◌, map, Option, Result, Ok, Err, MatchResult, if◌then◌else◌}
+use Rattle.fwd_outside.specs.Program.{Return, Execution}
+use Rattle.fwd_outside.specs.Loop.{LoopEntry}
+use Rattle.fwd_outside.specs.NewLinks.{AreNewLinks}
 use Rattle.fwd_settings.specs.Endpoints.{ends_of}
 use Rattle.fwd_settings.specs.declared.settings_types.AllSettings.{AllSettings}
 use Rattle.fwd_model.specs.Fact.{History}
-use Rattle.fwd_model.specs.Trace.{Action}
-use Rattle.fwd_model.specs.CallLogs.{CallLogs, Completes, IsBegun}
+use Rattle.fwd_model.specs.Trace.{Action, TraceEntry, loop_part}
+use Rattle.fwd_model.specs.CallLogs.{CallLogs, LogsGrew, Completes, IsBegun}
 use Rattle.fwd_model.specs.Run.{RunResult, life}
 use Rattle.fwd_theorem_trace.specs.Allowed.{IsLoading}
 use Rattle.fwd_engine_run.specs.EngineSteps.{IsAt}
 use Rattle.fwd_engine_run.specs.Engine.{Engine}
 use Rattle.fwd_engine_run.specs.OffsetRows.{Keeps}
+use Rattle.fwd_secure.specs.Allowed.{AllMayOccur}
+use Rattle.fwd_secure.specs.Handshakes.{Handshakes, no_handshakes}
+use Rattle.fwd_secure.specs.Carried.{IsCutShort}
+use Rattle.fwd_secure.specs.Keys.{has_keys}
+use Rattle.fwd_secure_settings.specs.Keys.{keys_of}
+use Rattle.fwd_secure_trace.specs.Secured.{IsSecured, on_loop}
 use Rattle.fwd_replay.specs.Names.{IsNamed}
 use Rattle.fwd_replay.specs.declared.setup.Setup.{Setup}
 use Rattle.fwd_replay.specs.Text.{report, reported_by, out_of_memory}
@@ -17,17 +26,41 @@ use Rattle.fwd_replay.specs.declared.report.Reported.{Reported}
 use Rattle.fwd_replay.specs.declared.report.Ending.{Ending}
 use Rattle.fwd_replay.specs.declared.report.Ending.TheVariants as ending
 
--- the calls on the devices, in a call log or not, were those of the reference model to its end, and the
--- text is the report of its history
+-- The engine had this trace, which is one of the reference model to its end; the calls on the devices, in a call
+-- log or not, were those that the keyed loop made of it; each event that came may occur; and the text is the
+-- report of its history.
 pub record RunsToEnd (s : AllSettings) (ticks : Option ℕ) (turns : ℕ) (old new : CallLogs)
     (reported : Reported) : Type 0 where
   pub lived : RunResult
-  pub did : Completes old new (life s (ends_of s) ticks turns) lived
+  pub trace : List TraceEntry
+  pub way : Execution (life s (ends_of s) ticks turns) trace (Return lived)
+  pub links : AreNewLinks 0 (loop_part trace)
+  pub below : List TraceEntry
+  pub handshakes : Handshakes
+  pub secured : IsSecured (keys_of s) no_handshakes trace below handshakes
+  pub allowed : AllMayOccur (loop_part below)
+  pub asked : LogsGrew old new below
   pub reports : reported ≡ reported_by (report s lived.history) lived.end
 
--- they were the first ones of the reference model
-abbrev pub BeginsRun : AllSettings → Option ℕ → ℕ → CallLogs → CallLogs → Type 0
-BeginsRun s ticks turns old new = IsBegun old new (life s (ends_of s) ticks turns)
+-- It had the first calls of the reference model, and after those of the keyed loop for them came, at most, the
+-- first ones of one more rule.
+pub record BeginsRun (s : AllSettings) (ticks : Option ℕ) (turns : ℕ) (old new : CallLogs) : Type 0 where
+  pub trace : List TraceEntry
+  pub left : Action RunResult
+  pub way : Execution (life s (ends_of s) ticks turns) trace left
+  pub below : List TraceEntry
+  pub handshakes : Handshakes
+  pub secured : IsSecured (keys_of s) no_handshakes trace below handshakes
+  pub begun : List LoopEntry
+  pub short : (begun ≡ []) ⊎ IsCutShort (keys_of s) handshakes begun
+  pub asked : LogsGrew old new (below ++ map on_loop begun)
+
+-- the calls were those of a run to its end, and the text is the report of its history
+pub record HasRun (s : AllSettings) (run : Action RunResult) (old new : CallLogs)
+    (reported : Reported) : Type 0 where
+  pub lived : RunResult
+  pub did : Completes old new run lived
+  pub reports : reported ≡ reported_by (report s lived.history) lived.end
 
 -- to its end; or, if memory ran out, its first calls, and then the text is empty
 pub data IsRunLive (s : AllSettings) (ticks : Option ℕ) (turns : ℕ) (old new : CallLogs)
@@ -35,6 +68,14 @@ pub data IsRunLive (s : AllSettings) (ticks : Option ℕ) (turns : ℕ) (old new
   RanToEnd : RunsToEnd s ticks turns old new reported → IsRunLive s ticks turns old new reported
   RanOutOfMemory : BeginsRun s ticks turns old new → reported ≡ out_of_memory
       → IsRunLive s ticks turns old new reported
+
+-- The same over any loop that isn't keyed, of which the engine asks what it asks. With a keyed loop between, it
+-- is this of the keyed loop.
+pub data IsRunOver (s : AllSettings) (ticks : Option ℕ) (turns : ℕ) (old new : CallLogs)
+    (reported : Reported) : Type 0 where
+  WasOver : HasRun s (life s (ends_of s) ticks turns) old new reported → IsRunOver s ticks turns old new reported
+  WasCutShort : IsBegun old new (life s (ends_of s) ticks turns) → reported ≡ out_of_memory
+      → IsRunOver s ticks turns old new reported
 
 -- the least number of events of a run that ended this way
 abbrev pub heard_in : ℕ → Ending → ℕ
@@ -60,13 +101,6 @@ pub record IsToRun (setup : Setup) (engine : Engine) : Type 0 where
   pub keeps : Keeps settings setup.offsets []
   pub is : IsNamed setup.named settings
 
--- the calls were those of a run to its end, and the text is the report of its history
-pub record HasRun (s : AllSettings) (run : Action RunResult) (old new : CallLogs)
-    (reported : Reported) : Type 0 where
-  pub lived : RunResult
-  pub did : Completes old new run lived
-  pub reports : reported ≡ reported_by (report s lived.history) lived.end
-
 -- to its end, or to where memory ran out
 abbrev pub ActionProduces : {E : Type 0} → AllSettings → Action RunResult → CallLogs → CallLogs
     → Result Reported E → Type 0
@@ -76,9 +110,11 @@ ActionProduces s run old new result =
 -- the same for a run from its loading on
 abbrev pub RunProduces : {E : Type 0} → AllSettings → Option ℕ → ℕ → CallLogs → CallLogs → Result Reported E
     → Type 0
-RunProduces s ticks turns old new result =
-    MatchResult result (λ reported. RunsToEnd s ticks turns old new reported)
-    (λ _. BeginsRun s ticks turns old new)
+RunProduces s ticks turns old new result = ActionProduces s (life s (ends_of s) ticks turns) old new result
+
+-- The least number of events of the loop below, for so many of the keyed loop: one of them becomes at most two.
+abbrev pub events_below : AllSettings → ℕ → ℕ
+events_below s n = if has_keys (keys_of s) then (n + 1) / 2 else n
 
 abbrev pub ending_of : {E : Type 0} → Result Reported E → Ending
 ending_of (Ok reported) = reported.ending

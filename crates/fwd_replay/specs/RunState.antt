@@ -1,9 +1,12 @@
 -- The state of a run of a schedule while it is replayed.
 use Rattle.std.specs.Prelude.{◌≡◌, ℕ, ◌+◌, ◌-◌, ◌<◌, ◌%◌, Bool, true, false, if◌then◌else◌, List, [], ◌∷◌, ◌++◌, Option, Some, None, Result, Ok, Err}
+use Rattle.fwd_outside.specs.NewLinks.{AreNewLinks}
 use Rattle.fwd_outside.specs.Program.{entry, Return, Execution}
 use Rattle.fwd_outside.specs.File.{content}
 use Rattle.fwd_outside.specs.Files.{found}
-use Rattle.fwd_outside.specs.Loop.{LoopLog, Start as Starting}
+use Rattle.fwd_outside.specs.Loop.{LoopEntry, LoopLog, Start as Starting}
+use Rattle.fwd_outside.specs.declared.answers.Begun.{Begun as LoopBegun}
+use Rattle.fwd_outside.specs.declared.answers.Begun.TheVariants as loop_begun
 use Rattle.fwd_outside.specs.declared.ends.Ends.{Ends}
 use Rattle.fwd_outside.specs.declared.happening.Happening.{Happening}
 use Rattle.fwd_disk_mem.specs.declared.entry.MemEntry.{MemEntry}
@@ -29,26 +32,32 @@ use Rattle.fwd_script_loop.specs.Lines.{given_in, given_of}
 use Rattle.fwd_script_loop.specs.Place as place
 use Rattle.fwd_script_loop.specs.ScriptState.{ScriptState}
 use Rattle.fwd_script_loop.specs.Told.{entries_of}
+use Rattle.fwd_script_loop.specs.LinkBytes.{handed}
+use Rattle.fwd_secure.specs.Handshakes.{no_handshakes}
+use Rattle.fwd_secure.specs.Kept.{holds}
+use Rattle.fwd_secure.specs.Secure.{Secure, IsSecure, log_of}
+use Rattle.fwd_secure_settings.specs.Keys.{keys_of}
+use Rattle.fwd_secure_trace.specs.Secured.{IsSecured}
 use Rattle.fwd_model.specs.Fact.{History}
 use Rattle.fwd_model.specs.Trace.{Action, TraceEntry, loop_part, disk_part, files_part, keeper_part}
 use Rattle.fwd_model.specs.CallLogs.{CallLogs}
 use Rattle.fwd_model.specs.Limits.{paused}
 use Rattle.fwd_model.specs.RecoveryActions.{recovers}
-use Rattle.fwd_model.specs.Run.{Over, DiskFailed, KeeperFailed, LoopFailed, RunResult, lived, is_over, after_step, run, life}
+use Rattle.fwd_model.specs.Run.{Over, DiskFailed, KeeperFailed, LoopFailed, RunResult, lived, is_over, after_step, run, starts, life}
 use Rattle.fwd_engine_state.specs.RefinesAction.{with_all}
-use Rattle.fwd_engine_run.specs.EngineSteps.{IsAt, as_turn}
-use Rattle.fwd_engine_run.specs.Engine.{Engine}
+use Rattle.fwd_engine_run.specs.EngineSteps.{IsAt, TurnOutcome, as_turn}
 use Rattle.fwd_engine_run.specs.EngineStop.{EngineStop}
 use Rattle.fwd_engine_run.specs.EngineStop.TheVariants as stop
 use Rattle.fwd_engine_run.specs.Turn.{Turn}
 use Rattle.fwd_engine_run.specs.Turn.TheVariants as turn
 use Rattle.fwd_engine_run.specs.OffsetRows.{Keeps}
 use Rattle.fwd_theorem_trace.specs.Waits.{waits_in}
-use Rattle.fwd_replay.specs.FileChanges.{FilesAt, content_after, course_after, after_wait, FilesAnswered, is_last_next}
+use Rattle.fwd_replay.specs.FileChanges.{Course, FilesAt, content_after, course_after, after_wait, FilesAnswered, is_last_next}
 use Rattle.fwd_replay.specs.Runs.{Start, CutRun, IsLife, EndsIn, IsCut, course_of, disk_of, first, has_cut}
-use Rattle.fwd_replay.specs.Text.{life_text, after_crash}
-use Rattle.fwd_engine_run.specs.declared.kept_offsets.KeptOffsets.{KeptOffsets}
+use Rattle.fwd_replay.specs.Names.{printed_mask}
+use Rattle.fwd_replay.specs.Text.{life_text, after_crash, report, with_line_end}
 use Rattle.fwd_replay.specs.declared.progress.Going.{Going}
+use Rattle.fwd_replay.specs.declared.start.Begun.{Begun}
 use Rattle.fwd_replay.specs.declared.start.StartErr.{StartErr}
 use Rattle.fwd_replay.specs.declared.start.StartErr.TheVariants as start_err
 use Rattle.fwd_replay.specs.declared.turns.TurnsEnd.{TurnsEnd}
@@ -71,22 +80,47 @@ pub record FilesRepresent (held : FilesState) (files : FilesAt) : Type 0 where
   pub made : made_of (entries_from held.given held.notes) ≡ files.calls
   pub fails : fails_of (entries_from held.given held.notes) ≡ files.fails
 
--- A run has taken that many turns, with these calls, and `left` is left of it, whatever number of turns
--- it has left. Loop, disk, files and keeper have these calls in their logs; the files are in this state.
-pub record RunRepresents (s : AllSettings) (start : Start) (planned : Life) (call_log : LoopLog) (taken : ℕ)
-    (seen : Seen) (held : FilesState) (kept : KeeperState) (trace : List TraceEntry)
+-- Before its wait a run makes the changes in the lines before the event that the wait takes from the schedule.
+-- A wait that gives kept bytes takes none.
+abbrev pub before_wait : Bool → ℕ → Course → Course
+before_wait true paused course = course
+before_wait false paused course = after_wait paused course
+
+-- the wait takes the last event of the run from the schedule
+abbrev pub takes_last : Bool → ℕ → Course → Bool
+takes_last true paused course = false
+takes_last false paused course = is_last_next paused course
+
+-- The keyed loop of a run wraps a loop in memory, of which it was made before the first call. These are the
+-- calls of the engine on it and those that it made below.
+pub record IsKeyedLoop (s : AllSettings) (planned : Life) (secure : Secure)
+    (calls calls_below : List LoopEntry) : Type 0 where
+  pub keys : secure.keys ≡ keys_of s
+  pub memory : secure.out_of_memory ≡ false
+  pub start : secure.start.call_log ≡ Some (given_of planned, [])
+  pub above : secure.above ≡ calls
+  pub below : secure.below.call_log ≡ Some (given_of planned, calls_below)
+  pub played : place.IsPlayed (given_of planned) calls_below
+
+-- A run has taken that many turns, with this trace of its engine and these calls on its devices, and `left` is
+-- left of it, whatever number of turns it has left. Loop, disk, files and keeper have these calls in their
+-- logs; the files are in this state.
+pub record RunRepresents (s : AllSettings) (start : Start) (planned : Life) (secure : Secure) (taken : ℕ)
+    (seen : Seen) (held : FilesState) (kept : KeeperState) (trace below : List TraceEntry)
     (left : ℕ → Action RunResult) (files_at : FilesAt) : Type 0 where
   pub way : (more : ℕ) → Execution (life s (ends_of s) None (taken + more)) trace (left more)
   pub waits : waits_in trace ≡ taken
-  pub uncut : has_cut start planned trace ≡ false
-  pub loop : call_log ≡ Some (given_of planned, loop_part trace)
+  pub secured : IsSecured (keys_of s) no_handshakes trace below secure.state
+  pub links : AreNewLinks 0 (loop_part trace)
+  pub loop : IsKeyedLoop s planned secure (loop_part trace) (loop_part below)
+  pub uncut : has_cut start planned below ≡ false
   pub asked : List MemEntry
   pub disk_is : seen.calls ≡ disk_of start planned ++ asked
-  pub are : disk.entries_of asked ≡ disk_part trace
-  pub answered : FilesAnswered (course_of start planned) trace
+  pub are : disk.entries_of asked ≡ disk_part below
+  pub answered : FilesAnswered (course_of start planned) below
   pub files_stand : FilesRepresent held files_at
   pub kept_given : kept.given ≡ start.offsets
-  pub kept_calls : offsets.entries_of kept.notes ≡ keeper_part trace
+  pub kept_calls : offsets.entries_of kept.notes ≡ keeper_part below
 
 -- the run is to take its next turn
 pub record IsInProgress (s : AllSettings) (start : Start) (planned : Life) (going : Going) (seen : Seen)
@@ -94,9 +128,10 @@ pub record IsInProgress (s : AllSettings) (start : Start) (planned : Life) (goin
   pub history : History
   pub at : IsAt going.engine s history
   pub trace : List TraceEntry
-  pub stands : RunRepresents s start planned (told_of going.script) going.taken seen held kept trace
-      (λ more. run s None more history) (course_after (course_of start planned) trace).files
-  pub changed : going.changed ≡ (course_after (course_of start planned) trace).changed
+  pub below : List TraceEntry
+  pub stands : RunRepresents s start planned going.secure going.taken seen held kept trace below
+      (λ more. run s None more history) (course_after (course_of start planned) below).files
+  pub changed : going.changed ≡ (course_after (course_of start planned) below).changed
   pub keeps : Keeps s going.offsets history
 
 -- the changes before its wait are made, and this crash, if there is one, cuts the run in it
@@ -105,14 +140,17 @@ pub record IsReady (s : AllSettings) (start : Start) (planned : Life) (going : G
   pub history : History
   pub at : IsAt going.engine s history
   pub trace : List TraceEntry
-  pub stands : RunRepresents s start planned (told_of going.script) going.taken seen held kept trace
+  pub below : List TraceEntry
+  pub stands : RunRepresents s start planned going.secure going.taken seen held kept trace below
       (λ more. run s None more history)
-      (after_wait (paused s history) (course_after (course_of start planned) trace)).files
+      (before_wait (holds (paused s history) going.secure.state.kept) (paused s history)
+      (course_after (course_of start planned) below)).files
   pub changed : going.changed
-      ≡ (after_wait (paused s history) (course_after (course_of start planned) trace)).changed
+      ≡ (before_wait (holds (paused s history) going.secure.state.kept) (paused s history)
+      (course_after (course_of start planned) below)).changed
   pub cut_is : cut
-      ≡ (if is_last_next (paused s history) (course_after (course_of start planned) trace) then planned.cut
-      else None)
+      ≡ (if takes_last (holds (paused s history) going.secure.state.kept) (paused s history)
+      (course_after (course_of start planned) below) then planned.cut else None)
   pub keeps : Keeps s going.offsets history
 
 -- the step of a turn is made, and after the puts the run is over or takes its next turn
@@ -121,11 +159,12 @@ pub record IsStepped (s : AllSettings) (start : Start) (planned : Life) (going :
   pub history : History
   pub at : IsAt going.engine s history
   pub trace : List TraceEntry
+  pub below : List TraceEntry
   pub brought : Happening
-  pub stands : RunRepresents s start planned (told_of going.script) going.taken seen held kept trace
+  pub stands : RunRepresents s start planned going.secure going.taken seen held kept trace below
       (λ more. after_step s None (run s None more) brought history)
-      (course_after (course_of start planned) trace).files
-  pub changed : going.changed ≡ (course_after (course_of start planned) trace).changed
+      (course_after (course_of start planned) below).files
+  pub changed : going.changed ≡ (course_after (course_of start planned) below).changed
   pub keeps : Keeps s going.offsets history
   pub over : which ≡ as_turn (is_over s brought history)
 
@@ -135,35 +174,67 @@ pub record IsOver (s : AllSettings) (start : Start) (planned : Life) (going : Go
   pub history : History
   pub at : IsAt going.engine s history
   pub trace : List TraceEntry
-  pub stands : RunRepresents s start planned (told_of going.script) going.taken seen held kept trace
-      (λ more. Return (lived history Over)) (course_after (course_of start planned) trace).files
+  pub below : List TraceEntry
+  pub stands : RunRepresents s start planned going.secure going.taken seen held kept trace below
+      (λ more. Return (lived history Over)) (course_after (course_of start planned) below).files
 
 -- its loop failed
 pub record LoopHasFailed (s : AllSettings) (start : Start) (planned : Life) (going : Going) (seen : Seen)
     (held : FilesState) (kept : KeeperState) : Type 0 where
   pub history : History
   pub trace : List TraceEntry
-  pub stands : RunRepresents s start planned (told_of going.script) going.taken seen held kept trace
-      (λ more. Return (lived history LoopFailed)) (course_after (course_of start planned) trace).files
+  pub below : List TraceEntry
+  pub stands : RunRepresents s start planned going.secure going.taken seen held kept trace below
+      (λ more. Return (lived history LoopFailed)) (course_after (course_of start planned) below).files
 
--- the calls logged by loop, disk and files in memory, and no others
+-- the calls logged by the keyed loop, disk and files in memory, and no others
 abbrev pub nowhere : CallLogs
 nowhere = record { loop = None; disk = None; files = None; keeper = None }
 
-abbrev pub memory : ScriptState → Seen → FilesState → CallLogs
-memory script seen held = with_all (told_of script) (disk.log_of seen.calls) (files.told_of held) nowhere
+abbrev pub memory : Secure → Seen → FilesState → CallLogs
+memory secure seen held = with_all (log_of secure) (disk.log_of seen.calls) (files.told_of held) nowhere
 
--- loop, disk and keeper in memory answered as the schedule says
-pub record HaveAnswered (script : ScriptState) (seen : Seen) (kept : KeeperState) : Type 0 where
-  pub loop : place.IsPlayed (given_in script.lines script.answers) (entries_of script.notes)
+-- a loop in memory with this log answered as its lines and answers say
+abbrev pub ScriptPlays : LoopLog → Type 0
+ScriptPlays log =
+    (script : ScriptState) × (told_of script ≡ log)
+    × place.IsPlayed (given_in script.lines script.answers) (entries_of script.notes)
+
+-- disk and keeper in memory answered as the schedule says
+pub record HaveAnswered (seen : Seen) (kept : KeeperState) : Type 0 where
   pub disk : disk.IsPlayed [] seen.calls
   pub keeper : keeper.IsPlayed kept.given [] (offsets.entries_of kept.notes)
+
+-- the bytes that links of these outputs took, by the log of a loop in memory
+abbrev pub HandsBytes : LoopLog → ℕ → List ℕ → Type 0
+HandsBytes log outputs bytes =
+    (script : ScriptState) × (told_of script ≡ log) × (bytes ≡ handed outputs [] (entries_of script.notes))
+
+-- the text of a run with this history, by the log of its loop in memory
+abbrev pub IsTextOf : Shown → AllSettings → LoopLog → History → List ℕ → Type 0
+IsTextOf shown s log h text =
+    (bytes : List ℕ) × HandsBytes log (printed_mask shown s.outputs) bytes
+    × (text ≡ with_line_end bytes ++ report s h)
 
 -- memory ran out in a turn
 abbrev pub is_out_of_memory : Result Turn EngineStop → Bool
 is_out_of_memory (Ok which) = false
 is_out_of_memory (Err stop.LoopFault) = false
 is_out_of_memory (Err stop.Memory) = true
+
+-- a turn of an engine at this history, in which memory didn't run out
+pub record TookTurn (s : AllSettings) (h : History) (old : Going) (seen : Seen) (held : FilesState) (new : Going)
+    (seen2 : Seen) (held2 : FilesState) (result : Result Turn EngineStop) : Type 0 where
+  pub was : IsSecure old.secure
+  pub is : IsSecure new.secure
+  pub has_memory : new.secure.out_of_memory ≡ false
+  pub played : ScriptPlays new.secure.below.call_log
+  pub turn : TurnOutcome (memory old.secure seen held) (memory new.secure seen2 held2) s h new.engine result
+
+abbrev pub TurnedIn : AllSettings → History → Going → Seen → FilesState → Going → Seen → FilesState
+    → Result Turn EngineStop → Type 0
+TurnedIn s h old seen held new seen2 held2 result =
+    is_out_of_memory result ≡ false → TookTurn s h old seen held new seen2 held2 result
 
 -- the result of a turn in which the run isn't cut; nothing is claimed if memory ran out
 abbrev pub Turned : AllSettings → Start → Life → Going → Seen → FilesState → KeeperState
@@ -195,24 +266,6 @@ pub record EndedAs (s : AllSettings) (start : Start) (planned : Life) (comes : R
   pub trace : List TraceEntry
   pub is : (turns : ℕ) → IsLife s turns start planned trace comes
 
--- the loop of a run was started with these endpoints, or it couldn't start; nothing is claimed if memory
--- ran out
-abbrev pub LoopStarts : Life → Ends → Result ScriptState StartErr → Type 0
-LoopStarts planned ends (Ok script) =
-    told_of script ≡ Some (given_of planned, entry (Starting ends) (Some tt) ∷ [])
-LoopStarts planned ends (Err start_err.DiskFailed) = ⊥
-LoopStarts planned ends (Err start_err.KeeperFailed) = ⊥
-LoopStarts planned ends (Err start_err.LoopFailed) =
-    place.IsPlayed (given_of planned) (entry (Starting ends) None ∷ [])
-LoopStarts planned ends (Err start_err.Memory) = Unit {0}
-
--- the same for a run whose engine has begun, and whose offsets are got
-abbrev pub EngineStarts : Life → Ends → Engine → KeptOffsets → Result Going StartErr → Type 0
-EngineStarts planned ends engine rows (Ok going) =
-    (going.engine ≡ engine) × (going.offsets ≡ rows) × LoopStarts planned ends (Ok going.script)
-    × (going.changed ≡ 0) × (going.taken ≡ 0)
-EngineStarts planned ends engine rows (Err why) = LoopStarts planned ends (Err why)
-
 -- the disk of a run was recovered with this history, by calls on the disk alone
 pub record IsRecovered (s : AllSettings) (start : Start) (planned : Life) (seen : Seen)
     (h : History) : Type 0 where
@@ -226,18 +279,54 @@ pub record IsRecovered (s : AllSettings) (start : Start) (planned : Life) (seen 
   pub are : disk.entries_of asked ≡ disk_part trace
   pub played : disk.IsPlayed [] seen.calls
 
--- how a run starts; nothing is claimed if memory ran out
-abbrev pub Starts : AllSettings → Start → Life → Seen → FilesState → KeeperState → Result Going StartErr
-    → Type 0
-Starts s start planned seen held kept (Ok going) =
-    IsInProgress s start planned going seen held kept × (going.taken ≡ 0)
-Starts s start planned seen held kept (Err start_err.DiskFailed) =
+-- an engine has begun, and its offsets are got
+pub record HasBegun (s : AllSettings) (start : Start) (planned : Life) (begun : Begun) (h : History) (seen : Seen)
+    (held : FilesState) (kept : KeeperState) : Type 0 where
+  pub at : IsAt begun.engine s h
+  pub keeps : Keeps s begun.offsets h
+  pub trace : List TraceEntry
+  pub way : (turns : ℕ) → Execution (life s (ends_of s) None turns) trace (starts s (ends_of s) None turns h)
+  pub no_loop : loop_part trace ≡ []
+  pub no_files : files_part trace ≡ []
+  pub asked : List MemEntry
+  pub disk_is : seen.calls ≡ disk_of start planned ++ asked
+  pub are : disk.entries_of asked ≡ disk_part trace
+  pub disk : disk.IsPlayed (disk_of start planned) asked
+  pub files : FilesRepresent held (course_of start planned).files
+  pub kept_given : kept.given ≡ start.offsets
+  pub kept_calls : offsets.entries_of kept.notes ≡ keeper_part trace
+  pub keeper : keeper.IsPlayed start.offsets [] (keeper_part trace)
+
+-- how a run begins; nothing is claimed if memory ran out
+abbrev pub Begins : AllSettings → Start → Life → Seen → FilesState → KeeperState → Result Begun StartErr → Type 0
+Begins s start planned seen held kept (Ok begun) =
+    (h : History) × HasBegun s start planned begun h seen held kept
+Begins s start planned seen held kept (Err start_err.DiskFailed) =
     EndedAs s start planned (lived [] DiskFailed)
-Starts s start planned seen held kept (Err start_err.KeeperFailed) =
+Begins s start planned seen held kept (Err start_err.KeeperFailed) =
     (history : History) × EndedAs s start planned (lived history KeeperFailed)
-Starts s start planned seen held kept (Err start_err.LoopFailed) =
-    (history : History) × EndedAs s start planned (lived history LoopFailed)
-Starts s start planned seen held kept (Err start_err.Memory) = Unit {0}
+Begins s start planned seen held kept (Err start_err.Memory) = Unit {0}
+
+-- a keyed loop around the loop of a run, of which nothing was asked
+pub record IsFresh (s : AllSettings) (planned : Life) (secure : Secure) : Type 0 where
+  pub keys : secure.keys ≡ keys_of s
+  pub start : secure.start.call_log ≡ Some (given_of planned, [])
+  pub above : secure.above ≡ []
+
+-- it was started with these endpoints, with this answer
+pub record WasStarted (s : AllSettings) (planned : Life) (ends : Ends) (answer : Option (Unit {0}))
+    (secure : Secure) : Type 0 where
+  pub keys : secure.keys ≡ keys_of s
+  pub start : secure.start.call_log ≡ Some (given_of planned, [])
+  pub above : secure.above ≡ entry (Starting ends) answer ∷ []
+  pub memory : secure.out_of_memory ≡ false
+  pub is : IsSecure secure
+  pub played : ScriptPlays secure.below.call_log
+
+abbrev pub KeyedLoopStarts : AllSettings → Life → Ends → Secure → LoopBegun → Type 0
+KeyedLoopStarts s planned ends secure loop_begun.Ready = WasStarted s planned ends (Some tt) secure
+KeyedLoopStarts s planned ends secure loop_begun.Failed = WasStarted s planned ends None secure
+KeyedLoopStarts s planned ends secure loop_begun.Memory = Unit {0}
 
 -- disk, files and keeper are in the state in which a run finds them
 pub record DevicesAreReady (start : Start) (seen : Seen) (held : FilesState) (kept : KeeperState) : Type 0 where
@@ -274,7 +363,7 @@ pub record OffsetsAreRenewed (kept renewed : KeeperState) : Type 0 where
   pub same : SameOffsets (offsets_now kept.given kept.notes) renewed.given
   pub unasked : renewed.notes ≡ []
 
--- The crash of a run with this history and these calls before the turn in which it was cut: what it
+-- The crash of a run with this history and these calls on its devices before the turn in which it was cut: what it
 -- leaves to the next run, and the state of its engine.
 pub record HandsOver (s : AllSettings) (most : ℕ) (start : Start) (planned : Life) (cut : Cut) (going : Going)
     (history : History) (before : List TraceEntry) (seen : Seen) (held : FilesState)
@@ -283,7 +372,7 @@ pub record HandsOver (s : AllSettings) (most : ℕ) (start : Start) (planned : L
   pub is : IsCut s most start planned cuts
   pub cut_is : cuts.cut ≡ cut
   pub history_is : cuts.history ≡ history
-  pub before_is : cuts.before ≡ before
+  pub below_is : cuts.below ≡ before
   pub finds : DevicesAreReady cuts.next seen held kept
   pub waits : waits_in (cuts.before ++ cuts.turn) ≡ going.taken
   pub now : History
@@ -312,7 +401,7 @@ abbrev pub ProducesText : Shown → AllSettings → ℕ → Start → Life → S
 ProducesText shown s most start planned seen held kept text (follow.Ends ending) =
     EndsIn shown s most start planned (record { text = text; ending = ending })
 ProducesText shown s most start planned seen held kept text (follow.Life left) =
-    (c : CutRun) × IsCut s most start planned c × (text ≡ life_text shown s c.before c.history)
+    (c : CutRun) × IsCut s most start planned c × (text ≡ life_text shown s c.below c.history)
     × (left.cut ≡ c.cut) × (left.settings ≡ s)
     × DevicesAreReady c.next seen held kept × (left.taken ≡ waits_in (c.before ++ c.turn))
 
@@ -349,6 +438,6 @@ AppendsRun shown s start planned old new text all (afterwards.Ends ending) =
     × (all ≡ text ++ after_cut old.cut own)
 AppendsRun shown s start planned old new text all (afterwards.Life settings) =
     (c : CutRun) × IsCut s old.left start planned c
-    × (all ≡ text ++ after_cut old.cut (life_text shown s c.before c.history)) × (settings ≡ s)
+    × (all ≡ text ++ after_cut old.cut (life_text shown s c.below c.history)) × (settings ≡ s)
     × DevicesAreReady c.next new.disk new.files new.keeper × (new.cut ≡ Some c.cut)
     × (new.left ≡ old.left - waits_in (c.before ++ c.turn))

@@ -2,6 +2,7 @@
 use Rattle.std.specs.Prelude.{◌≡◌, ℕ, ◌+◌, ◌-◌, ◌<◌, ◌%◌, Bool, true, false, ◌&&◌, List, [], ◌∷◌, ◌++◌, map, take, Some, None, is_some}
 use Rattle.fwd_outside.specs.Program.{Return, Execution}
 use Rattle.fwd_outside.specs.File.{content}
+use Rattle.fwd_outside.specs.NewLinks.{AreNewLinks}
 use Rattle.fwd_disk_mem.specs.declared.entry.MemEntry.{MemEntry}
 use Rattle.fwd_disk_mem.specs.declared.entry.MemEntry.TheVariants.{Preset, FailAt}
 use Rattle.fwd_disk_mem.specs.Entry as disk
@@ -25,6 +26,10 @@ use Rattle.fwd_model.specs.Limits.{paused}
 use Rattle.fwd_model.specs.Run.{Over, TurnsSpent, RunResult, lived, life}
 use Rattle.fwd_theorem_trace.specs.Waits.{waits_in}
 use Rattle.fwd_theorem_crash.specs.StepBoundaries.{turn}
+use Rattle.fwd_secure.specs.Handshakes.{Handshakes, no_handshakes}
+use Rattle.fwd_secure.specs.Kept.{holds}
+use Rattle.fwd_secure_settings.specs.Keys.{keys_of}
+use Rattle.fwd_secure_trace.specs.Secured.{IsSecured}
 use Rattle.fwd_replay.specs.FileChanges.{Course, course_after, FilesAnswered, is_last_next, has_last}
 use Rattle.fwd_replay.specs.Text.{life_text, reported_by, out_of_memory, joined}
 use Rattle.fwd_replay.specs.declared.report.Reported.{Reported}
@@ -73,13 +78,19 @@ has_cut start planned trace = is_some planned.cut && has_last (course_of start p
 
 -- ---- a run that isn't cut
 
--- its joined trace and its result, with at most `turns` turns
+-- The trace of its engine and its result, with at most `turns` turns. The devices answered as the schedule
+-- says, with the keyed loop between them and the engine.
 pub record IsLife (s : AllSettings) (turns : ℕ) (start : Start) (planned : Life) (trace : List TraceEntry)
     (comes : RunResult) : Type 0 where
   pub way : Execution (life s (ends_of s) None turns) trace (Return comes)
+  pub links : AreNewLinks 0 (loop_part trace)
+  -- the calls on the devices, and the handshakes after them
+  pub below : List TraceEntry
+  pub handshakes : Handshakes
+  pub secured : IsSecured (keys_of s) no_handshakes trace below handshakes
   pub asked : List MemEntry
-  pub answered : IsAnswered start planned trace asked
-  pub uncut : has_cut start planned trace ≡ false
+  pub answered : IsAnswered start planned below asked
+  pub uncut : has_cut start planned below ≡ false
 
 -- The replay ends with this run. One that is over isn't to be cut.
 pub record EndsIn (shown : Shown) (s : AllSettings) (turns : ℕ) (start : Start) (planned : Life)
@@ -88,22 +99,22 @@ pub record EndsIn (shown : Shown) (s : AllSettings) (turns : ℕ) (start : Start
   pub comes : RunResult
   pub is : IsLife s turns start planned trace comes
   pub last : comes.end ≡ Over → planned.cut ≡ None
-  pub reports : replayed ≡ reported_by (life_text shown s trace comes.history) comes.end
+  pub reports : replayed ≡ reported_by (life_text shown s is.below comes.history) comes.end
 
 -- ---- a run that is cut
 
--- The turn in which it is cut: the run has that many turns left, and the turn's wait returns the event. No
--- offset is put after it. If the run is over before, the turn makes no call. In this turn a `failed` line is
--- no failure of the loop.
-pub data IsCutIn (s : AllSettings) (turns : ℕ) (start : Start) (planned : Life) (before : List TraceEntry)
-    (h : History) (calls : List TraceEntry) : Type 0 where
+-- The turn in which it is cut: the run has that many turns left, and the turn's wait takes the event from the
+-- schedule, as no kept bytes come first. No offset is put after it. If the run is over before, the turn makes no
+-- call. In this turn a `failed` line is no failure of the loop.
+pub data IsCutIn (s : AllSettings) (turns : ℕ) (before : List TraceEntry) (h : History)
+    (k : Handshakes) (course : Course) (calls : List TraceEntry) : Type 0 where
   InTurn : waits_in before < turns
       → Execution (life s (ends_of s) None (waits_in before)) before (Return (lived h TurnsSpent))
-      → is_last_next (paused s h) (course_after (course_of start planned) before) ≡ true
+      → holds (paused s h) k.kept ≡ false → is_last_next (paused s h) course ≡ true
       → (last : History) → Execution (turn s h) calls (Return last)
-      → IsCutIn s turns start planned before h calls
+      → IsCutIn s turns before h k course calls
   WasOver : Execution (life s (ends_of s) None turns) before (Return (lived h Over)) → calls ≡ []
-      → IsCutIn s turns start planned before h calls
+      → IsCutIn s turns before h k course calls
 
 -- the first of these calls, that many
 abbrev pub first_calls : ℕ → List MemEntry → List MemEntry
@@ -115,7 +126,12 @@ pub record CutRun : Type 0 where
   pub before : List TraceEntry
   pub history : History
   pub turn : List TraceEntry
-  -- the calls on the disk before the turn, and in it
+  -- the calls on the devices before the turn, and in it, and the handshakes before and after it
+  pub below : List TraceEntry
+  pub below_in : List TraceEntry
+  pub handshakes : Handshakes
+  pub handshakes_last : Handshakes
+  -- those on the disk before the turn, and in it
   pub asked : List MemEntry
   pub asked_in : List MemEntry
   pub next : Start
@@ -124,18 +140,23 @@ pub record CutRun : Type 0 where
 -- pick; the files and the offsets are unchanged.
 pub record IsCut (s : AllSettings) (turns : ℕ) (start : Start) (planned : Life) (c : CutRun) : Type 0 where
   pub is : planned.cut ≡ Some c.cut
-  pub cut_in : IsCutIn s turns start planned c.before c.history c.turn
-  pub uncut : has_cut start planned c.before ≡ false
-  pub answered : IsAnswered start planned (c.before ++ c.turn) (c.asked ++ c.asked_in)
-  pub are : disk.entries_of c.asked ≡ disk_part c.before
+  pub cut_in : IsCutIn s turns c.before c.history c.handshakes
+      (course_after (course_of start planned) c.below) c.turn
+  pub links : AreNewLinks 0 (loop_part (c.before ++ c.turn))
+  pub secured : IsSecured (keys_of s) no_handshakes c.before c.below c.handshakes
+  pub secured_in : IsSecured (keys_of s) c.handshakes c.turn c.below_in c.handshakes_last
+  pub uncut : has_cut start planned c.below ≡ false
+  pub answered : IsAnswered start planned (c.below ++ c.below_in) (c.asked ++ c.asked_in)
+  pub are : disk.entries_of c.asked ≡ disk_part c.below
   pub files : List MemFile
   pub disk_is : c.next.disk ≡ file_settings files
   pub image : (name : List ℕ)
       → content (disk.files_of c.next.disk name)
       ≡ picked (c.cut.pick % 4)
       ((disk_of start planned ++ c.asked) ++ first_calls c.cut.calls c.asked_in) name
-  pub changes : c.next.changes ≡ (course_after (course_of start planned) (c.before ++ c.turn)).files.changes
-  pub offsets : SameOffsets (offsets_after_all start.offsets (keeper_part (c.before ++ c.turn))) c.next.offsets
+  pub changes : c.next.changes ≡ (course_after (course_of start planned) (c.below ++ c.below_in)).files.changes
+  pub offsets : SameOffsets (offsets_after_all start.offsets (keeper_part (c.below ++ c.below_in)))
+      c.next.offsets
 
 -- The replay ends with this run; or the run is cut, and the next ones follow with the turns that are left; or
 -- memory ran out in it, and nothing of it is in the text. `Next turns start rest` says that the next runs are
@@ -146,7 +167,7 @@ pub data IsRunReplayed (shown : Shown) (s : AllSettings) (turns : ℕ) (start : 
       → IsRunReplayed shown s turns start planned Next replayed
   WasCut : (c : CutRun) → IsCut s turns start planned c → (rest : Reported)
       → Next (turns - waits_in (c.before ++ c.turn)) c.next rest
-      → replayed ≡ joined (life_text shown s c.before c.history) c.cut rest
+      → replayed ≡ joined (life_text shown s c.below c.history) c.cut rest
       → IsRunReplayed shown s turns start planned Next replayed
   OutOfMemory : replayed ≡ out_of_memory → IsRunReplayed shown s turns start planned Next replayed
 

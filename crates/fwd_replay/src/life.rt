@@ -3,20 +3,19 @@
 ghost use Rattle.std.specs.Prelude.{◌≡◌, ◌<◌, ◌≤◌, ◌++◌, ℕ, List, [], Some, None, OnOk, IfOk};
 ghost use Rattle.fwd_disk_mem.specs.DiskState.{Seen};
 ghost use Rattle.fwd_keeper_mem.specs.KeeperState.{KeeperState};
-ghost use Rattle.fwd_engine_run.specs.OffsetRows.{Keeps};
 ghost use Rattle.fwd_settings.specs.Endpoints.{ends_of};
 ghost use Rattle.fwd_settings.specs.Requirements.{MeetsRequirements};
 ghost use Rattle.fwd_settings.specs.declared.settings_types.AllSettings.{AllSettings};
 ghost use Rattle.fwd_files_mem.specs.FilesState.{FilesState};
 ghost use Rattle.fwd_script.specs.declared.schedule.Life.{Life};
-ghost use Rattle.fwd_script_loop.specs.LinkBytes.{handed};
-ghost use Rattle.fwd_script_loop.specs.Told.{entries_of};
 ghost use Rattle.fwd_model.specs.Fact.{History};
 ghost use Rattle.fwd_engine_run.specs.EngineSteps.{IsAt};
 ghost use Rattle.fwd_replay.specs.Runs.{Start};
-ghost use Rattle.fwd_replay.specs.Names.{IsNamed, IsNamedOf, printed_mask};
-ghost use Rattle.fwd_replay.specs.RunState.{AreRenewed, OffsetsAreRenewed, EndsBy, EndsAs, ProducesText, ProducesOutcome, DevicesAreReady, LoopHasFailed, HaveAnswered, IsCrashed, IsOver, IsReady, IsSetUp, IsInProgress, HandsOver};
-ghost use Rattle.fwd_replay.specs.Text.{report, with_line_end};
+ghost use Rattle.fwd_secure.specs.Keys.{AreShort};
+ghost use Rattle.fwd_secure_settings.specs.Keys.{keys_of};
+ghost use Rattle.fwd_replay.specs.Names.{IsNamed, IsNamedOf};
+ghost use Rattle.fwd_replay.specs.RunState.{HandsBytes, HasBegun, IsTextOf, IsFresh, KeyedLoopStarts, AreRenewed, OffsetsAreRenewed, EndsBy, EndsAs, ProducesText, ProducesOutcome, DevicesAreReady, LoopHasFailed, HaveAnswered, IsCrashed, IsOver, IsReady, IsInProgress, HandsOver};
+ghost use Rattle.fwd_replay.specs.Text.{with_line_end};
 ghost use Rattle.fwd_replay.specs.declared.progress.Going.{Going};
 ghost use Rattle.fwd_replay.specs.declared.life.Next.TheVariants as follow;
 ghost use Rattle.fwd_replay.specs.declared.report.Shown.{Shown};
@@ -24,14 +23,17 @@ ghost use Rattle.fwd_replay.specs.declared.report.Shown.{Shown};
 use crate::names::Named;
 use crate::progress::Going;
 use crate::report::{Ending, report_text};
-use crate::start::{StartErr, set_up, start};
-use crate::turns::{TurnsEnd, is_out_of_memory, take, take_turns};
+use crate::start::{Begun, StartErr, begin, set_up};
+use crate::turns::{TurnsEnd, is_out_of_memory, lemma_script_plays, take, take_turns};
 use fwd_base::{Bytes, Memory};
 use fwd_disk_mem::MemDisk;
 use fwd_engine_run::KeptOffsets;
 use fwd_keeper_mem::MemKeeper;
-use fwd_outside::Ends;
+use fwd_outside::{Begun as LoopBegun, Ends, Loop};
 use fwd_script::{Cut, Life, MemFiles};
+use fwd_script_loop::Script;
+use fwd_secure::SecureLoop;
+use fwd_secure_settings::{Keys, keys, lemma_keys_are_short};
 use fwd_settings::{AllSettings, ends};
 use std::alloc::Global;
 use std::thread::Threads;
@@ -88,25 +90,35 @@ fn end_line(text: &mut Bytes) -> Result<(), Memory>
     Ok(())
 }
 
+/// Returns the bytes that links of these outputs took, in the order taken.
+fn bytes_handed(
+    alloc: Global,
+    secure: &SecureLoop<'_, Script>,
+    outputs: u64,
+) -> Result<Bytes, Memory>
+    ensures { IfOk result (λ bytes. HandsBytes secure.now.below.call_log outputs bytes) }
+{
+    secure.inner.handed(alloc, outputs)
+}
+
 /// Returns the bytes that the standard outputs took, if they are shown, with a line feed at their end,
 /// and the report.
-fn text_of(alloc: Global, named: &Named, going: &Going) -> Result<Bytes, Memory>
+fn text_of(alloc: Global, named: &Named, going: &Going<'_>) -> Result<Bytes, Memory>
     requires { IsNamedOf named.now going.now.engine }
     ensures { (s : AllSettings) (h : History) → IsAt going.now.engine s h → IsNamed named.now s
-        → IfOk result (λ text. text ≡ with_line_end (handed (printed_mask named.now.shown s.outputs) [] (entries_of going.now.script.notes)) ++ report s h) }
+        → IfOk result (λ text. IsTextOf named.now.shown s going.now.secure.below.call_log h text) }
 {
-    let mut text = going.script.handed(alloc, named.printed)?;
+    let mut text = bytes_handed(alloc, &going.secure, named.printed)?;
     end_line(&mut text)?;
     let report = report_text(alloc, named, &going.engine)?;
     text.extend_from_slice(report.as_slice())?;
     Ok(text)
 }
 
-/// States that loop, disk and keeper in memory answered as the schedule says.
-fn lemma_have_answered(going: &Going, disk: &MemDisk, keeper: &MemKeeper)
-    ensures { HaveAnswered going.now.script disk.now keeper.now }
+/// States that disk and keeper in memory answered as the schedule says.
+fn lemma_have_answered(disk: &MemDisk, keeper: &MemKeeper)
+    ensures { HaveAnswered disk.now keeper.now }
 {
-    going.script.is_played();
     disk.is_played();
     keeper.is_played();
 }
@@ -159,7 +171,7 @@ fn crash(
 fn cut_turn(
     rt: &(impl Threads + Sync),
     alloc: Global,
-    going: &mut Going,
+    going: &mut Going<'_>,
     disk: &mut MemDisk,
     files: &mut MemFiles,
     keeper: &mut MemKeeper,
@@ -168,7 +180,7 @@ fn cut_turn(
 ) -> Result<(), Memory>
     requires { going.old.taken < most }
     ensures { (s : AllSettings) (begins : Start) (planned : Life) (ready : IsReady s begins planned going.old disk.old files.old keeper.old (Some cut))
-        → OnOk result (HandsOver s most begins planned cut going.new ready.history ready.trace disk.new files.new keeper.new) }
+        → OnOk result (HandsOver s most begins planned cut going.new ready.history ready.below disk.new files.new keeper.new) }
 {
     let since = disk.record_len();
     if is_out_of_memory(take(rt, going, disk, files, keeper)) {
@@ -182,7 +194,7 @@ fn leave_in_turn(
     rt: &(impl Threads + Sync),
     alloc: Global,
     named: &Named,
-    going: &mut Going,
+    going: &mut Going<'_>,
     disk: &mut MemDisk,
     files: &mut MemFiles,
     keeper: &mut MemKeeper,
@@ -206,7 +218,7 @@ fn leave_in_turn(
 fn leave_over(
     alloc: Global,
     named: &Named,
-    going: &Going,
+    going: &Going<'_>,
     disk: &mut MemDisk,
     files: &mut MemFiles,
     keeper: &mut MemKeeper,
@@ -217,7 +229,7 @@ fn leave_over(
         → IfOk result (EndsAs named.now.shown s most begins planned going.now disk.new files.new keeper.new) }
 {
     let text = text_of(alloc, named, going)?;
-    lemma_have_answered(going, disk, keeper);
+    lemma_have_answered(disk, keeper);
     let since = disk.record_len();
     crash(alloc, disk, files, keeper, since, cut)?;
     Ok(Came {
@@ -230,7 +242,7 @@ fn leave_over(
 fn end_over(
     alloc: Global,
     named: &Named,
-    going: &Going,
+    going: &Going<'_>,
     disk: &MemDisk,
     keeper: &MemKeeper,
 ) -> Result<Came, Memory>
@@ -238,7 +250,7 @@ fn end_over(
     ensures { (s : AllSettings) (begins : Start) (planned : Life) (most : ℕ) (held : FilesState) → IsNamed named.now s → IsOver s begins planned going.now disk.now held keeper.now → planned.cut ≡ None → going.now.taken ≤ most
         → IfOk result (EndsAs named.now.shown s most begins planned going.now disk.now held keeper.now) }
 {
-    lemma_have_answered(going, disk, keeper);
+    lemma_have_answered(disk, keeper);
     let text = text_of(alloc, named, going)?;
     Ok(Came {
         text,
@@ -250,7 +262,7 @@ fn end_over(
 fn end_spent(
     alloc: Global,
     named: &Named,
-    going: &Going,
+    going: &Going<'_>,
     disk: &MemDisk,
     keeper: &MemKeeper,
 ) -> Result<Came, Memory>
@@ -258,7 +270,7 @@ fn end_spent(
     ensures { (s : AllSettings) (begins : Start) (planned : Life) (held : FilesState) → IsNamed named.now s → IsInProgress s begins planned going.now disk.now held keeper.now
         → IfOk result (EndsAs named.now.shown s going.now.taken begins planned going.now disk.now held keeper.now) }
 {
-    lemma_have_answered(going, disk, keeper);
+    lemma_have_answered(disk, keeper);
     let text = text_of(alloc, named, going)?;
     Ok(Came {
         text,
@@ -267,11 +279,11 @@ fn end_spent(
 }
 
 /// Ends the replay with a run whose loop failed.
-fn end_failed(alloc: Global, going: &Going, disk: &MemDisk, keeper: &MemKeeper) -> Came
+fn end_failed(alloc: Global, going: &Going<'_>, disk: &MemDisk, keeper: &MemKeeper) -> Came
     ensures { (shown : Shown) (s : AllSettings) (begins : Start) (planned : Life) (most : ℕ) (held : FilesState) → LoopHasFailed s begins planned going.now disk.now held keeper.now → going.now.taken ≤ most
         → EndsAs shown s most begins planned going.now disk.now held keeper.now result }
 {
-    lemma_have_answered(going, disk, keeper);
+    lemma_have_answered(disk, keeper);
     Came {
         text: Bytes::new(alloc),
         end: LifeEnd::Ends(Ending::LoopFailed),
@@ -283,7 +295,7 @@ fn live(
     rt: &(impl Threads + Sync),
     alloc: Global,
     named: &Named,
-    going: &mut Going,
+    going: &mut Going<'_>,
     life: &Life,
     disk: &mut MemDisk,
     files: &mut MemFiles,
@@ -347,7 +359,7 @@ fn run_started(
     rt: &(impl Threads + Sync),
     alloc: Global,
     named: &Named,
-    mut going: Going,
+    mut going: Going<'_>,
     life: &Life,
     disk: &mut MemDisk,
     files: &mut MemFiles,
@@ -356,7 +368,7 @@ fn run_started(
 ) -> Result<Outcome, Memory>
     requires new { going.taken ≡ 0 }
     requires stands { (s : AllSettings) × (begins : Start) × IsNamed named.now s × IsInProgress s begins life.now going disk.old files.old keeper.old }
-    ensures { (s : AllSettings) (begins : Start) → IsNamed named.now s → IsInProgress s begins life.now going disk.old files.old keeper.old
+    ensures { (s : AllSettings) (begins : Start) → IsNamed named.now s → IsInProgress s begins life.now going.entry disk.old files.old keeper.old
         → IfOk result (ProducesOutcome named.now.shown s most begins life.now disk.new files.new keeper.new) }
 {
     let came = live(
@@ -376,13 +388,77 @@ fn failed_start(alloc: Global, ending: Ending) -> Outcome
     }
 }
 
-/// Makes a run whose disk and files are set up, with at most `most` turns.
-fn run_prepared(
+/// Makes a run whose engine has begun and whose loop was started.
+fn run_begun(
     rt: &(impl Threads + Sync),
     alloc: Global,
     named: &Named,
-    settings: AllSettings,
-    offsets: KeptOffsets,
+    begun: Begun,
+    secure: SecureLoop<'_, Script>,
+    loop_begun: LoopBegun,
+    life: &Life,
+    disk: &mut MemDisk,
+    files: &mut MemFiles,
+    keeper: &mut MemKeeper,
+    most: u64,
+) -> Result<Outcome, Memory>
+    requires begun { (s : AllSettings) × (begins : Start) × (h : History) × IsNamed named.now s × HasBegun s begins life.now begun h disk.old files.old keeper.old × KeyedLoopStarts s life.now (ends_of s) secure loop_begun }
+    ensures { (s : AllSettings) (begins : Start) (h : History) → IsNamed named.now s → HasBegun s begins life.now begun h disk.old files.old keeper.old → KeyedLoopStarts s life.now (ends_of s) secure.entry loop_begun
+        → IfOk result (ProducesOutcome named.now.shown s most begins life.now disk.new files.new keeper.new) }
+{
+    let Begun { engine, offsets } = begun;
+    match loop_begun {
+        LoopBegun::Ready => run_started(
+            rt,
+            alloc,
+            named,
+            Going {
+                engine,
+                offsets,
+                secure,
+                changed: 0,
+                taken: 0,
+            },
+            life,
+            disk,
+            files,
+            keeper,
+            most,
+        ),
+        LoopBegun::Failed => {
+            let _given_back = engine.finish();
+            Ok(failed_start(alloc, Ending::LoopFailed))
+        }
+        LoopBegun::Memory => {
+            let _given_back = engine.finish();
+            Err(Memory)
+        }
+    }
+}
+
+/// Starts the keyed loop.
+fn start_loop(secure: &mut SecureLoop<'_, Script>, ends: &Ends) -> LoopBegun
+    requires new { secure.old.above ≡ [] }
+    ensures { (s : AllSettings) (planned : Life) → IsFresh s planned secure.old → KeyedLoopStarts s planned ends.now secure.new result }
+{
+    secure.is_secure();
+    let begun = secure.start(ends);
+    secure.is_secure();
+    lemma_script_plays(secure);
+    if secure.is_out_of_memory() {
+        LoopBegun::Memory
+    } else {
+        begun
+    }
+}
+
+/// Makes a run whose engine has begun, with at most `most` turns.
+fn run_with_loop(
+    rt: &(impl Threads + Sync),
+    alloc: Global,
+    named: &Named,
+    begun: Begun,
+    keys: Keys,
     ends: &Ends,
     life: &Life,
     disk: &mut MemDisk,
@@ -390,20 +466,17 @@ fn run_prepared(
     keeper: &mut MemKeeper,
     most: u64,
 ) -> Result<Outcome, Memory>
-    requires sound { MeetsRequirements settings }
-    requires named { IsNamed named.now settings }
-    requires offsets { Keeps settings offsets [] }
-    requires ends { ends.now ≡ ends_of settings }
-    requires devices { (begins : Start) × IsSetUp begins life.now disk.old files.old keeper.old }
-    ensures { (begins : Start) → IsSetUp begins life.now disk.old files.old keeper.old → IfOk result (ProducesOutcome named.now.shown settings most begins life.now disk.new files.new keeper.new) }
+    requires short { AreShort keys }
+    requires begun { (s : AllSettings) × (begins : Start) × (h : History) × IsNamed named.now s × HasBegun s begins life.now begun h disk.old files.old keeper.old × (keys ≡ keys_of s) × (ends.now ≡ ends_of s) }
+    ensures { (s : AllSettings) (begins : Start) (h : History) → IsNamed named.now s → HasBegun s begins life.now begun h disk.old files.old keeper.old → keys ≡ keys_of s → ends.now ≡ ends_of s
+        → IfOk result (ProducesOutcome named.now.shown s most begins life.now disk.new files.new keeper.new) }
 {
-    match start(rt, alloc, settings, offsets, ends, life, disk, keeper) {
-        Ok(going) => run_started(rt, alloc, named, going, life, disk, files, keeper, most),
-        Err(StartErr::DiskFailed) => Ok(failed_start(alloc, Ending::DiskFailed)),
-        Err(StartErr::KeeperFailed) => Ok(failed_start(alloc, Ending::KeeperFailed)),
-        Err(StartErr::LoopFailed) => Ok(failed_start(alloc, Ending::LoopFailed)),
-        Err(StartErr::Memory) => Err(Memory),
-    }
+    let mut script = Script::new(alloc, life)?;
+    let mut secure = SecureLoop::new(alloc, &mut script, keys);
+    let loop_begun = start_loop(&mut secure, ends);
+    run_begun(
+        rt, alloc, named, begun, secure, loop_begun, life, disk, files, keeper, most,
+    )
 }
 
 /// Sets up disk and files for a run, and makes it with at most `most` turns.
@@ -423,10 +496,17 @@ pub fn run_life(
     requires finds { (begins : Start) × DevicesAreReady begins disk.old files.old keeper.old }
     ensures { (begins : Start) → DevicesAreReady begins disk.old files.old keeper.old → IfOk result (ProducesOutcome named.now.shown settings most begins life.now disk.new files.new keeper.new) }
 {
+    lemma_keys_are_short();
     set_up(disk, files, life)?;
     let ends = ends(alloc, &settings)?;
+    let keys = keys(alloc, &settings)?;
     let offsets = KeptOffsets::of(alloc, &settings)?;
-    run_prepared(
-        rt, alloc, named, settings, offsets, &ends, life, disk, files, keeper, most,
-    )
+    match begin(rt, alloc, settings, offsets, disk, keeper) {
+        Ok(begun) => run_with_loop(
+            rt, alloc, named, begun, keys, &ends, life, disk, files, keeper, most,
+        ),
+        Err(StartErr::DiskFailed) => Ok(failed_start(alloc, Ending::DiskFailed)),
+        Err(StartErr::KeeperFailed) => Ok(failed_start(alloc, Ending::KeeperFailed)),
+        Err(StartErr::Memory) => Err(Memory),
+    }
 }

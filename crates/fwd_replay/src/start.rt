@@ -5,38 +5,40 @@ ghost use Rattle.fwd_disk_mem.specs.declared.entry.MemEntry.TheVariants as mem_e
 ghost use Rattle.fwd_disk_mem.specs.DiskState.{Seen};
 ghost use Rattle.fwd_engine_run.specs.EngineSteps.{IsAt};
 ghost use Rattle.fwd_settings.specs.declared.settings_types.AllSettings.{AllSettings};
-ghost use Rattle.fwd_settings.specs.Endpoints.{ends_of};
 ghost use Rattle.fwd_settings.specs.Requirements.{MeetsRequirements};
 ghost use Rattle.fwd_files_mem.specs.FilesState.{FilesState};
 ghost use Rattle.fwd_files_mem.specs.declared.files.FilesNote.TheVariants as note;
+ghost use Rattle.fwd_script.specs.declared.schedule.Life.{Life};
 ghost use Rattle.fwd_script.specs.declared.schedule.Stored.{Stored};
 ghost use Rattle.fwd_replay.specs.Runs.{Start, course_of};
 ghost use Rattle.fwd_model.specs.Fact.{History};
 ghost use Rattle.fwd_keeper_mem.specs.KeeperState.{KeeperState};
 ghost use Rattle.fwd_engine_run.specs.OffsetRows.{Keeps};
-ghost use Rattle.fwd_replay.specs.RunState.{EngineStarts, DevicesAreReady, FilesRepresent, IsRecovered, IsSetUp, LoopStarts, Starts};
+ghost use Rattle.fwd_replay.specs.RunState.{Begins, DevicesAreReady, FilesRepresent, IsRecovered, IsSetUp};
 
-use crate::progress::Going;
 use fwd_base::Memory;
 use fwd_disk_mem::MemDisk;
 use fwd_engine_run::{BeginErr, Engine, Got, KeptOffsets};
 use fwd_keeper_mem::MemKeeper;
-use fwd_outside::{Begun, Ends, Loop};
 use fwd_script::{Calls, Life, MemFiles, StoredList};
-use fwd_script_loop::Script;
 use fwd_settings::AllSettings;
 use std::alloc::Global;
 use std::thread::Threads;
 
-/// Why a run doesn't start.
+/// An engine that has begun, and the offsets that it keeps.
+#[derive(Drop)]
+pub struct Begun {
+    pub engine: Engine,
+    pub offsets: KeptOffsets,
+}
+
+/// Why a run doesn't begin.
 #[derive(Clone, Copy)]
 pub enum StartErr {
     /// A call on the disk failed while it was loaded.
     DiskFailed,
     /// An offset couldn't be got from the keeper.
     KeeperFailed,
-    /// The loop couldn't start.
-    LoopFailed,
     Memory,
 }
 
@@ -79,64 +81,19 @@ pub fn set_up(disk: &mut MemDisk, files: &mut MemFiles, life: &Life) -> Result<(
     set_failing_file_calls(files, &life.file_fails)
 }
 
-/// Returns the loop of a run, started with these endpoints.
-fn started_script(alloc: Global, ends: &Ends, life: &Life) -> Result<Script, StartErr>
-    ensures { LoopStarts life.now ends.now result }
-{
-    let Ok(mut script) = Script::new(alloc, life) else {
-        return Err(StartErr::Memory);
-    };
-    let begun = script.start(ends);
-    script.is_played();
-    match begun {
-        Begun::Ready => Ok(script),
-        Begun::Failed => Err(StartErr::LoopFailed),
-        Begun::Memory => Err(StartErr::Memory),
-    }
-}
-
-/// Starts the loop of a run whose engine has begun and whose offsets are got. If it can't start, drops the
-/// settings that the engine gives back.
-fn start_loop(
-    alloc: Global,
-    engine: Engine,
-    offsets: KeptOffsets,
-    ends: &Ends,
-    life: &Life,
-) -> Result<Going, StartErr>
-    ensures { EngineStarts life.now ends.now engine offsets result }
-{
-    match started_script(alloc, ends, life) {
-        Ok(script) => Ok(Going {
-            engine,
-            offsets,
-            script,
-            changed: 0,
-            taken: 0,
-        }),
-        Err(why) => {
-            let _given_back = engine.finish();
-            Err(why)
-        }
-    }
-}
-
-/// Gets the offsets for an engine that has begun, and starts the loop of its run.
+/// Gets the offsets for an engine that has begun.
 fn resume(
-    alloc: Global,
     mut engine: Engine,
     mut offsets: KeptOffsets,
-    ends: &Ends,
-    life: &Life,
     keeper: &mut MemKeeper,
-) -> Result<Going, StartErr>
-    ensures { (settings : AllSettings) (begins : Start) (h : History) (seen : Seen) (held : FilesState) → IsRecovered settings begins life.now seen h → IsAt engine settings h → Keeps settings offsets [] → FilesRepresent held (course_of begins life.now).files
-        → keeper.old.given ≡ begins.offsets → keeper.old.notes ≡ [] → ends.now ≡ ends_of settings → Starts settings begins life.now seen held keeper.new result }
+) -> Result<Begun, StartErr>
+    ensures { (settings : AllSettings) (begins : Start) (planned : Life) (h : History) (seen : Seen) (held : FilesState) → IsRecovered settings begins planned seen h → IsAt engine settings h → Keeps settings offsets [] → FilesRepresent held (course_of begins planned).files
+        → keeper.old.given ≡ begins.offsets → keeper.old.notes ≡ [] → Begins settings begins planned seen held keeper.new result }
 {
     match offsets.get(&mut engine, keeper) {
         Ok(Got::All) => {
             keeper.is_played();
-            start_loop(alloc, engine, offsets, ends, life)
+            Ok(Begun { engine, offsets })
         }
         Ok(Got::Failed) => {
             keeper.is_played();
@@ -150,25 +107,23 @@ fn resume(
     }
 }
 
-/// Loads the disk, gets the offsets, and starts the loop of the run with these endpoints.
-pub fn start(
+/// Loads the disk and gets the offsets.
+pub fn begin(
     rt: &(impl Threads + Sync),
     alloc: Global,
     settings: AllSettings,
     offsets: KeptOffsets,
-    ends: &Ends,
-    life: &Life,
     disk: &mut MemDisk,
     keeper: &mut MemKeeper,
-) -> Result<Going, StartErr>
+) -> Result<Begun, StartErr>
     requires sound { MeetsRequirements settings }
     requires offsets { Keeps settings offsets [] }
-    ensures { (begins : Start) (held : FilesState) → IsSetUp begins life.now disk.old held keeper.old → ends.now ≡ ends_of settings → Starts settings begins life.now disk.new held keeper.new result }
+    ensures { (begins : Start) (planned : Life) (held : FilesState) → IsSetUp begins planned disk.old held keeper.old → Begins settings begins planned disk.new held keeper.new result }
 {
     match Engine::begin(rt, alloc, settings, disk) {
         Ok(engine) => {
             disk.is_played();
-            resume(alloc, engine, offsets, ends, life, keeper)
+            resume(engine, offsets, keeper)
         }
         Err(BeginErr::DiskFault) => {
             disk.is_played();

@@ -1,6 +1,6 @@
 //! The turns of a run.
 
-ghost use Rattle.std.specs.Prelude.{◌≡◌, ◌<◌, ◌≤◌, ◌+◌, ◌-◌, ◌^◌, [], None, IfOk, OnOk};
+ghost use Rattle.std.specs.Prelude.{◌≡◌, ◌<◌, ◌≤◌, ◌+◌, ◌-◌, ◌^◌, false, [], None, IfOk, OnOk};
 ghost use Rattle.fwd_keeper_mem.specs.KeeperState.{KeeperState};
 ghost use Rattle.fwd_settings.specs.declared.settings_types.AllSettings.{AllSettings};
 ghost use Rattle.fwd_disk_mem.specs.DiskState.{Seen};
@@ -9,10 +9,11 @@ ghost use Rattle.fwd_files_mem.specs.FilesAnswers.{IsPlayed};
 ghost use Rattle.fwd_files_mem.specs.MemFiles.{entries_from};
 ghost use Rattle.fwd_script.specs.declared.schedule.Life.{Life};
 ghost use Rattle.fwd_model.specs.Fact.{History};
-ghost use Rattle.fwd_engine_run.specs.EngineSteps.{IsAt, TurnOutcome, as_turn};
+ghost use Rattle.fwd_engine_run.specs.EngineSteps.{IsAt, as_turn};
+ghost use Rattle.fwd_secure.specs.Secure.{IsSecure};
 ghost use Rattle.fwd_engine_run.specs.Turn.{Turn};
 ghost use Rattle.fwd_replay.specs.Runs.{Start};
-ghost use Rattle.fwd_replay.specs.RunState.{Ended, HasPut, HaveAnswered, IsReady, IsInProgress, IsStepped, Turned, is_out_of_memory, memory};
+ghost use Rattle.fwd_replay.specs.RunState.{Ended, HasPut, HaveAnswered, IsReady, IsInProgress, IsStepped, ScriptPlays, Turned, TurnedIn, is_out_of_memory};
 
 use crate::progress::{Going, prepare};
 use fwd_base::Memory;
@@ -20,6 +21,8 @@ use fwd_disk_mem::MemDisk;
 use fwd_engine_run::{EngineStop, Turn};
 use fwd_keeper_mem::MemKeeper;
 use fwd_script::{Cut, Life, MemFiles};
+use fwd_script_loop::Script;
+use fwd_secure::SecureLoop;
 use std::thread::Threads;
 
 /// How the turns of a run ended.
@@ -35,29 +38,53 @@ pub enum TurnsEnd {
     TurnsSpent,
 }
 
+/// States that the loop of the schedule answered as the schedule says.
+pub fn lemma_script_plays(secure: &SecureLoop<'_, Script>)
+    ensures { ScriptPlays secure.now.below.call_log }
+{
+    secure.inner.is_played();
+}
+
+/// Returns the result of a turn, unless memory was out in a call on the keyed loop.
+fn checked(
+    secure: &SecureLoop<'_, Script>,
+    turn: Result<Turn, EngineStop>,
+) -> Result<Turn, EngineStop>
+    ensures result { is_out_of_memory result ≡ false → result ≡ turn }
+    ensures memory { is_out_of_memory result ≡ false → secure.now.out_of_memory ≡ false }
+{
+    if secure.is_out_of_memory() {
+        Err(EngineStop::Memory)
+    } else {
+        turn
+    }
+}
+
 /// Takes a turn and counts it, whatever its result.
 pub fn take(
     rt: &(impl Threads + Sync),
-    going: &mut Going,
+    going: &mut Going<'_>,
     disk: &mut MemDisk,
     files: &mut MemFiles,
     keeper: &MemKeeper,
 ) -> Result<Turn, EngineStop>
     requires { going.old.taken < 2 ^ 64 - 1 }
     ensures turned { (s : AllSettings) (start : Start) (planned : Life) → IsReady s start planned going.old disk.old files.old keeper.now None → Turned s start planned going.new disk.new files.new keeper.now result }
-    ensures turns { (s : AllSettings) (h : History) → IsAt going.old.engine s h → TurnOutcome (memory going.old.script disk.old files.old) (memory going.new.script disk.new files.new) s h going.new.engine result }
-    ensures played { HaveAnswered going.new.script disk.new keeper.now }
+    ensures turns { (s : AllSettings) (h : History) → IsAt going.old.engine s h → TurnedIn s h going.old disk.old files.old going.new disk.new files.new result }
+    ensures played { HaveAnswered disk.new keeper.now }
     ensures files { IsPlayed files.new.given [] (entries_from files.new.given files.new.notes) }
     ensures taken { going.new.taken ≡ going.old.taken + 1 }
     ensures offsets { going.new.offsets ≡ going.old.offsets }
 {
     going.taken += 1;
-    let turn = going.engine.turn(rt, disk, files, &mut going.script);
-    going.script.is_played();
+    going.secure.is_secure();
+    let turn = going.engine.turn(rt, disk, files, &mut going.secure);
+    going.secure.is_secure();
+    lemma_script_plays(&going.secure);
     disk.is_played();
     files.is_played();
     keeper.is_played();
-    turn
+    checked(&going.secure, turn)
 }
 
 /// Returns whether the run is over after a turn.
@@ -81,7 +108,7 @@ pub fn is_out_of_memory(turn: Result<Turn, EngineStop>) -> bool
 }
 
 /// Puts the settled offsets after a turn.
-fn put_offsets(going: &mut Going, keeper: &mut MemKeeper) -> Result<(), Memory>
+fn put_offsets(going: &mut Going<'_>, keeper: &mut MemKeeper) -> Result<(), Memory>
     ensures put { (s : AllSettings) (start : Start) (planned : Life) (seen : Seen) (held : FilesState) (which : Turn) → IsStepped s start planned going.old seen held keeper.old which → OnOk result (HasPut s start planned going.new seen held keeper.new which) }
     ensures taken { going.new.taken ≡ going.old.taken }
 {
@@ -91,7 +118,7 @@ fn put_offsets(going: &mut Going, keeper: &mut MemKeeper) -> Result<(), Memory>
 /// Takes at most `most` turns, until the run is over or is to be cut.
 pub fn take_turns(
     rt: &(impl Threads + Sync),
-    going: &mut Going,
+    going: &mut Going<'_>,
     life: &Life,
     disk: &mut MemDisk,
     files: &mut MemFiles,

@@ -9,4 +9,3 @@ pub mod EventQueue
 pub mod LinkByteSteps
 pub mod ChangesOfLines
 pub mod EventPlaces
-pub mod LinkNumbers

@@ -305,10 +305,6 @@ impl Loop for Script {
         self.notes.push_reserved(LoopNote::Word { word });
         Ok(word)
     }
-
-    fn links_are_new(&self) {
-        let _ = &self.alloc;
-    }
 }
 
 /// Returns the number of faults after an event.

@@ -5,8 +5,6 @@
 //! keyed loop keeps a call log of its own. The invariant of `SecureLoop` says that this log is carried by the
 //! log of the loop below: call by call, the calls below lead through the rule to the answer above. Without
 //! keys each call is passed on.
-//!
-//! The program doesn't use it: forward inputs and outputs have no shared keys.
 #![tactic(auto)]
 
 mod handshakes;

@@ -69,7 +69,7 @@ impl<'a, L: Loop> Model for SecureLoop<'a, L> {
 
 impl<'a, L: Loop> SecureLoop<'a, L> {
     /// Puts a keyed loop around a loop. Nothing was asked of it yet.
-    pub fn over(alloc: Global, inner: &'a mut L, keys: Keys) -> SecureLoop<'a, L>
+    pub fn new(alloc: Global, inner: &'a mut L, keys: Keys) -> SecureLoop<'a, L>
         requires { AreShort keys }
         ensures name { result.name ≡ inner.entry.ghost_name }
         ensures start { result.start ≡ record { call_log = L.call_log inner.old; counts = L.counts inner.old; faults = L.faults inner.old } }
@@ -288,9 +288,5 @@ impl<L: Loop> Loop for SecureLoop<'_, L> {
                 Err(Memory)
             }
         }
-    }
-
-    fn links_are_new(&self) {
-        let _ = &self.keyed;
     }
 }

@@ -12,7 +12,7 @@ use Rattle.std.proofs.lemmas.List.Kept.{AllPairs-cons}
 use Rattle.std.proofs.lemmas.Slice.Eq.{bytes_eq-Decides}
 use Rattle.std.proofs.Common.{zero, suc}
 use Rattle.std.proofs.Common.{lit≤}
-use Rattle.fwd_settings_values.specs.Text.{is_visible_text, is_uri_text}
+use Rattle.fwd_settings_values.specs.Text.{is_visible_text, is_uri_text, is_hostname_text}
 use Rattle.fwd_settings_schema.specs.declared.error_kind.SettingKind.TheVariants.{Missing, TooMany, BadChoice}
 use Rattle.fwd_filters.specs.declared.filter_step.FilterStep.{FilterStep}
 use Rattle.fwd_config.specs.declared.section.Place.{Place}
@@ -49,7 +49,8 @@ use Rattle.fwd_settings.specs.Inputs.{input_plugin, is_input_of, input_kind, inp
 use Rattle.fwd_settings.specs.Outputs.{output_plugin, output_kind, output_set, output_from, output_name, most_headers, is_output_of, has_id}
 use Rattle.fwd_settings.specs.Filters.{filter_from}
 use Rattle.fwd_settings.specs.Settings.{nothing, plugin_at, by_name, of_header, part_of, entries_here, with_input, with_filter, with_output, with_target, with_section, with_sections, all_of, settings_of}
-use Rattle.fwd_settings.specs.Requirements.{AreInputsNamed, AreOutputsNamed, IsTagText, IsIdText, HasTag, CanRequest, MeetsRequirements}
+use Rattle.fwd_settings.specs.SharedKeys.{shared_by, hostname_of, shared_key_of}
+use Rattle.fwd_settings.specs.Requirements.{AreInputsNamed, AreOutputsNamed, IsTagText, IsIdText, HasTag, CanRequest, HasShortHost, MeetsRequirements}
 use Rattle.fwd_settings.proofs.Always.{Always, always_then, always_known, always_result, always_each, Pairs, all_of_pairs}
 use Rattle.fwd_settings.proofs.Table.{IsPositive, IsTagValue, IsText, IsTextSo, IsIdValue, IsOfKind, IsPropertyOf, always_property, row_passes, kind_passes, Holds, last_holds, last_there}
 
@@ -132,6 +133,14 @@ is_uri _ = false
 abbrev is_id_kind : Kind → Bool
 is_id_kind kind.Id = true
 is_id_kind _ = false
+
+abbrev is_hostname : Kind → Bool
+is_hostname (kind.Plain plain.Hostname) = true
+is_hostname _ = false
+
+hostname_of_kind : (k : Kind) (v : Value) → is_hostname k ≡ true → IsOfKind k v → IsTextSo is_hostname_text v
+hostname_of_kind (kind.Plain plain.Hostname) v so of = of
+hostname_of_kind _ v so of = absurd (cc so)
 
 visible_of_kind : (k : Kind) (v : Value) → is_visible k ≡ true → IsOfKind k v → IsTextSo is_visible_text v
 visible_of_kind (kind.Plain plain.Visible) v so of = of
@@ -248,6 +257,32 @@ can_request out_plugin.Http properties all = (
   text_or_so is_visible_text (codes "127.0.0.1") refl (last_value key.Host properties) (last_of_named key.Host is_visible (IsTextSo is_visible_text) visible_of_kind (target.Output out_plugin.Http) host_passes properties all),
   text_or_so is_uri_text (codes "/") refl (last_value key.Uri properties) (last_of_named key.Uri is_uri (IsTextSo is_uri_text) uri_of_kind (target.Output out_plugin.Http) uri_passes properties all),
 )
+
+-- the name of a host is short, given or not
+hostname_passes_input : (p : InputPlugin) → list_all (row_passes (target.Input p) key.SelfHostname is_hostname) table ≡ true
+unfolding table
+hostname_passes_input in_plugin.Tail = refl
+hostname_passes_input in_plugin.Tcp = refl
+hostname_passes_input in_plugin.Forward = refl
+hostname_passes_input in_plugin.Stdin = refl
+
+hostname_passes_output : (p : OutputPlugin) → list_all (row_passes (target.Output p) key.SelfHostname is_hostname) table ≡ true
+unfolding table
+hostname_passes_output out_plugin.Stdout = refl
+hostname_passes_output out_plugin.File = refl
+hostname_passes_output out_plugin.Tcp = refl
+hostname_passes_output out_plugin.Forward = refl
+hostname_passes_output out_plugin.Http = refl
+
+short_host : (p : Target) (properties : List Property) → list_all (row_passes p key.SelfHostname is_hostname) table ≡ true → AllByRecursion (ArePropertiesOf p) properties → HasShortHost (shared_key_of properties)
+short_host p properties passes all = by_key (text_at key.SharedKey properties)
+  where
+    so : is_hostname_text (hostname_of properties) ≡ true
+    so = text_or_so is_hostname_text (codes "localhost") refl (last_value key.SelfHostname properties) (last_of_named key.SelfHostname is_hostname (IsTextSo is_hostname_text) hostname_of_kind p passes properties all)
+
+    by_key : (o : Option (List ℕ)) → HasShortHost (shared_by (hostname_of properties) o)
+    by_key None = tt
+    by_key (Some k) = grind (arith, nat_tests, so)
 
 abbrev HoldsId : Option (List ℕ) → Type 0
 HoldsId None = Unit {0}
@@ -403,16 +438,16 @@ stored_is path place set out is = by_tests set.stored path refl is
 
 -- a new input
 abbrev IsNewInput : Bool → List InputSet → InputSet → Type 0
-IsNewInput path before set = (set.name ≡ input_name before (input_plugin set.kind)) × (HasTag set.kind set.tag × (set.stored ≡ true → path ≡ true))
+IsNewInput path before set = (set.name ≡ input_name before (input_plugin set.kind)) × (HasTag set.kind set.tag × (HasShortHost set.shared × (set.stored ≡ true → path ≡ true)))
 
 new_input : (path : Bool) (p : InputPlugin) (place : Place) (before : List InputSet) (properties : List Property) (set : InputSet) (r : Checked InputKind) → ((kind : InputKind) → r ≡ Ok kind → input_plugin kind ≡ p)
-    → IsTagText (input_name before p) → HoldsText (text_at key.Tag properties) → input_by path p place (input_name before p) properties r ≡ Ok set → IsNewInput path before set
-new_input path p place before properties set (Err refusal) kinds name_is tag is = absurd (cc is)
-new_input path p place before properties set (Ok kind) kinds name_is tag is =
+    → IsTagText (input_name before p) → HoldsText (text_at key.Tag properties) → HasShortHost (shared_key_of properties) → input_by path p place (input_name before p) properties r ≡ Ok set → IsNewInput path before set
+new_input path p place before properties set (Err refusal) kinds name_is tag shared is = absurd (cc is)
+new_input path p place before properties set (Ok kind) kinds name_is tag shared is =
     let same : input_plugin kind ≡ p = kinds kind refl in
     let both = stored_is path place (input_set p (input_name before p) properties kind) set is in
     subst (IsNewInput path before) both.0
-    (ap (input_name before) (sym same), (own_tag p kind (input_name before p) (text_at key.Tag properties) same name_is tag, both.1))
+    (ap (input_name before) (sym same), (own_tag p kind (input_name before p) (text_at key.Tag properties) same name_is tag, (shared, both.1)))
 
 -- ---- the settings so far
 
@@ -426,6 +461,8 @@ pub record Sound (path : Bool) (s : PartialSettings) : Type 0 where
   pub ids_differ : AllPairs (λ one other. one.id ≢ other.id) s.outputs
   pub requests : AllByRecursion (λ set. CanRequest set.kind) s.outputs
   pub tagged : AllByRecursion (λ set. HasTag set.kind set.tag) s.inputs
+  pub shared_inputs : AllByRecursion (λ set. HasShortHost set.shared) s.inputs
+  pub shared_outputs : AllByRecursion (λ set. HasShortHost set.shared) s.outputs
   pub stored : AllByRecursion (λ set. set.stored ≡ true → path ≡ true) s.inputs
 
 with_input_meets : (path : Bool) (s : PartialSettings) (set : InputSet) → Sound path s → length s.inputs < 64 → IsNewInput path s.inputs set → Sound path (record s { inputs = s.inputs ++ set ∷ [] })
@@ -439,11 +476,13 @@ with_input_meets path s set sound room new = record {
   ids_differ = sound.ids_differ;
   requests = sound.requests;
   tagged = all_more (λ x. HasTag x.kind x.tag) s.inputs set sound.tagged new.1.0;
-  stored = all_more (λ x. x.stored ≡ true → path ≡ true) s.inputs set sound.stored new.1.1;
+  shared_inputs = all_more (λ x. HasShortHost x.shared) s.inputs set sound.shared_inputs new.1.1.0;
+  shared_outputs = sound.shared_outputs;
+  stored = all_more (λ x. x.stored ≡ true → path ≡ true) s.inputs set sound.stored new.1.1.1;
 }
 
-with_output_meets : (path : Bool) (s : PartialSettings) (set : OutputSet) → Sound path s → length s.outputs < 64 → set.name ≡ output_name s.outputs (output_plugin set.kind) → IsIdText set.id → All (λ one. one.id ≢ set.id) s.outputs → CanRequest set.kind → Sound path (record s { outputs = s.outputs ++ set ∷ [] })
-with_output_meets path s set sound room new id other asked = record {
+with_output_meets : (path : Bool) (s : PartialSettings) (set : OutputSet) → Sound path s → length s.outputs < 64 → set.name ≡ output_name s.outputs (output_plugin set.kind) → IsIdText set.id → All (λ one. one.id ≢ set.id) s.outputs → CanRequest set.kind → HasShortHost set.shared → Sound path (record s { outputs = s.outputs ++ set ∷ [] })
+with_output_meets path s set sound room new id other asked shared = record {
   properties = sound.properties;
   few_inputs = sound.few_inputs;
   few_outputs = omega (arith, room, length-append s.outputs (set ∷ []));
@@ -453,6 +492,8 @@ with_output_meets path s set sound room new id other asked = record {
   ids_differ = pairs_more (λ one other. one.id ≢ other.id) s.outputs set sound.ids_differ other;
   requests = all_more (λ x. CanRequest x.kind) s.outputs set sound.requests asked;
   tagged = sound.tagged;
+  shared_inputs = sound.shared_inputs;
+  shared_outputs = all_more (λ x. HasShortHost x.shared) s.outputs set sound.shared_outputs shared;
   stored = sound.stored;
 }
 
@@ -531,7 +572,7 @@ module _ (path : Bool) (s : PartialSettings) (place : Place) (properties : List 
       let tag : HoldsText (text_at key.Tag properties) = tag_is (last_value key.Tag properties) (last_of_named key.Tag is_tag IsTagValue tag_of_kind (target.Input p) (tag_passes p) properties all) in
       subst (Sound path) (so_far_ok is)
       (with_input_meets path s set sound room
-      (new_input path p place s.inputs properties set (input_kind p place properties) (λ kind e. kind_is p place properties kind e) (input_name_tag s.inputs p (omega arith)) tag r_is))
+      (new_input path p place s.inputs properties set (input_kind p place properties) (λ kind e. kind_is p place properties kind e) (input_name_tag s.inputs p (omega arith)) tag (short_host (target.Input p) properties (hostname_passes_input p) all) r_is))
 
   filter_meets : (r : Checked FilterStep) → with_filter s r ≡ Ok new → Sound path new
   filter_meets (Err refusal) is = absurd (cc is)
@@ -545,6 +586,8 @@ module _ (path : Bool) (s : PartialSettings) (place : Place) (properties : List 
     ids_differ = sound.ids_differ;
     requests = sound.requests;
     tagged = sound.tagged;
+    shared_inputs = sound.shared_inputs;
+    shared_outputs = sound.shared_outputs;
     stored = sound.stored;
   })
 
@@ -569,7 +612,8 @@ module _ (path : Bool) (s : PartialSettings) (place : Place) (properties : List 
       subst (Sound path) (so_far_ok is)
       (subst (λ (x : OutputSet). Sound path (record s { outputs = s.outputs ++ x ∷ [] })) parts.0
       (with_output_meets path s made sound room (ap (output_name s.outputs) (sym (its_plugin p properties)))
-      (id_short p (id_at key.StorageId properties) id (omega (arith, room))) (no_id made.id s.outputs parts.1) (can_request p properties all)))
+      (id_short p (id_at key.StorageId properties) id (omega (arith, room))) (no_id made.id s.outputs parts.1) (can_request p properties all)
+      (short_host (target.Output p) properties (hostname_passes_output p) all)))
 
   service_meets : AllByRecursion (ArePropertiesOf target.Service) properties → ◌≡◌ {A = Checked PartialSettings} (Ok (record s { service = s.service ++ properties })) (Ok new) → Sound path new
   service_meets all is = subst (Sound path) (so_far_ok is) (record {
@@ -582,6 +626,8 @@ module _ (path : Bool) (s : PartialSettings) (place : Place) (properties : List 
     ids_differ = sound.ids_differ;
     requests = sound.requests;
     tagged = sound.tagged;
+    shared_inputs = sound.shared_inputs;
+    shared_outputs = sound.shared_outputs;
     stored = sound.stored;
   })
 
@@ -717,6 +763,8 @@ all_meet path s sound there = record {
   ids_differ = sound.ids_differ;
   requests = sound.requests;
   tagged = sound.tagged;
+  shared_inputs = sound.shared_inputs;
+  shared_outputs = sound.shared_outputs;
   base = base_is (last_value key.SchedulerBase s.service) (last_of_named key.SchedulerBase is_positive IsPositive positive_of_kind target.Service base_passes s.service sound.properties);
   stored = all_so (λ set. set.stored ≡ true → path ≡ true) (λ set. IsTrue set.stored → IsSome (text_at key.StoragePath s.service))
       (λ set gives so. path_is (last_value key.StoragePath s.service) (last_of_named key.StoragePath is_text IsText text_of_kind target.Service path_passes s.service sound.properties)
@@ -725,7 +773,7 @@ all_meet path s sound there = record {
 }
 
 nothing_meets : (path : Bool) → Sound path nothing
-nothing_meets path = record { properties = tt; few_inputs = omega arith; few_outputs = omega arith; inputs_named = tt; outputs_named = tt; ids = All-nil (λ set. IsIdText set.id); ids_differ = λ i j d less within. absurd (omega (arith, within)); requests = tt; tagged = tt; stored = tt }
+nothing_meets path = record { properties = tt; few_inputs = omega arith; few_outputs = omega arith; inputs_named = tt; outputs_named = tt; ids = All-nil (λ set. IsIdText set.id); ids_differ = λ i j d less within. absurd (omega (arith, within)); requests = tt; tagged = tt; shared_inputs = tt; shared_outputs = tt; stored = tt }
 
 always_meets : (sections : List Section) → Always MeetsRequirements (settings_of sections)
 unfolding settings_of

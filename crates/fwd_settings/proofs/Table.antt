@@ -10,7 +10,7 @@ use Rattle.fwd_parser.specs.declared.parser.Parser.{Parser}
 use Rattle.fwd_settings_schema.specs.declared.error_kind.SettingKind.{SettingKind}
 use Rattle.fwd_settings_schema.specs.declared.error_kind.SettingKind.TheVariants.{BadNumber, BadChoice}
 use Rattle.fwd_settings_values.specs.Number.{positive_of, within}
-use Rattle.fwd_settings_values.specs.Text.{is_tag_text, is_id_text, is_plain_text, is_visible_text, is_uri_text}
+use Rattle.fwd_settings_values.specs.Text.{is_tag_text, is_id_text, is_plain_text, is_visible_text, is_uri_text, is_hostname_text}
 use Rattle.fwd_config.specs.declared.section.Entry.{Entry}
 use Rattle.fwd_settings_schema.specs.declared.keys.Key.{Key}
 use Rattle.fwd_settings_schema.specs.declared.keys.Kind.{Kind}
@@ -54,6 +54,7 @@ IsOfPlain plain.PlainTag v = IsTagValue v
 IsOfPlain plain.Text v = IsText v
 IsOfPlain plain.Visible v = IsTextSo is_visible_text v
 IsOfPlain plain.Uri v = IsTextSo is_uri_text v
+IsOfPlain plain.Hostname v = IsTextSo is_hostname_text v
 IsOfPlain _ v = Unit {0}
 
 abbrev pub IsIdValue : Value → Type 0
@@ -140,6 +141,7 @@ plain_is plain.Paths text v is = tt
 plain_is plain.Retries text v is = tt
 plain_is plain.Visible text v is = text_so is_visible_text text v (is_visible_text text) refl is
 plain_is plain.Uri text v is = text_so is_uri_text text v (is_uri_text text) refl is
+plain_is plain.Hostname text v is = text_so is_hostname_text text v (is_hostname_text text) refl is
 plain_is plain.Types text v is = tt
 plain_is plain.Statuses text v is = tt
 plain_is plain.Header text v is = tt

@@ -28,6 +28,7 @@ use Rattle.fwd_settings_schema.specs.Keys.{name_of, name_of_input, key_of, head_
 use Rattle.fwd_settings_schema.specs.Property.{number_at, port_at, truth_at, format_at, text_at, last_in, parser_in}
 use Rattle.fwd_settings_entries.specs.Reading.{Checked, fault}
 use Rattle.fwd_settings_entries.specs.Parsers.{timeless}
+use Rattle.fwd_settings.specs.SharedKeys.{shared_key_of}
 
 -- the name of an instance: its plugin, a dot and its number
 abbrev pub instance : List ℕ → ℕ → List ℕ
@@ -110,6 +111,7 @@ input_set plugin name properties kind = record {
   mem_limit = number_at key.MemBufLimit properties;
   db = text_at key.Database properties;
   parser = input_parser plugin properties;
+  shared = shared_key_of properties;
 }
 
 -- an input with file-backed chunks requires a storage.path

@@ -1,5 +1,6 @@
 pub mod Reading
 pub mod Service
+pub mod SharedKeys
 pub mod Inputs
 pub mod Filters
 pub mod Outputs

@@ -24,6 +24,7 @@ use Rattle.fwd_settings_schema.specs.Property.{number_at, port_at, truth_at, for
 use Rattle.fwd_settings_entries.specs.Reading.{Checked, fault}
 use Rattle.fwd_settings.specs.Inputs.{instance}
 use Rattle.fwd_settings.specs.Filters.{glob_of}
+use Rattle.fwd_settings.specs.SharedKeys.{shared_key_of}
 
 -- the plugin of an output
 abbrev pub output_plugin : OutputKind → OutputPlugin
@@ -98,6 +99,7 @@ output_set plugin before properties = record {
   kind = output_kind plugin properties;
   retries = unwrap_or (retries_at key.RetryLimit properties) (Times 1);
   total_limit = number_at key.TotalLimit properties;
+  shared = shared_key_of properties;
 }
 
 -- the most Header entries of an output

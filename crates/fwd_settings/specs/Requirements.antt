@@ -2,8 +2,9 @@
 use Rattle.std.specs.Prelude.{All, AllPairs, ◌≢◌, ◌≡◌, ℕ, ◌≤◌, IsTrue, List, [], ◌∷◌, ◌++◌, length, Option, Some, None, IsSome, IsUtf8}
 use Rattle.std.specs.List.{AllByRecursion}
 use Rattle.fwd_base.specs.Limits.{longest_tag, longest_name, most_inputs, most_outputs}
-use Rattle.fwd_settings_values.specs.Text.{is_visible_text, is_uri_text}
+use Rattle.fwd_settings_values.specs.Text.{is_visible_text, is_uri_text, longest_hostname}
 use Rattle.fwd_settings.specs.declared.settings_types.AllSettings.{AllSettings}
+use Rattle.fwd_settings.specs.declared.settings_types.SharedKey.{SharedKey}
 use Rattle.fwd_settings.specs.declared.settings_types.InputSet.{InputSet}
 use Rattle.fwd_settings.specs.declared.settings_types.InputKind.{InputKind}
 use Rattle.fwd_settings.specs.declared.settings_types.InputKind.TheVariants as input
@@ -47,6 +48,11 @@ CanRequest (output.Http host port uri form options) = IsTrue (is_visible_text ho
 abbrev pub IsIdText : List ℕ → Type 0
 IsIdText id = (1 ≤ length id) × (length id ≤ longest_name) × IsUtf8 id
 
+-- the name of a host that a handshake tells is short
+abbrev pub HasShortHost : Option SharedKey → Type 0
+HasShortHost None = Unit {0}
+HasShortHost (Some shared) = length shared.host ≤ longest_hostname
+
 pub record MeetsRequirements (settings : AllSettings) : Type 0 where
   pub few_inputs : length settings.inputs ≤ most_inputs
   pub few_outputs : length settings.outputs ≤ most_outputs
@@ -56,5 +62,7 @@ pub record MeetsRequirements (settings : AllSettings) : Type 0 where
   pub ids_differ : AllPairs (λ one other. one.id ≢ other.id) settings.outputs
   pub requests : AllByRecursion (λ set. CanRequest set.kind) settings.outputs
   pub tagged : AllByRecursion (λ set. HasTag set.kind set.tag) settings.inputs
+  pub shared_inputs : AllByRecursion (λ set. HasShortHost set.shared) settings.inputs
+  pub shared_outputs : AllByRecursion (λ set. HasShortHost set.shared) settings.outputs
   pub base : 1 ≤ settings.service.base
   pub stored : AllByRecursion (λ set. IsTrue set.stored → IsSome settings.service.path) settings.inputs

@@ -11,6 +11,7 @@ ghost use Rattle.std.specs.Prelude.{unwrap_or};
 ghost use Rattle.fwd_settings_entries.specs.Parsers.{timeless};
 ghost use Rattle.fwd_settings_schema.specs.Property.{text_at, last_in, parser_in};
 
+use crate::shared_keys::shared_key_of;
 use crate::{InputKind, InputSet};
 use fwd_base::{Bytes, Memory};
 use fwd_config::{Entry, Place, Section};
@@ -200,6 +201,7 @@ pub fn input_from(
     }
     let mem_limit = number_at(properties.as_slice(), Key::MemBufLimit);
     let db = own_text(alloc, properties.as_slice(), Key::Database)?;
+    let shared = shared_key_of(alloc, properties.as_slice())?;
     let parser = input_parser(plugin, properties);
     Ok(InputSet {
         name,
@@ -209,5 +211,6 @@ pub fn input_from(
         mem_limit,
         db,
         parser,
+        shared,
     })
 }

@@ -13,6 +13,7 @@ mod outputs;
 mod sections;
 mod service;
 mod settings_types;
+mod shared_keys;
 
 pub use endpoints::ends;
 pub use fwd_base::{Form, Retries};
@@ -21,5 +22,5 @@ pub use fwd_settings_schema::{SettingFault, SettingKind};
 pub use sections::settings;
 pub use settings_types::{
     AllSettings, HttpOptions, InputKind, InputSet, InputSets, OutputKind, OutputSet, OutputSets,
-    Service,
+    Service, SharedKey,
 };

@@ -10,6 +10,7 @@ ghost use Rattle.fwd_settings_entries.specs.Reading.{ReturnsResult, known};
 
 use crate::filters::glob_of;
 use crate::inputs::instance;
+use crate::shared_keys::shared_key_of;
 use crate::{HttpOptions, OutputKind, OutputSet};
 use base64::engine::general_purpose::STANDARD;
 use fwd_base::{Bytes, Form, Memory, Retries};
@@ -208,6 +209,7 @@ fn output_set(
         kind: output_kind(alloc, plugin, properties)?,
         retries: retries_at(properties, Key::RetryLimit).unwrap_or(Retries::Times(1)),
         total_limit: number_at(properties, Key::TotalLimit),
+        shared: shared_key_of(alloc, properties)?,
     })
 }
 

@@ -4,6 +4,7 @@ use fwd_base::{Bytes, Form, Items, Names, Retries};
 use fwd_filters::FilterSteps;
 use fwd_http::{HeaderFields, StatusRanges};
 use fwd_parser::Parser;
+use std::fmt;
 
 /// The settings of the engine itself.
 #[derive(Debug, Drop)]
@@ -24,6 +25,23 @@ pub struct Service {
     pub base: u64,
     /// Seconds of the longest wait before a retry, at least 1.
     pub cap: u64,
+}
+
+/// The shared key of an input or an output that speaks the forward protocol. Printing it for debugging leaves
+/// out the key.
+#[derive(Drop)]
+pub struct SharedKey {
+    pub key: Bytes,
+    /// The name of this host, which a handshake tells the peer.
+    pub host: Bytes,
+}
+
+impl fmt::Debug for SharedKey {
+    fn fmt<W: fmt::Write>(&self, f: &mut fmt::Formatter<W>) -> fmt::Result {
+        f.debug_struct("SharedKey")
+            .field("host", &self.host)
+            .finish_non_exhaustive()
+    }
 }
 
 /// The plugin of an input, with its own settings.
@@ -53,6 +71,8 @@ pub struct InputSet {
     /// The database that keeps the offsets of its followed files, if any.
     pub db: Option<Bytes>,
     pub parser: Parser,
+    /// The key that peers must have, if any. Only forward has one.
+    pub shared: Option<SharedKey>,
 }
 
 /// Inputs, in the order of the configuration.
@@ -114,6 +134,8 @@ pub struct OutputSet {
     pub retries: Retries,
     /// How many bytes of file-backed chunks may be pending for it.
     pub total_limit: Option<u64>,
+    /// The key that the peer must have, if any. Only forward has one.
+    pub shared: Option<SharedKey>,
 }
 
 /// Outputs, in the order of the configuration.

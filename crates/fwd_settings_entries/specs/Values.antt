@@ -6,7 +6,7 @@ use Rattle.fwd_parser.specs.declared.parser.Parser.{Parser}
 use Rattle.fwd_settings_schema.specs.declared.error_kind.SettingKind.{SettingKind}
 use Rattle.fwd_settings_schema.specs.declared.error_kind.SettingKind.TheVariants.{UnknownKey, BadNumber, BadSize, BadChoice}
 use Rattle.fwd_settings_values.specs.Number.{positive_of, port_of, flush_of, retries_of}
-use Rattle.fwd_settings_values.specs.Text.{truth_of, is_false_word, is_tag_text, is_id_text, is_plain_text, is_visible_text, is_uri_text}
+use Rattle.fwd_settings_values.specs.Text.{truth_of, is_false_word, is_tag_text, is_id_text, is_plain_text, is_visible_text, is_uri_text, is_hostname_text}
 use Rattle.fwd_settings_values.specs.Types.{types_of}
 use Rattle.fwd_settings_values.specs.Statuses.{statuses_of}
 use Rattle.fwd_settings_values.specs.Rule.{key_and_rest_of, header_of, condition_of, change_of}
@@ -59,6 +59,7 @@ value_of plain.PlainTag text =
 value_of plain.Paths text = or_else BadChoice value.Text (when (is_plain_text text) text)
 value_of plain.Visible text = or_else BadChoice value.Text (when (is_visible_text text) text)
 value_of plain.Uri text = or_else BadChoice value.Text (when (is_uri_text text) text)
+value_of plain.Hostname text = or_else BadChoice value.Text (when (is_hostname_text text) text)
 value_of plain.Types text = or_else BadChoice value.Text (when (is_some (types_of text)) text)
 value_of plain.Statuses text = or_else BadChoice value.Text (when (is_some (statuses_of text)) text)
 value_of plain.Header text = or_else BadChoice value.Header (header_of text)

@@ -10,8 +10,9 @@ use fwd_base::{Bytes, Form, number, parse_size};
 use fwd_http::is_field_value;
 use fwd_settings_schema::{
     ChangeWord, LineFormat, Plain, SettingKind, Value, change, condition, field_types, file_form,
-    flush_ms, header, is_false, is_plain, is_tag, is_uri, is_visible, line_format, nest_operation,
-    parser_format, port, positive, record_form, retries, status_ranges, store, sync, truth,
+    flush_ms, header, is_false, is_hostname, is_plain, is_tag, is_uri, is_visible, line_format,
+    nest_operation, parser_format, port, positive, record_form, retries, status_ranges, store,
+    sync, truth,
 };
 use std::alloc::Global;
 
@@ -182,6 +183,7 @@ pub fn read_plain(alloc: Global, plain: Plain, text: &[u8]) -> Result<Value, Set
         Plain::Paths => text_if(alloc, is_plain(text), text),
         Plain::Visible => text_if(alloc, is_visible(text), text),
         Plain::Uri => text_if(alloc, is_uri(text), text),
+        Plain::Hostname => text_if(alloc, is_hostname(text), text),
         Plain::Types => read_types(alloc, text),
         Plain::Statuses => read_statuses(alloc, text),
         Plain::Header => read_header(alloc, text),

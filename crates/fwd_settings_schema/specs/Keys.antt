@@ -150,6 +150,8 @@ name_of key.Header = codes "header"
 name_of key.HttpUser = codes "http_user"
 name_of key.HttpPasswd = codes "http_passwd"
 name_of key.StorageId = codes "storage.id"
+name_of key.SharedKey = codes "shared_key"
+name_of key.SelfHostname = codes "self_hostname"
 
 -- a row of the table: where the key stands, the key, and how its value is read there
 abbrev pub Row : Type 0
@@ -210,6 +212,8 @@ table =
     (part.ForwardInput, key.Port, kind.Plain plain.Port) ∷
     (part.ForwardInput, key.BufferChunkSize, kind.Plain plain.Ignored) ∷
     (part.ForwardInput, key.BufferMaxSize, kind.Plain plain.Ignored) ∷
+    (part.ForwardInput, key.SharedKey, kind.Plain plain.Text) ∷
+    (part.ForwardInput, key.SelfHostname, kind.Plain plain.Hostname) ∷
     (part.StdinInput, key.Tag, kind.Plain plain.Tag) ∷
     (part.StdinInput, key.Parser, kind.Parser) ∷
     (part.EachFilter, key.Name, kind.Plain plain.Ignored) ∷
@@ -252,6 +256,8 @@ table =
     (part.ForwardOutput, key.Port, kind.Plain plain.Port) ∷
     (part.ForwardOutput, key.RequireAck, kind.Plain plain.Truth) ∷
     (part.ForwardOutput, key.TimeAsInteger, kind.Plain plain.Truth) ∷
+    (part.ForwardOutput, key.SharedKey, kind.Plain plain.Text) ∷
+    (part.ForwardOutput, key.SelfHostname, kind.Plain plain.Hostname) ∷
     (part.HttpOutput, key.Host, kind.Plain plain.Visible) ∷
     (part.HttpOutput, key.Port, kind.Plain plain.Port) ∷
     (part.HttpOutput, key.Uri, kind.Plain plain.Uri) ∷

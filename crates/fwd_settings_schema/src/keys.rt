@@ -85,6 +85,8 @@ pub enum Key {
     HttpUser,
     HttpPasswd,
     StorageId,
+    SharedKey,
+    SelfHostname,
 }
 
 /// How to read a value.
@@ -146,6 +148,8 @@ pub enum Plain {
     Visible,
     /// A slash, then visible characters.
     Uri,
+    /// A host name.
+    Hostname,
     /// A number, `no_limits`, `False` or `no_retries`.
     Retries,
     /// Words `key:type`.
@@ -246,6 +250,8 @@ impl Key {
             Key::HttpUser => b"http_user",
             Key::HttpPasswd => b"http_passwd",
             Key::StorageId => b"storage.id",
+            Key::SharedKey => b"shared_key",
+            Key::SelfHostname => b"self_hostname",
         }
     }
 

@@ -17,7 +17,7 @@ pub use error_kind::SettingKind;
 pub use fault::SettingFault;
 pub use fwd_settings_values::{
     ChangeWord, LineFormat, Operation, change, condition, field_types, file_form, flush_ms, header,
-    is_false, is_id, is_plain, is_tag, is_uri, is_visible, key_and_rest, line_format,
+    is_false, is_hostname, is_id, is_plain, is_tag, is_uri, is_visible, key_and_rest, line_format,
     nest_operation, parser_format, parts_at, port, positive, record_form, retries, same_name,
     status_ranges, store, sync, truth,
 };

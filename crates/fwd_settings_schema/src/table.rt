@@ -104,6 +104,8 @@ const VISIBLE: Kind = Kind::Plain(Plain::Visible);
 
 const URI: Kind = Kind::Plain(Plain::Uri);
 
+const HOSTNAME: Kind = Kind::Plain(Plain::Hostname);
+
 const STATUSES: Kind = Kind::Plain(Plain::Statuses);
 
 const HEADER: Kind = Kind::Plain(Plain::Header);
@@ -164,6 +166,8 @@ const TABLE: &[Row] = &[
     (Part::ForwardInput, Key::Port, PORT),
     (Part::ForwardInput, Key::BufferChunkSize, IGNORED),
     (Part::ForwardInput, Key::BufferMaxSize, IGNORED),
+    (Part::ForwardInput, Key::SharedKey, TEXT),
+    (Part::ForwardInput, Key::SelfHostname, HOSTNAME),
     (Part::StdinInput, Key::Tag, TAG),
     (Part::StdinInput, Key::Parser, Kind::Parser),
     (Part::EachFilter, Key::Name, IGNORED),
@@ -210,6 +214,8 @@ const TABLE: &[Row] = &[
     (Part::ForwardOutput, Key::Port, PORT),
     (Part::ForwardOutput, Key::RequireAck, TRUTH),
     (Part::ForwardOutput, Key::TimeAsInteger, TRUTH),
+    (Part::ForwardOutput, Key::SharedKey, TEXT),
+    (Part::ForwardOutput, Key::SelfHostname, HOSTNAME),
     (Part::HttpOutput, Key::Host, VISIBLE),
     (Part::HttpOutput, Key::Port, PORT),
     (Part::HttpOutput, Key::Uri, URI),

@@ -33,6 +33,14 @@ abbrev pub is_id_text : List ℕ → Bool
 is_id_text text =
     nat_lt 0 (length text) && (nat_le (length text) longest_name && (is_utf8 text && not (has_blank text)))
 
+-- a host name has at most so many bytes
+abbrev pub longest_hostname : ℕ
+longest_hostname = 255
+
+-- a host name: any bytes, not more than it may have
+abbrev pub is_hostname_text : List ℕ → Bool
+is_hostname_text text = nat_le (length text) longest_hostname
+
 abbrev pub is_one_of : List ℕ → ℕ → Bool
 is_one_of some b = list_any (λ s. b == s) some
 

@@ -17,7 +17,7 @@ mod words;
 pub use numbers::{flush_ms, port, positive, retries};
 pub use rules::{ChangeWord, change, condition, header, key_and_rest};
 pub use statuses::status_ranges;
-pub use texts::{is_id, is_plain, is_tag, is_uri, is_visible, parts_at, same_name};
+pub use texts::{is_hostname, is_id, is_plain, is_tag, is_uri, is_visible, parts_at, same_name};
 pub use truth_words::{is_false, truth};
 pub use types::field_types;
 pub use words::{

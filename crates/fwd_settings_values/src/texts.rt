@@ -2,12 +2,15 @@
 
 ghost use Rattle.std.specs.Prelude.{◌≡◌, IfOk};
 ghost use Rattle.std.specs.Str.{str_eq_ignore_ascii_case};
-ghost use Rattle.fwd_settings_values.specs.Text.{is_tag_text, is_id_text, has_blank, is_plain_text, is_visible_text, is_uri_text, is_one_of, parts_of, first_word, rest};
+ghost use Rattle.fwd_settings_values.specs.Text.{is_tag_text, is_id_text, is_hostname_text, has_blank, is_plain_text, is_visible_text, is_uri_text, is_one_of, parts_of, first_word, rest};
 
 use fwd_base::limits::{LONGEST_NAME, LONGEST_TAG};
 use fwd_base::{Bytes, Memory, Names, index_of_blank, is_blank, is_utf8, skip_blanks};
 use std::alloc::Global;
 use std::mem;
+
+/// The most bytes of a host name.
+const LONGEST_HOSTNAME: usize = 255;
 
 /// Returns whether a text may be a tag: 1 to 1,024 bytes of UTF-8.
 pub fn is_tag(text: &[u8]) -> bool
@@ -21,6 +24,13 @@ pub fn is_id(text: &[u8]) -> bool
     ensures { result ≡ is_id_text text.now }
 {
     !text.is_empty() && text.len() <= LONGEST_NAME && is_utf8(text) && !has_blank(text)
+}
+
+/// Returns whether a text may be a host name: at most 255 bytes.
+pub fn is_hostname(text: &[u8]) -> bool
+    ensures { result ≡ is_hostname_text text.now }
+{
+    text.len() <= LONGEST_HOSTNAME
 }
 
 fn has_blank(text: &[u8]) -> bool

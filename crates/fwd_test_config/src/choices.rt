@@ -2,8 +2,8 @@
 
 use fwd_base::{Memory, Names, Retries, number};
 use fwd_settings_schema::{
-    ChangeWord, change, condition, field_types, flush_ms, is_false, is_plain, is_tag, is_uri,
-    is_visible, key_and_rest, parts_at, port, positive, retries, same_name, truth,
+    ChangeWord, change, condition, field_types, flush_ms, is_false, is_hostname, is_plain, is_tag,
+    is_uri, is_visible, key_and_rest, parts_at, port, positive, retries, same_name, truth,
 };
 use fwd_test_rows::{put_bytes, put_word};
 use std::alloc::Global;
@@ -35,6 +35,7 @@ fn passes(kind: &str, text: &[u8]) -> bool {
         "plain" => is_plain(text),
         "visible" => is_visible(text),
         "uri" => is_uri(text),
+        "hostname" => is_hostname(text),
         _ => is_tag(text),
     }
 }

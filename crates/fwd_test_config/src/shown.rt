@@ -7,7 +7,7 @@ use fwd_parser::{FieldTypes, Parser, Shape, TypeKind};
 use fwd_reshape::{Change, Condition, LiftRule, ModifyRules, NestRule};
 use fwd_settings::{
     AllSettings, Ends, Form, HttpOptions, InEnd, InputKind, InputSet, OutEnd, OutputKind,
-    OutputSet, Retries, Service, SettingFault,
+    OutputSet, Retries, Service, SettingFault, SharedKey,
 };
 
 /// The kind of a refusal, its line and its file.
@@ -189,6 +189,15 @@ fn show_limit(out: &mut String, limit: Option<u64>) -> Result<(), Memory> {
     Ok(())
 }
 
+fn show_shared(out: &mut String, shared: &Option<SharedKey>) -> Result<(), Memory> {
+    if let Some(shared) = shared {
+        let key = text(&shared.key);
+        let host = text(&shared.host);
+        write!(out, " shared <{key}> at <{host}>")?;
+    }
+    Ok(())
+}
+
 fn show_input(out: &mut String, set: &InputSet) -> Result<(), Memory> {
     let name = text(&set.name);
     write!(out, "\n{name}")?;
@@ -197,7 +206,8 @@ fn show_input(out: &mut String, set: &InputSet) -> Result<(), Memory> {
     let stored = set.stored;
     write!(out, " tag {tag} stored {stored}")?;
     show_limit(out, set.mem_limit)?;
-    show_parser(out, &set.parser)
+    show_parser(out, &set.parser)?;
+    show_shared(out, &set.shared)
 }
 
 fn show_filter(out: &mut String, step: &FilterStep) -> Result<(), Memory> {
@@ -348,5 +358,6 @@ fn show_output(out: &mut String, set: &OutputSet) -> Result<(), Memory> {
         Retries::Times(times) => write!(out, " retries {times}")?,
         Retries::Unlimited => write!(out, " retries always")?,
     }
-    show_limit(out, set.total_limit)
+    show_limit(out, set.total_limit)?;
+    show_shared(out, &set.shared)
 }

@@ -61,8 +61,4 @@ impl<L: Loop> Loop for Faulty<'_, L> {
         self.refusal.ask()?;
         self.device.word()
     }
-
-    fn links_are_new(&self) {
-        self.device.links_are_new();
-    }
 }

@@ -4,8 +4,6 @@
 //! loop that its rules give from them. A keyed input gives the engine nothing of a connection before the
 //! connection has shown the key. A link of a keyed output takes nothing of the engine before the server has
 //! shown the key.
-//!
-//! The program has no keyed loop: forward inputs and outputs have no shared keys.
 #![tactic(auto)]
 
 mod links;

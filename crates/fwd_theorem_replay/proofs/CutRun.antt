@@ -17,15 +17,20 @@ use Rattle.fwd_settings.specs.Requirements.{MeetsRequirements}
 use Rattle.fwd_settings.specs.declared.settings_types.AllSettings.{AllSettings}
 use Rattle.fwd_script.specs.declared.schedule.Life.{Life}
 use Rattle.fwd_script.specs.declared.schedule.Stored.{Stored}
-use Rattle.fwd_model.specs.Trace.{Action, TraceEntry}
+use Rattle.fwd_model.specs.Trace.{Action, TraceEntry, disk_part}
 use Rattle.fwd_model.specs.Run.{Over, RunResult, lived, run, life}
 use Rattle.fwd_theorem_trace.specs.Past.{past_after}
 use Rattle.fwd_theorem_trace.specs.Waits.{waits_in}
 use Rattle.fwd_theorem_crash.specs.CrashPoint.{crash_point}
 use Rattle.fwd_theorem_crash.specs.Safety.{IsSafe}
 use Rattle.fwd_theorem_crash.proofs.RunSafety.{all_safe}
+use Rattle.fwd_replay.specs.FileChanges.{Course}
 use Rattle.fwd_replay.specs.Runs.{Start, disk_of, CutRun, IsCutIn, InTurn, WasOver, IsCut, first_calls}
 use Rattle.fwd_theorem_crash.proofs.MoreTurns.{life_on, turn_runs}
+use Rattle.fwd_secure.specs.Handshakes.{no_handshakes}
+use Rattle.fwd_secure_settings.specs.Keys.{keys_of}
+use Rattle.fwd_secure_trace.proofs.Secured.{secured_append}
+use Rattle.fwd_replay.proofs.TurnCalls.{disk_same}
 use Rattle.fwd_theorem_replay.specs.Crashes.{CrashedAfter}
 use Rattle.fwd_theorem_replay.proofs.Entries.{AreNaming, played_naming}
 use Rattle.fwd_theorem_replay.proofs.PresetDisk.{AreSettings, set_both, set_each, fresh_files, disk_ends}
@@ -47,8 +52,8 @@ module _ (s : AllSettings) (turns : ℕ) (start : Start) (planned : Life) (c : C
   pub cut_life : IsBeginning s (c.before ++ c.turn)
   cut_life = by cut.cut_in
     where
-      by : IsCutIn s turns start planned c.before c.history c.turn → IsBeginning s (c.before ++ c.turn)
-      by (InTurn waits way last_event end own) =
+      by : {at : Course} → IsCutIn s turns c.before c.history c.handshakes at c.turn → IsBeginning s (c.before ++ c.turn)
+      by (InTurn waits way asks last_event end own) =
           let runs = turn_runs s c.history end c.turn own in
           record {
             turns = waits_in c.before + 1;
@@ -62,6 +67,12 @@ module _ (s : AllSettings) (turns : ℕ) (start : Start) (planned : Life) (c : C
         left = Return (lived c.history Over);
         way = subst (λ (es : List TraceEntry). Execution (life s (ends_of s) None turns) es (Return (lived c.history Over))) (sym (ap (λ (es : List TraceEntry). c.before ++ es) none ∙ append-nil c.before)) way;
       }
+
+  -- the engine and the devices have the same calls on the disk
+  pub same_disk : disk_part (c.below ++ c.below_in) ≡ disk_part (c.before ++ c.turn)
+  same_disk =
+      disk_same s no_handshakes c.handshakes_last (c.before ++ c.turn) (c.below ++ c.below_in)
+      (secured_append (keys_of s) no_handshakes c.handshakes c.handshakes_last c.before c.turn c.below c.below_in cut.secured cut.secured_in)
 
   beginning : (gone : List TraceEntry) → CrashedAfter c gone → IsBeginning s gone
   beginning gone came =

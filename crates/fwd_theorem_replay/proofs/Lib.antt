@@ -11,5 +11,6 @@ pub mod FolderListing
 pub mod AlikeDisks
 pub mod AlikeKeepers
 pub mod CommonPrefix
+pub mod DeviceRuns
 pub mod CutPoint
 pub mod RunTexts

@@ -26,11 +26,13 @@ use Rattle.fwd_theorem_crash.proofs.Recovery.{found_again}
 use Rattle.fwd_replay.specs.Runs.{Start, first, disk_of, IsAnswered, CutRun, IsCut, IsReplayed, Ended, WasCut, OutOfMemory}
 use Rattle.fwd_replay.specs.declared.report.Reported.{Reported}
 use Rattle.fwd_replay.specs.declared.report.Shown.{Shown}
+use Rattle.fwd_secure.specs.Handshakes.{no_handshakes}
+use Rattle.fwd_replay.proofs.TurnCalls.{disk_same}
 use Rattle.fwd_theorem_replay.specs.Crashes.{RecoversAll, LosesNothing, NextLosesNothing, NothingIsLost}
 use Rattle.fwd_theorem_replay.proofs.Entries.{AreNaming, played_naming, naming_first, ends_between}
 use Rattle.fwd_theorem_replay.proofs.PresetDisk.{AreSettings, set_presets, fresh_files, run_both, fails_change_nothing, disk_ends}
 use Rattle.fwd_theorem_replay.proofs.DiskPoints.{passes_along}
-use Rattle.fwd_theorem_replay.proofs.CutRun.{set_disk, told_then, safe_then}
+use Rattle.fwd_theorem_replay.proofs.CutRun.{same_disk, set_disk, told_then, safe_then}
 
 -- if no file is put on the disk, a run begins with the existing files
 same_files : (start : Start) (planned : Life) → planned.store ≡ [] → (name : List ℕ) → files_of (disk_of start planned) name ≡ files_of start.disk name
@@ -46,12 +48,13 @@ record Loads (first : Files) (loading : List TraceEntry) : Type 0 where
   pub last : Files
   pub ends : Ends LeadsTo (crash_point [] first) loading (crash_point (past_after [] loading) last)
 
-module _ (start : Start) (planned : Life) (trace loading rest : List TraceEntry) (asked : List MemEntry) (set : AreSettings start.disk) (answered : IsAnswered start planned trace asked) (is : trace ≡ loading ++ rest) where
+-- the calls of the engine, and those on the devices
+module _ (start : Start) (planned : Life) (trace below loading rest : List TraceEntry) (asked : List MemEntry) (set : AreSettings start.disk) (answered : IsAnswered start planned below asked) (same : disk_part below ≡ disk_part trace) (is : trace ≡ loading ++ rest) where
   loads_first : Loads (files_of (disk_of start planned)) loading
   loads_first =
       let image = files_of (disk_of start planned) in
       let last = files_of (disk_of start planned ++ asked) in
-      let parts : entries_of asked ≡ disk_part loading ++ disk_part rest = answered.are ∙ ap disk_part is ∙ disk_append loading rest in
+      let parts : entries_of asked ≡ disk_part loading ++ disk_part rest = answered.are ∙ same ∙ ap disk_part is ∙ disk_append loading rest in
       let naming = naming_first (disk_part loading) (disk_part rest) (subst AreNaming parts (played_naming (disk_of start planned) asked answered.disk)) in
       let ends = subst (λ (es : List DiskEntry). Ends disk.DiskTransition image es last) parts (disk_ends (disk_of start planned) asked (set_disk start planned set) answered.disk) in
       let between = ends_between (disk_part loading) (disk_part rest) image last ends in
@@ -70,12 +73,12 @@ module _ (s : AllSettings) (settings : MeetsRequirements s) (full : s.service.fu
         let is : content (files_of (disk_of c.next next) name) ≡ picked (c.cut.pick % 4) then name = ap content (same_files c.next next none name) ∙ cut.image name in
         subst (λ (image : Option (List ℕ)). IsPostCrash (files_of then name) image) (sym is) (picked_is_image (c.cut.pick % 4) then name)
 
-    finds : (next : Life) (trace : List TraceEntry) (asked : List MemEntry) → IsAnswered c.next next trace asked → next.store ≡ [] → LosesNothing s c trace
-    finds next trace asked answered none gone h came loaded =
+    finds : (next : Life) (trace below : List TraceEntry) (asked : List MemEntry) → IsAnswered c.next next below asked → disk_part below ≡ disk_part trace → next.store ≡ [] → LosesNothing s c trace
+    finds next trace below asked answered same none gone h came loaded =
         let image = files_of (disk_of c.next next) in
         let now = crash_point (past_after [] gone) (files_of (told_then s turns start planned c cut)) in
         let safe = safe_then s turns start planned c cut set settings full gone came in
-        let loads = loads_first c.next next trace loaded.loading loaded.rest asked set_next answered loaded.is in
+        let loads = loads_first c.next next trace below loaded.loading loaded.rest asked set_next answered same loaded.is in
         subst (λ (before : History). RecoversAll s before h) (noted_since [] gone)
         (λ chunk has owes home.
         found_again s (files_of (disk_of start planned)) now (crash_point (past_after [] loaded.loading) loads.last) image loaded.loading h chunk safe
@@ -83,9 +86,10 @@ module _ (s : AllSettings) (settings : MeetsRequirements s) (full : s.service.fu
 
     next_loses : (shown : Shown) (turns_left : ℕ) (lives : List Life) (reported : Reported) (is : IsReplayed shown s turns_left c.next lives reported) → NextLosesNothing shown s turns_left c lives reported is
     next_loses shown turns_left [] reported is = tt
-    next_loses shown turns_left (next ∷ lives) reported (Ended ends) = λ none. finds next ends.trace ends.is.asked ends.is.answered none
+    next_loses shown turns_left (next ∷ lives) reported (Ended ends) =
+        λ none. finds next ends.trace ends.is.below ends.is.asked ends.is.answered (disk_same s no_handshakes ends.is.handshakes ends.trace ends.is.below ends.is.secured) none
     next_loses shown turns_left (next ∷ lives) reported (WasCut again cut_again rest more joins) =
-        λ none. finds next (again.before ++ again.turn) (again.asked ++ again.asked_in) cut_again.answered none
+        λ none. finds next (again.before ++ again.turn) (again.below ++ again.below_in) (again.asked ++ again.asked_in) cut_again.answered (same_disk s turns_left c.next next again cut_again) none
     next_loses shown turns_left (next ∷ lives) reported (OutOfMemory none) = tt
 
   none_lost_from : (shown : Shown) (turns : ℕ) (start : Start) → AreSettings start.disk → (lives : List Life) (reported : Reported) (is : IsReplayed shown s turns start lives reported) → NothingIsLost shown s turns start lives reported is

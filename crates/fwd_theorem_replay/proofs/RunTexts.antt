@@ -1,7 +1,7 @@
 -- The runs of a schedule determine one text.
 use Rattle.std.proofs.Common.{◌≡◌, ◌≢◌, inl, inr, ℕ, ◌-◌, ◌%◌, List, [], ◌∷◌, ◌++◌, map, Some, None, refl, sym, ◌∙◌, ap, subst}
 use Rattle.std.proofs.lemmas.List.{append_cancel_left}
-use Rattle.fwd_outside.specs.Program.{Return}
+use Rattle.fwd_outside.specs.Program.{Return, Execution}
 use Rattle.fwd_outside.specs.File.{content}
 use Rattle.fwd_disk_mem.specs.declared.entry.MemEntry.{MemEntry}
 use Rattle.fwd_disk_mem.specs.declared.entry.MemEntry.TheVariants.{Preset, FailAt}
@@ -19,7 +19,7 @@ use Rattle.fwd_script.specs.declared.schedule.Stored.{Stored}
 use Rattle.fwd_script_loop.specs.Lines.{given_of}
 use Rattle.fwd_script_loop.specs.Place.{beginning}
 use Rattle.fwd_model.specs.Fact.{History}
-use Rattle.fwd_model.specs.Trace.{TraceEntry, disk_part, keeper_part}
+use Rattle.fwd_model.specs.Trace.{Action, TraceEntry, disk_part, keeper_part}
 use Rattle.fwd_model.specs.Run.{Over, RunResult, lived, life}
 use Rattle.fwd_theorem_trace.specs.Waits.{waits_in}
 use Rattle.fwd_replay.specs.FileChanges.{Course, course_after, has_last}
@@ -31,6 +31,7 @@ use Rattle.fwd_replay.specs.declared.report.Shown.{Shown}
 use Rattle.fwd_theorem_replay.proofs.AlikeDisks.{Alike, alike_itself, alike_back, alike_append, alike_presets, same_calls}
 use Rattle.fwd_theorem_replay.proofs.AlikeKeepers.{same_itself, same_back, same_after}
 use Rattle.fwd_theorem_replay.proofs.CommonPrefix.{Answers, passes, ends_same}
+use Rattle.fwd_theorem_replay.proofs.DeviceRuns.{Outcome, device_way, on_devices, outcome}
 use Rattle.fwd_theorem_replay.proofs.CutPoint.{CutIn, Cutting, IsSameCut, all_answers, cutting_of, goes_past, never, not_last, same_cut}
 
 -- the state of the platform determines the answers of a run
@@ -53,21 +54,30 @@ alike_disks start start2 planned similar =
 module _ (shown : Shown) (s : AllSettings) (turns : ℕ) (start start2 : Start) (planned : Life) (similar : Similar start start2) where
   -- ---- a run that ends
 
-  ended : (replayed : Reported) → (e : EndsIn shown s turns start planned replayed) → Answers (beginning (given_of planned)) (disk_of start planned) (course_of start planned) start.offsets [] e.trace e.is.asked
-  ended replayed e = all_answers start planned (course_of start planned) refl e.trace e.is.asked e.is.answered
+  ended : (replayed : Reported) → (e : EndsIn shown s turns start planned replayed) → Answers (beginning (given_of planned)) (disk_of start planned) (course_of start planned) start.offsets [] e.is.below e.is.asked
+  ended replayed e = all_answers start planned (course_of start planned) refl e.is.below e.is.asked e.is.answered
 
-  ended2 : (replayed : Reported) → (e : EndsIn shown s turns start2 planned replayed) → Answers (beginning (given_of planned)) (disk_of start2 planned) (course_of start planned) start2.offsets [] e.trace e.is.asked
-  ended2 replayed e = all_answers start2 planned (course_of start planned) (same_course start start2 planned similar) e.trace e.is.asked e.is.answered
+  ended2 : (replayed : Reported) → (e : EndsIn shown s turns start2 planned replayed) → Answers (beginning (given_of planned)) (disk_of start2 planned) (course_of start planned) start2.offsets [] e.is.below e.is.asked
+  ended2 replayed e = all_answers start2 planned (course_of start planned) (same_course start start2 planned similar) e.is.below e.is.asked e.is.answered
+
+  abbrev whole : Action RunResult
+  whole = life s (ends_of s) None turns
+
+  -- its calls on the devices
+  way_of : (at : Start) (replayed : Reported) (e : EndsIn shown s turns at planned replayed) → Execution (on_devices s whole) e.is.below (Return (outcome e.comes e.trace e.is.handshakes))
+  way_of at replayed e = device_way s whole (Return e.comes) e.trace e.is.below e.is.handshakes e.is.way e.is.secured
 
   same_end : (one other : Reported) → EndsIn shown s turns start planned one → EndsIn shown s turns start2 planned other → other ≡ one
   same_end one other e f =
-      let same = ends_same e.comes f.comes e.trace f.trace
-      (passes (life s (ends_of s) None turns) (beginning (given_of planned)) (disk_of start planned) (disk_of start2 planned) (course_of start planned) start.offsets start2.offsets [] e.trace f.trace e.is.asked f.is.asked (Return e.comes) f.comes
-      (alike_disks start start2 planned similar) similar.offsets e.is.way f.is.way (ended one e) (ended2 other f))
+      let done = outcome e.comes e.trace e.is.handshakes in
+      let done2 = outcome f.comes f.trace f.is.handshakes in
+      let same = ends_same done done2 e.is.below f.is.below
+      (passes (on_devices s whole) (beginning (given_of planned)) (disk_of start planned) (disk_of start2 planned) (course_of start planned) start.offsets start2.offsets [] e.is.below f.is.below e.is.asked f.is.asked (Return done) done2
+      (alike_disks start start2 planned similar) similar.offsets (way_of start one e) (way_of start2 other f) (ended one e) (ended2 other f))
       in
       f.reports
       ∙ ap (λ (l : List TraceEntry). reported_by (life_text shown s l f.comes.history) f.comes.end) same.0
-      ∙ ap (λ (l : RunResult). reported_by (life_text shown s e.trace l.history) l.end) same.1
+      ∙ ap (λ (o : Outcome RunResult). reported_by (life_text shown s e.is.below ((o.0).0).history) ((o.0).0).end) same.1
       ∙ sym e.reports
 
   -- one that ends isn't cut
@@ -80,24 +90,26 @@ module _ (shown : Shown) (s : AllSettings) (turns : ℕ) (start start2 : Start) 
       alike : Alike (disk_of start planned) (disk_of start2 planned)
       alike = alike_disks start start2 planned similar
 
-      by : CutIn s turns (course_of start planned) c.before c.history c.turn → X
+      by : CutIn s turns c (course_after (course_of start planned) c.below) → X
       by (inl on) =
-          never (has_last (course_of start planned) e.trace)
-          (goes_past s (beginning (given_of planned)) (disk_of start2 planned) (disk_of start planned) (course_of start planned) start2.offsets start.offsets (alike_back (disk_of start planned) (disk_of start2 planned) alike) (same_back start.offsets start2.offsets similar.offsets) (waits_in c.before) turns c.history e.comes
-          c.before e.trace c.asked e.is.asked on.0 on.1 e.is.way cutting.before (ended replayed e) on.2)
-          (not_last planned.cut c.cut (has_last (course_of start planned) e.trace) cut.is e.is.uncut)
+          never (has_last (course_of start planned) e.is.below)
+          (goes_past s (beginning (given_of planned)) (disk_of start2 planned) (disk_of start planned) (course_of start planned) start2.offsets start.offsets (alike_back (disk_of start planned) (disk_of start2 planned) alike) (same_back start.offsets start2.offsets similar.offsets) (waits_in c.before) turns c.history c.handshakes
+          (outcome e.comes e.trace e.is.handshakes) c.before c.below e.is.below c.asked e.is.asked on.fewer on.way cutting.devices (way_of start replayed e) cutting.before (ended replayed e) on.asks on.takes)
+          (not_last planned.cut c.cut (has_last (course_of start planned) e.is.below) cut.is e.is.uncut)
       by (inr over) =
-          let same = ends_same e.comes (lived c.history Over) e.trace c.before
-          (passes (life s (ends_of s) None turns) (beginning (given_of planned)) (disk_of start planned) (disk_of start2 planned) (course_of start planned) start.offsets start2.offsets [] e.trace c.before e.is.asked c.asked (Return e.comes) (lived c.history Over)
-          alike similar.offsets e.is.way over.0 (ended replayed e) cutting.before)
+          let done = outcome e.comes e.trace e.is.handshakes in
+          let done2 = outcome (lived c.history Over) c.before c.handshakes in
+          let same = ends_same done done2 e.is.below c.below
+          (passes (on_devices s whole) (beginning (given_of planned)) (disk_of start planned) (disk_of start2 planned) (course_of start planned) start.offsets start2.offsets [] e.is.below c.below e.is.asked c.asked (Return done) done2
+          alike similar.offsets (way_of start replayed e) (device_way s whole (Return (lived c.history Over)) c.before c.below c.handshakes over.way cutting.devices) (ended replayed e) cutting.before)
           in
-          let none : planned.cut ≡ None = e.last (sym (ap (λ (l : RunResult). l.end) same.1)) in
+          let none : planned.cut ≡ None = e.last (sym (ap (λ (o : Outcome RunResult). ((o.0).0).end) same.1)) in
           absurd (cc (sym cut.is ∙ none))
 
   -- ---- a run that is cut
 
   module _ (c c2 : CutRun) (cut : IsCut s turns start planned c) (cut2 : IsCut s turns start2 planned c2) where
-    pub same_place : IsSameCut s turns (beginning (given_of planned)) (disk_of start planned) (disk_of start2 planned) (course_of start planned) start.offsets start2.offsets (alike_disks start start2 planned similar) similar.offsets c c2
+    pub same_place : IsSameCut c c2
     same_place =
         same_cut s turns (beginning (given_of planned)) (disk_of start planned) (disk_of start2 planned) (course_of start planned) start.offsets start2.offsets (alike_disks start start2 planned similar) similar.offsets c c2
         (cutting_of s turns start planned c (course_of start planned) refl cut) (cutting_of s turns start2 planned c2 (course_of start planned) (same_course start start2 planned similar) cut2)
@@ -105,11 +117,11 @@ module _ (shown : Shown) (s : AllSettings) (turns : ℕ) (start start2 : Start) 
     pub cut_is : c2.cut ≡ c.cut
     cut_is = let both : Some c2.cut ≡ Some c.cut = sym cut2.is ∙ cut.is in cc both
 
-    all_is : c2.before ++ c2.turn ≡ c.before ++ c.turn
-    all_is = ap (λ (l : List TraceEntry). l ++ c2.turn) same_place.before ∙ ap (λ (l : List TraceEntry). c.before ++ l) same_place.turn
+    all_is : c2.below ++ c2.below_in ≡ c.below ++ c.below_in
+    all_is = ap (λ (l : List TraceEntry). l ++ c2.below_in) same_place.below ∙ ap (λ (l : List TraceEntry). c.below ++ l) same_place.below_in
 
     asked_is : c2.asked ≡ c.asked
-    asked_is = same_calls c2.asked c.asked (cut2.are ∙ ap disk_part same_place.before ∙ sym cut.are)
+    asked_is = same_calls c2.asked c.asked (cut2.are ∙ ap disk_part same_place.below ∙ sym cut.are)
 
     asked_in_is : c2.asked_in ≡ c.asked_in
     asked_in_is =
@@ -146,25 +158,25 @@ module _ (shown : Shown) (s : AllSettings) (turns : ℕ) (start start2 : Start) 
           ∙ ap (λ (l : List MemEntry). content (files_of l name)) cut.disk_is)));
       changes =
           cut2.changes
-          ∙ ap (λ (at : Course). (course_after at (c2.before ++ c2.turn)).files.changes) (same_course start start2 planned similar)
+          ∙ ap (λ (at : Course). (course_after at (c2.below ++ c2.below_in)).files.changes) (same_course start start2 planned similar)
           ∙ ap (λ (l : List TraceEntry). (course_after (course_of start planned) l).files.changes) all_is
           ∙ sym cut.changes;
       offsets = λ db path.
           sym (cut.offsets db path)
-          ∙ same_after start.offsets start2.offsets (keeper_part (c.before ++ c.turn)) similar.offsets db path
+          ∙ same_after start.offsets start2.offsets (keeper_part (c.below ++ c.below_in)) similar.offsets db path
           ∙ ap (λ (l : List TraceEntry). found (offsets_after_all start2.offsets (keeper_part l)) db path) (sym all_is)
           ∙ cut2.offsets db path;
     }
 
-    pub same_joined : (rest rest2 : Reported) → rest2 ≡ rest → joined (life_text shown s c2.before c2.history) c2.cut rest2 ≡ joined (life_text shown s c.before c.history) c.cut rest
+    pub same_joined : (rest rest2 : Reported) → rest2 ≡ rest → joined (life_text shown s c2.below c2.history) c2.cut rest2 ≡ joined (life_text shown s c.below c.history) c.cut rest
     same_joined rest rest2 is =
-        ap (λ (l : List TraceEntry). joined (life_text shown s l c2.history) c2.cut rest2) same_place.before
-        ∙ ap (λ (h : History). joined (life_text shown s c.before h) c2.cut rest2) same_place.history
-        ∙ ap (λ (k : Cut). joined (life_text shown s c.before c.history) k rest2) cut_is
-        ∙ ap (λ (r : Reported). joined (life_text shown s c.before c.history) c.cut r) is
+        ap (λ (l : List TraceEntry). joined (life_text shown s l c2.history) c2.cut rest2) same_place.below
+        ∙ ap (λ (h : History). joined (life_text shown s c.below h) c2.cut rest2) same_place.history
+        ∙ ap (λ (k : Cut). joined (life_text shown s c.below c.history) k rest2) cut_is
+        ∙ ap (λ (r : Reported). joined (life_text shown s c.below c.history) c.cut r) is
 
     pub turns_is : turns - waits_in (c2.before ++ c2.turn) ≡ turns - waits_in (c.before ++ c.turn)
-    turns_is = ap (λ (l : List TraceEntry). turns - waits_in l) all_is
+    turns_is = ap (λ (n : ℕ). turns - n) same_place.waits
 
 -- ---- the runs
 

@@ -1,4 +1,4 @@
--- A run whose turns ran out had an event for each of them.
+-- A run whose turns ran out had an event or kept bytes for each of them.
 use Rattle.std.proofs.Common.{◌≡◌, ℕ, zero, suc, ◌≤◌, Bool, true, false, ◌||◌, if◌then◌else◌, List, [], ◌∷◌, ◌++◌, Option, Some, None, refl, sym, ap, subst, ◌∙◌, arith}
 use Rattle.fwd_outside.specs.Program.{entry, Return, Ask, Execution}
 use Rattle.fwd_outside.specs.Loop.{LoopEntry, Start, Wait}
@@ -6,11 +6,11 @@ use Rattle.fwd_outside.specs.declared.ends.Ends.{Ends}
 use Rattle.fwd_outside.specs.declared.happening.Happening.{Happening}
 use Rattle.fwd_outside.specs.declared.happening.Happening.TheVariants as happening
 use Rattle.fwd_settings.specs.declared.settings_types.AllSettings.{AllSettings}
-use Rattle.fwd_script_loop.specs.Place.{ArePlayed, Place, after_wait, behind}
-use Rattle.fwd_script_loop.proofs.PlayedCalls.{played_second}
+use Rattle.fwd_script_loop.specs.Place.{ArePlayed, Place, behind}
+use Rattle.fwd_script_loop.proofs.PlayedCalls.{played_first, played_second}
 use Rattle.fwd_keeper.specs.Keeper.{Get, Put}
 use Rattle.fwd_model.specs.Fact.{History, Resumed, Saved}
-use Rattle.fwd_model.specs.Trace.{Action, Call, Answer, OnKeeper, Note, TraceEntry, loop_part}
+use Rattle.fwd_model.specs.Trace.{Action, Call, Answer, OnLoop, OnKeeper, Note, TraceEntry, loop_part}
 use Rattle.fwd_model.specs.Settings.{paths_at, saturating_plus}
 use Rattle.fwd_model.specs.Clock.{clock, stopped}
 use Rattle.fwd_model.specs.Limits.{paused}
@@ -22,7 +22,12 @@ use Rattle.fwd_model.specs.Run.{RunResult, Over, DiskFailed, KeeperFailed, LoopF
 use Rattle.fwd_model.proofs.CallLogs.{loop_append}
 use Rattle.fwd_theorem_trace.proofs.Turns.{way_parts}
 use Rattle.fwd_theorem_trace.proofs.WaitCounts.{loading_plain, step_plain}
-use Rattle.fwd_theorem_replay.proofs.EventsTaken.{left_at, none_taken, one_taken}
+use Rattle.fwd_secure.specs.Keys.{has_keys}
+use Rattle.fwd_secure.specs.Handshakes.{Handshakes}
+use Rattle.fwd_secure.specs.Carried.{Carries}
+use Rattle.fwd_secure_settings.specs.Keys.{keys_of}
+use Rattle.fwd_secure_trace.proofs.Secured.{Splits, carries_splits}
+use Rattle.fwd_theorem_replay.proofs.EventsTaken.{ahead_of, plain_add_none, wait_spends}
 
 neither : (a b : Bool) → (a || b) ≡ false → a ≡ false
 neither true b none = absurd (cc none)
@@ -41,31 +46,41 @@ ends_so : (one comes : RunResult) (es : List TraceEntry) → Execution (Return o
 ends_so one comes [] way = let same : one ≡ comes = cc way in ap (λ (l : RunResult). l.end) (sym same)
 ends_so one comes (e ∷ es) way = absurd way
 
-played_behind : (place : Place) (es more all : List TraceEntry) → all ≡ es ++ more → ArePlayed place (loop_part all) → ArePlayed (behind place (loop_part es)) (loop_part more)
-played_behind place es more all parts played =
-    let is : loop_part all ≡ loop_part es ++ loop_part more = ap loop_part parts ∙ loop_append es more in
-    played_second place (loop_part es) (loop_part more) (subst (λ (l : List LoopEntry). ArePlayed place l) is played)
+nothing_less : (n : ℕ) → zero ≤ n
+nothing_less n = omega arith
+
+one_more : (turns left before : ℕ) → turns ≤ left → suc left ≤ before → suc turns ≤ before
+one_more turns left before enough less = omega (arith, enough, less)
 
 module _ (s : AllSettings) (comes : RunResult) (spent : comes.end ≡ TurnsSpent) where
-  -- a run that ends so from a position of its loop had this there
-  abbrev Finds : (Place → Type 0) → Action RunResult → Type 0
-  Finds P from = (place : Place) (es : List TraceEntry) → Execution from es (Return comes) → ArePlayed place (loop_part es) → P place
+  -- a run that ends so from a position of the loop below, with these handshakes, had this there
+  abbrev Finds : (Place → Handshakes → Type 0) → Action RunResult → Type 0
+  Finds P from =
+      (place : Place) (k t : Handshakes) (es : List TraceEntry) (calls : List LoopEntry) → Execution from es (Return comes) → Carries (keys_of s) k calls (loop_part es) t → ArePlayed place calls → P place k
 
-  -- these turns run out only if there was an event for each
+  -- these turns run out only if there was an event, or kept bytes, for each
+  abbrev IsEnough : ℕ → Place → Handshakes → Type 0
+  IsEnough turns place k = turns ≤ ahead_of (has_keys (keys_of s)) place k
+
   abbrev HasEnough : ℕ → Action RunResult → Type 0
-  HasEnough turns from = Finds (λ place. turns ≤ left_at place) from
+  HasEnough turns from = Finds (IsEnough turns) from
+
+  -- the calls of two parts of a run
+  split : (k t : Handshakes) (es own more : List TraceEntry) (calls : List LoopEntry) → es ≡ own ++ more → Carries (keys_of s) k calls (loop_part es) t → Splits (keys_of s) k (loop_part own) (loop_part more) calls t
+  split k t es own more calls parts carries =
+      carries_splits (keys_of s) k t (loop_part own) (loop_part more) calls (subst (λ (l : List LoopEntry). Carries (keys_of s) k calls l t) (ap loop_part parts ∙ loop_append own more) carries)
 
   -- ---- gets and puts of offsets ask nothing of the loop
 
-  module _ (P : Place → Type 0) where
+  module _ (P : Place → Handshakes → Type 0) where
     abbrev FindsAll : (History → Action RunResult) → Type 0
     FindsAll next = (h : History) → Finds P (next h)
 
     asks_none : (call : Call) (go : Answer call → Action RunResult) → ((answer : Answer call) (es : List TraceEntry) → loop_part (entry call answer ∷ es) ≡ loop_part es) → ((answer : Answer call) → Finds P (go answer)) → Finds P (Ask call go)
-    asks_none call go none next place [] way played = absurd (cc way)
-    asks_none call go none next place (e ∷ es) way played =
-        let first : ArePlayed place (loop_part (entry call way.0 ∷ es)) = subst (λ (x : TraceEntry). ArePlayed place (loop_part (x ∷ es))) way.1 played in
-        next way.0 place es way.2 (subst (λ (l : List LoopEntry). ArePlayed place l) (none way.0 es) first)
+    asks_none call go none next place k t [] calls way carries played = absurd (cc way)
+    asks_none call go none next place k t (e ∷ es) calls way carries played =
+        let first : Carries (keys_of s) k calls (loop_part (entry call way.0 ∷ es)) t = subst (λ (x : TraceEntry). Carries (keys_of s) k calls (loop_part (x ∷ es)) t) way.1 carries in
+        next way.0 place k t es calls way.2 (subst (λ (l : List LoopEntry). Carries (keys_of s) k calls l t) (none way.0 es) first) played
 
     after_put_finds : (t : Tracked) (place : ℕ) (next : History → Action RunResult) → FindsAll next → (h : History) (answer : Option (Unit {0})) → Finds P (after_put t place next h answer)
     after_put_finds t place next finds h None = finds h
@@ -99,58 +114,67 @@ module _ (s : AllSettings) (comes : RunResult) (spent : comes.end ≡ TurnsSpent
   -- ---- turns
 
   -- a turn goes on only if the event wasn't the end
-  goes_by : (over : Bool) (turns : ℕ) (x : Happening) (h : History) (next : Action RunResult) (place : Place) (es : List TraceEntry) → is_over s x h ≡ over
-      → Execution (if over then Return (lived h Over) else next) es (Return comes) → ArePlayed place (loop_part es) → HasEnough turns next → (is_end x ≡ false) × (turns ≤ left_at place)
-  goes_by true turns x h next place es is way played enough = let over = ends_so (lived h Over) comes es way in absurd (cc (sym spent ∙ over))
-  goes_by false turns x h next place es is way played enough = (no_end s x h is, enough place es way played)
+  abbrev GoesOn : ℕ → Happening → Place → Handshakes → Type 0
+  GoesOn turns x place k = (is_end x ≡ false) × IsEnough turns place k
 
-  turn_goes : (turns : ℕ) (h : History) (x : Happening) (place : Place) (es : List TraceEntry) → ((now : History) → HasEnough turns (run s None turns now))
-      → Execution (brought s None (run s None turns) h x) es (Return comes) → ArePlayed place (loop_part es) → (is_end x ≡ false) × (turns ≤ left_at place)
-  turn_goes turns h happening.Failed place es enough way played = let failed = ends_so (lived h LoopFailed) comes es way in absurd (cc (sym spent ∙ failed))
-  turn_goes turns h x place es enough way played =
+  goes_by : (over : Bool) (turns : ℕ) (x : Happening) (h : History) (next : Action RunResult) → is_over s x h ≡ over → HasEnough turns next → Finds (GoesOn turns x) (if over then Return (lived h Over) else next)
+  goes_by true turns x h next is enough place k t es calls way carries played = let over = ends_so (lived h Over) comes es way in absurd (cc (sym spent ∙ over))
+  goes_by false turns x h next is enough place k t es calls way carries played = (no_end s x h is, enough place k t es calls way carries played)
+
+  turn_goes : (turns : ℕ) (h : History) (x : Happening) → ((now : History) → HasEnough turns (run s None turns now)) → Finds (GoesOn turns x) (brought s None (run s None turns) h x)
+  turn_goes turns h happening.Failed enough place k t es calls way carries played = let failed = ends_so (lived h LoopFailed) comes es way in absurd (cc (sym spent ∙ failed))
+  turn_goes turns h x enough place k t es calls way carries played =
       let parts = way_parts (step s x h) (after_step s None (run s None turns) x) es comes way in
       let own = parts.1 in
-      let more = parts.2 in
+      let two = split k t es own parts.2 calls parts.3 carries in
+      let all : ArePlayed place (two.first ++ two.second) = subst (λ (l : List LoopEntry). ArePlayed place l) two.is played in
       let went =
-      puts_find (λ at. (is_end x ≡ false) × (turns ≤ left_at at)) (tracked s) (goes_on s (unless_last s None (run s None turns) x) x)
-      (λ now at rest on answered. goes_by (is_over s x now) turns x now (run s None turns now) at rest refl on answered (enough now))
-      parts.0 (behind place (loop_part own)) more parts.5 (played_behind place own more es parts.3 played)
+      puts_find (GoesOn turns x) (tracked s) (goes_on s (unless_last s None (run s None turns) x) x)
+      (λ now. goes_by (is_over s x now) turns x now (run s None turns now) refl (enough now))
+      parts.0 (behind place two.first) two.at t parts.2 two.second parts.5 two.after (played_second place two.first two.second all)
       in
-      (went.0, subst (λ (n : ℕ). turns ≤ n) (none_taken place own (step_plain s x h own (Return parts.0) parts.4)) went.1)
+      (went.0, plain_add_none (keys_of s) turns place k two.at own two.first (step_plain s x h own (Return parts.0) parts.4) two.before went.1)
 
   run_enough : (turns : ℕ) (h : History) → HasEnough turns (run s None turns h)
   unfolding run
-  run_enough zero h place es way played = omega arith
-  run_enough (suc turns) h place [] way played = absurd (cc way)
-  run_enough (suc turns) h place (e ∷ es) way played =
+  run_enough zero h place k t es calls way carries played = nothing_less (ahead_of (has_keys (keys_of s)) place k)
+  run_enough (suc turns) h place k t [] calls way carries played = absurd (cc way)
+  run_enough (suc turns) h place k t (e ∷ es) calls way carries played =
       let mask = paused s h in
-      let first : ArePlayed place (entry (Wait (saturating_plus (clock h) 250) mask) way.0 ∷ loop_part es) = subst (λ (x : TraceEntry). ArePlayed place (loop_part (x ∷ es))) way.1 played in
-      let went = turn_goes turns h way.0 (after_wait place mask) es (run_enough turns) way.2 first.1 in
-      let one = one_taken mask place.left.happenings (subst (λ (x : Happening). is_end x ≡ false) first.0 went.0) in
-      let rest = went.1 in
-      omega (arith, one, rest)
+      let until = saturating_plus (clock h) 250 in
+      let one : Carries (keys_of s) k calls (entry (Wait until mask) way.0 ∷ loop_part es) t = subst (λ (x : TraceEntry). Carries (keys_of s) k calls (loop_part (x ∷ es)) t) way.1 carries in
+      let all : ArePlayed place (one.0 ++ one.1) = subst (λ (l : List LoopEntry). ArePlayed place l) one.3 played in
+      let went = turn_goes turns h way.0 (run_enough turns) (behind place one.0) one.2 t es one.1 way.2 one.5 (played_second place one.0 one.1 all) in
+      let less = wait_spends (keys_of s) k one.2 until mask way.0 place went.0 (has_keys (keys_of s)) one.0 one.4 (played_first place one.0 one.1 all) in
+      one_more turns (ahead_of (has_keys (keys_of s)) (behind place one.0) one.2) (ahead_of (has_keys (keys_of s)) place k) went.1 less
 
   started_enough : (turns : ℕ) (h : History) (ready : Option (Unit {0})) → HasEnough turns (after_start s None turns h ready)
-  started_enough turns h None place es way played = let failed = ends_so (lived h LoopFailed) comes es way in absurd (cc (sym spent ∙ failed))
-  started_enough turns h (Some ready) place es way played = run_enough turns h place es way played
+  started_enough turns h None place k t es calls way carries played = let failed = ends_so (lived h LoopFailed) comes es way in absurd (cc (sym spent ∙ failed))
+  started_enough turns h (Some ready) place k t es calls way carries played = run_enough turns h place k t es calls way carries played
 
   starts_enough : (ends : Ends) (turns : ℕ) (h : History) → HasEnough turns (starts s ends None turns h)
-  starts_enough ends turns h place [] way played = absurd (cc way)
-  starts_enough ends turns h place (e ∷ es) way played =
-      let first : ArePlayed place (entry (Start ends) way.0 ∷ loop_part es) = subst (λ (x : TraceEntry). ArePlayed place (loop_part (x ∷ es))) way.1 played in
-      started_enough turns h way.0 place es way.2 first.1
+  starts_enough ends turns h place k t [] calls way carries played = absurd (cc way)
+  starts_enough ends turns h place k t (e ∷ es) calls way carries played =
+      let start : TraceEntry = entry (OnLoop (Start ends)) way.0 in
+      let one : Carries (keys_of s) k calls (entry (Start ends) way.0 ∷ loop_part es) t = subst (λ (x : TraceEntry). Carries (keys_of s) k calls (loop_part (x ∷ es)) t) way.1 carries in
+      let two = split k t (start ∷ es) (start ∷ []) es calls refl one in
+      let all : ArePlayed place (two.first ++ two.second) = subst (λ (l : List LoopEntry). ArePlayed place l) two.is played in
+      let rest = started_enough turns h way.0 (behind place two.first) two.at t es two.second way.2 two.after (played_second place two.first two.second all) in
+      plain_add_none (keys_of s) turns place k two.at (start ∷ []) two.first (refl, tt) two.before rest
 
   begun_enough : (ends : Ends) (turns : ℕ) (found : Option History) → HasEnough turns (after_recovery s ends None turns found)
-  begun_enough ends turns None place es way played = let failed = ends_so (lived [] DiskFailed) comes es way in absurd (cc (sym spent ∙ failed))
-  begun_enough ends turns (Some h) place es way played =
-      gets_find (λ at. turns ≤ left_at at) (tracked s) (λ (now : History). Return (lived now KeeperFailed)) (starts s ends None turns)
-      (λ now at rest on answered. let failed = ends_so (lived now KeeperFailed) comes rest on in absurd (cc (sym spent ∙ failed)))
-      (starts_enough ends turns) h place es way played
+  begun_enough ends turns None place k t es calls way carries played = let failed = ends_so (lived [] DiskFailed) comes es way in absurd (cc (sym spent ∙ failed))
+  begun_enough ends turns (Some h) place k t es calls way carries played =
+      gets_find (IsEnough turns) (tracked s) (λ (now : History). Return (lived now KeeperFailed)) (starts s ends None turns)
+      (λ now at u v rest others on given answered. let failed = ends_so (lived now KeeperFailed) comes rest on in absurd (cc (sym spent ∙ failed)))
+      (starts_enough ends turns) h place k t es calls way carries played
 
   pub life_enough : (ends : Ends) (turns : ℕ) → HasEnough turns (life s ends None turns)
   unfolding life
-  life_enough ends turns place es way played =
+  life_enough ends turns place k t es calls way carries played =
       let parts = way_parts (recovers s) (after_recovery s ends None turns) es comes way in
       let own = parts.1 in
-      let rest = begun_enough ends turns parts.0 (behind place (loop_part own)) parts.2 parts.5 (played_behind place own parts.2 es parts.3 played) in
-      subst (λ (n : ℕ). turns ≤ n) (none_taken place own (loading_plain s own (Return parts.0) parts.4)) rest
+      let two = split k t es own parts.2 calls parts.3 carries in
+      let all : ArePlayed place (two.first ++ two.second) = subst (λ (l : List LoopEntry). ArePlayed place l) two.is played in
+      let rest = begun_enough ends turns parts.0 (behind place two.first) two.at t parts.2 two.second parts.5 two.after (played_second place two.first two.second all) in
+      plain_add_none (keys_of s) turns place k two.at own two.first (loading_plain s own (Return parts.0) parts.4) two.before rest

@@ -16,8 +16,8 @@ use Rattle.fwd_replay.specs.Runs.{Start, CutRun, first_calls, IsReplayed, Ended,
 use Rattle.fwd_replay.specs.declared.report.Reported.{Reported}
 use Rattle.fwd_replay.specs.declared.report.Shown.{Shown}
 
--- The crash came after these calls of a run that was cut: the disk had answered the calls that the crash
--- keeps, and no more.
+-- The crash came after these calls of the engine of a run that was cut: the disk had answered the calls that
+-- the crash keeps, and no more.
 pub record CrashedAfter (c : CutRun) (gone : List TraceEntry) : Type 0 where
   pub rest : List TraceEntry
   pub is : c.before ++ c.turn ≡ gone ++ rest

@@ -16,6 +16,7 @@ use Rattle.fwd_config.proofs.StableFiles.{Ends, ends_loads, way_parts, honest_pa
 use Rattle.fwd_settings.specs.Reading.{Checked}
 use Rattle.fwd_settings.specs.declared.settings_types.AllSettings.{AllSettings}
 use Rattle.fwd_model.specs.Trace.{files_part}
+use Rattle.fwd_secure_trace.specs.Secured.{on_loop}
 use Rattle.fwd_replay.specs.LiveRun.{IsRunLive, RanToEnd, RanOutOfMemory}
 use Rattle.fwd_replay.specs.declared.report.Reported.{Reported}
 use Rattle.fwd_top.specs.Words.{Command, Run, Replay, ListFolder, Generate, command_of}
@@ -99,8 +100,8 @@ asked_for turns (Generates s lives) old new verdict is = ([], is.1.comes.1.files
 asked_for turns (Runs s ticks) old new verdict is = run is.1.comes
   where
     run : IsRunLive s ticks turns (world old) (world new) is.0 → (entries : List FilesEntry) × LogGrew old.files new.files entries
-    run (RanToEnd lived) = (files_part lived.did.entries, lived.did.asked.files)
-    run (RanOutOfMemory begun none) = (files_part begun.1.entries, begun.1.asked.files)
+    run (RanToEnd lived) = (files_part lived.below, lived.asked.files)
+    run (RanOutOfMemory begun none) = (files_part (begun.below ++ map on_loop begun.begun), begun.asked.files)
 asked_for turns (Lists root) old new verdict is = ([], is.1.comes.1.0)
 asked_for turns (Refuses other) old new verdict is = ([], is.1.files)
 

@@ -1,7 +1,6 @@
 pub mod Calls
 pub mod Writing
 pub mod GivenFiles
-pub mod RunLinks
 pub mod Delivery
 pub mod RunOffsets
 pub mod GeneratedLoad

@@ -16,7 +16,8 @@ use Rattle.fwd_theorem_trace.specs.Past.{past_after}
 use Rattle.fwd_theorem_trace.specs.Waits.{waits_in}
 use Rattle.fwd_theorem_offsets.specs.Passed.{ArePassed}
 use Rattle.fwd_theorem_offsets.specs.KeptFiles.{IsAlone, SplitsAt, begun_at, last_given, was_cut}
-use Rattle.fwd_replay.specs.Runs.{CutRun, IsCut, IsCutIn, InTurn, WasOver, IsReplayed, Ended, WasCut, OutOfMemory, Start}
+use Rattle.fwd_replay.specs.Runs.{CutRun, IsCut, IsCutIn, InTurn, WasOver, IsReplayed, Ended, WasCut, OutOfMemory, Start, course_of}
+use Rattle.fwd_replay.specs.FileChanges.{course_after}
 use Rattle.fwd_replay.specs.declared.report.Reported.{Reported}
 use Rattle.fwd_replay.specs.declared.report.Shown.{Shown}
 use Rattle.fwd_top.specs.Offsets.{EachKeepsOffsets, KeepsOffsets}
@@ -48,8 +49,8 @@ module _ (passed : PassedLaw) (splits : SplitsLaw) (resumes : ResumesLaw) where
   cut_keeps : (s : AllSettings) (turns : ℕ) (start : Start) (planned : Life) (c : CutRun) → IsCut s turns start planned c → KeepsOffsets s c.before
   cut_keeps s turns start planned c is = by is.cut_in
     where
-      by : IsCutIn s turns start planned c.before c.history c.turn → KeepsOffsets s c.before
-      by (InTurn waits way last end own) = keeps_offsets s (ends_of s) None (waits_in c.before) c.before _ way
+      by : IsCutIn s turns c.before c.history c.handshakes (course_after (course_of start planned) c.below) c.turn → KeepsOffsets s c.before
+      by (InTurn waits way asks last end own) = keeps_offsets s (ends_of s) None (waits_in c.before) c.before _ way
       by (WasOver way none) = keeps_offsets s (ends_of s) None turns c.before _ way
 
   pub each_keeps_offsets : (shown : Shown) (s : AllSettings) (turns : ℕ) (start : Start) (lives : List Life) (reported : Reported) (is : IsReplayed shown s turns start lives reported) → EachKeepsOffsets shown s turns start lives reported is

@@ -1,16 +1,18 @@
 -- Calls and written text, by status.
 use Rattle.std.specs.Prelude.{◌≢◌}
-use Rattle.std.proofs.Common.{◌≡◌, ℕ, ◌≤◌, Bool, true, false, List, [], map, String, string_bytes, Some, refl, sym, ◌∙◌, arith}
+use Rattle.std.proofs.Common.{◌≡◌, ℕ, ◌+◌, ◌/◌, ◌≤◌, Bool, true, false, if◌then◌else◌, List, [], map, String, string_bytes, Some, refl, sym, ◌∙◌, arith}
+use Rattle.fwd_settings.specs.declared.settings_types.AllSettings.{AllSettings}
 use Rattle.fwd_outside.specs.Log.{LogGrew}
 use Rattle.fwd_outside.specs.Cause.{HasCause}
 use Rattle.fwd_outside.proofs.LogGrowth.{grew_none}
 use Rattle.fwd_outside.specs.Files.{FilesLog}
 use Rattle.fwd_outside.specs.Loop.{LoopCounts}
-use Rattle.fwd_outside.specs.NewLinks.{LogHasNewLinks}
 use Rattle.fwd_outside.specs.Sink.{SinkLog}
 use Rattle.fwd_engine_state.specs.LoopCounters.{EventsTaken}
 use Rattle.fwd_config.specs.Variables.{Values}
-use Rattle.fwd_replay.specs.LiveRun.{heard_in}
+use Rattle.fwd_secure.specs.Keys.{has_keys}
+use Rattle.fwd_secure_settings.specs.Keys.{keys_of}
+use Rattle.fwd_replay.specs.LiveRun.{events_below, heard_in}
 use Rattle.fwd_replay.specs.declared.report.Ending.{Ending}
 use Rattle.fwd_replay.specs.declared.report.Ending.TheVariants as ending
 use Rattle.fwd_replay.specs.declared.report.Reported.{Reported}
@@ -20,7 +22,7 @@ use Rattle.fwd_top.specs.Delivery.{IsDelivered}
 use Rattle.fwd_top.specs.CrashConsistency.{IsCrashConsistent}
 use Rattle.fwd_top.specs.Offsets.{EachRunKeepsOffsets}
 use Rattle.fwd_top.specs.Contents.{EachRunSendsContents}
-use Rattle.fwd_top.specs.Answers.{Verdict, says, status_of, of_reported, Outcome, IsVerdict, Devices, Asks, Comes, Wrote, WhileAsking, InTheJob, WhileWriting, Answers, is_over_disk, is_run, IsKeeperFault, IsLoopFault, IsDiskFault, spent, spent_by}
+use Rattle.fwd_top.specs.Answers.{Verdict, says, status_of, of_reported, Outcome, IsVerdict, Devices, Asks, Comes, Wrote, WhileAsking, InTheJob, WhileWriting, Answers, half, is_over_disk, is_run, IsKeeperFault, IsLoopFault, IsDiskFault, spent, spent_by}
 use Rattle.fwd_top.specs.Results.{HasDiskFailed, HasKeeperFailed, HasLoopFailed, IsRefusal, WritesVerdict, WritesSo, WroteTheText, OutFailed, NoMemory, given_by, is_to_run, takes_disk, unless_memory}
 use Rattle.fwd_top.specs.Words.{command_of}
 use Rattle.fwd_top.specs.declared.job.Job.{Job}
@@ -32,12 +34,12 @@ pub still : (o : Platform) → AreNotCalled o o
 still o = record { disk = grew_none o.disk; files = grew_none o.files; loop = grew_none o.loop; keeper = grew_none o.keeper }
 
 -- what holds of each outcome holds of this one
-pub outcome_of : ((turns : ℕ) (case : Case) (old new : Platform) (r : Reported) (comes : Produces turns case old new r) → LogHasNewLinks new.loop → IsDelivered turns case old new r comes)
+pub outcome_of : ((turns : ℕ) (case : Case) (old new : Platform) (r : Reported) (comes : Produces turns case old new r) → IsDelivered turns case old new r comes)
     → ((turns : ℕ) (case : Case) (old new : Platform) (r : Reported) (comes : Produces turns case old new r) → AreSound (settings_for case) → IsCrashConsistent turns case old new r comes)
     → ((turns : ℕ) (case : Case) (old new : Platform) (r : Reported) (comes : Produces turns case old new r) → EachRunKeepsOffsets turns case old new r comes)
     → ((turns : ℕ) (case : Case) (old new : Platform) (r : Reported) (comes : Produces turns case old new r) → AreSound (settings_for case) → EachRunSendsContents turns case old new r comes)
-    → (turns : ℕ) (case : Case) (old new : Platform) (r : Reported) → AreSound (settings_for case) → Produces turns case old new r → LogHasNewLinks new.loop → Outcome turns case old new r
-outcome_of delivers stands keeps sends turns case old new r sound comes links = record { comes = comes; sound = sound; delivered = delivers turns case old new r comes links; safe = stands turns case old new r comes sound; offsets = keeps turns case old new r comes; contents = sends turns case old new r comes sound }
+    → (turns : ℕ) (case : Case) (old new : Platform) (r : Reported) → AreSound (settings_for case) → Produces turns case old new r → Outcome turns case old new r
+outcome_of delivers stands keeps sends turns case old new r sound comes = record { comes = comes; sound = sound; delivered = delivers turns case old new r comes; safe = stands turns case old new r comes sound; offsets = keeps turns case old new r comes; contents = sends turns case old new r comes sound }
 
 -- ---- calls and written text
 
@@ -121,22 +123,29 @@ spent_unrun : (turns : ℕ) (result : Status) → spent_by result false turns �
 spent_unrun turns status.TurnsSpent = refl
 spent_unrun turns result = refl
 
+half_least : (n : ℕ) (keyed : Bool) → half n ≤ (if keyed then (n + 1) / 2 else n)
+half_least n true = omega arith
+half_least n false = omega arith
+
+half_below : (s : AllSettings) (n : ℕ) → half n ≤ events_below s n
+half_below s n = half_least n (has_keys (keys_of s))
+
 module _ {Y : Type 0} (words : List (String Y)) (turns : ℕ) (before after : LoopCounts) where
   abbrev runs : Bool
   runs = is_run (command_of (map string_bytes words))
 
-  unspent : (n : ℕ) (result : Status) → spent_by result runs turns ≡ 0 → EventsTaken n before after → EventsTaken (spent words turns result) before after
-  unspent n result is heard = rw is (heard_all n 0 (omega arith) heard)
+  unspent : (n : ℕ) (result : Status) → spent_by result runs turns ≡ 0 → EventsTaken n before after → EventsTaken (half (spent words turns result)) before after
+  unspent n result is heard = rw is (heard_all n (half 0) (omega arith) heard)
 
-  spent_all : (text : List ℕ) (a b : SinkLog) (result : Status) → runs ≡ true → WritesSo a b text status.TurnsSpent result → EventsTaken turns before after → EventsTaken (spent words turns result) before after
+  spent_all : (text : List ℕ) (a b : SinkLog) (result : Status) → runs ≡ true → WritesSo a b text status.TurnsSpent result → EventsTaken (half turns) before after → EventsTaken (half (spent words turns result)) before after
   spent_all text a b result run (WroteTheText same wrote) heard = rw (same, run) heard
-  spent_all text a b result run (OutFailed same wrote) heard = unspent turns result (rw same refl) heard
-  spent_all text a b result run (NoMemory same wrote) heard = unspent turns result (rw same refl) heard
+  spent_all text a b result run (OutFailed same wrote) heard = unspent (half turns) result (rw same refl) heard
+  spent_all text a b result run (NoMemory same wrote) heard = unspent (half turns) result (rw same refl) heard
 
-  none_spent : (n : ℕ) (text : List ℕ) (a b : SinkLog) (end result : Status) → WritesSo a b text end result → end ≢ status.TurnsSpent → EventsTaken n before after → EventsTaken (spent words turns result) before after
+  none_spent : (n : ℕ) (text : List ℕ) (a b : SinkLog) (end result : Status) → WritesSo a b text end result → end ≢ status.TurnsSpent → EventsTaken n before after → EventsTaken (half (spent words turns result)) before after
   none_spent n text a b end result tells other heard = unspent n result (spent_none runs turns result (told_by_one text a b end result status.TurnsSpent tells other (λ is. cc is) (λ is. cc is))) heard
 
-  ran_heard : (text : List ℕ) (end : Ending) (a b : SinkLog) (result : Status) → runs ≡ true → WritesSo a b text (status_of end) result → EventsTaken (heard_in turns end) before after → EventsTaken (spent words turns result) before after
+  ran_heard : (text : List ℕ) (end : Ending) (a b : SinkLog) (result : Status) → runs ≡ true → WritesSo a b text (status_of end) result → EventsTaken (half (heard_in turns end)) before after → EventsTaken (half (spent words turns result)) before after
   ran_heard text ending.TurnsSpent a b result run tells heard = spent_all text a b result run tells heard
   ran_heard text ending.Over a b result run tells heard = none_spent 0 text a b status.Done result tells (λ is. cc is) heard
   ran_heard text ending.DiskFailed a b result run tells heard = none_spent 0 text a b status.DiskFault result tells (λ is. cc is) heard
@@ -145,14 +154,14 @@ module _ {Y : Type 0} (words : List (String Y)) (turns : ℕ) (before after : Lo
   ran_heard text ending.Memory a b result run tells heard = none_spent 0 text a b status.Memory result tells (λ is. cc is) heard
 
   -- the outcome of a job was written
-  pub done_heard : (j : Job) (r : Reported) (a b : SinkLog) (result : Status) → runs ≡ is_to_run j → WritesVerdict a b (of_reported r) result → EventsTaken (given_by j turns r) before after → EventsTaken (spent words turns result) before after
-  done_heard (job.Run s ticks) r a b result run tells heard = ran_heard r.text r.ending a b result run tells heard
+  pub done_heard : (j : Job) (r : Reported) (a b : SinkLog) (result : Status) → runs ≡ is_to_run j → WritesVerdict a b (of_reported r) result → EventsTaken (given_by j turns r) before after → EventsTaken (half (spent words turns result)) before after
+  done_heard (job.Run s ticks) r a b result run tells heard = ran_heard r.text r.ending a b result run tells (heard_all (events_below s (heard_in turns r.ending)) (half (heard_in turns r.ending)) (half_below s (heard_in turns r.ending)) heard)
   done_heard (job.Replay s schedule) r a b result run tells heard = unspent 0 result (rw run (spent_unrun turns result)) heard
   done_heard (job.Generate s schedule) r a b result run tells heard = unspent 0 result (rw run (spent_unrun turns result)) heard
   done_heard (job.List folder) r a b result run tells heard = unspent 0 result (rw run (spent_unrun turns result)) heard
 
 -- there was nothing to do
-pub refused_heard : {Y : Type 0} (words : List (String Y)) (turns : ℕ) (a : LoopCounts) (result : Status) → IsRefusal result → EventsTaken (spent words turns result) a a
+pub refused_heard : {Y : Type 0} (words : List (String Y)) (turns : ℕ) (a : LoopCounts) (result : Status) → IsRefusal result → EventsTaken (half (spent words turns result)) a a
 refused_heard words turns a status.TurnsSpent is = absurd is
 refused_heard words turns a result is = heard_none a
 

@@ -1,5 +1,5 @@
 -- What the program answers.
-use Rattle.std.specs.Prelude.{◌≡◌, ◌≢◌, ◌⊎◌, ℕ, ◌≤◌, List, [], ◌∷◌, ◌++◌, length, map, String, string_bytes, Bool, true, false, if◌then◌else◌, Option, Some, None, option_map}
+use Rattle.std.specs.Prelude.{◌≡◌, ◌≢◌, ◌⊎◌, ℕ, ◌+◌, ◌/◌, ◌≤◌, List, [], ◌∷◌, ◌++◌, length, map, String, string_bytes, Bool, true, false, if◌then◌else◌, Option, Some, None, option_map}
 use Rattle.fwd_outside.specs.Program.{entry}
 use Rattle.fwd_outside.specs.Log.{LogGrew, RunsProgram}
 use Rattle.fwd_outside.specs.Disk.{DiskLog}
@@ -188,3 +188,7 @@ spent_by other runs turns = 0
 
 abbrev pub spent : {Y : Type 0} → List (String Y) → ℕ → Status → ℕ
 spent words turns result = spent_by result (is_run (command_of (map string_bytes words))) turns
+
+-- half of so many, rounded up
+abbrev pub half : ℕ → ℕ
+half n = (n + 1) / 2

@@ -26,8 +26,8 @@ SendContents s entries =
 -- a run over devices, with a call log or not, to its end or to where memory ran out
 abbrev pub RunSendsContents : (s : AllSettings) (ticks : Option ℕ) (turns : ℕ) (old new : Platform)
     (reported : Reported) → IsRunLive s ticks turns (world old) (world new) reported → Type 0
-RunSendsContents s ticks turns old new reported (RanToEnd run) = SendContents s run.did.entries
-RunSendsContents s ticks turns old new reported (RanOutOfMemory begun none) = SendContents s begun.1.entries
+RunSendsContents s ticks turns old new reported (RanToEnd run) = SendContents s run.trace
+RunSendsContents s ticks turns old new reported (RanOutOfMemory begun none) = SendContents s begun.trace
 
 -- each run of the outcome of a case
 abbrev pub EachRunSendsContents : (turns : ℕ) (case : Case) (old new : Platform) (reported : Reported)

@@ -32,9 +32,9 @@ pub record AreSafe (s : AllSettings) (entries : List TraceEntry) : Type 0 where
 -- a run over devices, with a call log or not, to its end or to where memory ran out
 abbrev pub RunIsSafe : (s : AllSettings) (ticks : Option ℕ) (turns : ℕ) (old new : Platform)
     (reported : Reported) → IsRunLive s ticks turns (world old) (world new) reported → Type 0
-RunIsSafe s ticks turns old new reported (RanToEnd run) = AreSynced s → AreSafe s run.did.entries
+RunIsSafe s ticks turns old new reported (RanToEnd run) = AreSynced s → AreSafe s run.trace
 RunIsSafe s ticks turns old new reported (RanOutOfMemory begun none) =
-    AreSynced s → AreSafe s begun.1.entries
+    AreSynced s → AreSafe s begun.trace
 
 -- the outcome of a case: no crash between the runs of a schedule loses a chunk, and each crash point of a
 -- run is safe

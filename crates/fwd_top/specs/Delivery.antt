@@ -26,16 +26,10 @@ EachIsDelivered shown s turns start (planned ∷ lives) reported (WasCut c is re
     × EachIsDelivered shown s (turns - waits_in (c.before ++ c.turn)) c.next lives rest more
 EachIsDelivered shown s turns start (planned ∷ lives) reported (OutOfMemory none) = Unit {0}
 
--- A trace does. If the loop keeps no log, the trace needn't have its answers, and does if the links in it have
--- rising numbers.
-abbrev pub TraceIsDelivered : LoopLog → AllSettings → List TraceEntry → Type 0
-TraceIsDelivered (Some log) s trace = KeepsGuarantee s trace
-TraceIsDelivered None s trace = AreNewLinks 0 (loop_part trace) → KeepsGuarantee s trace
-
 -- a run over devices does
 abbrev pub RunIsDelivered : (s : AllSettings) (ticks : Option ℕ) (turns : ℕ) (old new : Platform)
     (reported : Reported) → IsRunLive s ticks turns (world old) (world new) reported → Type 0
-RunIsDelivered s ticks turns old new reported (RanToEnd run) = TraceIsDelivered new.loop s run.did.entries
+RunIsDelivered s ticks turns old new reported (RanToEnd run) = KeepsGuarantee s run.trace
 RunIsDelivered s ticks turns old new reported (RanOutOfMemory begun none) = Unit {0}
 
 -- each run of the outcome of a case

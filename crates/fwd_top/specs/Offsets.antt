@@ -52,9 +52,9 @@ EachKeepsOffsets shown s turns start (planned ∷ lives) reported (OutOfMemory n
 -- of a run over devices, to its end or to where memory ran out
 abbrev pub RunKeepsOffsets : (s : AllSettings) (ticks : Option ℕ) (turns : ℕ) (old new : Platform)
     (reported : Reported) → IsRunLive s ticks turns (world old) (world new) reported → Type 0
-RunKeepsOffsets s ticks turns old new reported (RanToEnd run) = KeepsOffsets s run.did.entries
+RunKeepsOffsets s ticks turns old new reported (RanToEnd run) = KeepsOffsets s run.trace
 RunKeepsOffsets s ticks turns old new reported (RanOutOfMemory begun none) =
-    KeepsOffsets s begun.1.entries
+    KeepsOffsets s begun.trace
 
 -- of each run of the outcome of a case
 abbrev pub EachRunKeepsOffsets : (turns : ℕ) (case : Case) (old new : Platform) (reported : Reported)

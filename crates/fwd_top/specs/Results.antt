@@ -19,7 +19,7 @@ use Rattle.fwd_files_mem.specs.declared.files.FilesNote.TheVariants.{Preset}
 use Rattle.fwd_script.specs.declared.refusal.ScheduleKind.{ScheduleKind}
 use Rattle.fwd_script.specs.declared.refusal.ScheduleKind.TheVariants as schedule_kind
 use Rattle.fwd_replay.specs.Load.{config_text, schedule_text}
-use Rattle.fwd_replay.specs.LiveRun.{heard_in}
+use Rattle.fwd_replay.specs.LiveRun.{events_below, heard_in}
 use Rattle.fwd_replay.specs.declared.report.Ending.TheVariants as ending
 use Rattle.fwd_replay.specs.declared.report.Reported.{Reported}
 use Rattle.fwd_top.specs.Cases.{Case, Runs, Refuses, Wanted, ToRun, ToReplay, AreSettingsOf, Replays, Generates, Lists, asked, load_config, load_schedule, of_config, of_load, refused_by, with_settings, settings_for}
@@ -144,7 +144,7 @@ ComesOfLoad count (Some case) =
 
 -- the least number of events that the loop returned, and that the loop, the keeper or the disk failed
 abbrev pub given_by : Job → ℕ → Reported → ℕ
-given_by (job.Run s ticks) turns reported = heard_in turns reported.ending
+given_by (job.Run s ticks) turns reported = events_below s (heard_in turns reported.ending)
 given_by (job.Replay s schedule) turns reported = 0
 given_by (job.Generate s schedule) turns reported = 0
 given_by (job.List folder) turns reported = 0

@@ -1,5 +1,4 @@
 ghost use Rattle.std.specs.Prelude.{ℕ};
-ghost use Rattle.fwd_outside.specs.NewLinks.{LogHasNewLinks};
 ghost use Rattle.fwd_replay.specs.declared.report.Reported.{Reported};
 ghost use Rattle.fwd_top.specs.Outcomes.{Produces, Platform};
 ghost use Rattle.fwd_top.specs.Cases.{Case};
@@ -7,10 +6,10 @@ ghost use Rattle.fwd_top.specs.Delivery.{IsDelivered};
 
 use fwd_replay::all_runs_keep_the_guarantee;
 
-/// Each run of a case keeps the delivery guarantee, if the links in the log of its loop have rising numbers.
+/// Each run of a case keeps the delivery guarantee.
 pub fn outcomes_are_delivered()
     ensures { (turns : ℕ) (case : Case) (old new : Platform) (reported : Reported) (comes : Produces turns case old new reported)
-        → LogHasNewLinks new.loop → IsDelivered turns case old new reported comes }
+        → IsDelivered turns case old new reported comes }
 {
     all_runs_keep_the_guarantee();
 }

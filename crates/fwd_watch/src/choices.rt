@@ -69,6 +69,8 @@ const NAMES: &[&str] = &[
     "Add_prefix",
     "Require_ack_response",
     "Time_as_Integer",
+    "Shared_Key",
+    "Self_Hostname",
     "Tag",
     "Match",
     "storage.type",
@@ -126,6 +128,7 @@ const CHOICES: &[(&str, &str)] = &[
     ("wildcard", "a prefix and a star"),
     ("uri", "a slash, and visible characters"),
     ("host", "visible characters"),
+    ("self_hostname", "a text of at most 255 bytes"),
 ];
 
 pub fn key_names() -> &'static [&'static str] {

@@ -57,7 +57,7 @@ impl<'a> Sources<'a> {
     }
 
     /// Writes a line on an input's peers.
-    fn log_peer(&self, level: Level, input: InputId, text: &impl Display) {
+    pub fn log_peer(&self, level: Level, input: InputId, text: &impl Display) {
         self.journal
             .write(level, About::Input(input), Topic::Peer, text);
     }

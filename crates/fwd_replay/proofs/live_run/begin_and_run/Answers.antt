@@ -40,9 +40,6 @@ returns-clause-life g c others =
 pub returns-in-Ok-clause-heard : goal.returns-in-Ok-clause-heard
 returns-in-Ok-clause-heard g c = c.run_and_drop.ensures.heard
 
-pub returns-in-Ok-clause-loop_cause : goal.returns-in-Ok-clause-loop_cause
-returns-in-Ok-clause-loop_cause g c = c.run_and_drop.ensures.loop_cause
-
 pub returns-in-Ok-clause-disk_cause : goal.returns-in-Ok-clause-disk_cause
 returns-in-Ok-clause-disk_cause g c = caused_later _ _ _ c.begin.ensures.cause.later c.run_and_drop.ensures.disk_cause
 

@@ -10,9 +10,6 @@ returns-clause-run g c others s h at loading keeps named = c.run_engine-outcome.
 pub returns-clause-heard : goal.returns-clause-heard
 returns-clause-heard g c = c.run_engine-outcome.ensures.heard
 
-pub returns-clause-loop_cause : goal.returns-clause-loop_cause
-returns-clause-loop_cause g c = c.run_engine-outcome.ensures.loop_cause
-
 pub returns-clause-disk_cause : goal.returns-clause-disk_cause
 returns-clause-disk_cause g c = c.run_engine-outcome.ensures.disk_cause
 

@@ -5,7 +5,7 @@ use Rattle.fwd_engine_state.specs.RefinesAction.{with_all}
 use Rattle.fwd_engine_run.specs.OffsetRows.{with_keeper}
 use Rattle.fwd_replay.specs.RunState.{nowhere}
 use Rattle.fwd_replay.specs.Text.{report}
-use Rattle.fwd_replay.proofs.LiveRun.{disk_cause_live, heard_live, keeper_cause_live, loop_cause_live, named_unless, run_told}
+use Rattle.fwd_replay.proofs.LiveRun.{disk_cause_live, heard_live, keeper_cause_live, named_unless, run_told}
 use Rattle.fwd_replay.proofs.live_run.run_engine.Goals as goal
 
 pub report_of-requires : goal.report_of-requires
@@ -26,12 +26,6 @@ returns-in-Ok-clause-heard g c =
     let of = c.requires in
     let ran = c.in-Ok.ensures.runs nowhere of.settings of.history of.at of.loading of.keeps in
     heard_live _ _ c.args.setup.now.most c.in-Ok.end (report of.settings ran.history) c.report_of.result (c.report_of.ensures of.settings ran.history ran.at of.is) c.in-Ok.ensures.heard
-
-pub returns-in-Ok-clause-loop_cause : goal.returns-in-Ok-clause-loop_cause
-returns-in-Ok-clause-loop_cause g c =
-    let of = c.requires in
-    let ran = c.in-Ok.ensures.runs nowhere of.settings of.history of.at of.loading of.keeps in
-    loop_cause_live _ _ c.in-Ok.end (report of.settings ran.history) c.report_of.result (c.report_of.ensures of.settings ran.history ran.at of.is) c.in-Ok.ensures.cause
 
 pub returns-in-Ok-clause-disk_cause : goal.returns-in-Ok-clause-disk_cause
 returns-in-Ok-clause-disk_cause g c =

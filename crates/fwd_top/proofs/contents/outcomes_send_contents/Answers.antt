@@ -12,7 +12,7 @@ returns c turns case old new reported comes sound = by case comes sound
     by : (case : Case) (comes : Produces turns case old new reported) → AreSound (settings_for case) → EachRunSendsContents turns case old new reported comes
     by (Replays s lives) comes sound = c.replays_send_their_chunks.ensures All s turns lives reported sound comes.0
     by (Generates s lives) comes sound = c.replays_send_their_chunks.ensures Report s turns lives reported sound comes.0
-    by (Runs s ticks) (RanToEnd lived) sound = λ start last known along. c.flushes_send_their_chunks.ensures s (ends_of s) ticks turns start lived.did.entries _ last sound known lived.did.way along
-    by (Runs s ticks) (RanOutOfMemory begun none) sound = λ start last known along. c.flushes_send_their_chunks.ensures s (ends_of s) ticks turns start begun.1.entries begun.0 last sound known begun.1.way along
+    by (Runs s ticks) (RanToEnd lived) sound = λ start last known along. c.flushes_send_their_chunks.ensures s (ends_of s) ticks turns start lived.trace _ last sound known lived.way along
+    by (Runs s ticks) (RanOutOfMemory begun none) sound = λ start last known along. c.flushes_send_their_chunks.ensures s (ends_of s) ticks turns start begun.trace begun.left last sound known begun.way along
     by (Lists root) comes sound = tt
     by (Refuses other) comes sound = tt

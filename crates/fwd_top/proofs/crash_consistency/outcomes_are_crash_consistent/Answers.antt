@@ -13,12 +13,12 @@ returns c turns case old new reported comes sound = by case comes sound
     by (Replays s lives) comes sound = λ synced. c.no_crash_loses_a_chunk.ensures All s turns lives reported sound synced comes.0
     by (Generates s lives) comes sound = λ synced. c.no_crash_loses_a_chunk.ensures Report s turns lives reported sound synced comes.0
     by (Runs s ticks) (RanToEnd lived) sound = λ synced. record {
-      files = λ start fresh. c.crash_points_are_safe.ensures s (ends_of s) ticks turns start lived.did.entries _ sound synced fresh lived.did.way;
-      accepted = λ start fresh. c.accepted_batches_survive.ensures s (ends_of s) ticks turns start lived.did.entries _ sound synced fresh lived.did.way;
+      files = λ start fresh. c.crash_points_are_safe.ensures s (ends_of s) ticks turns start lived.trace _ sound synced fresh lived.way;
+      accepted = λ start fresh. c.accepted_batches_survive.ensures s (ends_of s) ticks turns start lived.trace _ sound synced fresh lived.way;
     }
     by (Runs s ticks) (RanOutOfMemory begun none) sound = λ synced. record {
-      files = λ start fresh. c.crash_points_are_safe.ensures s (ends_of s) ticks turns start begun.1.entries begun.0 sound synced fresh begun.1.way;
-      accepted = λ start fresh. c.accepted_batches_survive.ensures s (ends_of s) ticks turns start begun.1.entries begun.0 sound synced fresh begun.1.way;
+      files = λ start fresh. c.crash_points_are_safe.ensures s (ends_of s) ticks turns start begun.trace begun.left sound synced fresh begun.way;
+      accepted = λ start fresh. c.accepted_batches_survive.ensures s (ends_of s) ticks turns start begun.trace begun.left sound synced fresh begun.way;
     }
     by (Lists root) comes sound = tt
     by (Refuses other) comes sound = tt

@@ -5,18 +5,15 @@ use Rattle.fwd_top.specs.Outcomes.{Produces, world}
 use Rattle.fwd_top.specs.Cases.{Case, Replays, Generates, Runs, Lists, Refuses}
 use Rattle.fwd_top.specs.Delivery.{IsDelivered}
 use Rattle.fwd_top.proofs.Delivery.{each_keeps}
-use Rattle.fwd_top.proofs.RunLinks.{trace_delivered}
 use Rattle.fwd_top.proofs.guarantee.outcomes_are_delivered.Goals as goal
 
 pub returns : goal.returns
-returns c turns case old new reported comes new_links = by case comes
+returns c turns case old new reported comes = by case comes
   where
     by : (case : Case) (comes : Produces turns case old new reported) → IsDelivered turns case old new reported comes
     by (Replays s lives) comes = each_keeps c.all_runs_keep_the_guarantee.ensures.lives c.all_runs_keep_the_guarantee.ensures.cut All s turns first lives reported comes.0
     by (Generates s lives) comes = each_keeps c.all_runs_keep_the_guarantee.ensures.lives c.all_runs_keep_the_guarantee.ensures.cut Report s turns first lives reported comes.0
-    by (Runs s ticks) (RanToEnd lived) =
-        trace_delivered s old.loop new.loop lived.did.entries lived.did.asked.loop new_links
-        (c.all_runs_keep_the_guarantee.ensures.live s ticks turns (world old) (world new) reported lived)
+    by (Runs s ticks) (RanToEnd lived) = c.all_runs_keep_the_guarantee.ensures.live s ticks turns (world old) (world new) reported lived
     by (Runs s ticks) (RanOutOfMemory begun none) = tt
     by (Lists root) comes = tt
     by (Refuses other) comes = tt

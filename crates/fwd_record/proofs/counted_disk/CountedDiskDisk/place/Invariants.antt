@@ -1,0 +1,7 @@
+use Rattle.fwd_script_loop.specs.Place.{taken_answer}
+use Rattle.fwd_outside.specs.Program.{entry}
+use Rattle.fwd_outside.specs.Disk.{Place}
+use Rattle.fwd_record.proofs.counted_disk.CountedDiskDisk.place.Given as goal
+
+abbrev pub ghost-then : goal.ghost-then
+ghost-then g a = entry (Place a._note.now.0.now a._note.now.1.now) (taken_answer a._note.now.2)

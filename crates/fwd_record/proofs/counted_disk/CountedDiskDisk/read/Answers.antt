@@ -1,0 +1,15 @@
+use Rattle.std.proofs.Common.{ℕ, List, [], ◌∷◌, ◌++◌, Some, None, refl, ap, ◌∙◌}
+use Rattle.fwd_outside.specs.Disk.{Read}
+use Rattle.fwd_record.proofs.Failing.{call_counted, failure_counted}
+use Rattle.fwd_record.proofs.counted_disk.CountedDiskDisk.read.Goals as goal
+
+pub invariant_of-self-in-Ok : goal.invariant_of-self-in-Ok
+invariant_of-self-in-Ok g c =
+    call_counted c.self.invariant _ _ (Read c.args.name.now c.args.at c.args.len) (Some c.in-Ok.bytes) refl c.in-Ok.ensures.call_log
+    c.then-self-inside.ensures.1 c.saturating_add-self-inside.ensures c.reserve.ensures.same
+
+pub invariant_of-self-in-Err-Failed : goal.invariant_of-self-in-Err-Failed
+invariant_of-self-in-Err-Failed g c =
+    failure_counted c.self.invariant _ _ (Read c.args.name.now c.args.at c.args.len) None refl (rw c.in-Err-Failed.field-0-is at c.in-Err-Failed.ensures.call_log)
+    c.then-self-inside-in-Err-Failed.ensures.1 c.saturating_add-self-inside-in-Err-Failed.ensures
+    (c.push_reserved.ensures.items ∙ ap (λ (l : List ℕ). l ++ c.self.inside.next ∷ []) c.reserve.ensures.same)

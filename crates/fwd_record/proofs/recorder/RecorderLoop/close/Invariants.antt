@@ -1,0 +1,7 @@
+use Rattle.fwd_outside.specs.Program.{entry}
+use Rattle.fwd_outside.specs.Loop.{Close}
+use Rattle.fwd_record.specs.Seen.{Answered}
+use Rattle.fwd_record.proofs.recorder.RecorderLoop.close.Given as goal
+
+abbrev pub ghost-then : goal.ghost-then
+ghost-then g a = Answered (entry (Close (a._note.now).0) tt)

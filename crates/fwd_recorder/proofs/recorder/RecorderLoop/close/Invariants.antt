@@ -1,7 +1,0 @@
-use Rattle.fwd_outside.specs.Program.{entry}
-use Rattle.fwd_outside.specs.Loop.{Close}
-use Rattle.fwd_recorder.specs.Seen.{Answered}
-use Rattle.fwd_recorder.proofs.recorder.RecorderLoop.close.Given as goal
-
-abbrev pub ghost-then : goal.ghost-then
-ghost-then g a = Answered (entry (Close (a._note.now).0) tt)

@@ -1,7 +1,0 @@
-use Rattle.fwd_outside.specs.Program.{entry}
-use Rattle.fwd_outside.specs.Loop.{DropConn}
-use Rattle.fwd_recorder.specs.Seen.{Answered}
-use Rattle.fwd_recorder.proofs.recorder.RecorderLoop.drop_conn.Given as goal
-
-abbrev pub ghost-then : goal.ghost-then
-ghost-then g a = Answered (entry (DropConn (a._note.now).0) tt)
