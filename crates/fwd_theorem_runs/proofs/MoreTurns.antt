@@ -23,11 +23,11 @@ use Rattle.fwd_model.specs.Run.{End, RunResult, Over, KeeperFailed, TurnsSpent, 
 use Rattle.fwd_theorem_runs.proofs.Binding.{bind_twice, bind_same}
 
 -- what follows a run: more turns if its own were used up, else nothing
-abbrev continued_by : (History → Action RunResult) → History → End → Action RunResult
+abbrev pub continued_by : (History → Action RunResult) → History → End → Action RunResult
 continued_by next h TurnsSpent = next h
 continued_by next h end = Return (lived h end)
 
-abbrev continued : (History → Action RunResult) → RunResult → Action RunResult
+abbrev pub continued : (History → Action RunResult) → RunResult → Action RunResult
 continued next result = continued_by next result.history result.end
 
 ended_stays : (next : History → Action RunResult) (h : History) (end : End) → (end ≡ TurnsSpent → ⊥) → continued_by next h end ≡ Return (lived h end)
@@ -35,11 +35,11 @@ ended_stays next h TurnsSpent left = absurd (left refl)
 ended_stays next h end left = refl
 
 module _ (s : AllSettings) (ticks : Option ℕ) (more : ℕ) where
-  abbrev onward : RunResult → Action RunResult
+  abbrev pub onward : RunResult → Action RunResult
   onward = continued (run s ticks more)
 
   -- the first is the second, and then more turns if its own were used up
-  abbrev Continues : (History → Action RunResult) → (History → Action RunResult) → Type 0
+  abbrev pub Continues : (History → Action RunResult) → (History → Action RunResult) → Type 0
   Continues f g = (h : History) → f h ≡ bind (g h) onward
 
   -- ---- kept offsets
@@ -100,7 +100,7 @@ module _ (s : AllSettings) (ticks : Option ℕ) (more : ℕ) where
   brought_on f g h happening.Failed same = refl
   brought_on f g h x same = then_on (step s x h) (after_step s ticks f x) (after_step s ticks g x) (after_step_on f g x same)
 
-  run_on : (turns : ℕ) → Continues (run s ticks (turns + more)) (run s ticks turns)
+  pub run_on : (turns : ℕ) → Continues (run s ticks (turns + more)) (run s ticks turns)
   unfolding run
   run_on zero h = ap (λ (n : ℕ). run s ticks n h) (omega arith)
   run_on (suc turns) h =
@@ -123,7 +123,7 @@ module _ (s : AllSettings) (ticks : Option ℕ) (more : ℕ) where
   after_recovery_on ends turns (Some h) =
       gets_on (tracked s) (λ now. Return (lived now KeeperFailed)) (starts s ends ticks (turns + more)) (starts s ends ticks turns) (λ now. refl) (starts_on ends turns) h
 
-  life_on : (ends : Ends) (turns : ℕ) → life s ends ticks (turns + more) ≡ bind (life s ends ticks turns) onward
+  pub life_on : (ends : Ends) (turns : ℕ) → life s ends ticks (turns + more) ≡ bind (life s ends ticks turns) onward
   unfolding life
   life_on ends turns =
       bind_same (recovers s) (after_recovery s ends ticks (turns + more)) (λ (found : Option History). bind (after_recovery s ends ticks turns found) onward) (after_recovery_on ends turns)

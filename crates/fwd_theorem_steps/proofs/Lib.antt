@@ -1,0 +1,12 @@
+mod LatestTick
+mod RoutesByGlobs
+mod CompletedReads
+mod ConnectionBytes
+mod MadeBatches
+mod StepParts
+mod TickPolls
+mod EachFact
+mod SettledRoutes
+mod SentPayloads
+mod BrokenRuns
+mod TurnPuts
