@@ -13,13 +13,13 @@ use Rattle.fwd_theorem_crash.specs.CrashPoint.{CrashPoint, crash_point, Changes,
 use Rattle.fwd_theorem_content.specs.KnownNames.{NamesAreKnown}
 
 -- two states of a file that reads don't tell apart; the second has no file for certain only if the first has
-record ReadsAlike (real synced : FileState) : Type 0 where
-  bytes : synced.bytes ≡ real.bytes
-  there : synced.there ≡ real.there
-  stays : IsTrue synced.there → IsTrue synced.may_stay
-  none : synced ≡ absent → real ≡ absent
+pub record ReadsAlike (real synced : FileState) : Type 0 where
+  pub bytes : synced.bytes ≡ real.bytes
+  pub there : synced.there ≡ real.there
+  pub stays : IsTrue synced.there → IsTrue synced.may_stay
+  pub none : synced ≡ absent → real ≡ absent
 
-abbrev AllReadAlike : Files → Files → Type 0
+abbrev pub AllReadAlike : Files → Files → Type 0
 AllReadAlike real synced = (name : List ℕ) → ReadsAlike (real name) (synced name)
 
 not_absent : (file : FileState) → IsTrue file.there → file ≡ absent → ⊥
@@ -61,17 +61,17 @@ can_write real synced at same can = record { there = there_too real synced same 
 -- ---- one call
 
 -- the synced state of the file during and after a call, and it is alike
-record Goes (Act : FileState → FileState → FileState → Type 0) (synced new : FileState) : Type 0 where
-  inside : FileState
-  after : FileState
-  acts : Act synced inside after
-  alike : ReadsAlike new after
+pub record Goes (Act : FileState → FileState → FileState → Type 0) (synced new : FileState) : Type 0 where
+  pub inside : FileState
+  pub after : FileState
+  pub acts : Act synced inside after
+  pub alike : ReadsAlike new after
 
-goes_places : (bytes : List ℕ) (answer : Option (Unit {0})) (real during new synced : FileState) → ReadsAlike real synced → PlaceTransition bytes answer real during new → Goes (PlaceTransition bytes answer) synced new
+pub goes_places : (bytes : List ℕ) (answer : Option (Unit {0})) (real during new synced : FileState) → ReadsAlike real synced → PlaceTransition bytes answer real during new → Goes (PlaceTransition bytes answer) synced new
 goes_places bytes (Some done) real during new synced same steps = record { inside = during; after = new; acts = (steps.0, steps.1, λ is. steps.2 (same.none is)); alike = alike_itself new steps.1 }
 goes_places bytes None real during new synced same steps = record { inside = during; after = new; acts = (steps.0, steps.1, λ is. steps.2 (same.none is)); alike = alike_itself new steps.1 }
 
-goes_writes : (at : ℕ) (bytes : List ℕ) (answer : Option (Unit {0})) (real during new synced : FileState) → ReadsAlike real synced → WriteTransition at bytes answer real during new → Goes (WriteTransition at bytes answer) synced new
+pub goes_writes : (at : ℕ) (bytes : List ℕ) (answer : Option (Unit {0})) (real during new synced : FileState) → ReadsAlike real synced → WriteTransition at bytes answer real during new → Goes (WriteTransition at bytes answer) synced new
 goes_writes at bytes (Some done) real during new synced same steps = record {
   inside = after_write synced at (length bytes) bytes;
   after = after_write synced at (length bytes) bytes;
@@ -87,7 +87,7 @@ goes_writes at bytes None real during new synced same (inl steps) = record {
 goes_writes at bytes None real during new synced same (inr unchanged) =
     record { inside = synced; after = synced; acts = inr (refl, refl); alike = subst (λ (f : FileState). ReadsAlike f synced) (sym unchanged.1) same }
 
-goes_syncs : (answer : Option (Unit {0})) (real during new synced : FileState) → ReadsAlike real synced → SyncTransition answer real during new → Goes (SyncTransition answer) synced new
+pub goes_syncs : (answer : Option (Unit {0})) (real during new synced : FileState) → ReadsAlike real synced → SyncTransition answer real during new → Goes (SyncTransition answer) synced new
 goes_syncs (Some done) real during new synced same steps = record {
   inside = synced;
   after = whole synced.bytes;
@@ -96,7 +96,7 @@ goes_syncs (Some done) real during new synced same steps = record {
 }
 goes_syncs None real during new synced same unchanged = record { inside = synced; after = synced; acts = (refl, refl); alike = subst (λ (f : FileState). ReadsAlike f synced) (sym unchanged.1) same }
 
-goes_removes : (answer : Option (Unit {0})) (real during new synced : FileState) → ReadsAlike real synced → RemoveTransition answer real during new → Goes (RemoveTransition answer) synced new
+pub goes_removes : (answer : Option (Unit {0})) (real during new synced : FileState) → ReadsAlike real synced → RemoveTransition answer real during new → Goes (RemoveTransition answer) synced new
 goes_removes (Some done) real during new synced same steps = record {
   inside = or_absent synced true;
   after = absent;
@@ -112,7 +112,7 @@ goes_removes None real during new synced same (inl steps) = record {
 goes_removes None real during new synced same (inr unchanged) =
     record { inside = synced; after = synced; acts = inr (refl, refl); alike = subst (λ (f : FileState). ReadsAlike f synced) (sym unchanged.1) same }
 
-goes_reads : (at len : ℕ) (answer : Option (List ℕ)) (real synced : FileState) → ReadsAlike real synced → ReadAnswer at len answer real → ReadAnswer at len answer synced
+pub goes_reads : (at len : ℕ) (answer : Option (List ℕ)) (real synced : FileState) → ReadsAlike real synced → ReadAnswer at len answer real → ReadAnswer at len answer synced
 goes_reads at len (Some bytes) real synced same read = (there_too real synced same read.0, read.1 ∙ ap (λ (l : List ℕ). take len (drop at l)) (sym same.bytes))
 goes_reads at len None real synced same read = tt
 
@@ -126,14 +126,14 @@ goes_lists folder (Some names) real synced same lists = record {
 
 -- ---- all files
 
-put : List ℕ → FileState → Files → Files
+pub put : List ℕ → FileState → Files → Files
 put name file files n = if bytes_eq n name then file else files n
 
-put_here : (name : List ℕ) (file : FileState) (files : Files) → put name file files name ≡ file
+pub put_here : (name : List ℕ) (file : FileState) (files : Files) → put name file files name ≡ file
 unfolding put
 put_here name file files = ap (λ (b : Bool). if b then file else files name) ((bytes_eq-Decides name name).1 refl)
 
-put_beside : (name : List ℕ) (file : FileState) (files : Files) (n : List ℕ) → n ≢ name → put name file files n ≡ files n
+pub put_beside : (name : List ℕ) (file : FileState) (files : Files) (n : List ℕ) → n ≢ name → put name file files n ≡ files n
 unfolding put
 put_beside name file files n ne = by (bytes_eq n name) refl
   where
@@ -223,13 +223,13 @@ follows (e ∷ es) m last synced same along =
 
 -- ---- the files as reads return them, without unsynced state
 
-synced_state : FileState → FileState
+pub synced_state : FileState → FileState
 synced_state file = if file.there then whole file.bytes else absent
 
 pub synced_files : Files → Files
 synced_files files name = synced_state (files name)
 
-state_alike : (file : FileState) → (file ≡ absent) ⊎ IsTrue file.there → ReadsAlike file (synced_state file)
+pub state_alike : (file : FileState) → (file ≡ absent) ⊎ IsTrue file.there → ReadsAlike file (synced_state file)
 unfolding synced_state
 state_alike file (inl is) = subst (λ (f : FileState). ReadsAlike f (if f.there then whole f.bytes else absent)) (sym is) alike_absent
 state_alike file (inr there) =

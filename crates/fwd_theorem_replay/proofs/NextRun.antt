@@ -1,6 +1,8 @@
 -- The run after a crash recovers all that the one before had.
 use Rattle.std.proofs.Common.{◌≡◌, ℕ, ◌-◌, ◌%◌, true, List, [], ◌∷◌, ◌++◌, map, Option, sym, ◌∙◌, ap, subst}
+use Rattle.std.specs.Prelude.{All}
 use Rattle.std.proofs.lemmas.List.{append-nil}
+use Rattle.std.proofs.lemmas.List.Elements.{All-head, All-tail}
 use Rattle.fwd_outside.specs.AtCrashPoints.{Ends}
 use Rattle.fwd_outside.specs.Disk.{DiskEntry}
 use Rattle.fwd_outside.specs.File.{IsPostCrash, content}
@@ -29,10 +31,20 @@ use Rattle.fwd_replay.specs.declared.report.Shown.{Shown}
 use Rattle.fwd_secure.specs.Handshakes.{no_handshakes}
 use Rattle.fwd_replay.proofs.TurnCalls.{disk_same}
 use Rattle.fwd_theorem_replay.specs.Crashes.{RecoversAll, LosesNothing, NextLosesNothing, NothingIsLost}
+use Rattle.fwd_theorem_replay.specs.PresetFiles.{OnlyFirstHasFiles}
 use Rattle.fwd_theorem_replay.proofs.Entries.{AreNaming, played_naming, naming_first, ends_between}
 use Rattle.fwd_theorem_replay.proofs.PresetDisk.{AreSettings, set_presets, fresh_files, run_both, fails_change_nothing, disk_ends}
 use Rattle.fwd_theorem_replay.proofs.DiskPoints.{passes_along}
 use Rattle.fwd_theorem_replay.proofs.CutRun.{same_disk, set_disk, told_then, safe_then}
+
+-- a run that puts no file on its disk
+abbrev Bare : Life → Type 0
+Bare planned = planned.store ≡ []
+
+-- if none of these runs puts files on its disk, none but the first does
+later_bare : (lives : List Life) → All Bare lives → OnlyFirstHasFiles lives
+later_bare [] bare = tt
+later_bare (one ∷ more) bare = All-tail Bare one more bare
 
 -- if no file is put on the disk, a run begins with the existing files
 same_files : (start : Start) (planned : Life) → planned.store ≡ [] → (name : List ℕ) → files_of (disk_of start planned) name ≡ files_of start.disk name
@@ -84,23 +96,23 @@ module _ (s : AllSettings) (settings : MeetsRequirements s) (full : s.service.fu
         found_again s (files_of (disk_of start planned)) now (crash_point (past_after [] loaded.loading) loads.last) image loaded.loading h chunk safe
         (fresh_files (disk_of c.next next) (set_disk c.next next set_next)) (left_there next none) loaded.way loads.ends has owes home)
 
-    next_loses : (shown : Shown) (turns_left : ℕ) (lives : List Life) (reported : Reported) (is : IsReplayed shown s turns_left c.next lives reported) → NextLosesNothing shown s turns_left c lives reported is
-    next_loses shown turns_left [] reported is = tt
-    next_loses shown turns_left (next ∷ lives) reported (Ended ends) =
-        λ none. finds next ends.trace ends.is.below ends.is.asked ends.is.answered (disk_same s no_handshakes ends.is.handshakes ends.trace ends.is.below ends.is.secured) none
-    next_loses shown turns_left (next ∷ lives) reported (WasCut again cut_again rest more joins) =
-        λ none. finds next (again.before ++ again.turn) (again.below ++ again.below_in) (again.asked ++ again.asked_in) cut_again.answered (same_disk s turns_left c.next next again cut_again) none
-    next_loses shown turns_left (next ∷ lives) reported (OutOfMemory none) = tt
+    next_loses : (shown : Shown) (turns_left : ℕ) (lives : List Life) (reported : Reported) → All Bare lives → (is : IsReplayed shown s turns_left c.next lives reported) → NextLosesNothing shown s turns_left c lives reported is
+    next_loses shown turns_left [] reported bare is = tt
+    next_loses shown turns_left (next ∷ lives) reported bare (Ended ends) =
+        finds next ends.trace ends.is.below ends.is.asked ends.is.answered (disk_same s no_handshakes ends.is.handshakes ends.trace ends.is.below ends.is.secured) (All-head Bare next lives bare)
+    next_loses shown turns_left (next ∷ lives) reported bare (WasCut again cut_again rest more joins) =
+        finds next (again.before ++ again.turn) (again.below ++ again.below_in) (again.asked ++ again.asked_in) cut_again.answered (same_disk s turns_left c.next next again cut_again) (All-head Bare next lives bare)
+    next_loses shown turns_left (next ∷ lives) reported bare (OutOfMemory none) = tt
 
-  none_lost_from : (shown : Shown) (turns : ℕ) (start : Start) → AreSettings start.disk → (lives : List Life) (reported : Reported) (is : IsReplayed shown s turns start lives reported) → NothingIsLost shown s turns start lives reported is
-  none_lost_from shown turns start set [] reported is = tt
-  none_lost_from shown turns start set (planned ∷ lives) reported (Ended ends) = tt
-  none_lost_from shown turns start set (planned ∷ lives) reported (WasCut c cut rest more joins) =
+  none_lost_from : (shown : Shown) (turns : ℕ) (start : Start) → AreSettings start.disk → (lives : List Life) (reported : Reported) → OnlyFirstHasFiles lives → (is : IsReplayed shown s turns start lives reported) → NothingIsLost shown s turns start lives reported is
+  none_lost_from shown turns start set [] reported later is = tt
+  none_lost_from shown turns start set (planned ∷ lives) reported later (Ended ends) = tt
+  none_lost_from shown turns start set (planned ∷ lives) reported later (WasCut c cut rest more joins) =
       let left = turns - waits_in (c.before ++ c.turn) in (
-        next_loses turns start planned c cut set shown left lives rest more,
-        none_lost_from shown left c.next (set_next turns start planned c cut set) lives rest more,
+        next_loses turns start planned c cut set shown left lives rest later more,
+        none_lost_from shown left c.next (set_next turns start planned c cut set) lives rest (later_bare lives later) more,
       )
-  none_lost_from shown turns start set (planned ∷ lives) reported (OutOfMemory none) = tt
+  none_lost_from shown turns start set (planned ∷ lives) reported later (OutOfMemory none) = tt
 
-  pub none_lost : (shown : Shown) (turns : ℕ) (lives : List Life) (reported : Reported) (is : IsReplayed shown s turns first lives reported) → NothingIsLost shown s turns first lives reported is
-  none_lost shown turns lives reported is = none_lost_from shown turns first tt lives reported is
+  pub none_lost : (shown : Shown) (turns : ℕ) (lives : List Life) (reported : Reported) → OnlyFirstHasFiles lives → (is : IsReplayed shown s turns first lives reported) → NothingIsLost shown s turns first lives reported is
+  none_lost shown turns lives reported later is = none_lost_from shown turns first tt lives reported later is

@@ -47,11 +47,9 @@ LosesNothing s c next =
 abbrev pub NextLosesNothing : (shown : Shown) (s : AllSettings) (turns : ℕ) (c : CutRun) (lives : List Life)
     (reported : Reported) → IsReplayed shown s turns c.next lives reported → Type 0
 NextLosesNothing shown s turns c [] reported is = Unit {0}
-NextLosesNothing shown s turns c (planned ∷ lives) reported (Ended ends) =
-    planned.store ≡ [] → LosesNothing s c ends.trace
-NextLosesNothing shown s turns c (planned ∷ lives) reported
-    (WasCut again is rest more joins) =
-    planned.store ≡ [] → LosesNothing s c (again.before ++ again.turn)
+NextLosesNothing shown s turns c (planned ∷ lives) reported (Ended ends) = LosesNothing s c ends.trace
+NextLosesNothing shown s turns c (planned ∷ lives) reported (WasCut again is rest more joins) =
+    LosesNothing s c (again.before ++ again.turn)
 NextLosesNothing shown s turns c (planned ∷ lives) reported (OutOfMemory none) = Unit {0}
 
 -- at each crash between the runs of a replay

@@ -14,10 +14,11 @@ ghost use Rattle.fwd_theorem_replay.specs.PresetFiles.{OnlyFirstHasFiles};
 /// run recovers each pending file-backed chunk of the history at the crash: it is whole, pending for each
 /// output that it was pending for, and not for one whose outcome was recorded. This holds wherever in the
 /// run the crash came, even inside an append or a removal, and whatever the crash's pick leaves of the
-/// disk.
+/// disk. Only the first run may put files on its disk, as in each schedule that is read
+/// (`only_first_run_has_files`).
 pub fn no_crash_loses_a_chunk()
     ensures { (shown : Shown) (s : AllSettings) (turns : ℕ) (lives : List Life) (reported : Reported) → MeetsRequirements s → s.service.full ≡ true
-        → (is : IsReplayed shown s turns first lives reported) → NothingIsLost shown s turns first lives reported is }
+        → OnlyFirstHasFiles lives → (is : IsReplayed shown s turns first lives reported) → NothingIsLost shown s turns first lives reported is }
 {}
 
 /// In each schedule that is read, only the first run puts files on its disk: each later run begins with

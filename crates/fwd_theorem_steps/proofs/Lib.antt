@@ -10,3 +10,4 @@ mod SettledRoutes
 mod SentPayloads
 mod BrokenRuns
 mod TurnPuts
+mod RunEnds

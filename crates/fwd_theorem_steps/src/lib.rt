@@ -22,4 +22,4 @@ pub use streams::{
     connections_hold_what_came, reads_complete_the_rest, standard_inputs_hold_what_came,
 };
 pub use ticks::{events_end_with_a_dispatch, ticks_poll_followed_files};
-pub use turns::{broken_runs_keep_the_guarantee, runs_come_by_turns};
+pub use turns::{broken_runs_keep_the_guarantee, runs_come_by_turns, runs_end_for_a_cause};

@@ -1,7 +1,7 @@
-//! The turns of a run that was broken off, as where memory ran out.
+//! The turns of a run, whether it came to its end or was broken off, as where memory ran out.
 
 ghost use Rattle.std.specs.Prelude.{◌≡◌, ◌⊎◌, ◌≤◌, ◌++◌, ℕ, List, [], Option};
-ghost use Rattle.fwd_outside.specs.Program.{Execution};
+ghost use Rattle.fwd_outside.specs.Program.{Return, Execution};
 ghost use Rattle.fwd_outside.specs.NewLinks.{AreNewLinks};
 ghost use Rattle.fwd_outside.specs.declared.ends.Ends.{Ends};
 ghost use Rattle.fwd_settings.specs.declared.settings_types.AllSettings.{AllSettings};
@@ -9,7 +9,7 @@ ghost use Rattle.fwd_model.specs.Trace.{Action, TraceEntry, loop_part};
 ghost use Rattle.fwd_model.specs.Run.{RunResult, life};
 ghost use Rattle.fwd_theorem_trace.specs.Waits.{waits_in};
 ghost use Rattle.fwd_theorem_delivery.specs.Guarantee.{KeepsGuarantee};
-ghost use Rattle.fwd_theorem_steps.specs.Turns.{HasTurns};
+ghost use Rattle.fwd_theorem_steps.specs.Turns.{EndsForCause, HasTurns};
 
 use fwd_theorem_delivery::runs_keep_the_guarantee;
 
@@ -30,3 +30,11 @@ pub fn broken_runs_keep_the_guarantee()
 {
     runs_keep_the_guarantee();
 }
+
+/// A run's turns are used up only once it waited so many times. It ends because the loop failed only if its last call
+/// was a start that failed, or a wait that returned `Failed`; and because the disk failed only if loading did, and then
+/// it made no further call. For the other ends see `runs_end_when_due` and `failed_gets_end_runs`.
+pub fn runs_end_for_a_cause()
+    ensures { (s : AllSettings) (ends : Ends) (ticks : Option ℕ) (turns : ℕ) (lived : RunResult) (entries : List TraceEntry)
+        → Execution (life s ends ticks turns) entries (Return lived) → EndsForCause s turns entries lived }
+{}

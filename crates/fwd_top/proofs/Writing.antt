@@ -16,7 +16,8 @@ use Rattle.fwd_replay.specs.LiveRun.{events_below, heard_in}
 use Rattle.fwd_replay.specs.declared.report.Ending.{Ending}
 use Rattle.fwd_replay.specs.declared.report.Ending.TheVariants as ending
 use Rattle.fwd_replay.specs.declared.report.Reported.{Reported}
-use Rattle.fwd_top.specs.Cases.{AreSound, Case, Generates, Lists, Refuses, Replays, Runs, settings_for}
+use Rattle.fwd_theorem_replay.specs.PresetFiles.{OnlyFirstHasFiles}
+use Rattle.fwd_top.specs.Cases.{AreSound, Case, Generates, Lists, Refuses, Replays, Runs, lives_of, settings_for}
 use Rattle.fwd_top.specs.Outcomes.{Platform, platform_of, AreNotCalled, Produces}
 use Rattle.fwd_top.specs.Delivery.{IsDelivered}
 use Rattle.fwd_top.specs.CrashConsistency.{IsCrashConsistent}
@@ -35,11 +36,11 @@ still o = record { disk = grew_none o.disk; files = grew_none o.files; loop = gr
 
 -- what holds of each outcome holds of this one
 pub outcome_of : ((turns : ℕ) (case : Case) (old new : Platform) (r : Reported) (comes : Produces turns case old new r) → IsDelivered turns case old new r comes)
-    → ((turns : ℕ) (case : Case) (old new : Platform) (r : Reported) (comes : Produces turns case old new r) → AreSound (settings_for case) → IsCrashConsistent turns case old new r comes)
+    → ((turns : ℕ) (case : Case) (old new : Platform) (r : Reported) (comes : Produces turns case old new r) → AreSound (settings_for case) → OnlyFirstHasFiles (lives_of case) → IsCrashConsistent turns case old new r comes)
     → ((turns : ℕ) (case : Case) (old new : Platform) (r : Reported) (comes : Produces turns case old new r) → EachRunKeepsOffsets turns case old new r comes)
     → ((turns : ℕ) (case : Case) (old new : Platform) (r : Reported) (comes : Produces turns case old new r) → AreSound (settings_for case) → EachRunSendsContents turns case old new r comes)
-    → (turns : ℕ) (case : Case) (old new : Platform) (r : Reported) → AreSound (settings_for case) → Produces turns case old new r → Outcome turns case old new r
-outcome_of delivers stands keeps sends turns case old new r sound comes = record { comes = comes; sound = sound; delivered = delivers turns case old new r comes; safe = stands turns case old new r comes sound; offsets = keeps turns case old new r comes; contents = sends turns case old new r comes sound }
+    → (turns : ℕ) (case : Case) (old new : Platform) (r : Reported) → AreSound (settings_for case) → OnlyFirstHasFiles (lives_of case) → Produces turns case old new r → Outcome turns case old new r
+outcome_of delivers stands keeps sends turns case old new r sound later comes = record { comes = comes; sound = sound; delivered = delivers turns case old new r comes; safe = stands turns case old new r comes sound later; offsets = keeps turns case old new r comes; contents = sends turns case old new r comes sound }
 
 -- ---- calls and written text
 

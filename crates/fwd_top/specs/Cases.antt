@@ -43,6 +43,14 @@ settings_for (Runs s ticks) = Some s
 settings_for (Lists root) = None
 settings_for (Refuses other) = None
 
+-- the runs that a case replays
+abbrev pub lives_of : Case → List Life
+lives_of (Replays s lives) = lives
+lives_of (Generates s lives) = lives
+lives_of (Runs s ticks) = []
+lives_of (Lists root) = []
+lives_of (Refuses other) = []
+
 -- they meet what an engine requires
 abbrev pub AreSound : Option AllSettings → Type 0
 AreSound (Some s) = MeetsRequirements s

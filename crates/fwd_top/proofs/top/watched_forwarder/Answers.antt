@@ -2,6 +2,7 @@ use Rattle.fwd_outside.proofs.LogGrowth.{grew_none}
 use Rattle.fwd_config.specs.Variables.{environment}
 use Rattle.fwd_top.specs.Results.{of_job}
 use Rattle.fwd_top.proofs.Writing.{done, done_heard, done_keeper_cause, done_loop_cause, done_disk_cause, no_file_fault, outcome_of, refused, refused_heard, refused_keeper, refused_loop, refused_disk, refused_out, no_cause, goes_later}
+use Rattle.fwd_top.proofs.AskedRuns.{asked_runs}
 use Rattle.fwd_top.proofs.GivenFiles.{done_files, refused_files, no_refusal}
 use Rattle.fwd_top.proofs.top.watched_forwarder.Goals as goal
 
@@ -10,12 +11,14 @@ use Rattle.fwd_top.proofs.top.watched_forwarder.Goals as goal
 pub returns-in-Ok-clause-answers : goal.returns-in-Ok-clause-answers
 returns-in-Ok-clause-answers g c =
     done c.args.words.now (environment c.args.env.now) c.args.turns _ _ (of_job c.in-Ok.job) _ c.run_job-reported.result c.write_outcome.result c.in-Ok.ensures.asks
-    (outcome_of c.outcomes_are_delivered.ensures c.outcomes_are_crash_consistent.ensures c.outcomes_keep_offsets.ensures c.outcomes_send_contents.ensures c.args.turns (of_job c.in-Ok.job) _ _ c.run_job-reported.result c.in-Ok.ensures.sound c.run_job-reported.ensures.comes) c.write_outcome.ensures.tells
+    (outcome_of c.outcomes_are_delivered.ensures c.outcomes_are_crash_consistent.ensures c.outcomes_keep_offsets.ensures c.outcomes_send_contents.ensures c.args.turns (of_job c.in-Ok.job) _ _ c.run_job-reported.result c.in-Ok.ensures.sound
+    (asked_runs c.args.words.now (environment c.args.env.now) _ _ (of_job c.in-Ok.job) c.in-Ok.ensures.asks) c.run_job-reported.ensures.comes) c.write_outcome.ensures.tells
 
 pub returns-in-Ok-clause-text : goal.returns-in-Ok-clause-text
 returns-in-Ok-clause-text g c =
     done_files c.args.words.now (environment c.args.env.now) c.args.turns _ _ (of_job c.in-Ok.job) _ c.run_job-reported.result c.write_outcome.result (no_refusal c.in-Ok.job) c.in-Ok.ensures.asks
-    (outcome_of c.outcomes_are_delivered.ensures c.outcomes_are_crash_consistent.ensures c.outcomes_keep_offsets.ensures c.outcomes_send_contents.ensures c.args.turns (of_job c.in-Ok.job) _ _ c.run_job-reported.result c.in-Ok.ensures.sound c.run_job-reported.ensures.comes) c.write_outcome.ensures.tells
+    (outcome_of c.outcomes_are_delivered.ensures c.outcomes_are_crash_consistent.ensures c.outcomes_keep_offsets.ensures c.outcomes_send_contents.ensures c.args.turns (of_job c.in-Ok.job) _ _ c.run_job-reported.result c.in-Ok.ensures.sound
+    (asked_runs c.args.words.now (environment c.args.env.now) _ _ (of_job c.in-Ok.job) c.in-Ok.ensures.asks) c.run_job-reported.ensures.comes) c.write_outcome.ensures.tells
 
 pub returns-in-Ok-clause-file_cause : goal.returns-in-Ok-clause-file_cause
 returns-in-Ok-clause-file_cause g c = goes_later c.in-Ok.ensures.cause.later c.run_job-reported.ensures.files_later (no_file_fault c.run_job-reported.result _ _ c.write_outcome.result c.write_outcome.ensures.tells)
