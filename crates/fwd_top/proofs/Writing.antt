@@ -1,6 +1,6 @@
 -- Calls and written text, by status.
 use Rattle.std.specs.Prelude.{◌≢◌}
-use Rattle.std.proofs.Common.{◌≡◌, ℕ, ◌+◌, ◌/◌, ◌≤◌, Bool, true, false, if◌then◌else◌, List, [], map, String, string_bytes, Some, refl, sym, ◌∙◌, arith}
+use Rattle.std.proofs.Common.{◌≡◌, ℕ, ◌+◌, ◌/◌, ◌≤◌, Bool, true, false, if◌then◌else◌, List, [], map, String, string_bytes, Some, refl, sym, ◌∙◌, arith, subst}
 use Rattle.fwd_settings.specs.declared.settings_types.AllSettings.{AllSettings}
 use Rattle.fwd_outside.specs.Log.{LogGrew}
 use Rattle.fwd_outside.specs.Cause.{HasCause}
@@ -23,8 +23,8 @@ use Rattle.fwd_top.specs.Delivery.{IsDelivered}
 use Rattle.fwd_top.specs.CrashConsistency.{IsCrashConsistent}
 use Rattle.fwd_top.specs.Offsets.{EachRunKeepsOffsets}
 use Rattle.fwd_top.specs.Contents.{EachRunSendsContents}
-use Rattle.fwd_top.specs.Answers.{Verdict, says, status_of, of_reported, Outcome, IsVerdict, Devices, Asks, Comes, Wrote, WhileAsking, InTheJob, WhileWriting, Answers, half, is_over_disk, is_run, IsKeeperFault, IsLoopFault, IsDiskFault, spent, spent_by}
-use Rattle.fwd_top.specs.Results.{HasDiskFailed, HasKeeperFailed, HasLoopFailed, IsRefusal, WritesVerdict, WritesSo, WroteTheText, OutFailed, NoMemory, given_by, is_to_run, takes_disk, unless_memory}
+use Rattle.fwd_top.specs.Answers.{Verdict, says, status_of, of_reported, Outcome, IsVerdict, Devices, Asks, Comes, Wrote, WhileAsking, InTheJob, WhileWriting, Answers, half, is_over_disk, is_run, IsKeeperFault, IsLoopFault, IsDiskFault, least_heard, spent, spent_by}
+use Rattle.fwd_top.specs.Results.{of_job, HasDiskFailed, HasKeeperFailed, HasLoopFailed, IsRefusal, WritesVerdict, WritesSo, WroteTheText, OutFailed, NoMemory, given_by, is_to_run, takes_disk, unless_memory}
 use Rattle.fwd_top.specs.Words.{command_of}
 use Rattle.fwd_top.specs.declared.job.Job.{Job}
 use Rattle.fwd_top.specs.declared.job.Job.TheVariants as job
@@ -124,6 +124,15 @@ spent_unrun : (turns : ℕ) (result : Status) → spent_by result false turns �
 spent_unrun turns status.TurnsSpent = refl
 spent_unrun turns result = refl
 
+turns_spent : (end : Ending) → status_of end ≡ status.TurnsSpent → end ≡ ending.TurnsSpent
+turns_spent ending.TurnsSpent is = refl
+turns_spent end is = absurd (cc is)
+
+ended_spent : (text : List ℕ) (end : Ending) (a b : SinkLog) (result : Status) → WritesSo a b text (status_of end) result → result ≡ status.TurnsSpent → end ≡ ending.TurnsSpent
+ended_spent text end a b result (WroteTheText same wrote) spends = turns_spent end (sym same ∙ spends)
+ended_spent text end a b result (OutFailed same wrote) spends = absurd (cc (sym same ∙ spends))
+ended_spent text end a b result (NoMemory same wrote) spends = absurd (cc (sym same ∙ spends))
+
 half_least : (n : ℕ) (keyed : Bool) → half n ≤ (if keyed then (n + 1) / 2 else n)
 half_least n true = omega arith
 half_least n false = omega arith
@@ -160,6 +169,18 @@ module _ {Y : Type 0} (words : List (String Y)) (turns : ℕ) (before after : Lo
   done_heard (job.Replay s schedule) r a b result run tells heard = unspent 0 result (rw run (spent_unrun turns result)) heard
   done_heard (job.Generate s schedule) r a b result run tells heard = unspent 0 result (rw run (spent_unrun turns result)) heard
   done_heard (job.List folder) r a b result run tells heard = unspent 0 result (rw run (spent_unrun turns result)) heard
+
+  -- the loop of a job whose turns were spent
+  pub done_spent : (j : Job) (r : Reported) (a b : SinkLog) (result : Status) → WritesVerdict a b (of_reported r) result → EventsTaken (given_by j turns r) before after → result ≡ status.TurnsSpent → EventsTaken (least_heard (of_job j) turns) before after
+  done_spent (job.Run s ticks) r a b result tells heard spends =
+      subst (λ (e : Ending). EventsTaken (events_below s (heard_in turns e)) before after) (ended_spent r.text r.ending a b result tells spends) heard
+  done_spent (job.Replay s schedule) r a b result tells heard spends = heard
+  done_spent (job.Generate s schedule) r a b result tells heard spends = heard
+  done_spent (job.List folder) r a b result tells heard spends = heard
+
+pub refused_spent : (result : Status) → IsRefusal result → result ≡ status.TurnsSpent → ⊥
+refused_spent status.TurnsSpent is same = is
+refused_spent result is same = absurd (cc same)
 
 -- there was nothing to do
 pub refused_heard : {Y : Type 0} (words : List (String Y)) (turns : ℕ) (a : LoopCounts) (result : Status) → IsRefusal result → EventsTaken (half (spent words turns result)) a a

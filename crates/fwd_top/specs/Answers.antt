@@ -4,7 +4,7 @@ use Rattle.fwd_outside.specs.Program.{entry}
 use Rattle.fwd_outside.specs.Log.{LogGrew, RunsProgram}
 use Rattle.fwd_outside.specs.Disk.{DiskLog}
 use Rattle.fwd_outside.specs.Files.{FilesLog, FilesGiven, FilesEntry, IsConsistentLog, found, files_after_all}
-use Rattle.fwd_outside.specs.Loop.{LoopLog}
+use Rattle.fwd_outside.specs.Loop.{LoopCounts, LoopLog}
 use Rattle.fwd_outside.specs.Sink.{SinkLog, Write, Wrote as WroteAll, log_of_stopped}
 use Rattle.fwd_keeper.specs.Keeper.{KeeperLog}
 use Rattle.fwd_config.specs.Variables.{Values}
@@ -12,11 +12,13 @@ use Rattle.fwd_config.specs.Sections.{reads_files, given}
 use Rattle.fwd_config.specs.declared.section.Section.{Section}
 use Rattle.fwd_settings.specs.Reading.{Checked}
 use Rattle.fwd_settings.specs.declared.settings_types.AllSettings.{AllSettings}
+use Rattle.fwd_engine_state.specs.LoopCounters.{EventsTaken}
+use Rattle.fwd_replay.specs.LiveRun.{events_below}
 use Rattle.fwd_replay.specs.declared.report.Ending.{Ending}
 use Rattle.fwd_replay.specs.declared.report.Ending.TheVariants as ending
 use Rattle.fwd_replay.specs.declared.report.Reported.{Reported}
 use Rattle.fwd_top.specs.Words.{Command, Run, ListFolder, command_of}
-use Rattle.fwd_top.specs.Cases.{AreSound, Case, Refuses, asked, asks, AreSettingsOf, settings_for}
+use Rattle.fwd_top.specs.Cases.{AreSound, Case, Refuses, Runs, asked, asks, AreSettingsOf, settings_for}
 use Rattle.fwd_top.specs.declared.status.Status.{Status}
 use Rattle.fwd_top.specs.declared.status.Status.TheVariants as status
 use Rattle.fwd_top.specs.Outcomes.{Platform, platform_of, AreNotCalled, Produces}
@@ -192,3 +194,17 @@ spent words turns result = spent_by result (is_run (command_of (map string_bytes
 -- half of so many, rounded up
 abbrev pub half : ℕ → ℕ
 half n = (n + 1) / 2
+
+-- The least number of events that the loop of a case returned, if so many turns were spent: as many, or with a key
+-- half as many, since one event becomes at most two.
+abbrev pub least_heard : Case → ℕ → ℕ
+least_heard (Runs s ticks) turns = events_below s turns
+least_heard other turns = 0
+
+-- the case that was asked for, and the events that its loop returned
+pub record SpendsTurns {Y : Type 0} (words : List (String Y)) (env : Values) (turns : ℕ) (old : FilesLog)
+    (before after : LoopCounts) : Type 0 where
+  pub case : Case
+  pub read : FilesLog
+  pub asks : Asks words env old read (Some case)
+  pub heard : EventsTaken (least_heard case turns) before after

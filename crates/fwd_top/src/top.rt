@@ -4,7 +4,7 @@ ghost use Rattle.std.specs.Prelude.{◌≡◌, ◌≤◌, IsErrOf};
 ghost use Rattle.fwd_outside.specs.Cause.{HasCause};
 ghost use Rattle.fwd_config.specs.Variables.{environment};
 ghost use Rattle.fwd_engine_state.specs.LoopCounters.{EventsTaken};
-ghost use Rattle.fwd_top.specs.Answers.{Answers, IsDiskFault, IsKeeperFault, IsLoopFault, IsOfTheFiles, devices, half, of_reported, spent, status_of};
+ghost use Rattle.fwd_top.specs.Answers.{Answers, IsDiskFault, IsKeeperFault, IsLoopFault, IsOfTheFiles, SpendsTurns, devices, half, of_reported, spent, status_of};
 ghost use Rattle.fwd_top.specs.Cases.{AreSound};
 ghost use Rattle.fwd_top.specs.Outcomes.{IsListed, Produces, platform_of};
 ghost use Rattle.fwd_replay.specs.declared.report.Ending.TheVariants as ending;
@@ -149,6 +149,7 @@ pub fn watched_forwarder<D: Disk, F: Files, L: Loop, K: Keeper, S: Sink>(
     ensures keeper_cause { HasCause (K.faults keeper.old) (K.faults keeper.new) (IsKeeperFault words.now result) }
     ensures loop_cause { HasCause (L.faults outside.old) (L.faults outside.new) (IsLoopFault words.now result) }
     ensures heard { EventsTaken (half (spent words.now turns result)) (L.counts outside.old) (L.counts outside.new) }
+    ensures turns { result ≡ Status.TurnsSpent → SpendsTurns words.now (environment env.now) turns (F.call_log files.old) (L.counts outside.old) (L.counts outside.new) }
     ensures out_cause { HasCause (S.faults out.old) (S.faults out.new) (result ≡ Status.OutFault) }
 {
     outcomes_are_delivered();
@@ -211,12 +212,13 @@ pub fn log_forwarder<D: Disk, F: Files, L: Loop, K: Keeper, S: Sink>(
     ensures text { IsOfTheFiles words.now (environment env.now) turns (devices (D.call_log disk.old) (F.call_log files.old) (L.call_log outside.old) (K.call_log keeper.old) (S.call_log out.old)) (devices (D.call_log disk.new) (F.call_log files.new) (L.call_log outside.new) (K.call_log keeper.new) (S.call_log out.new)) result }
     ensures file_cause { HasCause (F.faults files.old) (F.faults files.new) (result ≡ Status.FileFault) }
     // A run answers `DiskFault`, `KeeperFault` or `LoopFault` only if a failure of its disk, its keeper or
-    // its loop was counted, and `TurnsSpent` only if the loop returned half as many events at least (as many, if no
-    // input and no output has a key: an event of a keyed one becomes two at most); a listing answers `DiskFault` only if a failure of the disk was counted.
+    // its loop was counted, and `TurnsSpent` only if the loop returned half as many events at least, or as many if no
+    // input and no output has a key (`turns`): an event of a keyed one becomes two at most; a listing answers `DiskFault` only if a failure of the disk was counted.
     ensures disk_cause { HasCause (D.faults disk.old) (D.faults disk.new) (IsDiskFault words.now result) }
     ensures keeper_cause { HasCause (K.faults keeper.old) (K.faults keeper.new) (IsKeeperFault words.now result) }
     ensures loop_cause { HasCause (L.faults outside.old) (L.faults outside.new) (IsLoopFault words.now result) }
     ensures heard { EventsTaken (half (spent words.now turns result)) (L.counts outside.old) (L.counts outside.new) }
+    ensures turns { result ≡ Status.TurnsSpent → SpendsTurns words.now (environment env.now) turns (F.call_log files.old) (L.counts outside.old) (L.counts outside.new) }
     ensures out_cause { HasCause (S.faults out.old) (S.faults out.new) (result ≡ Status.OutFault) }
 {
     watched_forwarder(

@@ -1,7 +1,7 @@
 use Rattle.fwd_outside.proofs.LogGrowth.{grew_none}
 use Rattle.fwd_config.specs.Variables.{environment}
 use Rattle.fwd_top.specs.Results.{of_job}
-use Rattle.fwd_top.proofs.Writing.{done, done_heard, done_keeper_cause, done_loop_cause, done_disk_cause, no_file_fault, outcome_of, refused, refused_heard, refused_keeper, refused_loop, refused_disk, refused_out, no_cause, goes_later}
+use Rattle.fwd_top.proofs.Writing.{done, done_heard, done_spent, done_keeper_cause, done_loop_cause, done_disk_cause, no_file_fault, outcome_of, refused, refused_heard, refused_spent, refused_keeper, refused_loop, refused_disk, refused_out, no_cause, goes_later}
 use Rattle.fwd_top.proofs.AskedRuns.{asked_runs}
 use Rattle.fwd_top.proofs.GivenFiles.{done_files, refused_files, no_refusal}
 use Rattle.fwd_top.proofs.top.watched_forwarder.Goals as goal
@@ -35,7 +35,18 @@ returns-in-Ok-clause-loop_cause g c = done_loop_cause c.args.words.now _ _ _ _ c
 pub returns-in-Ok-clause-heard : goal.returns-in-Ok-clause-heard
 returns-in-Ok-clause-heard g c = done_heard c.args.words.now c.args.turns _ _ c.in-Ok.job c.run_job-reported.result _ _ c.write_outcome.result c.in-Ok.ensures.kind c.write_outcome.ensures.tells c.run_job-reported.ensures.heard
 
+pub returns-in-Ok-clause-turns : goal.returns-in-Ok-clause-turns
+returns-in-Ok-clause-turns g c spends = record {
+  case = of_job c.in-Ok.job;
+  read = _;
+  asks = c.in-Ok.ensures.asks;
+  heard = done_spent c.args.words.now c.args.turns _ _ c.in-Ok.job c.run_job-reported.result _ _ c.write_outcome.result c.write_outcome.ensures.tells c.run_job-reported.ensures.heard spends;
+}
+
 -- ---- there was nothing to do
+
+pub returns-in-Err-clause-turns : goal.returns-in-Err-clause-turns
+returns-in-Err-clause-turns g c spends = absurd (refused_spent c.in-Err.status c.in-Err.ensures.refusal spends)
 
 pub returns-in-Err-clause-answers : goal.returns-in-Err-clause-answers
 returns-in-Err-clause-answers g c = refused c.args.words.now (environment c.args.env.now) c.args.turns _ _ c.in-Err.status c.in-Err.ensures.refusal c.in-Err.ensures.asks (grew_none _) (grew_none _) (grew_none _) (grew_none _)
