@@ -154,7 +154,7 @@ counts output [] count is = absurd (cc is)
 counts output (name ∷ names) count is = count_by (bytes_eq name output) name names (bytes_from output names) count is (λ rest. counts output names count rest)
 
 -- its byte is before the content
-place_inside : (head : ChunkHead) (output : List ℕ) (place : ℕ) → outcome_place head output ≡ Some place → place + 1 ≤ 24 + head.meta
+pub place_inside : (head : ChunkHead) (output : List ℕ) (place : ℕ) → outcome_place head output ≡ Some place → place + 1 ≤ 24 + head.meta
 place_inside head output place is =
     let at = placed_at head output place is in
     let some = counts output head.outputs at.count at.from in

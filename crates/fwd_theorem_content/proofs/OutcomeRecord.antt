@@ -30,7 +30,7 @@ marked_same : (s : AllSettings) (r : Route) (h : History) → KeepsTheSame s h (
 marked_same s r h = record { kept = λ n. refl; has = λ n. refl; later = le_refl (next h) }
 
 -- the content of the file is as before
-same_content : (s : AllSettings) (h : History) (files now : Files) (n : ℕ) (head : ChunkHead) → head_of (kept_of s h n) ≡ Some head → HasBytes head.name files (Stands head (content h n)) now → FilesHaveContents s h files → FilesHaveContents s h now
+pub same_content : (s : AllSettings) (h : History) (files now : Files) (n : ℕ) (head : ChunkHead) → head_of (kept_of s h n) ≡ Some head → HasBytes head.name files (Stands head (content h n)) now → FilesHaveContents s h files → FilesHaveContents s h now
 same_content s h files now n head held left order =
     let name_held : file_of_optional (kept_of s h n) ≡ Some head.name = held_of (kept_of s h n) head held in
     file_changed s h h files now n head.name name_held (record {

@@ -28,9 +28,9 @@ use Rattle.fwd_theorem_content.proofs.FileEffects.{removal_leaves}
 use Rattle.fwd_theorem_content.proofs.Points.{InOrder, Hands, Kept, Told, Came, hands_now, hands_after, runs, notes, notes_last}
 
 -- the chunk is no longer kept
-record IsGone (s : AllSettings) (h g : History) (n : ℕ) : Type 0 where
-  none : kept_of s g n ≡ None
-  kept : (m : ℕ) → m ≢ n → kept_of s g m ≡ kept_of s h m
+pub record IsGone (s : AllSettings) (h g : History) (n : ℕ) : Type 0 where
+  pub none : kept_of s g n ≡ None
+  pub kept : (m : ℕ) → m ≢ n → kept_of s g m ≡ kept_of s h m
   has : (m : ℕ) → content g m ≡ content h m
   later : next h ≤ next g
 
@@ -41,10 +41,10 @@ module _ (s : AllSettings) (h : History) (n : ℕ) where
   kept_still : (m : ℕ) → m ≢ n → (kept : Option Held) → cond (n == m) None kept ≡ kept
   kept_still m ne kept = cond-false (n == m) None kept (ne_eqb n m (λ e. ne (sym e)))
 
-  gone_removed : IsGone s h (Removed n ∷ h) n
+  pub gone_removed : IsGone s h (Removed n ∷ h) n
   gone_removed = record { none = gone_now (kept_of s h n); kept = λ m ne. kept_still m ne (kept_of s h m); has = λ m. refl; later = le_refl (next h) }
 
-  gone_left : IsGone s h (FileLeft n ∷ IoFailed ∷ h) n
+  pub gone_left : IsGone s h (FileLeft n ∷ IoFailed ∷ h) n
   gone_left = record { none = gone_now (kept_of s h n); kept = λ m ne. kept_still m ne (kept_of s h m); has = λ m. refl; later = le_refl (next h) }
 
 module _ (s : AllSettings) (h g : History) (n : ℕ) (gone : IsGone s h g n) where
@@ -54,10 +54,10 @@ module _ (s : AllSettings) (h g : History) (n : ℕ) (gone : IsGone s h g n) whe
   no_file : file_of_optional (kept_of s g n) ≡ None
   no_file = ap file_of_optional gone.none
 
-  gone_memory : (files : Files) → FilesHaveContents s h files → FilesHaveContents s g files
+  pub gone_memory : (files : Files) → FilesHaveContents s h files → FilesHaveContents s g files
   gone_memory files order = memory_changed s h g files n no_head no_file gone.kept (λ m ne. gone.has m) gone.later order
 
-  gone_file : (files now : Files) (name : List ℕ) → file_of_optional (kept_of s h n) ≡ Some name → OthersUnchanged name files now → FilesHaveContents s h files → FilesHaveContents s g now
+  pub gone_file : (files now : Files) (name : List ℕ) → file_of_optional (kept_of s h n) ≡ Some name → OthersUnchanged name files now → FilesHaveContents s h files → FilesHaveContents s g now
   gone_file files now name held same order =
       file_changed s h g files now n name held (record {
         same = same;

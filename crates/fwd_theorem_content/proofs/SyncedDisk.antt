@@ -223,10 +223,10 @@ follows (e ∷ es) m last synced same along =
 
 -- ---- the files as reads return them, without unsynced state
 
-pub synced_state : FileState → FileState
+unfoldable pub synced_state : FileState → FileState
 synced_state file = if file.there then whole file.bytes else absent
 
-pub synced_files : Files → Files
+unfoldable pub synced_files : Files → Files
 synced_files files name = synced_state (files name)
 
 pub state_alike : (file : FileState) → (file ≡ absent) ⊎ IsTrue file.there → ReadsAlike file (synced_state file)

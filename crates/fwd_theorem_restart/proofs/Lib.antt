@@ -1,0 +1,3 @@
+mod NearDisk
+mod SyncedByLoading
+mod RestartedRun
