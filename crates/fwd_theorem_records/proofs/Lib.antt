@@ -1,0 +1,14 @@
+pub mod Options
+pub mod RecordRanges
+pub mod ReshapeRanges
+pub mod FilterRanges
+pub mod JsonRanges
+pub mod TimeRanges
+pub mod LineRanges
+pub mod MessageRanges
+pub mod ReadBytes
+pub mod WaitedPieces
+pub mod CompletedBatches
+pub mod StoredEvents
+pub mod ChunkRecords
+pub mod SentRecords
