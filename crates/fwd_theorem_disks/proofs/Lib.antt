@@ -1,0 +1,11 @@
+mod MemFiles
+mod Pairs
+mod Numbers
+mod Fits
+mod Points
+mod ContentReads
+mod Removal
+mod OutcomeRecord
+mod Append
+mod NewChunk
+mod Run
