@@ -98,6 +98,8 @@ def prepare(words):
         raise Unfit("these words are no run, replay, list or gen")
     if words[0] == "run" and "-n" not in words:
         raise Unfit("a run that does not end by itself (-n TICKS) needs the built program")
+    if "--record" in words:
+        raise Unfit("a run without proof keeps no file that it writes, and so no record")
     # A replay has its disk in memory, and reads only the files of the configuration and the schedule.
     given, words = Given(words[0] == "run"), [*words]
     for at in range(2, len(words)):

@@ -20,6 +20,7 @@ import live_log
 import live_offsets
 import live_outputs
 import live_prometheus
+import live_recorded
 import live_stop
 import live_stored
 from live_room import HOST, PATIENCE, Collector, Failed, Program, Room, content, free_port, holds, until
@@ -345,7 +346,7 @@ def passes(case, room):
 def main(program, names):
     with tempfile.TemporaryDirectory(prefix="fwd-live-") as path:
         room = Room(path, program)
-        results = [passes(case, room) for case in CASES + live_log.CASES + live_prometheus.CASES + live_outputs.CASES + live_keys.CASES + live_stop.CASES + live_stored.CASES + live_disk.CASES + live_followed.CASES + live_offsets.CASES if not names or case.__name__ in names]
+        results = [passes(case, room) for case in CASES + live_log.CASES + live_prometheus.CASES + live_outputs.CASES + live_keys.CASES + live_stop.CASES + live_recorded.CASES + live_stored.CASES + live_disk.CASES + live_followed.CASES + live_offsets.CASES if not names or case.__name__ in names]
     print(f"{sum(results)} passed, {len(results) - sum(results)} failed")
     return 0 if all(results) else 1
 

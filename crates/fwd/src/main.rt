@@ -12,11 +12,12 @@ ghost use Rattle.fwd_keeper.specs.Keeper.{KeeperGiven};
 use arguments::{environment, words};
 use fwd_base::{Bytes, Memory};
 use fwd_live::{
-    Access, FolderDisk, FolderFiles, Identities, LiveLoop, Shared, StdSink, USUAL_PATIENCE,
+    Access, FileSink, FolderDisk, FolderFiles, Identities, LiveLoop, Shared, StdSink,
+    USUAL_PATIENCE,
 };
 use fwd_log::{Journal, Level};
 use fwd_positions::SqliteKeeper;
-use fwd_top::{Status, status_line, watched_forwarder};
+use fwd_top::{Status, status_line, tape_file, watched_forwarder};
 use fwd_watch::Watcher;
 use std::alloc::Global;
 use std::io::{self, ErrorKind, Write};
@@ -55,7 +56,7 @@ fn is_listing(words: &[String]) -> bool {
 
 /// Makes the devices and runs the program. The caller picks the initial files, on the disk and beside it, the
 /// initial offsets in the databases, and what the loop will bring. Without a loop the status is `LoopFault`
-/// or `Memory`, whatever the words are.
+/// or `Memory`, whatever the words are. The file of a record is created when the record is written.
 fn run(
     rt: &HostRuntime,
     threads: &(impl Threads + Sync),
@@ -64,6 +65,9 @@ fn run(
 ) -> Status
     ghost given: { DiskGiven × (FilesGiven × (LoopGiven × KeeperGiven)) }
 {
+    let Ok(tape_name) = tape_file(rt.alloc(), words) else {
+        return Status::Memory;
+    };
     let access = if is_listing(words) {
         Access::Reader
     } else {
@@ -79,6 +83,7 @@ fn run(
     let mut files = FolderFiles::new(*rt, &shared, &identities);
     let mut keeper = SqliteKeeper::new(*rt, &shared.journal, &identities);
     let mut out = StdSink::new(*rt);
+    let mut tape = FileSink::new(*rt, tape_name);
     let mut watcher = Watcher::new(rt.alloc(), &shared.journal);
     watched_forwarder(
         threads,
@@ -90,6 +95,7 @@ fn run(
         &mut outside,
         &mut keeper,
         &mut out,
+        &mut tape,
         u64::MAX,
         &mut watcher,
     )

@@ -2,9 +2,12 @@ pub mod EventCounts
 pub mod RecoveredHistory
 pub mod OffsetActions
 pub mod StepOffsets
+pub mod StoppedRuns
 pub mod TrackedFiles
 pub mod ResumedOffsets
 pub mod OneOffset
 pub mod NewRows
 pub mod Rows
 pub mod RunTurns
+pub mod TurnsToLast
+pub mod RunParts

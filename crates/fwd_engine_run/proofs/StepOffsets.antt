@@ -1,4 +1,4 @@
--- A step changes no kept offset, from any history on.
+-- A step changes no kept offset, and only its event stops a run, from any history on.
 use Rattle.std.proofs.Common.{◌≡◌, ℕ, ◌+◌, Bool, true, false, cond, List, [], ◌∷◌, length, nat_lt, Option, Some, None, refl, subst}
 use Rattle.std.specs.Prelude.{nat_le, is_some}
 use Rattle.std.specs.List.{range_with_len}
@@ -46,7 +46,7 @@ use Rattle.fwd_model.specs.StepActions.{closes_and_dispatches, ticks, stops, at_
 use Rattle.fwd_model.specs.KeptOffsets.{kept_at}
 
 -- for all answers, Q holds of the result
-abbrev Ends : {R : Type 0} → (R → Type 0) → Action R → Type 0
+abbrev pub Ends : {R : Type 0} → (R → Type 0) → Action R → Type 0
 Ends Q (Return x) = Q x
 Ends Q (Ask call go) = (answer : Answer call) → Ends Q (go answer)
 
@@ -70,9 +70,9 @@ ends_if Q true p q first second = first
 ends_if Q false p q first second = second
 
 module _ (s : AllSettings) (first : History) where
-  -- the kept offsets are those of the first history
-  abbrev Same : History → Type 0
-  Same h = (input index : ℕ) → kept_at h input index ≡ kept_at first input index
+  -- the kept offsets and the stop are those of the first history
+  abbrev pub Same : History → Type 0
+  Same h = ((input index : ℕ) → kept_at h input index ≡ kept_at first input index) × (stopped s h ≡ stopped s first)
 
   abbrev Keeps : Action History → Type 0
   Keeps p = Ends Same p
@@ -299,9 +299,13 @@ module _ (s : AllSettings) (first : History) where
   keeps_handles before happening.End h same = same
   keeps_handles before happening.Failed h same = same
 
-  keeps_step : (x : Happening) (h : History) → Same h → Keeps (step s x h)
+  keeps_step : (x : Happening) (h : History) → Same (Happened x ∷ h) → Keeps (step s x h)
   unfolding step
   keeps_step x h same = λ _. keeps_handles h x (Happened x ∷ h) same
 
+-- a step, by the history that has its event
+pub step_keeps : (s : AllSettings) (x : Happening) (h : History) → Ends (Same s (Happened x ∷ h)) (step s x h)
+step_keeps s x h = keeps_step s (Happened x ∷ h) x h (λ input index. refl, refl)
+
 pub step_keeps_offsets : (s : AllSettings) (x : Happening) (h now : History) (es : List TraceEntry) → Execution (step s x h) es (Return now) → (input index : ℕ) → kept_at now input index ≡ kept_at h input index
-step_keeps_offsets s x h now es way = ends_way (Same s h) (step s x h) es now (keeps_step s h x h (λ input index. refl)) way
+step_keeps_offsets s x h now es way = (ends_way (Same s (Happened x ∷ h)) (step s x h) es now (step_keeps s x h) way).0

@@ -1,6 +1,8 @@
 pub mod OffsetRows
 pub mod OneOffset
 pub mod RunOutcome
+pub mod RunParts
+pub mod TurnsToLast
 pub use Rattle.fwd_engine.specs.EngineSteps
 pub use Rattle.fwd_engine.specs.declared.engine.Engine
 pub use Rattle.fwd_engine.specs.declared.engine.EngineStop

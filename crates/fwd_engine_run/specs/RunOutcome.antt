@@ -75,11 +75,3 @@ abbrev pub RunsFrom : {E : Type 0} → (CallLogs → CallLogs) → (CallLogs →
 RunsFrom old new before offsets run after result =
     (others : CallLogs) (s : AllSettings) (h : History) → IsAt before s h → Keeps s offsets h
     → RunOutcome (old others) (new others) s (run s h) after result
-
--- the same for a part of a run, up to what follows it
-abbrev pub ContinuesFrom : (CallLogs → CallLogs) → (CallLogs → CallLogs) → Engine → KeptOffsets
-    → (AllSettings → History → Action RunResult) → (AllSettings → History → Action RunResult) → Engine
-    → KeptOffsets → Result Turn EngineStop → Type 0
-ContinuesFrom old new before offsets part next after kept result =
-    (others : CallLogs) (s : AllSettings) (h : History) → IsAt before s h → Keeps s offsets h
-    → RunContinues (old others) (new others) s (part s h) (next s) after kept result

@@ -1,4 +1,5 @@
-//! The devices of a live run: a disk of folders, the followed files, standard output, and the event loop.
+//! The devices of a live run: a disk of folders, the followed files, standard output, a file for the record
+//! of the run, and the event loop.
 //! Each has a ghost log of its calls with their answers, which isn't kept at run time.
 //!
 //! They implement the traits of `fwd_outside`, so the theorems about devices with a log hold for the
@@ -10,6 +11,7 @@ mod answer;
 mod disk_calls;
 mod disk_log;
 mod file_name;
+mod file_sink;
 mod files_calls;
 mod folder_disk;
 mod folder_files;
@@ -21,8 +23,10 @@ mod shared;
 mod sink_calls;
 mod std_sink;
 mod storage_root;
+mod whole_write;
 
 pub use disk_calls::{DiskCalls, DiskRecord, DiskStart};
+pub use file_sink::FileSink;
 pub use files_calls::{FilesCalls, FilesRecord, FilesStart};
 pub use folder_disk::FolderDisk;
 pub use folder_files::FolderFiles;

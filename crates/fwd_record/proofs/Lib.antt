@@ -6,5 +6,6 @@ pub mod NotedLinks
 pub mod RecordingSteps
 pub mod Failing
 pub mod Writing
+pub mod Stopping
 pub mod Playing
 pub mod RecordedLines

@@ -1,6 +1,7 @@
 -- What holds of a recorder after one more call.
-use Rattle.std.proofs.Common.{◌≡◌, ◌⊎◌, inl, inr, ℕ, ◌+◌, ◌-◌, ◌^◌, ◌<◌, ◌≤◌, min, Bool, true, false, List, [], ◌∷◌, ◌++◌, Some, sym, ◌∙◌, ap, subst, arith}
+use Rattle.std.proofs.Common.{◌≡◌, ◌⊎◌, inl, inr, ℕ, ◌+◌, ◌-◌, ◌^◌, ◌<◌, ◌≤◌, min, Bool, true, false, List, [], ◌∷◌, ◌++◌, map, Some, sym, ◌∙◌, ap, subst, arith}
 use Rattle.std.proofs.lemmas.Bool.{cases_lt}
+use Rattle.std.proofs.lemmas.List.{map-append}
 use Rattle.fwd_outside.specs.Program.{entry}
 use Rattle.fwd_outside.specs.Log.{LogGrew}
 use Rattle.fwd_outside.specs.declared.happening.Happening.{Happening}
@@ -17,13 +18,28 @@ use Rattle.fwd_record.specs.Notes.{AreNotes}
 use Rattle.fwd_record.specs.Recording.{Recording, IsRecording, Passed, HasHeard}
 use Rattle.fwd_record.proofs.NotedCalls.{calls_more}
 
-abbrev pub recording : ℕ → LoopBelow → LoopBelow → List Seen → Bool → ℕ → Recording
-recording name start below seen out happenings =
-    record { name = name; start = start; below = below; seen = seen; out_of_memory = out; happenings = happenings }
+abbrev pub recording : ℕ → LoopBelow → LoopBelow → List Seen → Bool → Bool → ℕ → Recording
+recording name start below seen stopped out happenings = record {
+  name = name;
+  start = start;
+  below = below;
+  seen = seen;
+  stopped = stopped;
+  out_of_memory = out;
+  happenings = happenings;
+}
 
 allowed_append : (endless : Bool) (xs ys : List LoopEntry) → AreAllowed endless xs → AreAllowed endless ys → AreAllowed endless (xs ++ ys)
 allowed_append endless [] ys first second = second
 allowed_append endless (e ∷ xs) ys first second = (first.0, allowed_append endless xs ys first.1 second)
+
+-- each is a call, after one more call
+all_answered : {seen more : List Seen} (call : LoopCall) (answer : LoopAnswer call) → more ≡ seen ++ Answered (entry call answer) ∷ [] → seen ≡ map Answered (calls_of seen) → more ≡ map Answered (calls_of more)
+all_answered {seen} {more} call answer now same =
+    now
+    ∙ ap (λ (l : List Seen). l ++ Answered (entry call answer) ∷ []) same
+    ∙ sym (map-append Answered (calls_of seen) (entry call answer ∷ []))
+    ∙ ap (λ (l : List LoopEntry). map Answered l) (sym (ap (λ (l : List Seen). calls_of l) now ∙ calls_more seen (Answered (entry call answer))))
 
 -- an event more, below and here
 pub heard_event : (happenings start below : ℕ) → HasHeard happenings start below → HasHeard (min (happenings + 1) (2 ^ 64 - 1)) start (min (below + 1) (2 ^ 64 - 1))
@@ -48,8 +64,8 @@ abbrev pub LinksGrow : LoopBelow → LoopBelow → (call : LoopCall) → LoopAns
 LinksGrow old new call answer =
     (g : ℕ) → g ≤ old.counts.greatest → IsNewLink g call answer × (greatest_by g call answer ≤ new.counts.greatest)
 
-module _ {name : ℕ} {start old : LoopBelow} {seen : List Seen} {out : Bool} {happenings : ℕ} (here : out ≡ false)
-    (is : IsRecording (recording name start old seen out happenings)) where
+module _ {name : ℕ} {start old : LoopBelow} {seen : List Seen} {stopped out : Bool} {happenings : ℕ} (here : out ≡ false)
+    (is : IsRecording (recording name start old seen stopped out happenings)) where
   passed : LogGrew start.call_log old.call_log (calls_of seen)
   passed = subst (λ (b : Bool). Passed b start.call_log old.call_log (calls_of seen)) here is.passed
 
@@ -59,10 +75,11 @@ module _ {name : ℕ} {start old : LoopBelow} {seen : List Seen} {out : Bool} {h
       → LogGrew old.call_log new.call_log (entry call answer ∷ []) → new.counts.endless ≡ old.counts.endless
       → IsAllowed old.counts.endless call answer → LinksGrow old new call answer
       → HasHeard later start.counts.happenings new.counts.happenings
-      → IsRecording (recording name start new more out later)
+      → IsRecording (recording name start new more stopped out later)
   recorded_call call answer new later {more} now grew endless allowed links heard = record {
     passed = subst (λ (b : Bool). Passed b start.call_log new.call_log (calls_of more)) (sym here)
         (subst (λ (l : List LoopEntry). LogGrew start.call_log new.call_log l) (sym calls) (grew_trans start.call_log old.call_log new.call_log (calls_of seen) (entry call answer ∷ []) passed grew));
+    unstopped = λ none. all_answered call answer now (is.unstopped none);
     endless = endless ∙ is.endless;
     allowed = subst (λ (l : List LoopEntry). AreAllowed start.counts.endless l) (sym calls)
         (allowed_append start.counts.endless (calls_of seen) (entry call answer ∷ []) is.allowed (subst (λ (b : Bool). IsAllowed b call answer) is.endless allowed, tt));
@@ -81,7 +98,7 @@ module _ {name : ℕ} {start old : LoopBelow} {seen : List Seen} {out : Bool} {h
       → more ≡ seen ++ Answered (entry call answer) ∷ []
       → LogGrew old.call_log new.call_log (entry call answer ∷ []) → new.counts ≡ old.counts
       → IsAllowed old.counts.endless call answer → ((g : ℕ) → IsNewLink g call answer) → ((g : ℕ) → greatest_by g call answer ≡ g)
-      → IsRecording (recording name start new more out happenings)
+      → IsRecording (recording name start new more stopped out happenings)
   recorded_other call answer new now grew same allowed none unchanged =
       recorded_call call answer new happenings now grew (ap (λ (c : LoopCounts). c.endless) same) allowed
       (λ g below. (none g, subst (λ (n : ℕ). n ≤ new.counts.greatest) (sym (unchanged g)) (subst (λ (c : LoopCounts). g ≤ c.greatest) (sym same) below)))
@@ -90,9 +107,10 @@ module _ {name : ℕ} {start old : LoopBelow} {seen : List Seen} {out : Bool} {h
   -- an event came, and memory was out for it
   pub event_lost : (until paused : ℕ) (brought : Happening) (new : LoopBelow) → LogGrew old.call_log new.call_log (entry (Wait until paused) brought ∷ [])
       → new.counts ≡ record old.counts { happenings = min (old.counts.happenings + 1) (2 ^ 64 - 1) }
-      → IsRecording (recording name start new seen true happenings)
+      → IsRecording (recording name start new seen stopped true happenings)
   event_lost until paused brought new grew one = record {
     passed = (until, paused, brought, grew_trans start.call_log old.call_log new.call_log (calls_of seen) (entry (Wait until paused) brought ∷ []) passed grew);
+    unstopped = is.unstopped;
     endless = ap (λ (c : LoopCounts). c.endless) one ∙ is.endless;
     allowed = is.allowed;
     new_links = is.new_links;
@@ -106,7 +124,7 @@ module _ {name : ℕ} {start old : LoopBelow} {seen : List Seen} {out : Bool} {h
       → LogGrew old.call_log new.call_log (entry (Wait until paused) brought ∷ [])
       → new.counts ≡ record old.counts { happenings = min (old.counts.happenings + 1) (2 ^ 64 - 1) }
       → MayOccur old.counts.endless paused brought → later ≡ min (happenings + 1) (2 ^ 64 - 1)
-      → IsRecording (recording name start new more out later)
+      → IsRecording (recording name start new more stopped out later)
   event_recorded until paused brought new {later} now grew one may counted =
       recorded_call (Wait until paused) brought new later now grew (ap (λ (c : LoopCounts). c.endless) one) may
       (λ g below. (tt, subst (λ (c : LoopCounts). g ≤ c.greatest) (sym one) below))
@@ -118,7 +136,7 @@ module _ {name : ℕ} {start old : LoopBelow} {seen : List Seen} {out : Bool} {h
       → more ≡ seen ++ Answered (entry (Dial output tag) (Some link)) ∷ []
       → LogGrew old.call_log new.call_log (entry (Dial output tag) (Some link) ∷ [])
       → new.counts ≡ record old.counts { greatest = link } → old.counts.greatest + 1 ≤ link
-      → IsRecording (recording name start new more out happenings)
+      → IsRecording (recording name start new more stopped out happenings)
   link_recorded output tag link new now grew one above =
       recorded_call (Dial output tag) (Some link) new happenings now grew (ap (λ (c : LoopCounts). c.endless) one) tt
       (λ g below. (omega (arith, below, above), subst (λ (c : LoopCounts). link ≤ c.greatest) (sym one) (omega arith)))

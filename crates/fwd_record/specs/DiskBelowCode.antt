@@ -9,7 +9,7 @@ disk_log_code = coded_option (coded× stood_code (coded_list disk_code))
 
 -- which disk a counted disk wraps: the name of the reference to it, the number of the first call, and the log
 -- of that disk at the start
-abbrev standing_code : Coded (ℕ × (ℕ × DiskLog))
+abbrev pub standing_code : Coded (ℕ × (ℕ × DiskLog))
 standing_code = coded× coded_ℕ (coded× coded_ℕ disk_log_code)
 
 -- the first part of the call log of a counted disk

@@ -20,18 +20,19 @@ start_code =
     (λ b. (b.call_log, (b.counts, b.faults)))
     (λ p. record { call_log = p.0; counts = p.1.0; faults = p.1.1 }) (λ _. refl)
 
--- which loop a recorder wraps: the name of the reference to it, and the loop at the start
-abbrev standing_code : Coded (ℕ × LoopBelow)
-standing_code = coded× coded_ℕ start_code
+-- which loop a recorder wraps: the name of the reference to it, and the loop at the start; and whether the run was
+-- stopped without a call
+abbrev pub standing_code : Coded (ℕ × (LoopBelow × Bool))
+standing_code = coded× coded_ℕ (coded× start_code coded_bool)
 
 -- the first part of the call log of a recorder
-abbrev pub given_to : ℕ → LoopBelow → LoopGiven
-given_to name start = record {
+abbrev pub given_to : ℕ → LoopBelow → Bool → LoopGiven
+given_to name start stopped = record {
   happenings = [];
   places = [];
   dials = [];
   pushes = [];
   replies = [];
   words = [];
-  round = standing_code.code (name, start);
+  round = standing_code.code (name, (start, stopped));
 }

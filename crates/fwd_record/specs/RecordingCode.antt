@@ -9,15 +9,16 @@ use Rattle.fwd_record.specs.Recording.{Recording}
 
 abbrev pub recording_code : Coded Recording
 recording_code =
-    code_by (ℕ × (LoopBelow × (LoopBelow × (List Seen × (Bool × ℕ)))))
+    code_by (ℕ × (LoopBelow × (LoopBelow × (List Seen × (Bool × (Bool × ℕ))))))
     (coded× coded_ℕ (coded× start_code (coded× start_code
-    (coded× (coded_list seen_code) (coded× coded_bool coded_ℕ)))))
-    (λ r. (r.name, (r.start, (r.below, (r.seen, (r.out_of_memory, r.happenings))))))
+    (coded× (coded_list seen_code) (coded× coded_bool (coded× coded_bool coded_ℕ))))))
+    (λ r. (r.name, (r.start, (r.below, (r.seen, (r.stopped, (r.out_of_memory, r.happenings)))))))
     (λ p. record {
       name = p.0;
       start = p.1.0;
       below = p.1.1.0;
       seen = p.1.1.1.0;
-      out_of_memory = p.1.1.1.1.0;
-      happenings = p.1.1.1.1.1;
+      stopped = p.1.1.1.1.0;
+      out_of_memory = p.1.1.1.1.1.0;
+      happenings = p.1.1.1.1.1.1;
     }) (λ _. refl)

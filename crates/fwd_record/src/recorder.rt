@@ -1,8 +1,9 @@
 //! The loop that records a run.
 
-ghost use Rattle.std.specs.Prelude.{◌≡◌, ◌++◌, ◌∷◌, [], OnOk, OnErr, All};
+ghost use Rattle.std.specs.Prelude.{◌≡◌, ◌++◌, ◌∷◌, [], true, false, length, OnOk, OnErr, All};
 ghost use Rattle.fwd_record.specs.Seen.{Stopped};
 ghost use Rattle.fwd_record.specs.Links.{AreRising};
+ghost use Rattle.fwd_record.specs.Recorded.{heard_in};
 ghost use Rattle.fwd_record.specs.Allowed.{IsLine};
 ghost use Rattle.fwd_record.specs.Notes.{IsNoted};
 ghost use Rattle.fwd_record.specs.Recording.{IsRecording, log_of, counts_of, faults_of};
@@ -23,6 +24,7 @@ pub struct Recorder<'a, L: Loop> {
     alloc: Global,
     pub inner: &'a mut L,
     notes: Notes,
+    stopped: bool,
     out_of_memory: bool,
     happenings: u64,
     start: Calls<(), LoopStart>,
@@ -44,6 +46,7 @@ impl<'a, L: Loop> Model for Recorder<'a, L> {
       start = first_of r.start.entries;
       below = record { call_log = L.call_log r.inner.now; counts = L.counts r.inner.now; faults = L.faults r.inner.now };
       seen = r.seen.entries;
+      stopped = r.stopped;
       out_of_memory = r.out_of_memory;
       happenings = r.happenings;
     } };
@@ -53,6 +56,7 @@ impl<'a, L: Loop> Model for Recorder<'a, L> {
       start = first_of r.start.entries;
       below = record { call_log = L.call_log r.inner.now; counts = L.counts r.inner.now; faults = L.faults r.inner.now };
       seen = r.seen.entries;
+      stopped = r.stopped;
       out_of_memory = r.out_of_memory;
       happenings = r.happenings;
     }) × IsNoted r.notes r.seen.entries };
@@ -65,12 +69,14 @@ impl<'a, L: Loop> Recorder<'a, L> {
         ensures start { result.start ≡ record { call_log = L.call_log inner.old; counts = L.counts inner.old; faults = L.faults inner.old } }
         ensures below { result.below ≡ result.start }
         ensures seen { result.seen ≡ [] }
+        ensures stopped { result.stopped ≡ false }
     {
         let start = Calls::new().then(&inner);
         Recorder {
             alloc,
             inner,
             notes: Notes::new(alloc),
+            stopped: false,
             out_of_memory: false,
             happenings: 0,
             start,
@@ -80,13 +86,21 @@ impl<'a, L: Loop> Recorder<'a, L> {
 
     /// Notes that the run was stopped here, without a call.
     pub fn note_stop(&mut self) -> Result<(), Memory>
-        ensures ok { OnOk result (self.new ≡ record self.old { seen = self.old.seen ++ Stopped ∷ [] }) }
+        ensures ok { OnOk result (self.new ≡ record self.old { seen = self.old.seen ++ Stopped ∷ []; stopped = true }) }
         ensures err { OnErr result (self.new ≡ self.old) }
     {
         self.notes.reserve()?;
         self.notes.note_stop();
+        self.stopped = true;
         self.seen = self.seen.then(&());
         Ok(())
+    }
+
+    /// Returns the number of events that were kept.
+    pub fn heard(&self) -> usize
+        ensures { result ≡ length (heard_in self.now.seen) }
+    {
+        self.notes.heard.len()
     }
 
     /// Returns what was kept.

@@ -1,11 +1,14 @@
 //! The schedule of a recorded run.
 
-ghost use Rattle.std.specs.Prelude.{◌≡◌, ◌∷◌, [], List, map, IfOk, All};
+ghost use Rattle.std.specs.Prelude.{◌≡◌, ◌++◌, ◌∷◌, [], List, length, map, min, IfOk, All};
+ghost use Rattle.std.specs.List.{insert};
 ghost use Rattle.hex.specs.Hex.{IsBytes};
 ghost use Rattle.fwd_script.specs.Writable.{Is32, Is64, IsWritable, GivenFits, HappeningFits, LifeFits, PlannedFits};
-ghost use Rattle.fwd_record.specs.Seen.{Seen};
+ghost use Rattle.fwd_outside.specs.declared.happening.Happening.TheVariants.{Stop};
+ghost use Rattle.fwd_script.specs.declared.schedule.Planned.TheVariants.{Happens};
+ghost use Rattle.fwd_record.specs.Seen.{Seen, Stopped};
 ghost use Rattle.fwd_record.specs.Links.{AreRising, number_of};
-ghost use Rattle.fwd_record.specs.Recorded.{happening_named, line_of, recorded};
+ghost use Rattle.fwd_record.specs.Recorded.{happening_named, heard_in, line_of, recorded};
 ghost use Rattle.fwd_record.specs.Allowed.{IsLine};
 ghost use Rattle.fwd_record.specs.Notes.{IsNoted};
 
@@ -202,5 +205,53 @@ pub fn schedule_of<L: Loop, D: Disk>(
     ensures writable { IfOk result IsWritable }
 {
     let life = life_of(alloc, recorder.notes(), disk.failed())?;
+    schedule_with(alloc, life)
+}
+
+/// Returns the lines with one for the stop, after those of this many events, or after all of them.
+fn with_stop(lines: Plan, heard: usize) -> Result<Plan, Memory>
+    ensures { IfOk result (λ stopped. stopped ≡ insert lines (min heard (length lines)) (Happens Stop)) }
+{
+    let mut lines = lines.into_vec();
+    let at = heard.min(lines.len());
+    lines.insert(at, Planned::Happens(Happening::Stop))?;
+    Ok(Items::from_vec(lines))
+}
+
+/// Returns the life that was recorded of a run that was stopped after this many events.
+fn stopped_life_of(
+    alloc: Global,
+    notes: &Notes,
+    failed: &[u64],
+    heard: usize,
+) -> Result<Life, Memory>
+    requires rising { AreRising 0 notes.now.links.items }
+    requires lines { All IsLine notes.now.heard.items }
+    ensures life { IfOk result (λ life. (first second : List Seen) → IsNoted notes.now (first ++ second) → length (heard_in first) ≡ heard → life ≡ recorded (first ++ Stopped ∷ second) failed.now) }
+    ensures fits { IfOk result LifeFits }
+{
+    let lines = lines_of(alloc, notes.links.as_slice(), notes.heard.as_slice())?;
+    Ok(Life {
+        lines: with_stop(lines, heard)?,
+        answers: copy_of_answers(alloc, notes.answers.as_slice())?,
+        disk_fails: copy_of_numbers(alloc, failed)?,
+        file_fails: Items::new(alloc),
+        store: Items::new(alloc),
+        cut: None,
+    })
+}
+
+/// Returns the schedule of a recorded run that was stopped, without a call, after this many events. A text can express
+/// it.
+pub fn stopped_schedule_of<L: Loop, D: Disk>(
+    alloc: Global,
+    recorder: &Recorder<'_, L>,
+    disk: &CountedDisk<'_, D>,
+    heard: usize,
+) -> Result<Schedule, Memory>
+    ensures schedule { (first second : List Seen) → recorder.now.seen ≡ first ++ second → length (heard_in first) ≡ heard → IfOk result (λ schedule. schedule ≡ record { lives = recorded (first ++ Stopped ∷ second) disk.now.failed ∷ [] }) }
+    ensures writable { (first second : List Seen) → recorder.now.seen ≡ first ++ second → length (heard_in first) ≡ heard → IfOk result IsWritable }
+{
+    let life = stopped_life_of(alloc, recorder.notes(), disk.failed(), heard)?;
     schedule_with(alloc, life)
 }

@@ -72,33 +72,37 @@ none_begun : (keys : Keys) (k at : Handshakes) (begun : List LoopEntry) (out : B
 none_begun keys k at begun false ends is = ends.0
 none_begun keys k at begun true ends is = absurd (cc is)
 
+-- a keyed loop with the keys of these settings, which was made over a loop with this log and answered this trace
+pub kept_from : (s : AllSettings) (after : Secure) (old now : LoopLog) → after.keys ≡ keys_of s → after.start.call_log ≡ old → (trace : List TraceEntry) → after.above ≡ loop_part trace → IsSecure after → now ≡ after.below.call_log
+    → Kept s old now trace after.out_of_memory
+kept_from s after old now are first trace all is log =
+    let so = subst (λ (k : Keys). IsCarried k after.out_of_memory after.start.call_log after.below.call_log after.above after.state) are is.carried in
+    let carries : Carries (keys_of s) no_handshakes so.below (loop_part trace) so.at = subst (λ (l : List LoopEntry). Carries (keys_of s) no_handshakes so.below l so.at) all so.carries in
+    let made = joined (keys_of s) no_handshakes so.at so.below trace carries in
+    let calls : so.below ++ so.begun ≡ loop_part (made.below ++ map on_loop so.begun) =
+    ap (λ (l : List LoopEntry). l ++ so.begun) (sym made.is) ∙ ap (λ (l : List LoopEntry). loop_part made.below ++ l) (sym (part_on_loop so.begun)) ∙ sym (loop_append made.below (map on_loop so.begun))
+    in
+    record {
+      below = made.below;
+      handshakes = so.at;
+      secured = made.so;
+      links = subst (λ (l : List LoopEntry). AreNewLinks 0 l) all is.new_links;
+      allowed = subst AllMayOccur (sym made.is) (first_allowed so.below so.begun so.allowed);
+      begun = so.begun;
+      short = no_calls (keys_of s) after.state so.at so.begun after.out_of_memory so.ends;
+      none = none_begun (keys_of s) after.state so.at so.begun after.out_of_memory so.ends;
+      grew =
+          subst (λ (l : LoopLog). LogGrew old l (loop_part (made.below ++ map on_loop so.begun))) (sym log)
+          (subst (λ (l : LoopLog). LogGrew l after.below.call_log (loop_part (made.below ++ map on_loop so.begun))) first
+          (subst (λ (l : List LoopEntry). LogGrew after.start.call_log after.below.call_log l) calls so.grew));
+    }
+
 module _ (s : AllSettings) (before after : Secure) (old now : LoopLog) where
   pub kept : before.keys ≡ keys_of s → before.start.call_log ≡ old → before.above ≡ [] → (trace : List TraceEntry) → LogGrew (log_of before) (log_of after) (loop_part trace) → IsSecure after → now ≡ after.below.call_log
       → Kept s old now trace after.out_of_memory
   kept keys start above trace grew is log =
-      let are : after.keys ≡ keys_of s = standing_keys before after grew.0 ∙ keys in
-      let first : after.start.call_log ≡ old = ap (λ (b : LoopBelow). b.call_log) (standing_start before after grew.0) ∙ start in
-      let all : after.above ≡ loop_part trace = grew.1 ∙ ap (λ (l : List LoopEntry). l ++ loop_part trace) above in
-      let so = subst (λ (k : Keys). IsCarried k after.out_of_memory after.start.call_log after.below.call_log after.above after.state) are is.carried in
-      let carries : Carries (keys_of s) no_handshakes so.below (loop_part trace) so.at = subst (λ (l : List LoopEntry). Carries (keys_of s) no_handshakes so.below l so.at) all so.carries in
-      let made = joined (keys_of s) no_handshakes so.at so.below trace carries in
-      let calls : so.below ++ so.begun ≡ loop_part (made.below ++ map on_loop so.begun) =
-      ap (λ (l : List LoopEntry). l ++ so.begun) (sym made.is) ∙ ap (λ (l : List LoopEntry). loop_part made.below ++ l) (sym (part_on_loop so.begun)) ∙ sym (loop_append made.below (map on_loop so.begun))
-      in
-      record {
-        below = made.below;
-        handshakes = so.at;
-        secured = made.so;
-        links = subst (λ (l : List LoopEntry). AreNewLinks 0 l) all is.new_links;
-        allowed = subst AllMayOccur (sym made.is) (first_allowed so.below so.begun so.allowed);
-        begun = so.begun;
-        short = no_calls (keys_of s) after.state so.at so.begun after.out_of_memory so.ends;
-        none = none_begun (keys_of s) after.state so.at so.begun after.out_of_memory so.ends;
-        grew =
-            subst (λ (l : LoopLog). LogGrew old l (loop_part (made.below ++ map on_loop so.begun))) (sym log)
-            (subst (λ (l : LoopLog). LogGrew l after.below.call_log (loop_part (made.below ++ map on_loop so.begun))) first
-            (subst (λ (l : List LoopEntry). LogGrew after.start.call_log after.below.call_log l) calls so.grew));
-      }
+      kept_from s after old now (standing_keys before after grew.0 ∙ keys) (ap (λ (b : LoopBelow). b.call_log) (standing_start before after grew.0) ∙ start) trace
+      (grew.1 ∙ ap (λ (l : List LoopEntry). l ++ loop_part trace) above) is log
 
 -- the logs of all devices
 module _ (s : AllSettings) (old new up_old up_new : CallLogs) (trace : List TraceEntry) (out : Bool) (so : Kept s old.loop new.loop trace out) where
@@ -117,7 +121,7 @@ module _ (s : AllSettings) (old new up_old up_new : CallLogs) (trace : List Trac
       }
 
 -- the end of a run whose report says that the loop failed
-end_failed : (text : List ℕ) (end : End) → (reported_by text end).ending ≡ ending.LoopFailed → end ≡ LoopFailed
+pub end_failed : (text : List ℕ) (end : End) → (reported_by text end).ending ≡ ending.LoopFailed → end ≡ LoopFailed
 end_failed text Over is = absurd (cc is)
 end_failed text DiskFailed is = absurd (cc is)
 end_failed text KeeperFailed is = absurd (cc is)
@@ -130,6 +134,7 @@ begins_none s ticks turns w = record {
   trace = [];
   left = life s (ends_of s) ticks turns;
   way = refl;
+  links = tt;
   below = [];
   handshakes = no_handshakes;
   secured = (refl, refl);
@@ -155,6 +160,7 @@ module _ (s : AllSettings) (ticks : Option ℕ) (turns : ℕ) (disk disk2 : Disk
             trace = trace;
             left = left;
             way = way;
+            links = so.links;
             below = so.below;
             handshakes = so.handshakes;
             secured = so.secured;
@@ -251,7 +257,7 @@ events_taken s n before after fits keys start is heard =
 
 -- ---- what is known of the loop below in the end
 
-heard_fits : (most : ℕ) (end : Ending) → most < 2 ^ 64 → heard_in most end ≤ 2 ^ 64 - 1
+pub heard_fits : (most : ℕ) (end : Ending) → most < 2 ^ 64 → heard_in most end ≤ 2 ^ 64 - 1
 heard_fits most ending.TurnsSpent fits = omega (arith, fits)
 heard_fits most ending.Over fits = omega arith
 heard_fits most ending.DiskFailed fits = omega arith

@@ -144,26 +144,30 @@ calls_below keys given secure are memory start is =
     }
 
 abbrev Standing : Type 0
-Standing = ℕ × (Keys × LoopBelow)
+Standing = ℕ × (Keys × (LoopBelow × LoopLog))
 
 standing : Secure → Standing
-standing secure = (secure.name, (secure.keys, secure.start))
+standing secure = (secure.name, (secure.keys, (secure.start, secure.marked)))
 
-same_standing : (a b : Secure) → given_to b.name b.keys b.start ≡ given_to a.name a.keys a.start → standing b ≡ standing a
+same_standing : (a b : Secure) → given_to b.name b.keys b.start b.marked ≡ given_to a.name a.keys a.start a.marked → standing b ≡ standing a
 unfolding standing
-same_standing a b is = standing_code.inj (b.name, (b.keys, b.start)) (a.name, (a.keys, a.start)) (ap (λ (g : LoopGiven). g.round) is)
+same_standing a b is = standing_code.inj (b.name, (b.keys, (b.start, b.marked))) (a.name, (a.keys, (a.start, a.marked))) (ap (λ (g : LoopGiven). g.round) is)
 
-pub standing_name : (a b : Secure) → given_to b.name b.keys b.start ≡ given_to a.name a.keys a.start → b.name ≡ a.name
+pub standing_name : (a b : Secure) → given_to b.name b.keys b.start b.marked ≡ given_to a.name a.keys a.start a.marked → b.name ≡ a.name
 unfolding standing
 standing_name a b is = ap (λ (x : Standing). x.0) (same_standing a b is)
 
-pub standing_keys : (a b : Secure) → given_to b.name b.keys b.start ≡ given_to a.name a.keys a.start → b.keys ≡ a.keys
+pub standing_keys : (a b : Secure) → given_to b.name b.keys b.start b.marked ≡ given_to a.name a.keys a.start a.marked → b.keys ≡ a.keys
 unfolding standing
 standing_keys a b is = ap (λ (x : Standing). x.1.0) (same_standing a b is)
 
-pub standing_start : (a b : Secure) → given_to b.name b.keys b.start ≡ given_to a.name a.keys a.start → b.start ≡ a.start
+pub standing_start : (a b : Secure) → given_to b.name b.keys b.start b.marked ≡ given_to a.name a.keys a.start a.marked → b.start ≡ a.start
 unfolding standing
-standing_start a b is = ap (λ (x : Standing). x.1.1) (same_standing a b is)
+standing_start a b is = ap (λ (x : Standing). x.1.1.0) (same_standing a b is)
+
+pub standing_mark : (a b : Secure) → given_to b.name b.keys b.start b.marked ≡ given_to a.name a.keys a.start a.marked → b.marked ≡ a.marked
+unfolding standing
+standing_mark a b is = ap (λ (x : Standing). x.1.1.1) (same_standing a b is)
 
 -- the calls of a log, in two parts
 calls_join : (all first second : List LoopEntry) (below next : List TraceEntry) → all ≡ first ++ second → first ≡ loop_part below → loop_part next ≡ second → all ≡ loop_part (below ++ next)
@@ -186,7 +190,7 @@ module _ (s : AllSettings) (planned : Life) (old new : Secure) (trace below more
       let given = given_of planned in
       let stays : standing new ≡ standing old = same_standing old new grew.0 in
       let are : new.keys ≡ keys = ap (λ (x : Standing). x.1.0) stays ∙ was.keys in
-      let start : new.start.call_log ≡ Some (given, []) = ap (λ (x : Standing). x.1.1.call_log) stays ∙ was.start in
+      let start : new.start.call_log ≡ Some (given, []) = ap (λ (x : Standing). x.1.1.0.call_log) stays ∙ was.start in
       let above : new.above ≡ loop_part trace ++ loop_part more = grew.1 ∙ ap (λ (l : List LoopEntry). l ++ loop_part more) was.above in
       let all = calls_below keys given new are memory start is in
       let played : IsPlayed given all.calls = log_played given all.calls new.below.call_log all.log plays in

@@ -12,5 +12,11 @@ pub mod RunStart
 pub mod LiveRun
 pub mod LoopFailure
 pub mod KeyedRun
+pub mod RecordedSplit
+pub mod RecordedOver
+pub mod RecordedBelow
+pub mod RecordedNotes
+pub mod RecordedLoads
+pub mod FoundNothing
 pub mod Handover
 pub mod RunChain

@@ -136,3 +136,7 @@ fails_by (Ask call go) (e ∷ es) before r so way is =
 
 pub failed_run : (s : AllSettings) (ends : Ends) (ticks : Option ℕ) (turns : ℕ) (es : List TraceEntry) (r : RunResult) → Execution (life s ends ticks turns) es (Return r) → r.end ≡ LoopFailed → has_failed (loop_part es) ≡ true
 failed_run s ends ticks turns es r way is = fails_by (life s ends ticks turns) es false r (life_so s ends ticks turns) way is
+
+-- the same of a run after its recovery
+pub failed_after : (s : AllSettings) (ends : Ends) (ticks : Option ℕ) (turns : ℕ) (found : Option History) (es : List TraceEntry) (r : RunResult) → Execution (after_recovery s ends ticks turns found) es (Return r) → r.end ≡ LoopFailed → has_failed (loop_part es) ≡ true
+failed_after s ends ticks turns found es r way is = fails_by (after_recovery s ends ticks turns found) es false r (recovered_so s ends ticks turns false found) way is

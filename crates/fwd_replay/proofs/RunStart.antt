@@ -400,7 +400,7 @@ pub was_started : (s : AllSettings) (planned : Life) (ends : Ends) (answer : Opt
 was_started s planned ends answer old new fresh grew is memory plays = record {
   keys = standing_keys old new grew.0 ∙ fresh.keys;
   start = ap (λ (b : LoopBelow). b.call_log) (standing_start old new grew.0) ∙ fresh.start;
-  above = grew_from (given_to old.name old.keys old.start) (given_to new.name new.keys new.start) old.above new.above (entry (Starting ends) answer ∷ []) fresh.above grew;
+  above = grew_from (given_to old.name old.keys old.start old.marked) (given_to new.name new.keys new.start new.marked) old.above new.above (entry (Starting ends) answer ∷ []) fresh.above grew;
   memory = memory;
   is = is;
   played = plays;

@@ -5,3 +5,5 @@ pub mod Runs
 pub mod Names
 pub mod LiveRun
 pub mod RunState
+pub mod RecordedRun
+pub mod RecordedParts

@@ -48,6 +48,7 @@ pub record BeginsRun (s : AllSettings) (ticks : Option ℕ) (turns : ℕ) (old n
   pub trace : List TraceEntry
   pub left : Action RunResult
   pub way : Execution (life s (ends_of s) ticks turns) trace left
+  pub links : AreNewLinks 0 (loop_part trace)
   pub below : List TraceEntry
   pub handshakes : Handshakes
   pub secured : IsSecured (keys_of s) no_handshakes trace below handshakes

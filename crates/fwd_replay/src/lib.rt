@@ -11,6 +11,10 @@
 //! finds on the disk the post-crash state after the given number of calls, chosen by the pick
 //! (`IsReplayed`).
 //!
+//! `run_recorded` runs over devices as `run_live` does, and records the run: it returns the schedule with the
+//! one life that was recorded too. A run over settings that follow files, or over a disk with chunks, isn't
+//! recorded and doesn't start (`RanSo`).
+//!
 //! `generate` returns a generated load: a configuration, and a schedule in which one connection sends numbered
 //! lines. It writes the two texts exactly as their definitions say, line by line. Its only error is out of
 //! memory.
@@ -22,6 +26,7 @@ mod live_run;
 mod load;
 mod names;
 mod progress;
+mod recorded_run;
 mod report;
 mod runs;
 mod setup;
@@ -31,5 +36,6 @@ mod turns;
 pub use guarantee::all_runs_keep_the_guarantee;
 pub use live_run::run_live;
 pub use load::{Load, generate};
+pub use recorded_run::{Ran, run_recorded};
 pub use report::{Ending, Reported, Shown};
 pub use runs::replay;

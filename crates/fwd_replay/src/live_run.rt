@@ -33,7 +33,12 @@ use std::alloc::Global;
 use std::thread::Threads;
 
 /// Returns the report of an engine whose run ended this way.
-fn report_of(alloc: Global, named: &Named, engine: &Engine, end: RunEnd) -> Result<Reported, Memory>
+pub fn report_of(
+    alloc: Global,
+    named: &Named,
+    engine: &Engine,
+    end: RunEnd,
+) -> Result<Reported, Memory>
     requires { IsNamedUnlessFailed named.now engine.now end }
     ensures { (s : AllSettings) (h : History) → IsAtEnd engine.now s h end → IsNamed named.now s → IfOk result (λ reported. reported ≡ reported_by (report s h) (end_of end)) }
 {
@@ -47,7 +52,7 @@ fn report_of(alloc: Global, named: &Named, engine: &Engine, end: RunEnd) -> Resu
 }
 
 /// Returns an ending without a text.
-fn without_text(alloc: Global, ending: Ending) -> Reported
+pub fn without_text(alloc: Global, ending: Ending) -> Reported
     ensures { result ≡ record { text = []; ending = ending } }
 {
     Reported {

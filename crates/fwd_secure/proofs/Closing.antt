@@ -15,6 +15,7 @@ use Rattle.fwd_outside.specs.declared.answers.Pushed.TheVariants as pushed
 use Rattle.fwd_outside.specs.declared.answers.Replied.{Replied}
 use Rattle.fwd_outside.specs.declared.answers.Replied.TheVariants as replied
 use Rattle.fwd_outside.specs.NewLinks.{greatest_by, IsNewLink}
+use Rattle.fwd_outside.proofs.LogGrowth.{grew_trans}
 use Rattle.fwd_outside.proofs.RisingLinks.{new_append, greatest_append}
 use Rattle.fwd_secure.specs.declared.keys.Keys.{Keys}
 use Rattle.fwd_secure.specs.Keys.{has_keys}
@@ -33,8 +34,8 @@ use Rattle.fwd_secure.proofs.PassedOn.{reply_passes}
 use Rattle.fwd_secure.proofs.KeptCounts.{NotWait, KeptAfter, kept_of_call, kept_of_wait}
 use Rattle.fwd_secure.proofs.AllowedCalls.{by_keyed, call_allowed}
 
-abbrev pub secure : Keys → Bool → Handshakes → Bool → ℕ → LoopBelow → LoopBelow → List LoopEntry → ℕ → ℕ → Secure
-secure keys keyed k out name start below above happenings greatest = record {
+abbrev pub secure : Keys → Bool → Handshakes → Bool → ℕ → LoopBelow → LoopLog → LoopBelow → List LoopEntry → ℕ → ℕ → Secure
+secure keys keyed k out name start marked below above happenings greatest = record {
   keys = keys;
   keyed = keyed;
   state = k;
@@ -42,6 +43,7 @@ secure keys keyed k out name start below above happenings greatest = record {
   name = name;
   start = start;
   below = below;
+  marked = marked;
   above = above;
   happenings = happenings;
   greatest = greatest;
@@ -131,17 +133,18 @@ by_rule : (keys : Keys) (keyed : Bool) (k : Handshakes) (call : LoopCall) (old n
     → keyed ≡ has_keys keys → RunsAllowed old new (answers_by keyed keys k call) r → RunsAllowed old new (answers keys k call) r
 by_rule keys keyed k call old new r is runs = by_keyed keys k call (has_keys keys) keyed old new r (sym is) runs
 
-module _ {keys : Keys} {keyed : Bool} {k : Handshakes} {name : ℕ} {start old : LoopBelow} {above : List LoopEntry} {happenings greatest : ℕ}
-    (is : IsSecure (secure keys keyed k false name start old above happenings greatest)) where
+module _ {keys : Keys} {keyed : Bool} {k : Handshakes} {name : ℕ} {start old : LoopBelow} {marked : LoopLog} {above : List LoopEntry} {happenings greatest : ℕ}
+    (is : IsSecure (secure keys keyed k false name start marked old above happenings greatest)) where
   -- a call was answered
   secure_more : (call : LoopCall) (answer : LoopAnswer call) (u : Handshakes) (new : LoopBelow) (heard newest : ℕ)
       → RunsAllowed old.call_log new.call_log (answers_by keyed keys k call) (Some (answer, u))
-      → new.counts.endless ≡ start.counts.endless → HasHeard (secure keys keyed u false name start new (above ++ entry call answer ∷ []) heard newest)
+      → new.counts.endless ≡ start.counts.endless → HasHeard (secure keys keyed u false name start marked new (above ++ entry call answer ∷ []) heard newest)
       → HasCause old.faults new.faults (is_failure call answer ≡ true) → old.counts.greatest ≤ new.counts.greatest → newest ≤ new.counts.greatest
       → IsNewLink greatest call answer → greatest_by greatest call answer ≡ newest
-      → IsSecure (secure keys keyed u false name start new (above ++ entry call answer ∷ []) heard newest)
+      → IsSecure (secure keys keyed u false name start marked new (above ++ entry call answer ∷ []) heard newest)
   secure_more call answer u new heard newest runs on hears cause rises below link same = record {
     carried = answered keys start.call_log old.call_log new.call_log above k call is.carried answer u (by_rule keys keyed k call old.call_log new.call_log (Some (answer, u)) is.keyed runs);
+    since = (is.since.0 ++ runs.made.entries, grew_trans marked old.call_log new.call_log is.since.0 runs.made.entries is.since.1 runs.made.grew);
     keyed = is.keyed;
     short = is.short;
     endless = on;
@@ -156,9 +159,10 @@ module _ {keys : Keys} {keyed : Bool} {k : Handshakes} {name : ℕ} {start old :
   -- memory was out
   secure_less : (call : LoopCall) (u : Handshakes) (new : LoopBelow)
       → RunsAllowed old.call_log new.call_log (answers_by keyed keys k call) None → CountsRise old.counts new.counts → old.faults ≤ new.faults
-      → IsSecure (secure keys keyed u true name start new above happenings greatest)
+      → IsSecure (secure keys keyed u true name start marked new above happenings greatest)
   secure_less call u new runs rise later = record {
     carried = unanswered keys start.call_log old.call_log new.call_log above k call is.carried u (by_rule keys keyed k call old.call_log new.call_log None is.keyed runs);
+    since = (is.since.0 ++ runs.made.1.entries, grew_trans marked old.call_log new.call_log is.since.0 runs.made.1.entries is.since.1 runs.made.1.grew);
     keyed = is.keyed;
     short = is.short;
     endless = rise.endless ∙ is.endless;
@@ -176,7 +180,7 @@ module _ {keys : Keys} {keyed : Bool} {k : Handshakes} {name : ℕ} {start old :
       → new.counts.happenings ≡ old.counts.happenings → new.counts.endless ≡ old.counts.endless
       → HasCause old.faults new.faults (is_failure call answer ≡ true) → old.counts.greatest ≤ new.counts.greatest → newest ≤ new.counts.greatest
       → IsNewLink greatest call answer → greatest_by greatest call answer ≡ newest
-      → IsSecure (secure keys keyed u false name start new (above ++ entry call answer ∷ []) happenings newest)
+      → IsSecure (secure keys keyed u false name start marked new (above ++ entry call answer ∷ []) happenings newest)
   secure_call call answer u new newest other made same endless cause rises below link last =
       secure_more call answer u new happenings newest (call_allowed keys k keyed call other old.call_log new.call_log (Some (answer, u)) made)
       (endless ∙ is.endless)
@@ -190,12 +194,12 @@ module _ {keys : Keys} {keyed : Bool} {k : Handshakes} {name : ℕ} {start old :
       → RunsAllowed old.call_log new.call_log (answers_by keyed keys k (Wait until paused)) (Some (brought, u))
       → WaitCounts {T = Happening} {E = E} (keyed && holds paused k.kept) old.counts new.counts (Ok brought)
       → HasCause old.faults new.faults (is_failure (Wait until paused) brought ≡ true)
-      → IsSecure (secure keys keyed u false name start new (above ++ entry (Wait until paused) brought ∷ []) (min (happenings + 1) (2 ^ 64 - 1)) greatest)
+      → IsSecure (secure keys keyed u false name start marked new (above ++ entry (Wait until paused) brought ∷ []) (min (happenings + 1) (2 ^ 64 - 1)) greatest)
   secure_wait E until paused brought u new runs counts cause =
       by (keyed && holds paused k.kept) counts (kept_of_wait keyed keys k until paused runs.made.entries brought u runs.made.way)
     where
       by : (given : Bool) → WaitCounts {T = Happening} {E = E} given old.counts new.counts (Ok brought) → KeptAfter given keyed k u
-          → IsSecure (secure keys keyed u false name start new (above ++ entry (Wait until paused) brought ∷ []) (min (happenings + 1) (2 ^ 64 - 1)) greatest)
+          → IsSecure (secure keys keyed u false name start marked new (above ++ entry (Wait until paused) brought ∷ []) (min (happenings + 1) (2 ^ 64 - 1)) greatest)
       by true same kept =
           secure_more (Wait until paused) brought u new (min (happenings + 1) (2 ^ 64 - 1)) greatest runs
           (ap (λ (c : LoopCounts). c.endless) same ∙ is.endless)
@@ -215,23 +219,23 @@ no_failure old new call answer none later = record { later = later; cause = λ f
 
 -- ---- as the methods close a keyed loop; memory wasn't out before
 
-module _ {keys : Keys} {keyed out : Bool} {k : Handshakes} {name : ℕ} {start old : LoopBelow} {above : List LoopEntry} {happenings greatest : ℕ}
-    (is : IsSecure (secure keys keyed k out name start old above happenings greatest)) (going : out ≡ false) where
-  before : IsSecure (secure keys keyed k false name start old above happenings greatest)
-  before = subst (λ (w : Bool). IsSecure (secure keys keyed k w name start old above happenings greatest)) going is
+module _ {keys : Keys} {keyed out : Bool} {k : Handshakes} {name : ℕ} {start old : LoopBelow} {marked : LoopLog} {above : List LoopEntry} {happenings greatest : ℕ}
+    (is : IsSecure (secure keys keyed k out name start marked old above happenings greatest)) (going : out ≡ false) where
+  before : IsSecure (secure keys keyed k false name start marked old above happenings greatest)
+  before = subst (λ (w : Bool). IsSecure (secure keys keyed k w name start marked old above happenings greatest)) going is
 
   -- as the method has it
   as_closed : (u : Handshakes) (new : LoopBelow) (later entries : List LoopEntry) (heard newest : ℕ) → later ≡ entries
-      → IsSecure (secure keys keyed u false name start new entries heard newest) → IsSecure (secure keys keyed u out name start new later heard newest)
+      → IsSecure (secure keys keyed u false name start marked new entries heard newest) → IsSecure (secure keys keyed u out name start marked new later heard newest)
   as_closed u new later entries heard newest same closed =
-      subst (λ (w : Bool). IsSecure (secure keys keyed u w name start new later heard newest)) (sym going)
-      (subst (λ (l : List LoopEntry). IsSecure (secure keys keyed u false name start new l heard newest)) (sym same) closed)
+      subst (λ (w : Bool). IsSecure (secure keys keyed u w name start marked new later heard newest)) (sym going)
+      (subst (λ (l : List LoopEntry). IsSecure (secure keys keyed u false name start marked new l heard newest)) (sym same) closed)
 
   -- a call that is neither `wait` nor `dial`
   pub call_closes : (call : LoopCall) (answer : LoopAnswer call) (u : Handshakes) (new : LoopBelow) (later : List LoopEntry) → NotWait call
       → RunsProgram old.call_log new.call_log (answers_by keyed keys k call) (Some (answer, u)) → new.counts ≡ old.counts
       → HasCause old.faults new.faults (is_failure call answer ≡ true) → IsNewLink greatest call answer → greatest_by greatest call answer ≡ greatest
-      → later ≡ above ++ entry call answer ∷ [] → IsSecure (secure keys keyed u out name start new later happenings greatest)
+      → later ≡ above ++ entry call answer ∷ [] → IsSecure (secure keys keyed u out name start marked new later happenings greatest)
   call_closes call answer u new later other made same cause link newest log =
       as_closed u new later (above ++ entry call answer ∷ []) happenings greatest log
       (secure_call before call answer u new greatest other made (ap (λ (c : LoopCounts). c.happenings) same) (ap (λ (c : LoopCounts). c.endless) same) cause
@@ -240,7 +244,7 @@ module _ {keys : Keys} {keyed out : Bool} {k : Handshakes} {name : ℕ} {start o
   pub dial_closes : (output : ℕ) (tag : List ℕ) (link : ℕ) (u : Handshakes) (new : LoopBelow) (later : List LoopEntry)
       → RunsProgram old.call_log new.call_log (answers_by keyed keys k (Dial output tag)) (Some (Some link, u)) → new.counts ≡ record old.counts { greatest = link }
       → old.counts.greatest + 1 ≤ link → old.faults ≤ new.faults
-      → later ≡ above ++ entry (Dial output tag) (Some link) ∷ [] → IsSecure (secure keys keyed u out name start new later happenings link)
+      → later ≡ above ++ entry (Dial output tag) (Some link) ∷ [] → IsSecure (secure keys keyed u out name start marked new later happenings link)
   dial_closes output tag link u new later made counts rises faults log =
       as_closed u new later (above ++ entry (Dial output tag) (Some link) ∷ []) happenings link log
       (secure_call before (Dial output tag) (Some link) u new link tt made (ap (λ (c : LoopCounts). c.happenings) counts) (ap (λ (c : LoopCounts). c.endless) counts)
@@ -251,17 +255,17 @@ module _ {keys : Keys} {keyed out : Bool} {k : Handshakes} {name : ℕ} {start o
       → RunsAllowed old.call_log new.call_log (answers_by keyed keys k (Wait until paused)) (Some (brought, u))
       → WaitCounts {T = Happening} {E = E} (keyed && holds paused k.kept) old.counts new.counts (Ok brought)
       → HasCause old.faults new.faults (is_failure (Wait until paused) brought ≡ true) → heard ≡ min (happenings + 1) (2 ^ 64 - 1)
-      → later ≡ above ++ entry (Wait until paused) brought ∷ [] → IsSecure (secure keys keyed u out name start new later heard greatest)
+      → later ≡ above ++ entry (Wait until paused) brought ∷ [] → IsSecure (secure keys keyed u out name start marked new later heard greatest)
   wait_closes E until paused brought u new later heard runs counts cause one log =
       as_closed u new later (above ++ entry (Wait until paused) brought ∷ []) heard greatest log
-      (subst (λ (n : ℕ). IsSecure (secure keys keyed u false name start new (above ++ entry (Wait until paused) brought ∷ []) n greatest)) (sym one)
+      (subst (λ (n : ℕ). IsSecure (secure keys keyed u false name start marked new (above ++ entry (Wait until paused) brought ∷ []) n greatest)) (sym one)
       (secure_wait before E until paused brought u new runs counts cause))
 
   -- a start, a push and a reply, by what they return
   pub start_closes : (ends : Ends) (b : Begun) (u : Handshakes) (new : LoopBelow) (later : List LoopEntry) → b ≢ begun.Memory
       → RunsProgram old.call_log new.call_log (answers_by keyed keys k (Start ends)) (with_state (start_outcome b) u) → new.counts ≡ old.counts
       → HasCause old.faults new.faults (b ≡ begun.Failed) → later ≡ above ++ entry (Start ends) (begun_answer b) ∷ []
-      → IsSecure (secure keys keyed u out name start new later happenings greatest)
+      → IsSecure (secure keys keyed u out name start marked new later happenings greatest)
   start_closes ends begun.Ready u new later other made same cause log =
       call_closes (Start ends) (Some tt) u new later tt made same (record { later = cause.later; cause = λ failed. absurd (cc failed) }) tt refl log
   start_closes ends begun.Failed u new later other made same cause log =
@@ -271,7 +275,7 @@ module _ {keys : Keys} {keyed out : Bool} {k : Handshakes} {name : ℕ} {start o
   pub push_closes : (link : ℕ) (bytes : List ℕ) (p : Pushed) (new : LoopBelow) (later : List LoopEntry) → p ≢ pushed.Memory
       → RunsProgram old.call_log new.call_log (answers_by keyed keys k (Push link bytes)) (with_state (push_outcome p) k) → new.counts ≡ old.counts
       → old.faults ≤ new.faults → later ≡ above ++ entry (Push link bytes) (pushed_answer p) ∷ []
-      → IsSecure (secure keys keyed k out name start new later happenings greatest)
+      → IsSecure (secure keys keyed k out name start marked new later happenings greatest)
   push_closes link bytes (pushed.Took n) new later other made same faults log =
       call_closes (Push link bytes) (Took n) k new later tt made same (no_failure old.faults new.faults (Push link bytes) (Took n) refl faults) tt refl log
   push_closes link bytes pushed.Again new later other made same faults log =
@@ -283,7 +287,7 @@ module _ {keys : Keys} {keyed out : Bool} {k : Handshakes} {name : ℕ} {start o
   pub reply_closes : (conn : ℕ) (bytes : List ℕ) (r : Replied) (new : LoopBelow) (later : List LoopEntry) → r ≢ replied.Memory
       → LogGrew old.call_log new.call_log (log_of_call (Reply conn bytes) (reply_outcome r)) → new.counts ≡ old.counts
       → old.faults ≤ new.faults → later ≡ above ++ entry (Reply conn bytes) (replied_answer r) ∷ []
-      → IsSecure (secure keys keyed k out name start new later happenings greatest)
+      → IsSecure (secure keys keyed k out name start marked new later happenings greatest)
   reply_closes conn bytes replied.Taken new later other grew same faults log =
       call_closes (Reply conn bytes) (Some tt) k new later tt (reply_passes keyed keys k old.call_log new.call_log conn bytes (Some (Some tt)) grew) same
       (no_failure old.faults new.faults (Reply conn bytes) (Some tt) refl faults) tt refl log
@@ -294,11 +298,11 @@ module _ {keys : Keys} {keyed out : Bool} {k : Handshakes} {name : ℕ} {start o
 
   -- memory was out
   pub wait_stops : (until paused : ℕ) (u : Handshakes) (new : LoopBelow) → RunsAllowed old.call_log new.call_log (answers_by keyed keys k (Wait until paused)) None
-      → CountsRise old.counts new.counts → old.faults ≤ new.faults → IsSecure (secure keys keyed u true name start new above happenings greatest)
+      → CountsRise old.counts new.counts → old.faults ≤ new.faults → IsSecure (secure keys keyed u true name start marked new above happenings greatest)
   wait_stops until paused u new runs rise later = secure_less before (Wait until paused) u new runs rise later
 
   pub nothing_closes : (call : LoopCall) (u : Handshakes) (new : LoopBelow) → NotWait call → RunsProgram old.call_log new.call_log (answers_by keyed keys k call) None
-      → CountsRise old.counts new.counts → old.faults ≤ new.faults → IsSecure (secure keys keyed u true name start new above happenings greatest)
+      → CountsRise old.counts new.counts → old.faults ≤ new.faults → IsSecure (secure keys keyed u true name start marked new above happenings greatest)
   nothing_closes call u new other made rise later = secure_less before call u new (call_allowed keys k keyed call other old.call_log new.call_log None made) rise later
 
 pub same_counts : (old new : LoopCounts) → new ≡ old → CountsRise old new

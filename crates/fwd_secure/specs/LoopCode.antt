@@ -22,18 +22,19 @@ start_code =
     (λ b. (b.call_log, (b.counts, b.faults)))
     (λ p. record { call_log = p.0; counts = p.1.0; faults = p.1.1 }) (λ _. refl)
 
--- which loop a keyed loop wraps: the name of the reference to it, the keys, and the loop at the start
-abbrev pub standing_code : Coded (ℕ × (Keys × LoopBelow))
-standing_code = coded× coded_ℕ (coded× keys.the_row.coded start_code)
+-- which loop a keyed loop wraps: the name of the reference to it, the keys, the loop at the start, and its call log
+-- at the last mark
+abbrev pub standing_code : Coded (ℕ × (Keys × (LoopBelow × LoopLog)))
+standing_code = coded× coded_ℕ (coded× keys.the_row.coded (coded× start_code log_code))
 
 -- the first part of the call log of a keyed loop
-abbrev pub given_to : ℕ → Keys → LoopBelow → LoopGiven
-given_to name keys start = record {
+abbrev pub given_to : ℕ → Keys → LoopBelow → LoopLog → LoopGiven
+given_to name keys start marked = record {
   happenings = [];
   places = [];
   dials = [];
   pushes = [];
   replies = [];
   words = [];
-  round = standing_code.code (name, (keys, start));
+  round = standing_code.code (name, (keys, (start, marked)));
 }

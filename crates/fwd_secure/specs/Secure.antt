@@ -2,6 +2,7 @@
 use Rattle.std.specs.Prelude.{◌≡◌, ◌⊎◌, ℕ, ◌+◌, ◌-◌, ◌*◌, ◌^◌, ◌≤◌, Bool, true, false, List, length, if◌then◌else◌, Some, None}
 use Rattle.std.specs.List.{list_any}
 use Rattle.fwd_outside.specs.Cause.{HasCause}
+use Rattle.fwd_outside.specs.Log.{LogGrew}
 use Rattle.fwd_outside.specs.Loop.{LoopCall, LoopAnswer, LoopEntry, LoopLog, LoopCounts, Start, Wait}
 use Rattle.fwd_outside.specs.declared.happening.Happening.TheVariants as happening
 use Rattle.fwd_outside.specs.NewLinks.{AreNewLinks, greatest_after}
@@ -21,14 +22,17 @@ pub record Secure : Type 0 where
   pub name : ℕ
   pub start : LoopBelow
   pub below : LoopBelow
+  -- the call log of the loop below at the last mark, or at the start
+  pub marked : LoopLog
   -- the calls on this loop, and what it counts
   pub above : List LoopEntry
   pub happenings : ℕ
   pub greatest : ℕ
 
--- The call log. Its first part never changes: which loop this one wraps, its keys, and what that loop was.
+-- The call log. No call changes its first part: which loop this one wraps, its keys, what that loop was, and the
+-- last mark.
 abbrev pub log_of : Secure → LoopLog
-log_of s = Some (given_to s.name s.keys s.start, s.above)
+log_of s = Some (given_to s.name s.keys s.start s.marked, s.above)
 
 abbrev pub counts_of : Secure → LoopCounts
 counts_of s =
@@ -63,9 +67,14 @@ is_failure call answer = false
 abbrev pub has_failed : List LoopEntry → Bool
 has_failed entries = list_any (λ e. is_failure e.call e.answer) entries
 
+-- the log grew by some calls
+abbrev pub HasGrown : LoopLog → LoopLog → Type 0
+HasGrown old new = (calls : List LoopEntry) × LogGrew old new calls
+
 -- what holds of each keyed loop
 pub record IsSecure (s : Secure) : Type 0 where
   pub carried : IsCarried s.keys s.out_of_memory s.start.call_log s.below.call_log s.above s.state
+  pub since : HasGrown s.marked s.below.call_log
   pub keyed : s.keyed ≡ has_keys s.keys
   pub short : AreShort s.keys
   pub endless : s.below.counts.endless ≡ s.start.counts.endless

@@ -28,6 +28,7 @@ pub struct SecureLoop<'a, L: Loop> {
     happenings: u64,
     greatest: u64,
     start: Calls<(), LoopStart>,
+    marked: Calls<(), LoopStart>,
     calls: Calls<(), LoopRecord>,
 }
 
@@ -48,6 +49,7 @@ impl<'a, L: Loop> Model for SecureLoop<'a, L> {
       name = s.inner.ghost_name;
       start = first_of s.start.entries;
       below = record { call_log = L.call_log s.inner.now; counts = L.counts s.inner.now; faults = L.faults s.inner.now };
+      marked = (first_of s.marked.entries).call_log;
       above = s.calls.entries;
       happenings = s.happenings;
       greatest = s.greatest;
@@ -61,6 +63,7 @@ impl<'a, L: Loop> Model for SecureLoop<'a, L> {
       name = s.inner.ghost_name;
       start = first_of s.start.entries;
       below = record { call_log = L.call_log s.inner.now; counts = L.counts s.inner.now; faults = L.faults s.inner.now };
+      marked = (first_of s.marked.entries).call_log;
       above = s.calls.entries;
       happenings = s.happenings;
       greatest = s.greatest;
@@ -74,12 +77,14 @@ impl<'a, L: Loop> SecureLoop<'a, L> {
         ensures name { result.name ≡ inner.entry.ghost_name }
         ensures start { result.start ≡ record { call_log = L.call_log inner.old; counts = L.counts inner.old; faults = L.faults inner.old } }
         ensures below { result.below ≡ result.start }
+        ensures marked { result.marked ≡ result.start.call_log }
         ensures keys { result.keys ≡ keys }
         ensures state { result.state ≡ no_handshakes }
         ensures above { result.above ≡ [] }
         ensures secure { IsSecure result }
     {
         let start = Calls::new().then(&inner);
+        let marked = Calls::new().then(&inner);
         let keyed = keys.has_keys();
         SecureLoop {
             alloc,
@@ -91,6 +96,7 @@ impl<'a, L: Loop> SecureLoop<'a, L> {
             happenings: 0,
             greatest: 0,
             start,
+            marked,
             calls: Calls::new(),
         }
     }
@@ -107,6 +113,22 @@ impl<'a, L: Loop> SecureLoop<'a, L> {
         ensures { result ≡ self.now.out_of_memory }
     {
         self.out_of_memory
+    }
+
+    /// Marks the place: what the loop below is asked from here on follows the calls that it was asked so far. It does
+    /// nothing when it runs.
+    pub fn mark(&mut self)
+        ensures { self.new ≡ record self.old { marked = self.old.below.call_log } }
+    {
+        let below = &*self.inner;
+        self.marked = Calls::new().then(below);
+    }
+
+    /// Returns the loop below as it is now.
+    pub fn below(&self) -> &L
+        ensures call_log { L.call_log result.now ≡ self.now.below.call_log }
+    {
+        &*self.inner
     }
 
     /// Returns the loop below.

@@ -38,17 +38,17 @@ not_stopped (Some at) is = absurd (cc is)
 
 module _ (s : AllSettings) (ticks : ℕ) (untracked : tracked s ≡ []) (result : RunResult) where
   -- the calls up to the last tick, which the other action makes too, and those after it
-  record SplitAtTick (past : Past) (other : Action RunResult) (es : List TraceEntry) : Type 0 where
-    first : List TraceEntry
-    second : List TraceEntry
-    left : ℕ
-    is : es ≡ first ++ second
-    before : Execution other first (run s None left (logged (past_after past first)))
-    after : Execution (steps_on s (run s (Some ticks) left) happening.Stop (logged (past_after past first))) second (Return result)
-    unstopped : stopped s (logged (past_after past first)) ≡ None
+  pub record SplitAtTick (past : Past) (other : Action RunResult) (es : List TraceEntry) : Type 0 where
+    pub first : List TraceEntry
+    pub second : List TraceEntry
+    pub left : ℕ
+    pub is : es ≡ first ++ second
+    pub before : Execution other first (run s None left (logged (past_after past first)))
+    pub after : Execution (steps_on s (run s (Some ticks) left) happening.Stop (logged (past_after past first))) second (Return result)
+    pub unstopped : stopped s (logged (past_after past first)) ≡ None
 
   -- the other action makes all calls, or those up to the last tick
-  abbrev SameOrSplit : Past → Action RunResult → List TraceEntry → Type 0
+  abbrev pub SameOrSplit : Past → Action RunResult → List TraceEntry → Type 0
   SameOrSplit past other es = Execution other es (Return result) ⊎ SplitAtTick past other es
 
   -- ---- one part after another
@@ -157,7 +157,7 @@ module _ (s : AllSettings) (ticks : ℕ) (untracked : tracked s ≡ []) (result 
       (after_call now (OnLoop (Start ends)) way.0 (after_start s None turns (logged now)) es
       (splits_after_start turns way.0 (entry (OnLoop (Start ends)) way.0 ∷ now) (tt, due) es way.2))
 
-  splits_after_recovery : (ends : Ends) (turns : ℕ) (found : Option History) (now : Past) → Allowed s now → Loaded found now → (es : List TraceEntry)
+  pub splits_after_recovery : (ends : Ends) (turns : ℕ) (found : Option History) (now : Past) → Allowed s now → Loaded found now → (es : List TraceEntry)
       → Execution (after_recovery s ends (Some ticks) turns found) es (Return result) → SameOrSplit now (after_recovery s ends None turns found) es
   splits_after_recovery ends turns None now due is es way = inl way
   splits_after_recovery ends turns (Some h) now due is es way =

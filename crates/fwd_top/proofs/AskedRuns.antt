@@ -13,8 +13,8 @@ use Rattle.fwd_script.specs.declared.refusal.ScheduleRefused.{ScheduleRefused}
 use Rattle.fwd_script.specs.Schedule.{schedule_of}
 use Rattle.fwd_theorem_replay.specs.PresetFiles.{OnlyFirstHasFiles}
 use Rattle.fwd_theorem_replay.proofs.PresetFiles.{first_stores}
-use Rattle.fwd_top.specs.Words.{Command, Run, Replay, ListFolder, Generate, command_of}
-use Rattle.fwd_top.specs.Cases.{Case, Replays, Generates, Runs, Lists, Refuses, lives_of, Wanted, ToRun, ToReplay, Asked, asked, of_schedule, of_file, wanted_by, with_settings, with_sections, of_config, of_command, of_load, reports_of, load_config, load_schedule, load_files, no_values, asks}
+use Rattle.fwd_top.specs.Words.{Command, Run, Record, Replay, ListFolder, Generate, command_of}
+use Rattle.fwd_top.specs.Cases.{Case, Replays, Generates, Runs, Records, Lists, Refuses, lives_of, Wanted, ToRun, ToRecord, ToReplay, Asked, asked, of_schedule, of_file, wanted_by, with_settings, with_sections, of_config, of_command, of_load, reports_of, load_config, load_schedule, load_files, no_values, asks}
 use Rattle.fwd_top.specs.Answers.{Asks}
 
 -- whatever a program is answered, each of its results has the property
@@ -57,6 +57,7 @@ schedule_files s loaded None = tt
 
 after_settings : (loaded : Option (List Section)) (s : AllSettings) (wanted : Wanted) → Gives FirstHasFiles (wanted_by loaded s wanted)
 after_settings loaded s (ToRun ticks) = tt
+after_settings loaded s (ToRecord ticks) = tt
 after_settings loaded s (ToReplay schedule) = λ content. schedule_files s loaded content
 
 after_checks : (loaded : Option (List Section)) (wanted : Wanted) (checked : Checked AllSettings) → Gives FirstHasFiles (with_settings loaded wanted checked)
@@ -75,6 +76,7 @@ module _ (checked : Checked AllSettings) where
   reports_replay (Replays s lives) is = is
   reports_replay (Generates s lives) is = is
   reports_replay (Runs s ticks) is = is
+  reports_replay (Records s ticks) is = is
   reports_replay (Lists root) is = is
   reports_replay (Refuses other) is = is
 
@@ -87,6 +89,7 @@ module _ (checked : Checked AllSettings) where
   by_command : (command : Option Command) (env : Values) → Gives FirstHasFiles (of_command checked command env)
   by_command None env = tt
   by_command (Some (Run config ticks)) env = after_config config (ToRun ticks) env
+  by_command (Some (Record config ticks tape)) env = after_config config (ToRecord ticks) env
   by_command (Some (Replay config schedule)) env = after_config config (ToReplay schedule) env
   by_command (Some (ListFolder folder)) env = tt
   by_command (Some (Generate count)) env = generated count

@@ -1,7 +1,7 @@
 -- Over files whose calls return the existing bytes, the case is that of these bytes.
 use Rattle.std.specs.Prelude.{◌≢◌}
-use Rattle.std.proofs.Common.{◌≡◌, ℕ, List, [], ◌++◌, Option, Some, None, Result, Ok, Err, String, map, string_bytes, refl, sym, subst, ap, ◌∙◌}
-use Rattle.fwd_outside.specs.Program.{Return, Ask, bind, Execution}
+use Rattle.std.proofs.Common.{◌≡◌, ◌⊎◌, ℕ, Bool, List, [], ◌∷◌, ◌++◌, inl, inr, Option, Some, None, Result, Ok, Err, String, map, string_bytes, refl, sym, subst, ap, ◌∙◌}
+use Rattle.fwd_outside.specs.Program.{entry, Return, Ask, bind, Execution}
 use Rattle.fwd_outside.specs.Log.{LogGrew}
 use Rattle.fwd_outside.proofs.LogGrowth.{grew_none, grew_trans}
 use Rattle.fwd_outside.specs.Files.{FilesLog, FilesGiven, FilesEntry, IsConsistentLog, found, files_after_all, read_whole_program}
@@ -15,20 +15,25 @@ use Rattle.fwd_config.specs.declared.fault.ConfigKind.TheVariants.{FileFault}
 use Rattle.fwd_config.proofs.StableFiles.{Ends, ends_loads, way_parts, honest_parts, ended, log_growth}
 use Rattle.fwd_settings.specs.Reading.{Checked}
 use Rattle.fwd_settings.specs.declared.settings_types.AllSettings.{AllSettings}
+use Rattle.fwd_outside.specs.Loop.{Wait}
+use Rattle.fwd_outside.specs.declared.happening.Happening.{Happening}
 use Rattle.fwd_model.specs.Trace.{files_part}
+use Rattle.fwd_model.specs.CallLogs.{CallLogs, LogsGrew}
 use Rattle.fwd_secure_trace.specs.Secured.{on_loop}
 use Rattle.fwd_replay.specs.LiveRun.{IsRunLive, RanToEnd, RanOutOfMemory}
-use Rattle.fwd_replay.specs.declared.report.Reported.{Reported}
-use Rattle.fwd_top.specs.Words.{Command, Run, Replay, ListFolder, Generate, command_of}
-use Rattle.fwd_top.specs.Cases.{Case, Replays, Generates, Runs, Lists, Refuses, Wanted, ToRun, ToReplay, Asked, asked, refused_by, refused_config, wanted_by, with_settings, with_sections, of_config, of_command}
-use Rattle.fwd_top.specs.Outcomes.{Platform, platform_of, world}
-use Rattle.fwd_top.specs.Answers.{Verdict, says, of_reported, Outcome, IsVerdict, Devices, Asks, IsVerdictOf, IsOfTheFiles}
+use Rattle.fwd_replay.specs.RecordedRun.{RanSo, BeginsRecorded, Failed, RanOutOfMemory as Stopped}
+use Rattle.fwd_replay.specs.declared.recorded_run.Ran.{Ran}
+use Rattle.fwd_replay.specs.declared.recorded_run.Ran.TheVariants as ran
+use Rattle.fwd_top.specs.Words.{Command, Run, Record, Replay, ListFolder, Generate, command_of}
+use Rattle.fwd_top.specs.Cases.{Case, Replays, Generates, Runs, Records, Lists, Refuses, Wanted, ToRun, ToRecord, ToReplay, Asked, asked, refused_by, refused_config, wanted_by, with_settings, with_sections, of_config, of_command}
+use Rattle.fwd_top.specs.Outcomes.{Platform, world}
+use Rattle.fwd_top.specs.Answers.{Verdict, says, of_ran, IsVerdict, Devices, platform, AreConsistent, Asks, IsVerdictOf, IsOfTheFiles}
 use Rattle.fwd_top.specs.Results.{IsRefusal, WritesVerdict, of_job, unless_memory}
 use Rattle.fwd_top.specs.declared.job.Job.{Job}
 use Rattle.fwd_top.specs.declared.job.Job.TheVariants as job
 use Rattle.fwd_top.specs.declared.status.Status.{Status}
 use Rattle.fwd_top.specs.declared.status.Status.TheVariants as status
-use Rattle.fwd_top.proofs.Writing.{in_case, written}
+use Rattle.fwd_top.proofs.Writing.{written}
 
 -- it ends this way if a file can't be read
 abbrev EndsThere : Reading Asked → Type 0
@@ -50,6 +55,7 @@ module _ (checked : Checked AllSettings) (wanted : Wanted) where
 
 by_wanted : (loaded : Option (List Section)) (s : AllSettings) (wanted : Wanted) → EndsThere (wanted_by loaded s wanted)
 by_wanted loaded s (ToRun ticks) = tt
+by_wanted loaded s (ToRecord ticks) = tt
 by_wanted loaded s (ToReplay schedule) = ((loaded, refl), λ bytes. tt)
 
 by_settings : (loaded : Option (List Section)) (wanted : Wanted) (checked : Checked AllSettings) → EndsThere (with_settings loaded wanted checked)
@@ -62,6 +68,7 @@ by_config checked config wanted env = behind checked wanted (load_program env co
 ends_there : (checked : Checked AllSettings) (command : Option Command) (env : Values) → EndsThere (of_command checked command env)
 ends_there checked None env = tt
 ends_there checked (Some (Run config ticks)) env = by_config checked config (ToRun ticks) env
+ends_there checked (Some (Record config ticks tape)) env = by_config checked config (ToRecord ticks) env
 ends_there checked (Some (Replay config schedule)) env = by_config checked config (ToReplay schedule) env
 ends_there checked (Some (ListFolder folder)) env = tt
 ends_there checked (Some (Generate count)) env = tt
@@ -93,6 +100,25 @@ module _ (files : FilesGiven) where
 
 -- ---- the calls after those for the configuration
 
+-- the calls on the files of a run that is to be recorded
+abbrev FilesGrew : CallLogs → CallLogs → Type 0
+FilesGrew old new = (entries : List FilesEntry) × LogGrew old.files new.files entries
+
+begun_for : (s : AllSettings) (ticks : Option ℕ) (turns : ℕ) (old new : CallLogs) → BeginsRecorded s ticks turns old new → FilesGrew old new
+begun_for s ticks turns old new begun =
+    let first = files_part (begun.begins.below ++ map on_loop begun.begins.begun) in
+    (first ++ [], grew_trans old.files begun.before.files new.files first [] begun.begins.asked.files (still begun.wait))
+  where
+    still : LogsGrew begun.before new [] ⊎ ((until paused : ℕ) × (brought : Happening) × LogsGrew begun.before new (on_loop (entry (Wait until paused) brought) ∷ [])) → LogGrew begun.before.files new.files []
+    still (inl none) = none.files
+    still (inr wait) = wait.3.files
+
+recorded_for : (s : AllSettings) (ticks : Option ℕ) (turns : ℕ) (old new : CallLogs) (endless : Bool) (went : Ran) → RanSo s ticks turns old new endless went → FilesGrew old new
+recorded_for s ticks turns old new endless ran.NotRecordable found = (files_part found.did.entries, found.did.asked.files)
+recorded_for s ticks turns old new endless (ran.Unrecorded reported) (Failed runs none) = (files_part runs.below, runs.asked.files)
+recorded_for s ticks turns old new endless (ran.Unrecorded reported) (Stopped begun none) = begun_for s ticks turns old new begun
+recorded_for s ticks turns old new endless (ran.Recorded reported schedule) is = (files_part (is.recovery ++ is.below), is.asked.files)
+
 -- the calls on the files for a case
 asked_for : (turns : ℕ) (case : Case) (old new : Platform) (verdict : Verdict) → IsVerdict turns case old new verdict → (entries : List FilesEntry) × LogGrew old.files new.files entries
 asked_for turns (Replays s lives) old new verdict is = ([], is.1.comes.1.files)
@@ -102,60 +128,60 @@ asked_for turns (Runs s ticks) old new verdict is = run is.1.comes
     run : IsRunLive s ticks turns (world old) (world new) is.0 → (entries : List FilesEntry) × LogGrew old.files new.files entries
     run (RanToEnd lived) = (files_part lived.below, lived.asked.files)
     run (RanOutOfMemory begun none) = (files_part (begun.below ++ map on_loop begun.begun), begun.asked.files)
+asked_for turns (Records s ticks) old new verdict is = recorded_for s ticks turns (world old) (world new) old.endless is.0 is.1.comes
 asked_for turns (Lists root) old new verdict is = ([], is.1.comes.1.0)
 asked_for turns (Refuses other) old new verdict is = ([], is.1.files)
 
-module _ (old read new : FilesLog) (standing : FilesGiven) (before made first second : List FilesEntry) where
-  -- of calls with the answers of the existing bytes, the first ones have them too
-  first_honest : LogGrew old read first → LogGrew read new second → old ≡ Some (standing, before) → new ≡ Some (standing, before ++ made) → IsConsistentLog (files_after_all standing before) made → IsConsistentLog (files_after_all standing before) first
-  first_honest grew more was now_is honest =
-      let is = log_growth old new standing before made (first ++ second) was now_is (grew_trans old read new first second grew more) in
-      (honest_parts (files_after_all standing before) first second (subst (λ (l : List FilesEntry). IsConsistentLog (files_after_all standing before) l) is honest)).0
+-- of calls that found the existing bytes, the first ones did too
+first_found : (old read new : FilesLog) (existing : FilesGiven) (first second : List FilesEntry) → LogGrew old read first → LogGrew read new second → AreConsistent old new existing → IsConsistentLog existing first
+first_found old read new existing first second grew more honest =
+    let is = log_growth old new honest.first honest.before honest.made (first ++ second) honest.old_is honest.new_is (grew_trans old read new first second grew more) in
+    (honest_parts existing first second (subst (λ (l : List FilesEntry). IsConsistentLog existing l) is honest.consistent)).0
 
 module _ {Y : Type 0} (words : List (String Y)) (env : Values) (turns : ℕ) (old new : Devices) where
-  verdict_of : (case : Case) (read : FilesLog) (verdict : Verdict) → Asks words env old.files read (Some case) → IsVerdict turns case (platform_of old.disk read old.loop old.keeper) (platform_of new.disk new.files new.loop new.keeper) verdict
+  verdict_of : (case : Case) (read : FilesLog) (verdict : Verdict) → Asks words env old.files read (Some case) → IsVerdict turns case (platform old read) (platform new new.files) verdict
       → case ≢ Refuses status.FileFault
-      → (standing : FilesGiven) (before made : List FilesEntry) → old.files ≡ Some (standing, before) → new.files ≡ Some (standing, before ++ made) → IsConsistentLog (files_after_all standing before) made
-      → IsVerdictOf words env turns (files_after_all standing before) old new verdict
-  verdict_of case read verdict asks is other standing before made was now_is honest = record {
+      → (existing : FilesGiven) → AreConsistent old.files new.files existing → IsVerdictOf words env turns existing old new verdict
+  verdict_of case read verdict asks is other existing honest = record {
     checked = asks.checked;
     loaded = asks.loaded;
     are = asks.are;
     case = case;
     given =
         let did = asks.makes in
-        let more = asked_for turns case (platform_of old.disk read old.loop old.keeper) (platform_of new.disk new.files new.loop new.keeper) verdict is in
-        gives (files_after_all standing before) (of_command asks.checked (command_of (map string_bytes words)) env) (ends_there asks.checked (command_of (map string_bytes words)) env) did.entries (asked asks.loaded case) other
-        (first_honest old.files read new.files standing before made did.entries more.0 did.grew more.1 was now_is honest) did.way;
+        let more = asked_for turns case (platform old read) (platform new new.files) verdict is in
+        gives existing (of_command asks.checked (command_of (map string_bytes words)) env) (ends_there asks.checked (command_of (map string_bytes words)) env) did.entries (asked asks.loaded case) other
+        (first_found old.files read new.files existing did.entries more.0 did.grew more.1 honest) did.way;
     read = read;
     is = is;
   }
 
   -- a job was done, and its outcome written
-  pub done_files : (case : Case) (read : FilesLog) (r : Reported) (result : Status) → case ≢ Refuses status.FileFault → Asks words env old.files read (Some case)
-      → Outcome turns case (platform_of old.disk read old.loop old.keeper) (platform_of new.disk new.files new.loop new.keeper) r → WritesVerdict old.sink new.sink (of_reported r) result → IsOfTheFiles words env turns old new result
-  done_files case read r result other asks is tells standing before made was now_is honest known =
-      let verdict = in_case turns case (platform_of old.disk read old.loop old.keeper) (platform_of new.disk new.files new.loop new.keeper) r is in
-      written (IsVerdictOf words env turns (files_after_all standing before) old new) old.sink new.sink r.text r.ending result
-      (verdict_of case read (of_reported r) asks verdict other standing before made was now_is honest) tells
+  pub done_files : (case : Case) (read : FilesLog) (went : Ran) (result : Status) → case ≢ Refuses status.FileFault → Asks words env old.files read (Some case)
+      → IsVerdict turns case (platform old read) (platform new new.files) (of_ran went) → WritesVerdict old.sink new.sink old.tape new.tape (of_ran went) result → IsOfTheFiles words env turns old new result
+  done_files case read went result other asks is tells existing honest known =
+      written (IsVerdictOf words env turns existing old new) old new went result (verdict_of case read (of_ran went) asks is other existing honest) tells
 
   -- there was nothing to do
-  pub refused_files : (result : Status) → IsRefusal result → Asks words env old.files new.files (unless_memory result) → LogGrew old.disk new.disk [] → LogGrew old.loop new.loop [] → LogGrew old.keeper new.keeper [] → LogGrew old.sink new.sink []
+  pub refused_files : (result : Status) → IsRefusal result → Asks words env old.files new.files (unless_memory result) → LogGrew old.disk new.disk [] → LogGrew old.loop new.loop [] → LogGrew old.keeper new.keeper [] → LogGrew old.sink new.sink [] → LogGrew old.tape new.tape []
       → IsOfTheFiles words env turns old new result
-  refused_files status.Done is asks disk loop keeper sink standing before made was now_is honest known = absurd is
-  refused_files status.TurnsSpent is asks disk loop keeper sink standing before made was now_is honest known = absurd is
-  refused_files status.OutFault is asks disk loop keeper sink standing before made was now_is honest known = absurd is
-  refused_files status.LoopFault is asks disk loop keeper sink standing before made was now_is honest known = absurd is
-  refused_files status.KeeperFault is asks disk loop keeper sink standing before made was now_is honest known = absurd is
-  refused_files status.DiskFault is asks disk loop keeper sink standing before made was now_is honest known = absurd is
-  refused_files status.FileFault is asks disk loop keeper sink standing before made was now_is honest known = absurd (known refl)
-  refused_files status.Memory is asks disk loop keeper sink standing before made was now_is honest known = tt
-  refused_files other is asks disk loop keeper sink standing before made was now_is honest known =
-      ([], verdict_of (Refuses other) new.files (says [] other) asks (refl, record { disk = disk; files = grew_none new.files; loop = loop; keeper = keeper }) (λ same. cc same) standing before made was now_is honest, sink)
+  refused_files status.Done is asks disk loop keeper sink tape existing honest known = absurd is
+  refused_files status.TurnsSpent is asks disk loop keeper sink tape existing honest known = absurd is
+  refused_files status.OutFault is asks disk loop keeper sink tape existing honest known = absurd is
+  refused_files status.LoopFault is asks disk loop keeper sink tape existing honest known = absurd is
+  refused_files status.KeeperFault is asks disk loop keeper sink tape existing honest known = absurd is
+  refused_files status.DiskFault is asks disk loop keeper sink tape existing honest known = absurd is
+  refused_files status.NotRecordable is asks disk loop keeper sink tape existing honest known = absurd is
+  refused_files status.RecordFault is asks disk loop keeper sink tape existing honest known = absurd is
+  refused_files status.FileFault is asks disk loop keeper sink tape existing honest known = absurd (known refl)
+  refused_files status.Memory is asks disk loop keeper sink tape existing honest known = tt
+  refused_files other is asks disk loop keeper sink tape existing honest known =
+      (says [] other, verdict_of (Refuses other) new.files (says [] other) asks (refl, record { disk = disk; files = grew_none new.files; loop = loop; keeper = keeper }) (λ same. cc same) existing honest, refl, sink, tape)
 
 -- a job refuses nothing
 pub no_refusal : (j : Job) → of_job j ≢ Refuses status.FileFault
 no_refusal (job.Run s ticks) is = absurd (cc is)
+no_refusal (job.Record s ticks) is = absurd (cc is)
 no_refusal (job.Replay s schedule) is = absurd (cc is)
 no_refusal (job.Generate s schedule) is = absurd (cc is)
 no_refusal (job.List folder) is = absurd (cc is)

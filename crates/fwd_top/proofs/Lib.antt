@@ -5,3 +5,7 @@ pub mod GivenFiles
 pub mod Delivery
 pub mod RunOffsets
 pub mod GeneratedLoad
+pub mod Recordings
+pub mod Taping
+pub mod WrittenVerdict
+pub mod ReadOptions

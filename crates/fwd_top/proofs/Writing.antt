@@ -1,7 +1,10 @@
 -- Calls and written text, by status.
 use Rattle.std.specs.Prelude.{◌≢◌}
-use Rattle.std.proofs.Common.{◌≡◌, ℕ, ◌+◌, ◌/◌, ◌≤◌, Bool, true, false, if◌then◌else◌, List, [], map, String, string_bytes, Some, refl, sym, ◌∙◌, arith, subst}
+use Rattle.std.proofs.Common.{◌≡◌, ◌⊎◌, ℕ, ◌+◌, ◌/◌, ◌≤◌, Bool, true, false, if◌then◌else◌, List, [], map, String, string_bytes, Option, Some, None, Ok, Err, inl, inr, refl, sym, ◌∙◌, ap, subst, arith}
+use Rattle.fwd_settings.specs.Requirements.{MeetsRequirements}
 use Rattle.fwd_settings.specs.declared.settings_types.AllSettings.{AllSettings}
+use Rattle.fwd_script.specs.Text.{text_of}
+use Rattle.fwd_model.specs.Run.{End, Over, TurnsSpent}
 use Rattle.fwd_outside.specs.Log.{LogGrew}
 use Rattle.fwd_outside.specs.Cause.{HasCause}
 use Rattle.fwd_outside.proofs.LogGrowth.{grew_none}
@@ -16,15 +19,21 @@ use Rattle.fwd_replay.specs.LiveRun.{events_below, heard_in}
 use Rattle.fwd_replay.specs.declared.report.Ending.{Ending}
 use Rattle.fwd_replay.specs.declared.report.Ending.TheVariants as ending
 use Rattle.fwd_replay.specs.declared.report.Reported.{Reported}
+use Rattle.fwd_replay.specs.RecordedRun.{RanSo, ending_of_run}
+use Rattle.fwd_replay.specs.Text.{report, reported_by}
+use Rattle.fwd_replay.specs.declared.recorded_run.Ran.{Ran}
+use Rattle.fwd_replay.specs.declared.recorded_run.Ran.TheVariants as ran
 use Rattle.fwd_theorem_replay.specs.PresetFiles.{OnlyFirstHasFiles}
-use Rattle.fwd_top.specs.Cases.{AreSound, Case, Generates, Lists, Refuses, Replays, Runs, lives_of, settings_for}
-use Rattle.fwd_top.specs.Outcomes.{Platform, platform_of, AreNotCalled, Produces}
+use Rattle.fwd_top.specs.Cases.{AreSound, Case, Generates, Lists, Records, Refuses, Replays, Runs, lives_of, settings_for}
+use Rattle.fwd_top.specs.Outcomes.{Platform, AreNotCalled, Produces, world}
 use Rattle.fwd_top.specs.Delivery.{IsDelivered}
+use Rattle.fwd_top.specs.Determinism.{IsDetermined}
 use Rattle.fwd_top.specs.CrashConsistency.{IsCrashConsistent}
 use Rattle.fwd_top.specs.Offsets.{EachRunKeepsOffsets}
 use Rattle.fwd_top.specs.Contents.{EachRunSendsContents}
-use Rattle.fwd_top.specs.Answers.{Verdict, says, status_of, of_reported, Outcome, IsVerdict, Devices, Asks, Comes, Wrote, WhileAsking, InTheJob, WhileWriting, Answers, half, is_over_disk, is_run, IsKeeperFault, IsLoopFault, IsDiskFault, least_heard, spent, spent_by}
-use Rattle.fwd_top.specs.Results.{of_job, HasDiskFailed, HasKeeperFailed, HasLoopFailed, IsRefusal, WritesVerdict, WritesSo, WroteTheText, OutFailed, NoMemory, given_by, is_to_run, takes_disk, unless_memory}
+use Rattle.fwd_top.specs.RecordedOutcome.{RecordedOutcome}
+use Rattle.fwd_top.specs.Answers.{Verdict, says, says_both, status_of, of_reported, of_ran, Outcome, IsVerdict, Devices, platform, Asks, Comes, WroteIt, WroteSchedule, Wrote, RanOutOfMemory, WhileAsking, InTheJob, WhileWriting, WhileRecording, Answers, half, is_over_disk, is_run, IsKeeperFault, IsLoopFault, IsDiskFault, least_heard, spent, spent_by}
+use Rattle.fwd_top.specs.Results.{of_job, HasDiskFailed, HasKeeperFailed, HasLoopFailed, IsRefusal, JobProduces, WritesVerdict, AllWritten, TextFailed, TextStopped, RecordFailed, RecordStopped, given_by, is_to_run, takes_disk, unless_memory}
 use Rattle.fwd_top.specs.Words.{command_of}
 use Rattle.fwd_top.specs.declared.job.Job.{Job}
 use Rattle.fwd_top.specs.declared.job.Job.TheVariants as job
@@ -39,8 +48,9 @@ pub outcome_of : ((turns : ℕ) (case : Case) (old new : Platform) (r : Reported
     → ((turns : ℕ) (case : Case) (old new : Platform) (r : Reported) (comes : Produces turns case old new r) → AreSound (settings_for case) → OnlyFirstHasFiles (lives_of case) → IsCrashConsistent turns case old new r comes)
     → ((turns : ℕ) (case : Case) (old new : Platform) (r : Reported) (comes : Produces turns case old new r) → EachRunKeepsOffsets turns case old new r comes)
     → ((turns : ℕ) (case : Case) (old new : Platform) (r : Reported) (comes : Produces turns case old new r) → AreSound (settings_for case) → EachRunSendsContents turns case old new r comes)
+    → ((turns : ℕ) (case : Case) (old new : Platform) (r : Reported) → Produces turns case old new r → IsDetermined turns case r)
     → (turns : ℕ) (case : Case) (old new : Platform) (r : Reported) → AreSound (settings_for case) → OnlyFirstHasFiles (lives_of case) → Produces turns case old new r → Outcome turns case old new r
-outcome_of delivers stands keeps sends turns case old new r sound later comes = record { comes = comes; sound = sound; delivered = delivers turns case old new r comes; safe = stands turns case old new r comes sound later; offsets = keeps turns case old new r comes; contents = sends turns case old new r comes sound }
+outcome_of delivers stands keeps sends determines turns case old new r sound later comes = record { comes = comes; sound = sound; delivered = delivers turns case old new r comes; safe = stands turns case old new r comes sound later; offsets = keeps turns case old new r comes; contents = sends turns case old new r comes sound; determined = determines turns case old new r comes }
 
 -- ---- calls and written text
 
@@ -49,76 +59,145 @@ pub in_case : (turns : ℕ) (case : Case) (old new : Platform) (r : Reported) �
 in_case turns (Replays s lives) old new r is = (r, is, refl)
 in_case turns (Generates s lives) old new r is = (r, is, refl)
 in_case turns (Runs s ticks) old new r is = (r, is, refl)
+in_case turns (Records s ticks) old new r is = absurd is.comes
 in_case turns (Lists root) old new r is = (r, is, refl)
 in_case turns (Refuses other) old new r is = absurd is.comes
 
+-- what came of a job gives its verdict
+module _ (outcome : (turns : ℕ) (case : Case) (old new : Platform) (r : Reported) → AreSound (settings_for case) → OnlyFirstHasFiles (lives_of case) → Produces turns case old new r → Outcome turns case old new r)
+    (recorded : (turns : ℕ) (s : AllSettings) (ticks : Option ℕ) (old new : Platform) (went : Ran) → MeetsRequirements s → RanSo s ticks turns (world old) (world new) old.endless went → RecordedOutcome turns s ticks old new went) where
+  pub verdict_of_job : (turns : ℕ) (case : Case) (old new : Platform) (went : Ran) → AreSound (settings_for case) → OnlyFirstHasFiles (lives_of case) → JobProduces turns case old new went → IsVerdict turns case old new (of_ran went)
+  verdict_of_job turns (Records s ticks) old new went sound later comes = (went, recorded turns s ticks old new went sound comes, refl)
+  verdict_of_job turns (Replays s lives) old new (ran.Unrecorded r) sound later comes = in_case turns (Replays s lives) old new r (outcome turns (Replays s lives) old new r sound later comes)
+  verdict_of_job turns (Generates s lives) old new (ran.Unrecorded r) sound later comes = in_case turns (Generates s lives) old new r (outcome turns (Generates s lives) old new r sound later comes)
+  verdict_of_job turns (Runs s ticks) old new (ran.Unrecorded r) sound later comes = in_case turns (Runs s ticks) old new r (outcome turns (Runs s ticks) old new r sound later comes)
+  verdict_of_job turns (Lists root) old new (ran.Unrecorded r) sound later comes = in_case turns (Lists root) old new r (outcome turns (Lists root) old new r sound later comes)
+  verdict_of_job turns (Refuses other) old new (ran.Unrecorded r) sound later comes = absurd comes
+  verdict_of_job turns case old new went sound later comes = absurd comes
+
+-- a recorded run went to its end, or used up its turns
+abbrev pub IsReport : Ran → Type 0
+IsReport (ran.Recorded reported schedule) = (reported.ending ≡ ending.Over) ⊎ (reported.ending ≡ ending.TurnsSpent)
+IsReport other = Unit {0}
+
+ends_well : (text : List ℕ) (r : Reported) (end : End) → r ≡ reported_by text end → (end ≡ Over) ⊎ (end ≡ TurnsSpent) → (r.ending ≡ ending.Over) ⊎ (r.ending ≡ ending.TurnsSpent)
+ends_well text r end is (inl over) = inl (ap (λ (x : Reported). x.ending) is ∙ ap (λ (e : End). (reported_by text e).ending) over)
+ends_well text r end is (inr spent) = inr (ap (λ (x : Reported). x.ending) is ∙ ap (λ (e : End). (reported_by text e).ending) spent)
+
+pub is_report : (turns : ℕ) (case : Case) (old new : Platform) (went : Ran) → JobProduces turns case old new went → IsReport went
+is_report turns (Records s ticks) old new (ran.Recorded reported schedule) comes = ends_well (report s comes.result.history) reported comes.result.end comes.reports comes.ended
+is_report turns case old new ran.NotRecordable comes = tt
+is_report turns case old new (ran.Unrecorded reported) comes = tt
+is_report turns case old new went comes = absurd comes
+
+-- ---- the text and the schedule written for a verdict
+
+abbrev to_write : List ℕ → Status → Option (List ℕ) → Verdict
+to_write text end schedule = record { text = text; status = end; schedule = schedule }
+
+module _ (Holds : Verdict → Type 0) (old new : Devices) where
+  whole : (end : Ending) (text : List ℕ) (schedule : Option (List ℕ)) (result : Status) → Holds (to_write text (status_of end) schedule) → result ≡ status_of end
+      → WroteIt old.sink new.sink text → WroteSchedule old.tape new.tape schedule → Wrote Holds old new result
+  whole ending.Over text schedule result holds same wrote taped = rw same (to_write text status.Done schedule, holds, refl, wrote, taped)
+  whole ending.TurnsSpent text schedule result holds same wrote taped = rw same (to_write text status.TurnsSpent schedule, holds, refl, wrote, taped)
+  whole ending.DiskFailed text schedule result holds same wrote taped = rw same (to_write text status.DiskFault schedule, holds, refl, wrote, taped)
+  whole ending.KeeperFailed text schedule result holds same wrote taped = rw same (to_write text status.KeeperFault schedule, holds, refl, wrote, taped)
+  whole ending.LoopFailed text schedule result holds same wrote taped = rw same (to_write text status.LoopFault schedule, holds, refl, wrote, taped)
+  whole ending.Memory text schedule result holds same wrote taped = rw same tt
+
+  pub written : (went : Ran) (result : Status) → Holds (of_ran went) → WritesVerdict old.sink new.sink old.tape new.tape (of_ran went) result → Wrote Holds old new result
+  written ran.NotRecordable result holds (AllWritten same wrote taped) = rw same (of_ran ran.NotRecordable, holds, refl, wrote, taped)
+  written (ran.Unrecorded r) result holds (AllWritten same wrote taped) = whole r.ending r.text None result holds same wrote taped
+  written (ran.Recorded r (Ok schedule)) result holds (AllWritten same wrote taped) = whole r.ending r.text (Some (text_of schedule)) result holds same wrote taped
+  written (ran.Recorded r (Err none)) result holds (AllWritten same wrote taped) = rw same tt
+  written went result holds (TextFailed same wrote taped) = rw same (of_ran went, holds, wrote, taped)
+  written went result holds (TextStopped same wrote taped) = rw same tt
+  written went result holds (RecordFailed text schedule end is same wrote taped) = rw same (text, schedule, end, subst Holds is holds, wrote, taped)
+  written went result holds (RecordStopped text schedule end is same wrote taped) = rw same tt
+
 module _ {Y : Type 0} (words : List (String Y)) (env : Values) (turns : ℕ) (old new : Devices) where
-  -- a job was done
-  comes_of : (case : Case) (read : FilesLog) (r : Reported) → Asks words env old.files read (Some case) → Outcome turns case (platform_of old.disk read old.loop old.keeper) (platform_of new.disk new.files new.loop new.keeper) r → Comes words env turns old new (of_reported r)
-  comes_of case read r asks is = record { case = case; read = read; asks = asks; is = in_case turns case (platform_of old.disk read old.loop old.keeper) (platform_of new.disk new.files new.loop new.keeper) r is }
+  abbrev ComesTo : Verdict → Type 0
+  ComesTo verdict = Comes words env turns old new verdict
+
+  abbrev NoMemoryLeft : Type 0
+  NoMemoryLeft = RanOutOfMemory words env turns old new
+
+  reported_out : (text : List ℕ) (end : Ending) → ComesTo (says text (status_of end)) → status_of end ≡ status.Memory → WroteIt old.sink new.sink text → LogGrew old.tape new.tape [] → NoMemoryLeft
+  reported_out text end comes is wrote taped = InTheJob text (subst (λ (other : Status). ComesTo (says text other)) is comes) wrote taped
+
+  not_both : (end : Ending) → (end ≡ ending.Over) ⊎ (end ≡ ending.TurnsSpent) → status_of end ≡ status.Memory → ⊥
+  not_both end (inl over) is = cc (sym (ap status_of over) ∙ is)
+  not_both end (inr spent) is = cc (sym (ap status_of spent) ∙ is)
+
+  -- memory ran out
+  out_of_memory : (went : Ran) (result : Status) → IsReport went → ComesTo (of_ran went) → WritesVerdict old.sink new.sink old.tape new.tape (of_ran went) result → result ≡ status.Memory → NoMemoryLeft
+  out_of_memory ran.NotRecordable result report comes (AllWritten same wrote taped) is = absurd (cc (sym same ∙ is))
+  out_of_memory (ran.Unrecorded r) result report comes (AllWritten same wrote taped) is = reported_out r.text r.ending comes (sym same ∙ is) wrote taped
+  out_of_memory (ran.Recorded r (Ok schedule)) result report comes (AllWritten same wrote taped) is = absurd (not_both r.ending report (sym same ∙ is))
+  out_of_memory (ran.Recorded r (Err none)) result report comes (AllWritten same wrote taped) is = InTheJob r.text comes wrote taped
+  out_of_memory went result report comes (TextFailed same wrote taped) is = absurd (cc (sym same ∙ is))
+  out_of_memory went result report comes (TextStopped same wrote taped) is = WhileWriting (of_ran went) comes wrote taped
+  out_of_memory went result report comes (RecordFailed text schedule end both same wrote taped) is = absurd (cc (sym same ∙ is))
+  out_of_memory went result report comes (RecordStopped text schedule end both same wrote taped) is = WhileRecording text schedule end (subst ComesTo both comes) wrote taped
+
+  answers_by : (result : Status) → Wrote (Comes words env turns old new) old new result → (result ≡ status.Memory → NoMemoryLeft) → Answers words env turns old new result
+  answers_by status.Memory wrote none = none refl
+  answers_by result wrote none = wrote
+
+  -- a job was done, and its outcome was written
+  pub done : (case : Case) (read : FilesLog) (went : Ran) (result : Status) → Asks words env old.files read (Some case) → IsVerdict turns case (platform old read) (platform new new.files) (of_ran went)
+      → IsReport went → WritesVerdict old.sink new.sink old.tape new.tape (of_ran went) result → Answers words env turns old new result
+  done case read went result asks is report tells =
+      let comes : ComesTo (of_ran went) = record { case = case; read = read; asks = asks; is = is } in
+      answers_by result (written (Comes words env turns old new) old new went result comes tells) (out_of_memory went result report comes tells)
 
   -- there was nothing to do
-  comes_refused : (other : Status) → Asks words env old.files new.files (Some (Refuses other)) → LogGrew old.disk new.disk [] → LogGrew old.loop new.loop [] → LogGrew old.keeper new.keeper [] → Comes words env turns old new (says [] other)
+  comes_refused : (other : Status) → Asks words env old.files new.files (Some (Refuses other)) → LogGrew old.disk new.disk [] → LogGrew old.loop new.loop [] → LogGrew old.keeper new.keeper [] → ComesTo (says [] other)
   comes_refused other asks disk loop keeper = record { case = Refuses other; read = new.files; asks = asks; is = (refl, record { disk = disk; files = grew_none new.files; loop = loop; keeper = keeper }) }
 
--- the text written for a verdict with this property
-pub written : (Holds : Verdict → Type 0) (a b : SinkLog) (text : List ℕ) (end : Ending) (result : Status) → Holds (says text (status_of end)) → WritesSo a b text (status_of end) result → Wrote Holds a b result
-written Holds a b text ending.Over result holds (WroteTheText same wrote) = rw same (text, holds, wrote)
-written Holds a b text ending.TurnsSpent result holds (WroteTheText same wrote) = rw same (text, holds, wrote)
-written Holds a b text ending.DiskFailed result holds (WroteTheText same wrote) = rw same (text, holds, wrote)
-written Holds a b text ending.KeeperFailed result holds (WroteTheText same wrote) = rw same (text, holds, wrote)
-written Holds a b text ending.LoopFailed result holds (WroteTheText same wrote) = rw same (text, holds, wrote)
-written Holds a b text ending.Memory result holds (WroteTheText same wrote) = rw same tt
-written Holds a b text end result holds (OutFailed same wrote) = rw same (text, status_of end, holds, wrote)
-written Holds a b text end result holds (NoMemory same wrote) = rw same tt
-
-module _ {Y : Type 0} (words : List (String Y)) (env : Values) (turns : ℕ) (old new : Devices) where
-  -- the outcome of a job was written
-  call_log : (text : List ℕ) (end : Ending) (result : Status) → Comes words env turns old new (says text (status_of end)) → WritesSo old.sink new.sink text (status_of end) result → Answers words env turns old new result
-  call_log text ending.Over result comes (WroteTheText same wrote) = rw same (text, comes, wrote)
-  call_log text ending.TurnsSpent result comes (WroteTheText same wrote) = rw same (text, comes, wrote)
-  call_log text ending.DiskFailed result comes (WroteTheText same wrote) = rw same (text, comes, wrote)
-  call_log text ending.KeeperFailed result comes (WroteTheText same wrote) = rw same (text, comes, wrote)
-  call_log text ending.LoopFailed result comes (WroteTheText same wrote) = rw same (text, comes, wrote)
-  call_log text ending.Memory result comes (WroteTheText same wrote) = rw same (InTheJob text comes wrote)
-  call_log text end result comes (OutFailed same wrote) = rw same (text, status_of end, comes, wrote)
-  call_log text end result comes (NoMemory same wrote) = rw same (WhileWriting text (status_of end) comes wrote)
-
-  -- there was nothing to do
-  pub refused : (result : Status) → IsRefusal result → Asks words env old.files new.files (unless_memory result) → LogGrew old.disk new.disk [] → LogGrew old.loop new.loop [] → LogGrew old.keeper new.keeper [] → LogGrew old.sink new.sink []
+  pub refused : (result : Status) → IsRefusal result → Asks words env old.files new.files (unless_memory result) → LogGrew old.disk new.disk [] → LogGrew old.loop new.loop [] → LogGrew old.keeper new.keeper [] → LogGrew old.sink new.sink [] → LogGrew old.tape new.tape []
       → Answers words env turns old new result
-  refused status.Done is asks disk loop keeper sink = absurd is
-  refused status.TurnsSpent is asks disk loop keeper sink = absurd is
-  refused status.OutFault is asks disk loop keeper sink = absurd is
-  refused status.LoopFault is asks disk loop keeper sink = absurd is
-  refused status.KeeperFault is asks disk loop keeper sink = absurd is
-  refused status.DiskFault is asks disk loop keeper sink = absurd is
-  refused status.Memory is asks disk loop keeper sink = WhileAsking (record { asks = asks; disk = disk; loop = loop; keeper = keeper }) sink
-  refused other is asks disk loop keeper sink = ([], comes_refused words env turns old new other asks disk loop keeper, sink)
-
-  -- a job was done
-  pub done : (case : Case) (read : FilesLog) (r : Reported) (result : Status) → Asks words env old.files read (Some case) → Outcome turns case (platform_of old.disk read old.loop old.keeper) (platform_of new.disk new.files new.loop new.keeper) r → WritesVerdict old.sink new.sink (of_reported r) result
-      → Answers words env turns old new result
-  done case read r result asks is tells = call_log r.text r.ending result (comes_of words env turns old new case read r asks is) tells
+  refused status.Done is asks disk loop keeper sink tape = absurd is
+  refused status.TurnsSpent is asks disk loop keeper sink tape = absurd is
+  refused status.OutFault is asks disk loop keeper sink tape = absurd is
+  refused status.LoopFault is asks disk loop keeper sink tape = absurd is
+  refused status.KeeperFault is asks disk loop keeper sink tape = absurd is
+  refused status.DiskFault is asks disk loop keeper sink tape = absurd is
+  refused status.NotRecordable is asks disk loop keeper sink tape = absurd is
+  refused status.RecordFault is asks disk loop keeper sink tape = absurd is
+  refused status.Memory is asks disk loop keeper sink tape = WhileAsking (record { asks = asks; disk = disk; loop = loop; keeper = keeper }) sink tape
+  refused other is asks disk loop keeper sink tape = (says [] other, comes_refused other asks disk loop keeper, refl, sink, tape)
 
 -- ---- counts
 
--- the status of a text is its own, or one of two others
-told_by_one : (text : List ℕ) (a b : SinkLog) (end result other : Status) → WritesSo a b text end result → end ≢ other → status.OutFault ≢ other → status.Memory ≢ other → result ≢ other
-told_by_one text a b end result other (WroteTheText same wrote) one two three is = one (sym same ∙ is)
-told_by_one text a b end result other (OutFailed same wrote) one two three is = two (sym same ∙ is)
-told_by_one text a b end result other (NoMemory same wrote) one two three is = three (sym same ∙ is)
+-- the status after a verdict is its own, or one of three others
+told_by_one : (verdict : Verdict) (a b t u : SinkLog) (result other : Status) → WritesVerdict a b t u verdict result → verdict.status ≢ other → status.OutFault ≢ other → status.Memory ≢ other → status.RecordFault ≢ other → result ≢ other
+told_by_one verdict a b t u result other (AllWritten same wrote taped) one two three four is = one (sym same ∙ is)
+told_by_one verdict a b t u result other (TextFailed same wrote taped) one two three four is = two (sym same ∙ is)
+told_by_one verdict a b t u result other (TextStopped same wrote taped) one two three four is = three (sym same ∙ is)
+told_by_one verdict a b t u result other (RecordFailed text schedule end both same wrote taped) one two three four is = four (sym same ∙ is)
+told_by_one verdict a b t u result other (RecordStopped text schedule end both same wrote taped) one two three four is = three (sym same ∙ is)
+
+-- a status other than these three is that of the verdict
+end_told : (verdict : Verdict) (a b t u : SinkLog) (result other : Status) → WritesVerdict a b t u verdict result → status.OutFault ≢ other → status.Memory ≢ other → status.RecordFault ≢ other → result ≡ other → verdict.status ≡ other
+end_told verdict a b t u result other (AllWritten same wrote taped) two three four is = sym same ∙ is
+end_told verdict a b t u result other (TextFailed same wrote taped) two three four is = absurd (two (sym same ∙ is))
+end_told verdict a b t u result other (TextStopped same wrote taped) two three four is = absurd (three (sym same ∙ is))
+end_told verdict a b t u result other (RecordFailed text schedule end both same wrote taped) two three four is = absurd (four (sym same ∙ is))
+end_told verdict a b t u result other (RecordStopped text schedule end both same wrote taped) two three four is = absurd (three (sym same ∙ is))
+
+-- that of an ending is the ending's
+ending_told : (went : Ran) (end : Ending) (other : Status) → ((one : Ending) → status_of one ≡ other → one ≡ end) → status.NotRecordable ≢ other → status.Memory ≢ other → (of_ran went).status ≡ other → ending_of_run went ≡ end
+ending_told ran.NotRecordable end other by none out is = absurd (none is)
+ending_told (ran.Unrecorded r) end other by none out is = by r.ending is
+ending_told (ran.Recorded r (Ok schedule)) end other by none out is = by r.ending is
+ending_told (ran.Recorded r (Err e)) end other by none out is = absurd (out is)
 
 heard_all : {a b : LoopCounts} (n most : ℕ) → most ≤ n → EventsTaken n a b → EventsTaken most a b
 heard_all n most least heard = record { happenings = let x = heard.happenings in grind arith; greatest = heard.greatest; endless = heard.endless }
 
 pub heard_none : (a : LoopCounts) → EventsTaken 0 a a
 heard_none a = record { happenings = omega arith; greatest = omega arith; endless = refl }
-
--- with another status no turns ran out
-spent_none : (runs : Bool) (turns : ℕ) (result : Status) → result ≢ status.TurnsSpent → spent_by result runs turns ≡ 0
-spent_none runs turns status.TurnsSpent other = absurd (other refl)
-spent_none runs turns result other = refl
 
 spent_unrun : (turns : ℕ) (result : Status) → spent_by result false turns ≡ 0
 spent_unrun turns status.TurnsSpent = refl
@@ -128,17 +207,16 @@ turns_spent : (end : Ending) → status_of end ≡ status.TurnsSpent → end ≡
 turns_spent ending.TurnsSpent is = refl
 turns_spent end is = absurd (cc is)
 
-ended_spent : (text : List ℕ) (end : Ending) (a b : SinkLog) (result : Status) → WritesSo a b text (status_of end) result → result ≡ status.TurnsSpent → end ≡ ending.TurnsSpent
-ended_spent text end a b result (WroteTheText same wrote) spends = turns_spent end (sym same ∙ spends)
-ended_spent text end a b result (OutFailed same wrote) spends = absurd (cc (sym same ∙ spends))
-ended_spent text end a b result (NoMemory same wrote) spends = absurd (cc (sym same ∙ spends))
-
 half_least : (n : ℕ) (keyed : Bool) → half n ≤ (if keyed then (n + 1) / 2 else n)
 half_least n true = omega arith
 half_least n false = omega arith
 
 half_below : (s : AllSettings) (n : ℕ) → half n ≤ events_below s n
 half_below s n = half_least n (has_keys (keys_of s))
+
+-- a run whose turns were spent ended so
+ended_spent : (went : Ran) (a b t u : SinkLog) (result : Status) → WritesVerdict a b t u (of_ran went) result → result ≡ status.TurnsSpent → ending_of_run went ≡ ending.TurnsSpent
+ended_spent went a b t u result tells spends = ending_told went ending.TurnsSpent status.TurnsSpent turns_spent (λ x. cc x) (λ x. cc x) (end_told (of_ran went) a b t u result status.TurnsSpent tells (λ x. cc x) (λ x. cc x) (λ x. cc x) spends)
 
 module _ {Y : Type 0} (words : List (String Y)) (turns : ℕ) (before after : LoopCounts) where
   abbrev runs : Bool
@@ -147,36 +225,33 @@ module _ {Y : Type 0} (words : List (String Y)) (turns : ℕ) (before after : Lo
   unspent : (n : ℕ) (result : Status) → spent_by result runs turns ≡ 0 → EventsTaken n before after → EventsTaken (half (spent words turns result)) before after
   unspent n result is heard = rw is (heard_all n (half 0) (omega arith) heard)
 
-  spent_all : (text : List ℕ) (a b : SinkLog) (result : Status) → runs ≡ true → WritesSo a b text status.TurnsSpent result → EventsTaken (half turns) before after → EventsTaken (half (spent words turns result)) before after
-  spent_all text a b result run (WroteTheText same wrote) heard = rw (same, run) heard
-  spent_all text a b result run (OutFailed same wrote) heard = unspent (half turns) result (rw same refl) heard
-  spent_all text a b result run (NoMemory same wrote) heard = unspent (half turns) result (rw same refl) heard
+  -- after TurnsSpent so many events were returned, and nothing is claimed after another status
+  heard_by : (result : Status) (n : ℕ) → (result ≡ status.TurnsSpent → n ≡ turns) → EventsTaken (half n) before after → EventsTaken (half (spent_by result true turns)) before after
+  heard_by status.TurnsSpent n all heard = subst (λ (m : ℕ). EventsTaken (half m) before after) (all refl) heard
+  heard_by result n all heard = heard_all (half n) (half 0) (omega arith) heard
 
-  none_spent : (n : ℕ) (text : List ℕ) (a b : SinkLog) (end result : Status) → WritesSo a b text end result → end ≢ status.TurnsSpent → EventsTaken n before after → EventsTaken (half (spent words turns result)) before after
-  none_spent n text a b end result tells other heard = unspent n result (spent_none runs turns result (told_by_one text a b end result status.TurnsSpent tells other (λ is. cc is) (λ is. cc is))) heard
-
-  ran_heard : (text : List ℕ) (end : Ending) (a b : SinkLog) (result : Status) → runs ≡ true → WritesSo a b text (status_of end) result → EventsTaken (half (heard_in turns end)) before after → EventsTaken (half (spent words turns result)) before after
-  ran_heard text ending.TurnsSpent a b result run tells heard = spent_all text a b result run tells heard
-  ran_heard text ending.Over a b result run tells heard = none_spent 0 text a b status.Done result tells (λ is. cc is) heard
-  ran_heard text ending.DiskFailed a b result run tells heard = none_spent 0 text a b status.DiskFault result tells (λ is. cc is) heard
-  ran_heard text ending.KeeperFailed a b result run tells heard = none_spent 0 text a b status.KeeperFault result tells (λ is. cc is) heard
-  ran_heard text ending.LoopFailed a b result run tells heard = none_spent 0 text a b status.LoopFault result tells (λ is. cc is) heard
-  ran_heard text ending.Memory a b result run tells heard = none_spent 0 text a b status.Memory result tells (λ is. cc is) heard
+  ran_heard : (went : Ran) (a b t u : SinkLog) (result : Status) → runs ≡ true → WritesVerdict a b t u (of_ran went) result → EventsTaken (half (heard_in turns (ending_of_run went))) before after → EventsTaken (half (spent words turns result)) before after
+  ran_heard went a b t u result run tells heard =
+      let all : result ≡ status.TurnsSpent → heard_in turns (ending_of_run went) ≡ turns = λ is. ap (heard_in turns) (ended_spent went a b t u result tells is) in
+      rw run (heard_by result (heard_in turns (ending_of_run went)) all heard)
 
   -- the outcome of a job was written
-  pub done_heard : (j : Job) (r : Reported) (a b : SinkLog) (result : Status) → runs ≡ is_to_run j → WritesVerdict a b (of_reported r) result → EventsTaken (given_by j turns r) before after → EventsTaken (half (spent words turns result)) before after
-  done_heard (job.Run s ticks) r a b result run tells heard = ran_heard r.text r.ending a b result run tells (heard_all (events_below s (heard_in turns r.ending)) (half (heard_in turns r.ending)) (half_below s (heard_in turns r.ending)) heard)
-  done_heard (job.Replay s schedule) r a b result run tells heard = unspent 0 result (rw run (spent_unrun turns result)) heard
-  done_heard (job.Generate s schedule) r a b result run tells heard = unspent 0 result (rw run (spent_unrun turns result)) heard
-  done_heard (job.List folder) r a b result run tells heard = unspent 0 result (rw run (spent_unrun turns result)) heard
+  pub done_heard : (j : Job) (went : Ran) (a b t u : SinkLog) (result : Status) → runs ≡ is_to_run j → WritesVerdict a b t u (of_ran went) result → EventsTaken (given_by j turns went) before after → EventsTaken (half (spent words turns result)) before after
+  done_heard (job.Run s ticks) went a b t u result run tells heard = ran_heard went a b t u result run tells (heard_all (events_below s (heard_in turns (ending_of_run went))) (half (heard_in turns (ending_of_run went))) (half_below s (heard_in turns (ending_of_run went))) heard)
+  done_heard (job.Record s ticks) went a b t u result run tells heard = ran_heard went a b t u result run tells (heard_all (events_below s (heard_in turns (ending_of_run went))) (half (heard_in turns (ending_of_run went))) (half_below s (heard_in turns (ending_of_run went))) heard)
+  done_heard (job.Replay s schedule) went a b t u result run tells heard = unspent 0 result (rw run (spent_unrun turns result)) heard
+  done_heard (job.Generate s schedule) went a b t u result run tells heard = unspent 0 result (rw run (spent_unrun turns result)) heard
+  done_heard (job.List folder) went a b t u result run tells heard = unspent 0 result (rw run (spent_unrun turns result)) heard
 
   -- the loop of a job whose turns were spent
-  pub done_spent : (j : Job) (r : Reported) (a b : SinkLog) (result : Status) → WritesVerdict a b (of_reported r) result → EventsTaken (given_by j turns r) before after → result ≡ status.TurnsSpent → EventsTaken (least_heard (of_job j) turns) before after
-  done_spent (job.Run s ticks) r a b result tells heard spends =
-      subst (λ (e : Ending). EventsTaken (events_below s (heard_in turns e)) before after) (ended_spent r.text r.ending a b result tells spends) heard
-  done_spent (job.Replay s schedule) r a b result tells heard spends = heard
-  done_spent (job.Generate s schedule) r a b result tells heard spends = heard
-  done_spent (job.List folder) r a b result tells heard spends = heard
+  pub done_spent : (j : Job) (went : Ran) (a b t u : SinkLog) (result : Status) → WritesVerdict a b t u (of_ran went) result → EventsTaken (given_by j turns went) before after → result ≡ status.TurnsSpent → EventsTaken (least_heard (of_job j) turns) before after
+  done_spent (job.Run s ticks) went a b t u result tells heard spends =
+      subst (λ (e : Ending). EventsTaken (events_below s (heard_in turns e)) before after) (ended_spent went a b t u result tells spends) heard
+  done_spent (job.Record s ticks) went a b t u result tells heard spends =
+      subst (λ (e : Ending). EventsTaken (events_below s (heard_in turns e)) before after) (ended_spent went a b t u result tells spends) heard
+  done_spent (job.Replay s schedule) went a b t u result tells heard spends = heard
+  done_spent (job.Generate s schedule) went a b t u result tells heard spends = heard
+  done_spent (job.List folder) went a b t u result tells heard spends = heard
 
 pub refused_spent : (result : Status) → IsRefusal result → result ≡ status.TurnsSpent → ⊥
 refused_spent status.TurnsSpent is same = is
@@ -209,48 +284,49 @@ no_file_failed : (end : Ending) → status_of end ≢ status.FileFault
 no_file_failed ending.Over is = absurd (cc is)
 no_file_failed end is = absurd (cc is)
 
--- a status other than these two is that of the ending
-end_told : (text : List ℕ) (a b : SinkLog) (end result other : Status) → WritesSo a b text end result → status.OutFault ≢ other → status.Memory ≢ other → result ≡ other → end ≡ other
-end_told text a b end result other (WroteTheText same wrote) two three is = sym same ∙ is
-end_told text a b end result other (OutFailed same wrote) two three is = absurd (two (sym same ∙ is))
-end_told text a b end result other (NoMemory same wrote) two three is = absurd (three (sym same ∙ is))
+module _ {Y : Type 0} (words : List (String Y)) (before after : ℕ) (a b t u : SinkLog) (result : Status) where
+  -- a run whose loop, keeper or disk failed ended so
+  loop_ended : (went : Ran) → WritesVerdict a b t u (of_ran went) result → IsLoopFault words result → ending_of_run went ≡ ending.LoopFailed
+  loop_ended went tells fault = ending_told went ending.LoopFailed status.LoopFault loop_failed (λ x. cc x) (λ x. cc x) (end_told (of_ran went) a b t u result status.LoopFault tells (λ x. cc x) (λ x. cc x) (λ x. cc x) fault.1)
 
-module _ {Y : Type 0} (words : List (String Y)) (before after : ℕ) (a b : SinkLog) (result : Status) where
-  pub done_loop_cause : (j : Job) (r : Reported) → is_run (command_of (map string_bytes words)) ≡ is_to_run j → WritesVerdict a b (of_reported r) result → HasCause before after (HasLoopFailed j r) → HasCause before after (IsLoopFault words result)
-  done_loop_cause (job.Run s ticks) r run tells cause = record {
-    later = cause.later;
-    cause = λ fault. cause.cause (loop_failed r.ending (end_told r.text a b (status_of r.ending) result status.LoopFault tells (λ is. cc is) (λ is. cc is) fault.1));
-  }
-  done_loop_cause (job.Replay s schedule) r run tells cause = record { later = cause.later; cause = λ fault. absurd (cc (sym run ∙ fault.0)) }
-  done_loop_cause (job.Generate s schedule) r run tells cause = record { later = cause.later; cause = λ fault. absurd (cc (sym run ∙ fault.0)) }
-  done_loop_cause (job.List folder) r run tells cause = record { later = cause.later; cause = λ fault. absurd (cc (sym run ∙ fault.0)) }
+  keeper_ended : (went : Ran) → WritesVerdict a b t u (of_ran went) result → IsKeeperFault words result → ending_of_run went ≡ ending.KeeperFailed
+  keeper_ended went tells fault = ending_told went ending.KeeperFailed status.KeeperFault keeper_failed (λ x. cc x) (λ x. cc x) (end_told (of_ran went) a b t u result status.KeeperFault tells (λ x. cc x) (λ x. cc x) (λ x. cc x) fault.1)
 
-  pub done_keeper_cause : (j : Job) (r : Reported) → is_run (command_of (map string_bytes words)) ≡ is_to_run j → WritesVerdict a b (of_reported r) result → HasCause before after (HasKeeperFailed j r) → HasCause before after (IsKeeperFault words result)
-  done_keeper_cause (job.Run s ticks) r run tells cause = record {
-    later = cause.later;
-    cause = λ fault. cause.cause (keeper_failed r.ending (end_told r.text a b (status_of r.ending) result status.KeeperFault tells (λ is. cc is) (λ is. cc is) fault.1));
-  }
-  done_keeper_cause (job.Replay s schedule) r run tells cause = record { later = cause.later; cause = λ fault. absurd (cc (sym run ∙ fault.0)) }
-  done_keeper_cause (job.Generate s schedule) r run tells cause = record { later = cause.later; cause = λ fault. absurd (cc (sym run ∙ fault.0)) }
-  done_keeper_cause (job.List folder) r run tells cause = record { later = cause.later; cause = λ fault. absurd (cc (sym run ∙ fault.0)) }
+  disk_ended : (went : Ran) → WritesVerdict a b t u (of_ran went) result → IsDiskFault words result → ending_of_run went ≡ ending.DiskFailed
+  disk_ended went tells fault = ending_told went ending.DiskFailed status.DiskFault disk_failed (λ x. cc x) (λ x. cc x) (end_told (of_ran went) a b t u result status.DiskFault tells (λ x. cc x) (λ x. cc x) (λ x. cc x) fault.1)
 
-  over_disk : (r : Reported) → WritesVerdict a b (of_reported r) result → HasCause before after (r.ending ≡ ending.DiskFailed) → HasCause before after (IsDiskFault words result)
-  over_disk r tells cause = record {
-    later = cause.later;
-    cause = λ fault. cause.cause (disk_failed r.ending (end_told r.text a b (status_of r.ending) result status.DiskFault tells (λ is. cc is) (λ is. cc is) fault.1));
-  }
+  pub done_loop_cause : (j : Job) (went : Ran) → is_run (command_of (map string_bytes words)) ≡ is_to_run j → WritesVerdict a b t u (of_ran went) result → HasCause before after (HasLoopFailed j went) → HasCause before after (IsLoopFault words result)
+  done_loop_cause (job.Run s ticks) went run tells cause = record { later = cause.later; cause = λ fault. cause.cause (loop_ended went tells fault) }
+  done_loop_cause (job.Record s ticks) went run tells cause = record { later = cause.later; cause = λ fault. cause.cause (loop_ended went tells fault) }
+  done_loop_cause (job.Replay s schedule) went run tells cause = record { later = cause.later; cause = λ fault. absurd (cc (sym run ∙ fault.0)) }
+  done_loop_cause (job.Generate s schedule) went run tells cause = record { later = cause.later; cause = λ fault. absurd (cc (sym run ∙ fault.0)) }
+  done_loop_cause (job.List folder) went run tells cause = record { later = cause.later; cause = λ fault. absurd (cc (sym run ∙ fault.0)) }
 
-  pub done_disk_cause : (j : Job) (r : Reported) → is_over_disk (command_of (map string_bytes words)) ≡ takes_disk j → WritesVerdict a b (of_reported r) result → HasCause before after (HasDiskFailed j r) → HasCause before after (IsDiskFault words result)
-  done_disk_cause (job.Run s ticks) r over tells cause = over_disk r tells cause
-  done_disk_cause (job.Replay s schedule) r over tells cause = record { later = cause.later; cause = λ fault. absurd (cc (sym over ∙ fault.0)) }
-  done_disk_cause (job.Generate s schedule) r over tells cause = record { later = cause.later; cause = λ fault. absurd (cc (sym over ∙ fault.0)) }
-  done_disk_cause (job.List folder) r over tells cause = over_disk r tells cause
+  pub done_keeper_cause : (j : Job) (went : Ran) → is_run (command_of (map string_bytes words)) ≡ is_to_run j → WritesVerdict a b t u (of_ran went) result → HasCause before after (HasKeeperFailed j went) → HasCause before after (IsKeeperFault words result)
+  done_keeper_cause (job.Run s ticks) went run tells cause = record { later = cause.later; cause = λ fault. cause.cause (keeper_ended went tells fault) }
+  done_keeper_cause (job.Record s ticks) went run tells cause = record { later = cause.later; cause = λ fault. cause.cause (keeper_ended went tells fault) }
+  done_keeper_cause (job.Replay s schedule) went run tells cause = record { later = cause.later; cause = λ fault. absurd (cc (sym run ∙ fault.0)) }
+  done_keeper_cause (job.Generate s schedule) went run tells cause = record { later = cause.later; cause = λ fault. absurd (cc (sym run ∙ fault.0)) }
+  done_keeper_cause (job.List folder) went run tells cause = record { later = cause.later; cause = λ fault. absurd (cc (sym run ∙ fault.0)) }
+
+  pub done_disk_cause : (j : Job) (went : Ran) → is_over_disk (command_of (map string_bytes words)) ≡ takes_disk j → WritesVerdict a b t u (of_ran went) result → HasCause before after (HasDiskFailed j went) → HasCause before after (IsDiskFault words result)
+  done_disk_cause (job.Run s ticks) went over tells cause = record { later = cause.later; cause = λ fault. cause.cause (disk_ended went tells fault) }
+  done_disk_cause (job.Record s ticks) went over tells cause = record { later = cause.later; cause = λ fault. cause.cause (disk_ended went tells fault) }
+  done_disk_cause (job.Replay s schedule) went over tells cause = record { later = cause.later; cause = λ fault. absurd (cc (sym over ∙ fault.0)) }
+  done_disk_cause (job.Generate s schedule) went over tells cause = record { later = cause.later; cause = λ fault. absurd (cc (sym over ∙ fault.0)) }
+  done_disk_cause (job.List folder) went over tells cause = record { later = cause.later; cause = λ fault. cause.cause (disk_ended went tells fault) }
 
 -- a written outcome isn't a fault of a file
-pub no_file_fault : (r : Reported) (a b : SinkLog) (result : Status) → WritesVerdict a b (of_reported r) result → result ≢ status.FileFault
-no_file_fault r a b result tells = told_by_one r.text a b (status_of r.ending) result status.FileFault tells (no_file_failed r.ending) (λ is. cc is) (λ is. cc is)
+no_file_status : (went : Ran) → (of_ran went).status ≢ status.FileFault
+no_file_status ran.NotRecordable is = cc is
+no_file_status (ran.Unrecorded r) is = no_file_failed r.ending is
+no_file_status (ran.Recorded r (Ok schedule)) is = no_file_failed r.ending is
+no_file_status (ran.Recorded r (Err e)) is = cc is
 
--- a refusal isn't a fault of the loop, the keeper, the disk or the sink
+pub no_file_fault : (went : Ran) (a b t u : SinkLog) (result : Status) → WritesVerdict a b t u (of_ran went) result → result ≢ status.FileFault
+no_file_fault went a b t u result tells = told_by_one (of_ran went) a b t u result status.FileFault tells (no_file_status went) (λ is. cc is) (λ is. cc is) (λ is. cc is)
+
+-- a refusal isn't a fault of the loop, the keeper, the disk, the sink or the tape
 module _ {Y : Type 0} (words : List (String Y)) where
   pub refused_loop : (result : Status) → IsRefusal result → IsLoopFault words result → ⊥
   refused_loop status.LoopFault is fault = is
@@ -267,6 +343,10 @@ module _ {Y : Type 0} (words : List (String Y)) where
 pub refused_out : (result : Status) → IsRefusal result → result ≢ status.OutFault
 refused_out status.OutFault is same = is
 refused_out result is same = absurd (cc same)
+
+pub refused_tape : (result : Status) → IsRefusal result → result ≢ status.RecordFault
+refused_tape status.RecordFault is same = is
+refused_tape result is same = absurd (cc same)
 
 -- a count that rose twice, without a failure
 pub goes_later : {F : Type 0} {a b c : ℕ} → a ≤ b → b ≤ c → (F → ⊥) → HasCause a c F

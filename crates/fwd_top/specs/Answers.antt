@@ -1,5 +1,5 @@
 -- What the program answers.
-use Rattle.std.specs.Prelude.{◌≡◌, ◌≢◌, ◌⊎◌, ℕ, ◌+◌, ◌/◌, ◌≤◌, List, [], ◌∷◌, ◌++◌, length, map, String, string_bytes, Bool, true, false, if◌then◌else◌, Option, Some, None, option_map}
+use Rattle.std.specs.Prelude.{◌≡◌, ◌≢◌, ◌⊎◌, ℕ, ◌+◌, ◌/◌, ◌≤◌, List, [], ◌∷◌, ◌++◌, length, map, String, string_bytes, Bool, true, false, if◌then◌else◌, Option, Some, None, option_map, Result, Ok, Err}
 use Rattle.fwd_outside.specs.Program.{entry}
 use Rattle.fwd_outside.specs.Log.{LogGrew, RunsProgram}
 use Rattle.fwd_outside.specs.Disk.{DiskLog}
@@ -17,23 +17,35 @@ use Rattle.fwd_replay.specs.LiveRun.{events_below}
 use Rattle.fwd_replay.specs.declared.report.Ending.{Ending}
 use Rattle.fwd_replay.specs.declared.report.Ending.TheVariants as ending
 use Rattle.fwd_replay.specs.declared.report.Reported.{Reported}
-use Rattle.fwd_top.specs.Words.{Command, Run, ListFolder, command_of}
-use Rattle.fwd_top.specs.Cases.{AreSound, Case, Refuses, Runs, asked, asks, AreSettingsOf, settings_for}
+use Rattle.fwd_replay.specs.declared.recorded_run.Ran.{Ran}
+use Rattle.fwd_replay.specs.declared.recorded_run.Ran.TheVariants as ran
+use Rattle.fwd_base.specs.declared.memory.Memory.{Memory}
+use Rattle.fwd_script.specs.Text.{text_of}
+use Rattle.fwd_script.specs.declared.schedule.Schedule.{Schedule}
+use Rattle.fwd_top.specs.Words.{Command, Run, Record, ListFolder, command_of}
+use Rattle.fwd_top.specs.Cases.{AreSound, Case, Records, Refuses, Runs, asked, asks, AreSettingsOf, settings_for}
 use Rattle.fwd_top.specs.declared.status.Status.{Status}
 use Rattle.fwd_top.specs.declared.status.Status.TheVariants as status
 use Rattle.fwd_top.specs.Outcomes.{Platform, platform_of, AreNotCalled, Produces}
 use Rattle.fwd_top.specs.Delivery.{IsDelivered}
+use Rattle.fwd_top.specs.Determinism.{IsDetermined}
 use Rattle.fwd_top.specs.CrashConsistency.{IsCrashConsistent}
 use Rattle.fwd_top.specs.Contents.{EachRunSendsContents}
 use Rattle.fwd_top.specs.Offsets.{EachRunKeepsOffsets}
+use Rattle.fwd_top.specs.RecordedOutcome.{RecordedOutcome}
 
--- a text to be written, unless it is empty, and the status after it
+-- A text to be written, unless it is empty; for a run that was recorded, the text of its schedule, to be
+-- written after it; and the status then.
 pub record Verdict : Type 0 where
   pub text : List ℕ
   pub status : Status
+  pub schedule : Option (List ℕ)
 
 abbrev pub says : List ℕ → Status → Verdict
-says text status = record { text = text; status = status }
+says text status = record { text = text; status = status; schedule = None }
+
+abbrev pub says_both : List ℕ → Status → (schedule : List ℕ) → Verdict
+says_both text status schedule = record { text = text; status = status; schedule = Some schedule }
 
 abbrev pub status_of : Ending → Status
 status_of ending.Over = status.Done
@@ -47,9 +59,21 @@ status_of ending.Memory = status.Memory
 abbrev pub of_reported : Reported → Verdict
 of_reported reported = says reported.text (status_of reported.ending)
 
+-- For a recorded run. If memory ran out for its schedule, its report is written nevertheless.
+abbrev pub of_recorded : Reported → Result Schedule Memory → Verdict
+of_recorded reported (Ok schedule) =
+    says_both reported.text (status_of reported.ending) (text_of schedule)
+of_recorded reported (Err none) = says reported.text status.Memory
+
+-- for a run that was to be recorded
+abbrev pub of_ran : Ran → Verdict
+of_ran ran.NotRecordable = says [] status.NotRecordable
+of_ran (ran.Unrecorded reported) = of_reported reported
+of_ran (ran.Recorded reported schedule) = of_recorded reported schedule
+
 -- What came of a case, and what holds of it: its settings meet what an engine requires, each of its runs
 -- keeps the delivery guarantee, no crash loses a pending chunk, each kept offset of a followed file has
--- nothing lost before it, and each flush sends the content of its chunk.
+-- nothing lost before it, each flush sends the content of its chunk, and a replay is the only one of its schedule.
 pub record Outcome (turns : ℕ) (case : Case) (old new : Platform) (reported : Reported) : Type 0 where
   pub comes : Produces turns case old new reported
   pub sound : AreSound (settings_for case)
@@ -57,24 +81,41 @@ pub record Outcome (turns : ℕ) (case : Case) (old new : Platform) (reported : 
   pub safe : IsCrashConsistent turns case old new reported comes
   pub offsets : EachRunKeepsOffsets turns case old new reported comes
   pub contents : EachRunSendsContents turns case old new reported comes
+  pub determined : IsDetermined turns case reported
 
 -- the verdict of a case is that of its outcome
 abbrev pub IsVerdict : ℕ → Case → Platform → Platform → Verdict → Type 0
 IsVerdict turns (Refuses other) old new verdict = (verdict ≡ says [] other) × AreNotCalled old new
+IsVerdict turns (Records s ticks) old new verdict =
+    (ran : Ran) × RecordedOutcome turns s ticks old new ran × (verdict ≡ of_ran ran)
 IsVerdict turns case old new verdict =
     (reported : Reported) × Outcome turns case old new reported × (verdict ≡ of_reported reported)
 
--- the call logs of all devices
+-- the call logs of all devices, and whether the loop never ends
 pub record Devices : Type 0 where
   pub disk : DiskLog
   pub files : FilesLog
   pub loop : LoopLog
   pub keeper : KeeperLog
   pub sink : SinkLog
+  pub tape : SinkLog
+  pub endless : Bool
 
-abbrev pub devices : DiskLog → FilesLog → LoopLog → KeeperLog → SinkLog → Devices
-devices disk files loop keeper sink =
-    record { disk = disk; files = files; loop = loop; keeper = keeper; sink = sink }
+abbrev pub devices : DiskLog → FilesLog → LoopLog → KeeperLog → SinkLog → SinkLog → Bool → Devices
+devices disk files loop keeper sink tape endless =
+    record {
+      disk = disk;
+      files = files;
+      loop = loop;
+      keeper = keeper;
+      sink = sink;
+      tape = tape;
+      endless = endless;
+    }
+
+-- those of a run, when the files have this log
+abbrev pub platform : Devices → FilesLog → Platform
+platform all read = platform_of all.disk read all.loop all.keeper all.endless
 
 -- The calls on the files are those of the program's asking, to its end with this case; without a case,
 -- because memory ran out, they are its first ones.
@@ -92,8 +133,7 @@ pub record Comes {Y : Type 0} (words : List (String Y)) (env : Values) (turns : 
   pub case : Case
   pub read : FilesLog
   pub asks : Asks words env old.files read (Some case)
-  pub is : IsVerdict turns case (platform_of old.disk read old.loop old.keeper)
-      (platform_of new.disk new.files new.loop new.keeper) verdict
+  pub is : IsVerdict turns case (platform old read) (platform new new.files) verdict
 
 -- the asking was begun, and there was no other call
 pub record Begins {Y : Type 0} (words : List (String Y)) (env : Values) (old new : Devices) : Type 0 where
@@ -110,58 +150,83 @@ WroteIt old new (byte ∷ bytes) = LogGrew old new (entry (Write (byte ∷ bytes
 abbrev pub WroteAPrefix : SinkLog → SinkLog → List ℕ → Type 0
 WroteAPrefix old new text = (taken : ℕ) × (taken ≤ length text) × LogGrew old new (log_of_stopped text taken)
 
--- The text written to the sink for each status, given a property of the verdict. `Memory` says nothing
--- here.
-abbrev pub Wrote : (Verdict → Type 0) → SinkLog → SinkLog → Status → Type 0
-Wrote Holds sink out status.OutFault =
-    (text : List ℕ) × (end : Status) × Holds (says text end) × WroteAPrefix sink out text
-Wrote Holds sink out status.Memory = Unit {0}
-Wrote Holds sink out result = (text : List ℕ) × Holds (says text result) × WroteIt sink out text
+-- the text of a schedule was written to its end, also an empty one
+abbrev pub WroteSchedule : SinkLog → SinkLog → Option (List ℕ) → Type 0
+WroteSchedule old new None = LogGrew old new []
+WroteSchedule old new (Some text) = LogGrew old new (entry (Write text) WroteAll ∷ [])
+
+-- The text written to the sink and the schedule written to the tape, for each status, given a property of the
+-- verdict. `Memory` says nothing here.
+abbrev pub Wrote : (Verdict → Type 0) → Devices → Devices → Status → Type 0
+Wrote Holds old new status.OutFault =
+    (verdict : Verdict) × Holds verdict × WroteAPrefix old.sink new.sink verdict.text
+    × LogGrew old.tape new.tape []
+Wrote Holds old new status.RecordFault =
+    (text schedule : List ℕ) × (end : Status) × Holds (says_both text end schedule)
+    × WroteIt old.sink new.sink text × WroteAPrefix old.tape new.tape schedule
+Wrote Holds old new status.Memory = Unit {0}
+Wrote Holds old new result =
+    (verdict : Verdict) × Holds verdict × (verdict.status ≡ result)
+    × WroteIt old.sink new.sink verdict.text × WroteSchedule old.tape new.tape verdict.schedule
 
 -- nothing of a text was written, or a prefix of it
 abbrev pub WroteAtMostAPrefix : SinkLog → SinkLog → List ℕ → Type 0
 WroteAtMostAPrefix old new text = LogGrew old new [] ⊎ WroteAPrefix old new text
 
 -- Memory ran out while words and files were read; or in the run or the listing, or in a run of the
--- replay, and the texts of those before it are written; or a text wasn't written to its end.
+-- replay, and the texts of those before it are written; or after a recorded run, for its schedule, and its
+-- report is written; or a text wasn't written to its end; or it was, and the schedule after it wasn't.
 pub data RanOutOfMemory {Y : Type 0} (words : List (String Y)) (env : Values) (turns : ℕ)
     (old new : Devices) : Type 0 where
-  WhileAsking : Begins words env old new → LogGrew old.sink new.sink [] → RanOutOfMemory words env turns old new
+  WhileAsking : Begins words env old new → LogGrew old.sink new.sink [] → LogGrew old.tape new.tape []
+      → RanOutOfMemory words env turns old new
   InTheJob : (text : List ℕ) → Comes words env turns old new (says text status.Memory)
-      → WroteIt old.sink new.sink text → RanOutOfMemory words env turns old new
-  WhileWriting : (text : List ℕ) (end : Status) → Comes words env turns old new (says text end)
-      → WroteAtMostAPrefix old.sink new.sink text → RanOutOfMemory words env turns old new
+      → WroteIt old.sink new.sink text → LogGrew old.tape new.tape [] → RanOutOfMemory words env turns old new
+  WhileWriting : (verdict : Verdict) → Comes words env turns old new verdict
+      → WroteAtMostAPrefix old.sink new.sink verdict.text → LogGrew old.tape new.tape []
+      → RanOutOfMemory words env turns old new
+  WhileRecording : (text schedule : List ℕ) (end : Status)
+      → Comes words env turns old new (says_both text end schedule) → WroteIt old.sink new.sink text
+      → WroteAtMostAPrefix old.tape new.tape schedule → RanOutOfMemory words env turns old new
 
--- the calls on the devices and the text written to the sink, for each status
+-- the calls on the devices, and what was written to the sink and to the tape, for each status
 abbrev pub Answers : {Y : Type 0} → List (String Y) → Values → ℕ → Devices → Devices → Status → Type 0
 Answers words env turns old new status.Memory = RanOutOfMemory words env turns old new
-Answers words env turns old new other = Wrote (Comes words env turns old new) old.sink new.sink other
+Answers words env turns old new other = Wrote (Comes words env turns old new) old new other
 
 -- the verdict of the existing bytes of the files
 pub record IsVerdictOf {Y : Type 0} (words : List (String Y)) (env : Values) (turns : ℕ)
-    (standing : FilesGiven) (old new : Devices) (verdict : Verdict) : Type 0 where
+    (existing : FilesGiven) (old new : Devices) (verdict : Verdict) : Type 0 where
   pub checked : Checked AllSettings
   pub loaded : Option (List Section)
   pub are : AreSettingsOf loaded checked
   pub case : Case
-  pub given : given (found standing) (asks checked words env) ≡ asked loaded case
+  pub given : given (found existing) (asks checked words env) ≡ asked loaded case
   pub read : FilesLog
-  pub is : IsVerdict turns case (platform_of old.disk read old.loop old.keeper)
-      (platform_of new.disk new.files new.loop new.keeper) verdict
+  pub is : IsVerdict turns case (platform old read) (platform new new.files) verdict
 
--- If the files log their calls, return the existing bytes, and don't fail, the verdict is that of these
--- bytes.
-abbrev pub IsOfTheFiles : {Y : Type 0} → List (String Y) → Values → ℕ → Devices → Devices → Status → Type 0
+-- The files log their calls, and each of the calls that were made found the existing bytes: those of the first
+-- files, after the calls before.
+pub record AreConsistent (old new : FilesLog) (existing : FilesGiven) : Type 0 where
+  pub first : FilesGiven
+  pub before : List FilesEntry
+  pub made : List FilesEntry
+  pub old_is : old ≡ Some (first, before)
+  pub new_is : new ≡ Some (first, before ++ made)
+  pub existing_is : existing ≡ files_after_all first before
+  pub consistent : IsConsistentLog existing made
+
+-- If the files return the existing bytes, and no call on them fails, the verdict is that of these bytes.
+abbrev pub IsOfTheFiles : {Y : Type 0} → List (String Y) → Values → ℕ → Devices → Devices → Status
+    → Type 0
 IsOfTheFiles words env turns old new result =
-    (standing : FilesGiven) (before made : List FilesEntry) → old.files ≡ Some (standing, before)
-    → new.files ≡ Some (standing, before ++ made) → IsConsistentLog (files_after_all standing before) made
-    → result ≢ status.FileFault
-    → Wrote
-    (IsVerdictOf words env turns (files_after_all standing before) old new) old.sink new.sink result
+    (existing : FilesGiven) → AreConsistent old.files new.files existing → result ≢ status.FileFault
+    → Wrote (IsVerdictOf words env turns existing old new) old new result
 
 -- the words ask for a run
 abbrev pub is_run : Option Command → Bool
 is_run (Some (Run config ticks)) = true
+is_run (Some (Record config ticks tape)) = true
 is_run other = false
 
 -- a run's loop failed
@@ -176,6 +241,7 @@ IsKeeperFault words result =
 -- the words ask for a run or a listing, which use the disk
 abbrev pub is_over_disk : Option Command → Bool
 is_over_disk (Some (Run config ticks)) = true
+is_over_disk (Some (Record config ticks tape)) = true
 is_over_disk (Some (ListFolder folder)) = true
 is_over_disk other = false
 
@@ -195,10 +261,11 @@ spent words turns result = spent_by result (is_run (command_of (map string_bytes
 abbrev pub half : ℕ → ℕ
 half n = (n + 1) / 2
 
--- The least number of events that the loop of a case returned, if so many turns were spent: as many, or with a key
--- half as many, since one event becomes at most two.
+-- The least number of events that the loop of a case returned, if so many turns were spent: as many, or with
+-- a key half as many, since one event becomes at most two.
 abbrev pub least_heard : Case → ℕ → ℕ
 least_heard (Runs s ticks) turns = events_below s turns
+least_heard (Records s ticks) turns = events_below s turns
 least_heard other turns = 0
 
 -- the case that was asked for, and the events that its loop returned

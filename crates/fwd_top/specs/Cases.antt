@@ -20,18 +20,19 @@ use Rattle.fwd_script.specs.declared.schedule.Life.{Life}
 use Rattle.fwd_script.specs.declared.refusal.ScheduleRefused.{ScheduleRefused}
 use Rattle.fwd_script.specs.Schedule.{schedule_of}
 use Rattle.fwd_replay.specs.Load.{config_text, schedule_text}
-use Rattle.fwd_top.specs.Words.{Command, Run, Replay, ListFolder, Generate, command_of}
+use Rattle.fwd_top.specs.Words.{Command, Run, Record, Replay, ListFolder, Generate, command_of}
 use Rattle.fwd_top.specs.declared.status.ConfigRefusal.TheVariants.{Load, Setting}
 use Rattle.fwd_top.specs.declared.status.Status.{Status}
 use Rattle.fwd_top.specs.declared.status.Status.TheVariants as status
 
 -- The runs of a schedule are replayed with settings, or those of a generated load, of which the reports
--- alone are shown; or settings are run, and stopped after a number of clock ticks if one is given; or the
--- chunk files under a folder are listed; or nothing is done, for this reason.
+-- alone are shown; or settings are run, and stopped after a number of clock ticks if one is given; or this
+-- run is recorded too; or the chunk files under a folder are listed; or nothing is done, for this reason.
 pub data Case : Type 0 where
   Replays : AllSettings → List Life → Case
   Generates : AllSettings → List Life → Case
   Runs : AllSettings → (ticks : Option ℕ) → Case
+  Records : AllSettings → (ticks : Option ℕ) → Case
   Lists : (root : List ℕ) → Case
   Refuses : Status → Case
 
@@ -40,6 +41,7 @@ abbrev pub settings_for : Case → Option AllSettings
 settings_for (Replays s lives) = Some s
 settings_for (Generates s lives) = Some s
 settings_for (Runs s ticks) = Some s
+settings_for (Records s ticks) = Some s
 settings_for (Lists root) = None
 settings_for (Refuses other) = None
 
@@ -48,6 +50,7 @@ abbrev pub lives_of : Case → List Life
 lives_of (Replays s lives) = lives
 lives_of (Generates s lives) = lives
 lives_of (Runs s ticks) = []
+lives_of (Records s ticks) = []
 lives_of (Lists root) = []
 lives_of (Refuses other) = []
 
@@ -59,6 +62,7 @@ AreSound None = Unit {0}
 -- what is to be done with the settings of a configuration
 pub data Wanted : Type 0 where
   ToRun : (ticks : Option ℕ) → Wanted
+  ToRecord : (ticks : Option ℕ) → Wanted
   ToReplay : (schedule : List ℕ) → Wanted
 
 -- the sections that were loaded, if any were, and the case
@@ -92,6 +96,7 @@ of_file s None = Refuses status.FileFault
 -- after settings, the schedule is read if there is to be one
 abbrev pub wanted_by : Option (List Section) → AllSettings → Wanted → Reading Asked
 wanted_by loaded s (ToRun ticks) = Return (asked loaded (Runs s ticks))
+wanted_by loaded s (ToRecord ticks) = Return (asked loaded (Records s ticks))
 wanted_by loaded s (ToReplay schedule) = Ask schedule (λ bytes. Return (asked loaded (of_file s bytes)))
 
 abbrev pub with_settings : Option (List Section) → Wanted → Checked AllSettings → Reading Asked
@@ -125,6 +130,7 @@ abbrev pub reports_of : Case → Case
 reports_of (Replays s lives) = Generates s lives
 reports_of (Generates s lives) = Generates s lives
 reports_of (Runs s ticks) = Runs s ticks
+reports_of (Records s ticks) = Records s ticks
 reports_of (Lists root) = Lists root
 reports_of (Refuses other) = Refuses other
 
@@ -140,6 +146,7 @@ of_load checked count =
 abbrev pub of_command : Checked AllSettings → Option Command → Values → Reading Asked
 of_command checked None env = Return (asked None (Refuses status.Usage))
 of_command checked (Some (Run config ticks)) env = of_config checked config (ToRun ticks) env
+of_command checked (Some (Record config ticks tape)) env = of_config checked config (ToRecord ticks) env
 of_command checked (Some (Replay config schedule)) env = of_config checked config (ToReplay schedule) env
 of_command checked (Some (ListFolder folder)) env = Return (asked None (Lists folder))
 of_command checked (Some (Generate count)) env = Return (of_load checked count)

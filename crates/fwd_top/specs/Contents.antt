@@ -12,7 +12,7 @@ use Rattle.fwd_replay.specs.LiveRun.{IsRunLive, RanToEnd, RanOutOfMemory}
 use Rattle.fwd_replay.specs.Runs.{first}
 use Rattle.fwd_replay.specs.declared.report.Reported.{Reported}
 use Rattle.fwd_replay.specs.declared.report.Shown.TheVariants.{All, Report}
-use Rattle.fwd_top.specs.Cases.{Case, Replays, Generates, Runs, Lists, Refuses}
+use Rattle.fwd_top.specs.Cases.{Case, Replays, Generates, Runs, Records, Lists, Refuses}
 use Rattle.fwd_top.specs.Outcomes.{Platform, Produces, world}
 
 -- If a disk could have answered these calls this way, on which each name had a file, or had none that a crash
@@ -38,5 +38,6 @@ EachRunSendsContents turns (Generates s lives) old new reported comes =
     EachSendsContents Report s turns first lives reported comes.0
 EachRunSendsContents turns (Runs s ticks) old new reported comes =
     RunSendsContents s ticks turns old new reported comes
+EachRunSendsContents turns (Records s ticks) old new reported comes = Unit {0}
 EachRunSendsContents turns (Lists root) old new reported comes = Unit {0}
 EachRunSendsContents turns (Refuses other) old new reported comes = Unit {0}

@@ -13,7 +13,7 @@ use Rattle.fwd_replay.specs.LiveRun.{IsRunLive, RanToEnd, RanOutOfMemory}
 use Rattle.fwd_replay.specs.Runs.{first}
 use Rattle.fwd_replay.specs.declared.report.Reported.{Reported}
 use Rattle.fwd_replay.specs.declared.report.Shown.TheVariants.{All, Report}
-use Rattle.fwd_top.specs.Cases.{Case, Replays, Generates, Runs, Lists, Refuses}
+use Rattle.fwd_top.specs.Cases.{Case, Replays, Generates, Runs, Records, Lists, Refuses}
 use Rattle.fwd_top.specs.Outcomes.{Platform, Produces, world}
 
 -- with these settings, each append is fsynced
@@ -45,5 +45,6 @@ IsCrashConsistent turns (Replays s lives) old new reported comes =
 IsCrashConsistent turns (Generates s lives) old new reported comes =
     AreSynced s → NothingIsLost Report s turns first lives reported comes.0
 IsCrashConsistent turns (Runs s ticks) old new reported comes = RunIsSafe s ticks turns old new reported comes
+IsCrashConsistent turns (Records s ticks) old new reported comes = Unit {0}
 IsCrashConsistent turns (Lists root) old new reported comes = Unit {0}
 IsCrashConsistent turns (Refuses other) old new reported comes = Unit {0}

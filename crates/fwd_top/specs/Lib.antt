@@ -6,6 +6,9 @@ pub mod Answers
 pub mod Results
 pub mod Views
 pub mod Delivery
+pub mod Determinism
 pub mod Contents
 pub mod CrashConsistency
 pub mod Offsets
+pub mod RecordedOutcome
+pub mod Taped

@@ -17,7 +17,7 @@ use Rattle.fwd_replay.specs.Runs.{IsReplayed, Ended, WasCut, OutOfMemory, Start,
 use Rattle.fwd_replay.specs.declared.report.Reported.{Reported}
 use Rattle.fwd_replay.specs.declared.report.Shown.{Shown}
 use Rattle.fwd_replay.specs.declared.report.Shown.TheVariants.{All, Report}
-use Rattle.fwd_top.specs.Cases.{Case, Replays, Generates, Runs, Lists, Refuses}
+use Rattle.fwd_top.specs.Cases.{Case, Replays, Generates, Runs, Records, Lists, Refuses}
 use Rattle.fwd_top.specs.Outcomes.{Platform, Produces, world}
 
 -- What holds of the offsets of a run with these calls. Of two followed files with one database and path
@@ -65,5 +65,6 @@ EachRunKeepsOffsets turns (Generates s lives) old new reported comes =
     EachKeepsOffsets Report s turns first lives reported comes.0
 EachRunKeepsOffsets turns (Runs s ticks) old new reported comes =
     RunKeepsOffsets s ticks turns old new reported comes
+EachRunKeepsOffsets turns (Records s ticks) old new reported comes = Unit {0}
 EachRunKeepsOffsets turns (Lists root) old new reported comes = Unit {0}
 EachRunKeepsOffsets turns (Refuses other) old new reported comes = Unit {0}

@@ -1,5 +1,5 @@
 -- What came of a case: the calls on the devices, and the text.
-use Rattle.std.specs.Prelude.{◌≡◌, ℕ, List, [], Some, None}
+use Rattle.std.specs.Prelude.{◌≡◌, ℕ, Bool, List, [], Some, None}
 use Rattle.fwd_outside.specs.Log.{LogGrew, Completes, IsBegunUnfailed}
 use Rattle.fwd_outside.specs.Disk.{DiskLog}
 use Rattle.fwd_outside.specs.Files.{FilesLog}
@@ -16,17 +16,19 @@ use Rattle.fwd_replay.specs.declared.report.Ending.{Ending}
 use Rattle.fwd_replay.specs.declared.report.Ending.TheVariants as ending
 use Rattle.fwd_replay.specs.declared.report.Reported.{Reported}
 use Rattle.fwd_replay.specs.declared.report.Shown.TheVariants.{All, Report}
-use Rattle.fwd_top.specs.Cases.{Case, Replays, Generates, Runs, Lists, Refuses}
+use Rattle.fwd_top.specs.Cases.{Case, Replays, Generates, Runs, Records, Lists, Refuses}
 
--- the call logs of the devices of a run
+-- the call logs of the devices of a run, and whether the loop never ends
 pub record Platform : Type 0 where
   pub disk : DiskLog
   pub files : FilesLog
   pub loop : LoopLog
   pub keeper : KeeperLog
+  pub endless : Bool
 
-abbrev pub platform_of : DiskLog → FilesLog → LoopLog → KeeperLog → Platform
-platform_of disk files loop keeper = record { disk = disk; files = files; loop = loop; keeper = keeper }
+abbrev pub platform_of : DiskLog → FilesLog → LoopLog → KeeperLog → Bool → Platform
+platform_of disk files loop keeper endless =
+    record { disk = disk; files = files; loop = loop; keeper = keeper; endless = endless }
 
 -- the same, as the logs of the model's devices
 abbrev pub world : Platform → CallLogs
@@ -53,13 +55,15 @@ IsListed root old new text ending.KeeperFailed = ⊥
 IsListed root old new text ending.LoopFailed = ⊥
 
 -- The outcome of a case, and the calls on the devices for it. A schedule and a generated load are
--- replayed without them, and a listing calls the disk alone.
+-- replayed without them, and a listing calls the disk alone. That of a run that is to be recorded is
+-- `RecordedOutcome`.
 abbrev pub Produces : ℕ → Case → Platform → Platform → Reported → Type 0
 Produces turns (Replays s lives) old new reported =
     IsReplayed All s turns first lives reported × AreNotCalled old new
 Produces turns (Generates s lives) old new reported =
     IsReplayed Report s turns first lives reported × AreNotCalled old new
 Produces turns (Runs s ticks) old new reported = IsRunLive s ticks turns (world old) (world new) reported
+Produces turns (Records s ticks) old new reported = ⊥
 Produces turns (Lists root) old new reported =
     IsListed root old.disk new.disk reported.text reported.ending
     × (LogGrew old.files new.files [] × LogGrew old.loop new.loop [] × LogGrew old.keeper new.keeper [])

@@ -63,7 +63,8 @@ schedule_line kind line =
 abbrev pub line_of : Status → List ℕ
 line_of status.Done = []
 line_of status.Usage =
-    codes "usage: fwd run -c FILE [-n TICKS] | replay -c FILE -s FILE | list -p FOLDER | gen -n COUNT"
+    codes "usage: fwd run -c FILE [-n TICKS] [--record FILE] | replay -c FILE -s FILE"
+    ++ codes " | list -p FOLDER | gen -n COUNT"
 line_of (status.ConfigRefused refusal place) = config_line refusal place
 line_of status.FileFault = codes "file fault"
 line_of status.DiskFault = codes "disk fault"
@@ -73,6 +74,8 @@ line_of status.TurnsSpent = codes "turns spent"
 line_of status.Memory = codes "out of memory"
 line_of status.LoopFault = codes "loop fault"
 line_of status.KeeperFault = codes "keeper fault"
+line_of status.NotRecordable = codes "not recordable"
+line_of status.RecordFault = codes "record fault"
 
 -- the exit status of the program
 abbrev pub number_of : Status → ℕ
@@ -87,3 +90,5 @@ number_of status.TurnsSpent = 7
 number_of status.Memory = 8
 number_of status.LoopFault = 9
 number_of status.KeeperFault = 11
+number_of status.NotRecordable = 12
+number_of status.RecordFault = 13

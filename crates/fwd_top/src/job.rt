@@ -12,9 +12,10 @@ ghost use Rattle.fwd_top.specs.Words.{command_of};
 ghost use Rattle.fwd_top.specs.Views.{wanted_of};
 ghost use Rattle.fwd_top.specs.Cases.{AreSound, asked, of_file, reports_of, wanted_by};
 ghost use Rattle.fwd_top.specs.Answers.{Asks, is_over_disk, is_run};
+ghost use Rattle.fwd_top.specs.Taped.{is_record};
 ghost use Rattle.fwd_top.specs.declared.job.Job.TheVariants as job;
 ghost use Rattle.fwd_top.specs.declared.status.Status.TheVariants as status;
-ghost use Rattle.fwd_top.specs.Results.{AsksAfter, AsksFor, ComesOfLoad, IsFileFault, IsCaseOf, IsOwnRefusal, IsRefusal, case_of, config_status, held_load, is_run_wanted, is_to_run, of_job, schedule_status, setting_status, settings_in, takes_disk};
+ghost use Rattle.fwd_top.specs.Results.{AsksAfter, AsksFor, ComesOfLoad, IsFileFault, IsCaseOf, IsOwnRefusal, IsRefusal, case_of, config_status, held_load, is_record_wanted, is_run_wanted, is_to_record, is_to_run, of_job, schedule_status, setting_status, settings_in, takes_disk};
 
 use crate::status::{ConfigRefusal, Status};
 use crate::words::{Command, read_words};
@@ -32,6 +33,11 @@ use std::alloc::Global;
 pub enum Job {
     /// Runs the settings, and stops after the given number of clock ticks, if there is one.
     Run {
+        settings: AllSettings,
+        ticks: Option<u64>,
+    },
+    /// Runs the settings in the same way, and records the run.
+    Record {
         settings: AllSettings,
         ticks: Option<u64>,
     },
@@ -55,6 +61,7 @@ pub enum Job {
 #[derive(Clone, Copy)]
 enum Wanted<'a> {
     ToRun { ticks: Option<u64> },
+    ToRecord { ticks: Option<u64> },
     ToReplay { schedule: &'a [u8] },
 }
 
@@ -125,6 +132,7 @@ fn job_of_text(alloc: Global, bytes: &[u8], settings: AllSettings) -> Result<Job
     ensures same { IfOk result (λ job. settings_in job ≡ Some settings) }
     ensures kind { IfOk result (λ job. is_to_run job ≡ false) }
     ensures disk { IfOk result (λ job. takes_disk job ≡ false) }
+    ensures record { IfOk result (λ job. is_to_record job ≡ false) }
     ensures judged { IsCaseOf (of_file settings (Some bytes.now)) result }
     ensures refusal { IfErr result IsOwnRefusal }
 {
@@ -144,6 +152,7 @@ fn job_of_file<F: Files>(
     ensures same { IfOk result (λ job. settings_in job ≡ Some settings) }
     ensures kind { IfOk result (λ job. is_to_run job ≡ false) }
     ensures disk { IfOk result (λ job. takes_disk job ≡ false) }
+    ensures record { IfOk result (λ job. is_to_record job ≡ false) }
     ensures calls { RunsProgram (F.call_log files.old) (F.call_log files.new) (bind (read_whole_program path.now) (λ bytes. Return (of_file settings bytes))) (case_of result) }
     ensures cause { HasCause (F.faults files.old) (F.faults files.new) (IsFileFault result) }
     ensures refusal { IfErr result IsRefusal }
@@ -168,9 +177,11 @@ fn job_of_settings<F: Files>(
     ensures refusal { IfErr result IsRefusal }
     ensures kind { IfOk result (λ job. is_to_run job ≡ is_run_wanted (wanted_of wanted.entry)) }
     ensures disk { IfOk result (λ job. takes_disk job ≡ is_run_wanted (wanted_of wanted.entry)) }
+    ensures record { IfOk result (λ job. is_to_record job ≡ is_record_wanted (wanted_of wanted.entry)) }
 {
     match wanted {
         Wanted::ToRun { ticks } => Ok(Job::Run { settings, ticks }),
+        Wanted::ToRecord { ticks } => Ok(Job::Record { settings, ticks }),
         Wanted::ToReplay { schedule } => job_of_file(alloc, files, schedule, settings),
     }
 }
@@ -189,6 +200,7 @@ fn job_of_sections<F: Files>(
     ensures refusal { IfErr result IsRefusal }
     ensures kind { IfOk result (λ job. is_to_run job ≡ is_run_wanted (wanted_of wanted.entry)) }
     ensures disk { IfOk result (λ job. takes_disk job ≡ is_run_wanted (wanted_of wanted.entry)) }
+    ensures record { IfOk result (λ job. is_to_record job ≡ is_record_wanted (wanted_of wanted.entry)) }
 {
     match settings(alloc, sections) {
         Ok(settings) => {
@@ -217,6 +229,7 @@ fn job_of_config<F: Files>(
     ensures refusal { IfErr result IsRefusal }
     ensures kind { IfOk result (λ job. is_to_run job ≡ is_run_wanted (wanted_of wanted.entry)) }
     ensures disk { IfOk result (λ job. takes_disk job ≡ is_run_wanted (wanted_of wanted.entry)) }
+    ensures record { IfOk result (λ job. is_to_record job ≡ is_record_wanted (wanted_of wanted.entry)) }
 {
     match load(alloc, files, config, env) {
         Ok(sections) => job_of_sections(alloc, files, wanted, &sections, watch),
@@ -260,6 +273,7 @@ fn with_reports(job: Job) -> Job
     ensures same { settings_in result ≡ settings_in job }
     ensures kind { is_to_run result ≡ is_to_run job }
     ensures disk { takes_disk result ≡ takes_disk job }
+    ensures record { is_to_record result ≡ is_to_record job }
 {
     match job {
         Job::Replay { settings, schedule } => Job::Generate { settings, schedule },
@@ -274,6 +288,7 @@ fn job_of_texts(alloc: Global, files: &mut MemFiles) -> Result<Job, Status>
     ensures refusal { (count : ℕ) → files.old ≡ held_load count → IfErr result IsOwnRefusal }
     ensures kind { IfOk result (λ job. is_to_run job ≡ false) }
     ensures disk { IfOk result (λ job. takes_disk job ≡ false) }
+    ensures record { IfOk result (λ job. is_to_record job ≡ false) }
 {
     let wanted = Wanted::ToReplay {
         schedule: LOAD_SCHEDULE,
@@ -293,6 +308,7 @@ fn job_of_load(alloc: Global, count: u64) -> Result<Job, Status>
     ensures refusal { IfErr result IsOwnRefusal }
     ensures kind { IfOk result (λ job. is_to_run job ≡ false) }
     ensures disk { IfOk result (λ job. takes_disk job ≡ false) }
+    ensures record { IfOk result (λ job. is_to_record job ≡ false) }
 {
     match load_files(alloc, count) {
         Ok(mut files) => job_of_texts(alloc, &mut files),
@@ -316,10 +332,14 @@ pub fn read_job<F: Files>(
     ensures refusal { IfErr result IsRefusal }
     ensures kind { IfOk result (λ job. is_run (command_of (map string_bytes words.now)) ≡ is_to_run job) }
     ensures disk { IfOk result (λ job. is_over_disk (command_of (map string_bytes words.now)) ≡ takes_disk job) }
+    ensures record { IfOk result (λ job. is_record (command_of (map string_bytes words.now)) ≡ is_to_record job) }
 {
     match read_words(words) {
         Some(Command::Run { config, ticks }) => {
             job_of_config(alloc, config, Wanted::ToRun { ticks }, env, files, watch)
+        }
+        Some(Command::Record { config, ticks, .. }) => {
+            job_of_config(alloc, config, Wanted::ToRecord { ticks }, env, files, watch)
         }
         Some(Command::Replay { config, schedule }) => {
             let wanted = Wanted::ToReplay { schedule };

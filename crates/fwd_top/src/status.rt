@@ -41,6 +41,10 @@ pub enum Status {
     LoopFault,
     /// A kept offset of a followed file can't be read.
     KeeperFault,
+    /// The run was to be recorded, and can't be: an input follows files, or the storage folder has files.
+    NotRecordable,
+    /// The record of the run can't be written. The text was written to its end.
+    RecordFault,
 }
 
 impl Status {
@@ -60,6 +64,8 @@ impl Status {
             Status::Memory => 8,
             Status::LoopFault => 9,
             Status::KeeperFault => 11,
+            Status::NotRecordable => 12,
+            Status::RecordFault => 13,
         }
     }
 }
@@ -152,7 +158,8 @@ fn push_schedule_refused(text: &mut Bytes, kind: ScheduleKind, line: u64) -> Res
 }
 
 const USAGE: &[u8] =
-    b"usage: fwd run -c FILE [-n TICKS] | replay -c FILE -s FILE | list -p FOLDER | gen -n COUNT";
+    b"usage: fwd run -c FILE [-n TICKS] [--record FILE] | replay -c FILE -s FILE | list -p FOLDER \
+      | gen -n COUNT";
 
 /// Returns the line that says how the program ended, without a line feed. It is empty if all went well.
 pub fn status_line(alloc: Global, status: &Status) -> Result<Bytes, Memory>
@@ -173,6 +180,8 @@ pub fn status_line(alloc: Global, status: &Status) -> Result<Bytes, Memory>
         Status::Memory => text.extend_from_slice(b"out of memory")?,
         Status::LoopFault => text.extend_from_slice(b"loop fault")?,
         Status::KeeperFault => text.extend_from_slice(b"keeper fault")?,
+        Status::NotRecordable => text.extend_from_slice(b"not recordable")?,
+        Status::RecordFault => text.extend_from_slice(b"record fault")?,
     }
     Ok(text)
 }

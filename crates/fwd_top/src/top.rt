@@ -4,22 +4,27 @@ ghost use Rattle.std.specs.Prelude.{◌≡◌, ◌≤◌, IsErrOf};
 ghost use Rattle.fwd_outside.specs.Cause.{HasCause};
 ghost use Rattle.fwd_config.specs.Variables.{environment};
 ghost use Rattle.fwd_engine_state.specs.LoopCounters.{EventsTaken};
-ghost use Rattle.fwd_top.specs.Answers.{Answers, IsDiskFault, IsKeeperFault, IsLoopFault, IsOfTheFiles, SpendsTurns, devices, half, of_reported, spent, status_of};
+ghost use Rattle.fwd_top.specs.Answers.{Answers, IsDiskFault, IsKeeperFault, IsLoopFault, IsOfTheFiles, SpendsTurns, devices, half, of_ran, of_recorded, of_reported, spent, status_of};
 ghost use Rattle.fwd_top.specs.Cases.{AreSound};
-ghost use Rattle.fwd_top.specs.Outcomes.{IsListed, Produces, platform_of};
+ghost use Rattle.fwd_top.specs.Outcomes.{IsListed, platform_of};
+ghost use Rattle.fwd_top.specs.Taped.{IsTaped};
 ghost use Rattle.fwd_replay.specs.declared.report.Ending.TheVariants as ending;
-ghost use Rattle.fwd_top.specs.Results.{HasDiskFailed, HasKeeperFailed, HasLoopFailed, WritesVerdict, Writes, given_by, of_job, settings_in};
+ghost use Rattle.fwd_top.specs.Results.{HasDiskFailed, HasKeeperFailed, HasLoopFailed, JobProduces, WritesText, WritesVerdict, Writes, given_by, of_job, settings_in};
 
 use crate::contents::outcomes_send_contents;
 use crate::crash_consistency::outcomes_are_crash_consistent;
+use crate::determinism::outcomes_are_determined;
 use crate::guarantee::outcomes_are_delivered;
 use crate::job::{Job, read_job};
 use crate::offsets::outcomes_keep_offsets;
+use crate::record::write_record;
+use crate::recording::recorded_outcomes_hold;
 use crate::status::Status;
 use fwd_keeper::Keeper;
-use fwd_outside::{Bytes, Disk, Files, Loop, Sink, SinkErr};
-use fwd_replay::{Ending, Reported, Shown, replay, run_live};
+use fwd_outside::{Bytes, Disk, Files, Loop, Memory, Sink, SinkErr};
+use fwd_replay::{Ending, Ran, Reported, Shown, replay, run_live, run_recorded};
 use fwd_report::{ListErr, listing};
+use fwd_script::Schedule;
 use fwd_watch::{Unwatched, Watch};
 use std::alloc::Global;
 use std::thread::Threads;
@@ -62,9 +67,9 @@ fn run_job<D: Disk, F: Files, L: Loop, K: Keeper>(
     keeper: &mut K,
     turns: u64,
     watch: &mut impl Watch,
-) -> Reported
+) -> Ran
     requires { AreSound (settings_in job) }
-    ensures comes { Produces turns (of_job job) (platform_of (D.call_log disk.old) (F.call_log files.old) (L.call_log outside.old) (K.call_log keeper.old)) (platform_of (D.call_log disk.new) (F.call_log files.new) (L.call_log outside.new) (K.call_log keeper.new)) result }
+    ensures comes { JobProduces turns (of_job job) (platform_of (D.call_log disk.old) (F.call_log files.old) (L.call_log outside.old) (K.call_log keeper.old) (L.counts outside.old).endless) (platform_of (D.call_log disk.new) (F.call_log files.new) (L.call_log outside.new) (K.call_log keeper.new) (L.counts outside.new).endless) result }
     ensures heard { EventsTaken (given_by job turns result) (L.counts outside.old) (L.counts outside.new) }
     ensures keeper_cause { HasCause (K.faults keeper.old) (K.faults keeper.new) (HasKeeperFailed job result) }
     ensures loop_cause { HasCause (L.faults outside.old) (L.faults outside.new) (HasLoopFailed job result) }
@@ -72,18 +77,29 @@ fn run_job<D: Disk, F: Files, L: Loop, K: Keeper>(
     ensures files_later { F.faults files.old ≤ F.faults files.new }
 {
     match job {
-        Job::Run { settings, ticks } => {
-            run_live(
-                rt, alloc, settings, ticks, disk, files, outside, keeper, turns, watch,
-            )
-        }
-        Job::Replay { settings, schedule } => {
-            replay(rt, alloc, settings, &schedule.lives, turns, Shown::All)
-        }
-        Job::Generate { settings, schedule } => {
-            replay(rt, alloc, settings, &schedule.lives, turns, Shown::Report)
-        }
-        Job::List { folder } => list_folder(rt, alloc, folder.as_slice(), disk),
+        Job::Run { settings, ticks } => Ran::Unrecorded(run_live(
+            rt, alloc, settings, ticks, disk, files, outside, keeper, turns, watch,
+        )),
+        Job::Record { settings, ticks } => run_recorded(
+            rt, alloc, settings, ticks, disk, files, outside, keeper, turns, watch,
+        ),
+        Job::Replay { settings, schedule } => Ran::Unrecorded(replay(
+            rt,
+            alloc,
+            settings,
+            &schedule.lives,
+            turns,
+            Shown::All,
+        )),
+        Job::Generate { settings, schedule } => Ran::Unrecorded(replay(
+            rt,
+            alloc,
+            settings,
+            &schedule.lives,
+            turns,
+            Shown::Report,
+        )),
+        Job::List { folder } => { Ran::Unrecorded(list_folder(rt, alloc, folder.as_slice(), disk)) }
     }
 }
 
@@ -117,8 +133,8 @@ fn status_of(ending: Ending) -> Status
 }
 
 /// Writes the text of a job, and returns how the program ended.
-fn write_outcome<S: Sink>(out: &mut S, reported: &Reported) -> Status
-    ensures tells { WritesVerdict (S.call_log out.old) (S.call_log out.new) (of_reported reported.now) result }
+fn write_reported<S: Sink>(out: &mut S, reported: &Reported) -> Status
+    ensures tells { WritesText (S.call_log out.old) (S.call_log out.new) (of_reported reported.now) result }
     ensures cause { HasCause (S.faults out.old) (S.faults out.new) (result ≡ Status.OutFault) }
 {
     match write(out, &reported.text) {
@@ -127,9 +143,48 @@ fn write_outcome<S: Sink>(out: &mut S, reported: &Reported) -> Status
     }
 }
 
+/// Writes the report of a recorded run, and then its schedule. Returns how the program ended.
+fn write_recorded<S: Sink, T: Sink>(
+    alloc: Global,
+    out: &mut S,
+    tape: &mut T,
+    reported: &Reported,
+    schedule: &Result<Schedule, Memory>,
+) -> Status
+    ensures tells { WritesVerdict (S.call_log out.old) (S.call_log out.new) (T.call_log tape.old) (T.call_log tape.new) (of_recorded reported.now schedule.now) result }
+    ensures cause { HasCause (S.faults out.old) (S.faults out.new) (result ≡ Status.OutFault) }
+    ensures tape_cause { HasCause (T.faults tape.old) (T.faults tape.new) (result ≡ Status.RecordFault) }
+{
+    if let Err(status) = write(out, &reported.text) {
+        return status;
+    }
+    let Ok(schedule) = schedule else {
+        return Status::Memory;
+    };
+    match write_record(alloc, tape, schedule) {
+        Ok(()) => status_of(reported.ending),
+        Err(status) => status,
+    }
+}
+
+/// Writes the text of a job, and after that of a recorded run its schedule. Returns how the program ended.
+fn write_outcome<S: Sink, T: Sink>(alloc: Global, out: &mut S, tape: &mut T, went: &Ran) -> Status
+    ensures tells { WritesVerdict (S.call_log out.old) (S.call_log out.new) (T.call_log tape.old) (T.call_log tape.new) (of_ran went.now) result }
+    ensures cause { HasCause (S.faults out.old) (S.faults out.new) (result ≡ Status.OutFault) }
+    ensures tape_cause { HasCause (T.faults tape.old) (T.faults tape.new) (result ≡ Status.RecordFault) }
+{
+    match went {
+        Ran::NotRecordable => Status::NotRecordable,
+        Ran::Unrecorded(reported) => write_reported(out, reported),
+        Ran::Recorded { reported, schedule } => {
+            write_recorded(alloc, out, tape, reported, schedule)
+        }
+    }
+}
+
 /// Does all that `log_forwarder` does, and shows a watcher how a live run goes. What the watcher does has no effect on
 /// the run, and no clause speaks of it: the clauses are those of `log_forwarder`, which says what they mean.
-pub fn watched_forwarder<D: Disk, F: Files, L: Loop, K: Keeper, S: Sink>(
+pub fn watched_forwarder<D: Disk, F: Files, L: Loop, K: Keeper, S: Sink, T: Sink>(
     rt: &(impl Threads + Sync),
     alloc: Global,
     words: &[String],
@@ -139,11 +194,12 @@ pub fn watched_forwarder<D: Disk, F: Files, L: Loop, K: Keeper, S: Sink>(
     outside: &mut L,
     keeper: &mut K,
     out: &mut S,
+    tape: &mut T,
     turns: u64,
     watch: &mut impl Watch,
 ) -> Status
-    ensures answers { Answers words.now (environment env.now) turns (devices (D.call_log disk.old) (F.call_log files.old) (L.call_log outside.old) (K.call_log keeper.old) (S.call_log out.old)) (devices (D.call_log disk.new) (F.call_log files.new) (L.call_log outside.new) (K.call_log keeper.new) (S.call_log out.new)) result }
-    ensures text { IsOfTheFiles words.now (environment env.now) turns (devices (D.call_log disk.old) (F.call_log files.old) (L.call_log outside.old) (K.call_log keeper.old) (S.call_log out.old)) (devices (D.call_log disk.new) (F.call_log files.new) (L.call_log outside.new) (K.call_log keeper.new) (S.call_log out.new)) result }
+    ensures answers { Answers words.now (environment env.now) turns (devices (D.call_log disk.old) (F.call_log files.old) (L.call_log outside.old) (K.call_log keeper.old) (S.call_log out.old) (T.call_log tape.old) (L.counts outside.old).endless) (devices (D.call_log disk.new) (F.call_log files.new) (L.call_log outside.new) (K.call_log keeper.new) (S.call_log out.new) (T.call_log tape.new) (L.counts outside.new).endless) result }
+    ensures text { IsOfTheFiles words.now (environment env.now) turns (devices (D.call_log disk.old) (F.call_log files.old) (L.call_log outside.old) (K.call_log keeper.old) (S.call_log out.old) (T.call_log tape.old) (L.counts outside.old).endless) (devices (D.call_log disk.new) (F.call_log files.new) (L.call_log outside.new) (K.call_log keeper.new) (S.call_log out.new) (T.call_log tape.new) (L.counts outside.new).endless) result }
     ensures file_cause { HasCause (F.faults files.old) (F.faults files.new) (result ≡ Status.FileFault) }
     ensures disk_cause { HasCause (D.faults disk.old) (D.faults disk.new) (IsDiskFault words.now result) }
     ensures keeper_cause { HasCause (K.faults keeper.old) (K.faults keeper.new) (IsKeeperFault words.now result) }
@@ -151,15 +207,19 @@ pub fn watched_forwarder<D: Disk, F: Files, L: Loop, K: Keeper, S: Sink>(
     ensures heard { EventsTaken (half (spent words.now turns result)) (L.counts outside.old) (L.counts outside.new) }
     ensures turns { result ≡ Status.TurnsSpent → SpendsTurns words.now (environment env.now) turns (F.call_log files.old) (L.counts outside.old) (L.counts outside.new) }
     ensures out_cause { HasCause (S.faults out.old) (S.faults out.new) (result ≡ Status.OutFault) }
+    ensures taped { IsTaped words.now turns (devices (D.call_log disk.old) (F.call_log files.old) (L.call_log outside.old) (K.call_log keeper.old) (S.call_log out.old) (T.call_log tape.old) (L.counts outside.old).endless) (devices (D.call_log disk.new) (F.call_log files.new) (L.call_log outside.new) (K.call_log keeper.new) (S.call_log out.new) (T.call_log tape.new) (L.counts outside.new).endless) result }
+    ensures tape_cause { HasCause (T.faults tape.old) (T.faults tape.new) (result ≡ Status.RecordFault) }
 {
     outcomes_are_delivered();
     outcomes_are_crash_consistent();
     outcomes_keep_offsets();
     outcomes_send_contents();
+    outcomes_are_determined();
+    recorded_outcomes_hold();
     match read_job(alloc, words, env, files, watch) {
         Ok(job) => {
-            let reported = run_job(rt, alloc, job, disk, files, outside, keeper, turns, watch);
-            write_outcome(out, &reported)
+            let went = run_job(rt, alloc, job, disk, files, outside, keeper, turns, watch);
+            write_outcome(alloc, out, tape, &went)
         }
         Err(status) => status,
     }
@@ -167,7 +227,8 @@ pub fn watched_forwarder<D: Disk, F: Files, L: Loop, K: Keeper, S: Sink>(
 
 /// Does all that the program does. The words `run -c FILE [-n TICKS]` name a configuration, which is read
 /// and run over the given devices: the engine loads the disk, gets the kept offsets of followed files, and
-/// then takes the events of the loop. With TICKS it is stopped after that many clock ticks. The words
+/// then takes the events of the loop. With TICKS it is stopped after that many clock ticks. With `--record
+/// FILE` the run is recorded: after its report was written, its schedule is written to `tape`. The words
 /// `replay -c FILE -s FILE` also name a schedule, whose runs are made over a loop, a disk, files and a
 /// keeper in memory. The text is written: the report of a run; for each replayed run what the links of
 /// standard outputs took, a line feed if that isn't empty and doesn't end in one, and the report; and
@@ -177,7 +238,7 @@ pub fn watched_forwarder<D: Disk, F: Files, L: Loop, K: Keeper, S: Sink>(
 ///
 /// Nothing in the program calls it: `main` calls `watched_forwarder`, which has the same contract, and a
 /// watcher besides. It is for those who read the contract, and for callers without a watcher.
-pub fn log_forwarder<D: Disk, F: Files, L: Loop, K: Keeper, S: Sink>(
+pub fn log_forwarder<D: Disk, F: Files, L: Loop, K: Keeper, S: Sink, T: Sink>(
     rt: &(impl Threads + Sync),
     alloc: Global,
     words: &[String],
@@ -187,11 +248,13 @@ pub fn log_forwarder<D: Disk, F: Files, L: Loop, K: Keeper, S: Sink>(
     outside: &mut L,
     keeper: &mut K,
     out: &mut S,
+    tape: &mut T,
     turns: u64,
 ) -> Status
     // The calls on the files are those of the program's asking, and then those on all devices are those
     // of the reference model, or for a listing those of loading on the disk; the text is written.
-    // Each run that was made keeps the delivery guarantee (`Outcome.delivered`): complete input is accepted, or
+    // Each run that was made keeps the delivery guarantee (`Outcome.delivered`), up to its last whole turn if
+    // memory ran out in a live run: complete input is accepted, or
     // refused and counted, or followed the drop of its connection; each chunk is, for each output that it
     // matches, delivered in full, failed, out of retries, evicted, marked done before, or still pending
     // and in the report; the bytes sent over each link are a prefix of the payload of its flush, and each flush
@@ -208,8 +271,9 @@ pub fn log_forwarder<D: Disk, F: Files, L: Loop, K: Keeper, S: Sink>(
     // Each offset of a followed file that is put has nothing lost before it (`Outcome.offsets`): each batch that
     // was complete by then was accepted, or refused and counted, or has no events. The next run reads on from
     // the offset that the keeper gives.
-    ensures answers { Answers words.now (environment env.now) turns (devices (D.call_log disk.old) (F.call_log files.old) (L.call_log outside.old) (K.call_log keeper.old) (S.call_log out.old)) (devices (D.call_log disk.new) (F.call_log files.new) (L.call_log outside.new) (K.call_log keeper.new) (S.call_log out.new)) result }
-    ensures text { IsOfTheFiles words.now (environment env.now) turns (devices (D.call_log disk.old) (F.call_log files.old) (L.call_log outside.old) (K.call_log keeper.old) (S.call_log out.old)) (devices (D.call_log disk.new) (F.call_log files.new) (L.call_log outside.new) (K.call_log keeper.new) (S.call_log out.new)) result }
+    // A replay is the only one of its schedule (`Outcome.determined`), unless memory ran out.
+    ensures answers { Answers words.now (environment env.now) turns (devices (D.call_log disk.old) (F.call_log files.old) (L.call_log outside.old) (K.call_log keeper.old) (S.call_log out.old) (T.call_log tape.old) (L.counts outside.old).endless) (devices (D.call_log disk.new) (F.call_log files.new) (L.call_log outside.new) (K.call_log keeper.new) (S.call_log out.new) (T.call_log tape.new) (L.counts outside.new).endless) result }
+    ensures text { IsOfTheFiles words.now (environment env.now) turns (devices (D.call_log disk.old) (F.call_log files.old) (L.call_log outside.old) (K.call_log keeper.old) (S.call_log out.old) (T.call_log tape.old) (L.counts outside.old).endless) (devices (D.call_log disk.new) (F.call_log files.new) (L.call_log outside.new) (K.call_log keeper.new) (S.call_log out.new) (T.call_log tape.new) (L.counts outside.new).endless) result }
     ensures file_cause { HasCause (F.faults files.old) (F.faults files.new) (result ≡ Status.FileFault) }
     // A run answers `DiskFault`, `KeeperFault` or `LoopFault` only if a failure of its disk, its keeper or
     // its loop was counted, and `TurnsSpent` only if the loop returned half as many events at least, or as many if no
@@ -220,6 +284,13 @@ pub fn log_forwarder<D: Disk, F: Files, L: Loop, K: Keeper, S: Sink>(
     ensures heard { EventsTaken (half (spent words.now turns result)) (L.counts outside.old) (L.counts outside.new) }
     ensures turns { result ≡ Status.TurnsSpent → SpendsTurns words.now (environment env.now) turns (F.call_log files.old) (L.counts outside.old) (L.counts outside.new) }
     ensures out_cause { HasCause (S.faults out.old) (S.faults out.new) (result ≡ Status.OutFault) }
+    // With `--record`, the same is said of the run, and each replay of what was recorded is this run again
+    // (`RecordedOutcome.replays`). `Done` and `TurnsSpent` come only after the whole schedule of the run was written to `tape`.
+    // Its one life has what the loop brought and answered and the disk calls that failed, and it is read back.
+    // `RecordFault` comes only if a failure of `tape` was counted, and the report is whole then. `NotRecordable`
+    // comes if an input follows files or loading found one, and then nothing was started.
+    ensures taped { IsTaped words.now turns (devices (D.call_log disk.old) (F.call_log files.old) (L.call_log outside.old) (K.call_log keeper.old) (S.call_log out.old) (T.call_log tape.old) (L.counts outside.old).endless) (devices (D.call_log disk.new) (F.call_log files.new) (L.call_log outside.new) (K.call_log keeper.new) (S.call_log out.new) (T.call_log tape.new) (L.counts outside.new).endless) result }
+    ensures tape_cause { HasCause (T.faults tape.old) (T.faults tape.new) (result ≡ Status.RecordFault) }
 {
     watched_forwarder(
         rt,
@@ -231,6 +302,7 @@ pub fn log_forwarder<D: Disk, F: Files, L: Loop, K: Keeper, S: Sink>(
         outside,
         keeper,
         out,
+        tape,
         turns,
         &mut Unwatched,
     )

@@ -1,26 +1,20 @@
-use Rattle.std.proofs.Common.{Some}
-use Rattle.fwd_model.specs.CallLogs.{CallLogs}
-use Rattle.fwd_model.specs.Run.{KeeperFailed, after_recovery, lived, starts}
-use Rattle.fwd_outside.specs.Program.{Return}
-use Rattle.fwd_engine_state.specs.RefinesAction.{with_all}
-use Rattle.fwd_engine_run.specs.OffsetRows.{with_keeper}
-use Rattle.fwd_engine_run.proofs.RunTurns.{runs_after}
+use Rattle.fwd_engine_run.proofs.EventCounts.{events_to_end}
+use Rattle.fwd_engine_run.proofs.RunParts.{ends_run, finishes_run}
 use Rattle.fwd_engine_run.proofs.run_loop.run.Goals as goal
 
-pub returns-in-Ok-All-clause-runs : goal.returns-in-Ok-All-clause-runs
-returns-in-Ok-All-clause-runs g c others s h at loading keeps =
-    let a : CallLogs = with_all (g.L.Loop.call_log c.args.outside.now) (g.D.Disk.call_log c.args.disk.now) (g.F.Files.call_log c.args.files.now) (with_keeper (g.K.Keeper.call_log c.args.keeper.now) others) in
-    let others' : CallLogs = with_all (g.L.Loop.call_log c.args.outside.now) (g.D.Disk.call_log c.args.disk.now) (g.F.Files.call_log c.args.files.now) others in
-    let got = rw c.in-Ok-All.field-0-is at (c.in-Ok-All.ensures.gets others' s h (λ now. Return (lived now KeeperFailed)) (starts s c.args.ends.now c.args.ticks c.args.most) at loading keeps) in
-    runs_after a _ _ s (after_recovery s c.args.ends.now c.args.ticks c.args.most (Some h)) (starts s c.args.ends.now c.args.ticks c.args.most got.0) c.start.new.engine c.start.result got.3 (c.start.ensures.runs others s got.0 got.1 got.2)
+pub returns-in-Ok-Ended-clause-runs : goal.returns-in-Ok-Ended-clause-runs
+returns-in-Ok-Ended-clause-runs g c others s h at loading keeps =
+    ends_run _ _ s c.args.ends.now c.args.ticks c.args.most h c.run_to_last.new.engine c.in-Ok-Ended.end (rw c.in-Ok-Ended.field-0-is at (c.in-Ok-Ended.ensures.runs others s h at loading keeps))
 
-pub returns-in-Ok-Failed-clause-runs : goal.returns-in-Ok-Failed-clause-runs
-returns-in-Ok-Failed-clause-runs g c others s h at loading keeps =
-    let others' : CallLogs = with_all (g.L.Loop.call_log c.args.outside.now) (g.D.Disk.call_log c.args.disk.now) (g.F.Files.call_log c.args.files.now) others in
-    let got = rw c.in-Ok-Failed.field-0-is at (c.in-Ok-Failed.ensures.gets others' s h (λ now. Return (lived now KeeperFailed)) (starts s c.args.ends.now c.args.ticks c.args.most) at loading keeps) in
-    record { history = got.0; did = got.1; at = tt }
+pub returns-in-Ok-AtLast-clause-runs : goal.returns-in-Ok-AtLast-clause-runs
+returns-in-Ok-AtLast-clause-runs g c others s h at loading keeps =
+    let paused = rw c.in-Ok-AtLast.field-0-is at (c.in-Ok-AtLast.ensures.runs others s h at loading keeps) in
+    finishes_run _ _ s c.args.ends.now c.args.ticks c.args.most h _ c.run_to_last.new.engine c.finish.new.engine c.run_to_last.new.offsets c.in-Ok-AtLast.left c.finish.result paused
+    (c.finish.ensures.runs others s paused.now paused.at paused.keeps)
+
+pub returns-in-Ok-AtLast-clause-heard : goal.returns-in-Ok-AtLast-clause-heard
+returns-in-Ok-AtLast-clause-heard g c =
+    events_to_end c.args.most c.in-Ok-AtLast.left c.finish.result (rw c.in-Ok-AtLast.field-0-is at c.in-Ok-AtLast.ensures.heard) c.finish.ensures.heard
 
 pub returns-in-Err-clause-runs : goal.returns-in-Err-clause-runs
-returns-in-Err-clause-runs g c others s h at loading keeps =
-    let others' : CallLogs = with_all (g.L.Loop.call_log c.args.outside.now) (g.D.Disk.call_log c.args.disk.now) (g.F.Files.call_log c.args.files.now) others in
-    c.in-Err.ensures.gets others' s h (λ now. Return (lived now KeeperFailed)) (starts s c.args.ends.now c.args.ticks c.args.most) at loading keeps
+returns-in-Err-clause-runs g c others s h at loading keeps = c.in-Err.ensures.runs others s h at loading keeps

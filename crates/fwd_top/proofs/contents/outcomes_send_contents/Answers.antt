@@ -2,7 +2,7 @@ use Rattle.fwd_settings.specs.Endpoints.{ends_of}
 use Rattle.fwd_replay.specs.LiveRun.{RanToEnd, RanOutOfMemory}
 use Rattle.fwd_replay.specs.declared.report.Shown.TheVariants.{All, Report}
 use Rattle.fwd_top.specs.Outcomes.{Produces}
-use Rattle.fwd_top.specs.Cases.{AreSound, Case, Replays, Generates, Runs, Lists, Refuses, settings_for}
+use Rattle.fwd_top.specs.Cases.{AreSound, Case, Replays, Generates, Runs, Records, Lists, Refuses, settings_for}
 use Rattle.fwd_top.specs.Contents.{EachRunSendsContents}
 use Rattle.fwd_top.proofs.contents.outcomes_send_contents.Goals as goal
 
@@ -14,5 +14,6 @@ returns c turns case old new reported comes sound = by case comes sound
     by (Generates s lives) comes sound = c.replays_send_their_chunks.ensures Report s turns lives reported sound comes.0
     by (Runs s ticks) (RanToEnd lived) sound = λ start last known along. c.flushes_send_their_chunks.ensures s (ends_of s) ticks turns start lived.trace _ last sound known lived.way along
     by (Runs s ticks) (RanOutOfMemory begun none) sound = λ start last known along. c.flushes_send_their_chunks.ensures s (ends_of s) ticks turns start begun.trace begun.left last sound known begun.way along
+    by (Records s ticks) comes sound = tt
     by (Lists root) comes sound = tt
     by (Refuses other) comes sound = tt

@@ -3,7 +3,7 @@ use Rattle.fwd_settings.specs.Endpoints.{ends_of}
 use Rattle.fwd_replay.specs.declared.report.Shown.TheVariants.{All, Report}
 use Rattle.fwd_top.specs.Outcomes.{Produces}
 use Rattle.fwd_theorem_replay.specs.PresetFiles.{OnlyFirstHasFiles}
-use Rattle.fwd_top.specs.Cases.{AreSound, Case, Replays, Generates, Runs, Lists, Refuses, lives_of, settings_for}
+use Rattle.fwd_top.specs.Cases.{AreSound, Case, Replays, Generates, Runs, Records, Lists, Refuses, lives_of, settings_for}
 use Rattle.fwd_top.specs.CrashConsistency.{IsCrashConsistent}
 use Rattle.fwd_top.proofs.crash_consistency.outcomes_are_crash_consistent.Goals as goal
 
@@ -21,5 +21,6 @@ returns c turns case old new reported comes sound later = by case comes sound la
       files = λ start fresh. c.crash_points_are_safe.ensures s (ends_of s) ticks turns start begun.trace begun.left sound synced fresh begun.way;
       accepted = λ start fresh. c.accepted_batches_survive.ensures s (ends_of s) ticks turns start begun.trace begun.left sound synced fresh begun.way;
     }
+    by (Records s ticks) comes sound later = tt
     by (Lists root) comes sound later = tt
     by (Refuses other) comes sound later = tt

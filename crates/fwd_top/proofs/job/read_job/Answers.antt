@@ -2,7 +2,7 @@ use Rattle.std.proofs.Common.{◌≡◌, Option, Some, None, map, string_bytes, 
 use Rattle.std.specs.Prelude.{option_map}
 use Rattle.fwd_config.specs.Variables.{environment}
 use Rattle.fwd_top.specs.Words.{Command, Run, Replay, command_of}
-use Rattle.fwd_top.specs.Cases.{ToRun, ToReplay}
+use Rattle.fwd_top.specs.Cases.{ToRun, ToRecord, ToReplay}
 use Rattle.fwd_top.specs.Results.{case_of}
 use Rattle.fwd_top.specs.Views.{command}
 use Rattle.fwd_top.specs.declared.words.Command.{Command as Words}
@@ -18,6 +18,11 @@ pub returns-in-Some-Run-clause-asks : goal.returns-in-Some-Run-clause-asks
 returns-in-Some-Run-clause-asks g c =
     let is : command_of (map string_bytes c.args.words.now) ≡ Some (Run c.in-Some-Run.config.now c.in-Some-Run.ticks) = sym c.read_words.ensures ∙ ap seen c.in-Some-Run.is ∙ ap (λ (w : Words). Some (command w)) c.in-Some-Run.field-0-is in
     asks_of c.args.words.now (environment c.args.env.now) _ _ (Run c.in-Some-Run.config.now c.in-Some-Run.ticks) c.in-Some-Run.config.now (ToRun c.in-Some-Run.ticks) (case_of c.job_of_config.result) is (λ checked. refl) c.job_of_config.ensures.asks
+
+pub returns-in-Some-Record-clause-asks : goal.returns-in-Some-Record-clause-asks
+returns-in-Some-Record-clause-asks g c =
+    let is = sym c.read_words.ensures ∙ ap seen c.in-Some-Record.is ∙ ap (λ (w : Words). Some (command w)) c.in-Some-Record.field-0-is in
+    asks_of c.args.words.now (environment c.args.env.now) _ _ _ c.in-Some-Record.config.now (ToRecord c.in-Some-Record.ticks) (case_of c.job_of_config-in-Some-Record.result) is (λ checked. refl) c.job_of_config-in-Some-Record.ensures.asks
 
 pub returns-in-Some-Replay-clause-asks : goal.returns-in-Some-Replay-clause-asks
 returns-in-Some-Replay-clause-asks g c =

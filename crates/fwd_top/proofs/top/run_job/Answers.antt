@@ -1,11 +1,11 @@
-use Rattle.std.proofs.Common.{None}
+use Rattle.std.proofs.Common.{true, None}
 use Rattle.fwd_outside.proofs.LogGrowth.{grew_none}
 use Rattle.fwd_top.specs.Outcomes.{platform_of, world}
 use Rattle.fwd_top.proofs.Writing.{still, heard_none, no_cause}
 use Rattle.fwd_top.proofs.top.run_job.Goals as goal
 
 pub returns-in-Run-clause-comes : goal.returns-in-Run-clause-comes
-returns-in-Run-clause-comes g c = rw c.in-Run.is (c.run_live.ensures.life (world (platform_of None None None None)))
+returns-in-Run-clause-comes g c = rw c.in-Run.is (c.run_live.ensures.life (world (platform_of None None None None true)))
 
 pub returns-in-Run-clause-heard : goal.returns-in-Run-clause-heard
 returns-in-Run-clause-heard g c = rw c.in-Run.is c.run_live.ensures.heard
@@ -19,8 +19,23 @@ returns-in-Run-clause-loop_cause g c = rw c.in-Run.is c.run_live.ensures.loop_ca
 pub returns-in-Run-clause-disk_cause : goal.returns-in-Run-clause-disk_cause
 returns-in-Run-clause-disk_cause g c = rw c.in-Run.is c.run_live.ensures.disk_cause
 
+pub returns-in-Record-clause-comes : goal.returns-in-Record-clause-comes
+returns-in-Record-clause-comes g c = rw c.in-Record.is (c.run_recorded.ensures.life (world (platform_of None None None None true)))
+
+pub returns-in-Record-clause-heard : goal.returns-in-Record-clause-heard
+returns-in-Record-clause-heard g c = rw c.in-Record.is c.run_recorded.ensures.heard
+
+pub returns-in-Record-clause-keeper_cause : goal.returns-in-Record-clause-keeper_cause
+returns-in-Record-clause-keeper_cause g c = rw c.in-Record.is c.run_recorded.ensures.keeper_cause
+
+pub returns-in-Record-clause-loop_cause : goal.returns-in-Record-clause-loop_cause
+returns-in-Record-clause-loop_cause g c = rw c.in-Record.is c.run_recorded.ensures.loop_cause
+
+pub returns-in-Record-clause-disk_cause : goal.returns-in-Record-clause-disk_cause
+returns-in-Record-clause-disk_cause g c = rw c.in-Record.is c.run_recorded.ensures.disk_cause
+
 pub returns-in-Replay-clause-comes : goal.returns-in-Replay-clause-comes
-returns-in-Replay-clause-comes g c = rw c.in-Replay.is (c.replay.ensures, still (platform_of (g.D.Disk.call_log c.args.disk.now) (g.F.Files.call_log c.args.files.now) (g.L.Loop.call_log c.args.outside.now) (g.K.Keeper.call_log c.args.keeper.now)))
+returns-in-Replay-clause-comes g c = rw c.in-Replay.is (c.replay.ensures, still (platform_of (g.D.Disk.call_log c.args.disk.now) (g.F.Files.call_log c.args.files.now) (g.L.Loop.call_log c.args.outside.now) (g.K.Keeper.call_log c.args.keeper.now) (g.L.Loop.counts c.args.outside.now).endless))
 
 pub returns-in-Replay-clause-heard : goal.returns-in-Replay-clause-heard
 returns-in-Replay-clause-heard g c = rw c.in-Replay.is (heard_none (g.L.Loop.counts c.args.outside.now))
@@ -35,7 +50,7 @@ pub returns-in-Replay-clause-disk_cause : goal.returns-in-Replay-clause-disk_cau
 returns-in-Replay-clause-disk_cause g c = rw c.in-Replay.is (no_cause (g.D.Disk.faults c.args.disk.now) (λ none. none))
 
 pub returns-in-Generate-clause-comes : goal.returns-in-Generate-clause-comes
-returns-in-Generate-clause-comes g c = rw c.in-Generate.is (c.replay-in-Generate.ensures, still (platform_of (g.D.Disk.call_log c.args.disk.now) (g.F.Files.call_log c.args.files.now) (g.L.Loop.call_log c.args.outside.now) (g.K.Keeper.call_log c.args.keeper.now)))
+returns-in-Generate-clause-comes g c = rw c.in-Generate.is (c.replay-in-Generate.ensures, still (platform_of (g.D.Disk.call_log c.args.disk.now) (g.F.Files.call_log c.args.files.now) (g.L.Loop.call_log c.args.outside.now) (g.K.Keeper.call_log c.args.keeper.now) (g.L.Loop.counts c.args.outside.now).endless))
 
 pub returns-in-Generate-clause-heard : goal.returns-in-Generate-clause-heard
 returns-in-Generate-clause-heard g c = rw c.in-Generate.is (heard_none (g.L.Loop.counts c.args.outside.now))

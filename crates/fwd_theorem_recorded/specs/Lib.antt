@@ -1,0 +1,4 @@
+pub mod RenamedHandshakes
+pub mod SameRun
+pub mod HandedBytes
+pub mod Replays
