@@ -8,6 +8,8 @@ ghost use Rattle.fwd_outside.specs.Disk.{DiskGiven};
 ghost use Rattle.fwd_outside.specs.Files.{FilesGiven};
 ghost use Rattle.fwd_outside.specs.Loop.{LoopGiven};
 ghost use Rattle.fwd_keeper.specs.Keeper.{KeeperGiven};
+ghost use Rattle.fwd_config.specs.Variables.{environment as variables};
+ghost use Rattle.fwd.specs.Run.{ComesOfRun, IsWithoutDevices};
 
 use arguments::{environment, words};
 use fwd_base::{Bytes, Memory};
@@ -31,7 +33,9 @@ const LISTING_RETRIES: u32 = 5;
 const OUT_OF_MEMORY: &[u8] = b"out of memory\n";
 
 /// Returns the status of a run without an event loop.
-fn status_without_loop(error: &io::Error) -> Status {
+fn status_without_loop(error: &io::Error) -> Status
+    ensures { IsWithoutDevices result }
+{
     match error.kind() {
         ErrorKind::OutOfMemory => Status::Memory,
         _ => Status::LoopFault,
@@ -57,6 +61,9 @@ fn is_listing(words: &[String]) -> bool {
 /// Makes the devices and runs the program. The caller picks the initial files, on the disk and beside it, the
 /// initial offsets in the databases, and what the loop will bring. Without a loop the status is `LoopFault`
 /// or `Memory`, whatever the words are. The file of a record is created when the record is written.
+///
+/// The clause binds the words, the variables and the turns that the call gets, and the status that it returns. The
+/// devices are some.
 fn run(
     rt: &HostRuntime,
     threads: &(impl Threads + Sync),
@@ -64,6 +71,7 @@ fn run(
     env: &[(String, String)],
 ) -> Status
     ghost given: { DiskGiven × (FilesGiven × (LoopGiven × KeeperGiven)) }
+    ensures { ComesOfRun words.now (variables env.now) result }
 {
     let Ok(tape_name) = tape_file(rt.alloc(), words) else {
         return Status::Memory;

@@ -32,8 +32,7 @@ chunks_in stream (name ∷ names) =
 -- lists each folder, and appends its files to those so far
 abbrev pub list_folders_program : List ℕ → List (List ℕ) → List Listed → DiskProgram (Option (List Listed))
 list_folders_program root [] files = Return (Some files)
-list_folders_program root (stream ∷ streams) files =
-    and_then (lists (folder_of root stream))
+list_folders_program root (stream ∷ streams) files = and_then (lists (folder_of root stream))
     (λ names. list_folders_program root streams (files ++ chunks_in stream names))
 
 -- Lists the root, and then each name in it as a folder. A file directly under the root is listed as an empty

@@ -22,8 +22,7 @@ read_synced_program path = and_then (syncs path) (λ _. reads path 0 enough_byte
 -- reads each file, and appends it with its bytes to those so far
 abbrev pub read_files_program : List ℕ → List Listed → List FileRead → DiskProgram (Option (List FileRead))
 read_files_program root [] so_far = Return (Some so_far)
-read_files_program root (file ∷ files) so_far =
-    and_then (read_synced_program (path_of root file))
+read_files_program root (file ∷ files) so_far = and_then (read_synced_program (path_of root file))
     (λ bytes. read_files_program root files (so_far ++ file_read file bytes ∷ []))
 
 -- lists all folders, and then reads the files in order

@@ -12,15 +12,14 @@ use Rattle.fwd_chunk.specs.Layout.{part, number_at, other, meta_length, selector
 
 -- the head of a new file
 abbrev pub new_head : List ℕ → List ℕ → List ℕ → List (List ℕ) → ChunkHead
-new_head name tag content outputs =
-    record {
-      name = name;
-      meta = length (new_meta tag outputs);
-      size = length content;
-      selector = 0;
-      mark = 2;
-      outputs = outputs;
-    }
+new_head name tag content outputs = record {
+  name = name;
+  meta = length (new_meta tag outputs);
+  size = length content;
+  selector = 0;
+  mark = 2;
+  outputs = outputs;
+}
 
 -- a new file is created atomically
 abbrev pub create_program : List ℕ → List ℕ → List ℕ → List (List ℕ) → DiskProgram (Option ChunkHead)

@@ -74,8 +74,7 @@ abbrev pub decided : Delivery → List Event → Option Answer
 decided d events =
     if list_any fails events then Some Retry
     else if is_whole d events
-    then (if d.wanted then by_reply (d.judged (bytes_replied events)) else Some Good)
-    else None
+    then (if d.wanted then by_reply (d.judged (bytes_replied events)) else Some Good) else None
 
 abbrev pub else_by : Option Answer → Option Answer → Option Answer
 else_by (Some answer) later = Some answer

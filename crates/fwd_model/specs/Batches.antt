@@ -26,12 +26,11 @@ events_of (Some set) now read = map (λ (line : Line). parsed set.parser line.by
 
 -- the batch of lines of an input: their events, as the filters leave them
 abbrev pub batch_of : AllSettings → History → ℕ → List Line → Batch
-batch_of s h input read =
-    record {
-      input = input;
-      tag = tag_at s input;
-      events = filtered s.filters (tag_at s input) (events_of (input_at s input) (clock h) read);
-    }
+batch_of s h input read = record {
+  input = input;
+  tag = tag_at s input;
+  events = filtered s.filters (tag_at s input) (events_of (input_at s input) (clock h) read);
+}
 
 -- the batch of a read on a stream
 abbrev pub piece_batch : AllSettings → History → ℕ → Stream → List ℕ → Batch

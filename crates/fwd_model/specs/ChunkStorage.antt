@@ -20,17 +20,14 @@ name_for s input chunk = file_name (unwrap_or s.service.path []) (input_name s i
 -- a recovered chunk stays in its file
 abbrev pub adopted : List ℕ → Option Chunk → Option Kept
 adopted name None = None
-adopted name (Some chunk) =
-    Some
-    (Adopted
-    (record {
-      name = name;
-      meta = chunk.meta;
-      size = length chunk.content;
-      selector = 0;
-      mark = chunk.mark;
-      outputs = chunk.outputs;
-    }))
+adopted name (Some chunk) = Some (Adopted (record {
+  name = name;
+  meta = chunk.meta;
+  size = length chunk.content;
+  selector = 0;
+  mark = chunk.mark;
+  outputs = chunk.outputs;
+}))
 
 -- how the store keeps a chunk that starts with a batch
 abbrev pub created_with : AllSettings → Batch → ℕ → Kept

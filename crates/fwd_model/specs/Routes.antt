@@ -133,8 +133,7 @@ owes s h chunk = option_map_or (is_owed s h) (chunk_at h chunk) false
 -- the state of a route, as the table's entry
 abbrev pub table_route : AllSettings → History → ℕ → ℕ → Owed
 table_route s h chunk output =
-    let r = route chunk output in
-    record
+    let r = route chunk output in record
     { output = record { 0 = output }; due = due s h r; tries = tries h r; flying = is_some (flight h r) }
 
 -- a recovered chunk is in a file; any other is where its input keeps chunks

@@ -76,7 +76,8 @@ unless_last s ticks next happened h =
 -- what follows the step of a turn: offsets are put, and the run goes on unless it is over
 abbrev pub after_step : AllSettings → Option ℕ → (History → Action RunResult) → Happening → History
     → Action RunResult
-after_step s ticks next happens h = puts s (tracked s) (goes_on s (unless_last s ticks next happens) happens) h
+after_step s ticks next happens h =
+    puts s (tracked s) (goes_on s (unless_last s ticks next happens) happens) h
 
 -- at an event of the loop: the step, and then what follows it
 abbrev pub brought : AllSettings → Option ℕ → (History → Action RunResult) → History → Happening

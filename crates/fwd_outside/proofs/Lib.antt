@@ -9,6 +9,7 @@ pub mod ReadWhole
 pub mod ConsistentFiles
 pub mod LogGrowth
 pub mod RisingLinks
+pub mod LoopAnswers
 pub mod Executions
 pub mod CrashPointLemmas
 pub mod AndThen

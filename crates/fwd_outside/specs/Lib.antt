@@ -6,6 +6,7 @@ pub mod Files
 pub mod Sink
 pub mod Loop
 pub mod NewLinks
+pub mod LoopAnswers
 pub mod ConsistentFiles
 pub mod Program
 pub mod DiskCode

@@ -4,7 +4,7 @@ use Rattle.std.proofs.lemmas.List.{append-nil, map-append}
 use Rattle.fwd_outside.specs.Program.{Return, Execution}
 use Rattle.fwd_outside.specs.declared.happening.Happening.{Happening}
 use Rattle.fwd_outside.specs.Loop.{LoopEntry}
-use Rattle.fwd_outside.specs.NewLinks.{AreNewLinks}
+use Rattle.fwd_outside.specs.LoopAnswers.{AreLoopAnswers}
 use Rattle.fwd_outside.specs.Disk.{DiskEntry}
 use Rattle.fwd_outside.specs.Files.{found}
 use Rattle.fwd_disk_mem.specs.declared.entry.MemEntry.{MemEntry}
@@ -95,7 +95,7 @@ module _ (s : AllSettings) (start : Start) (planned : Life) where
     abbrev is_life : (trace below : List TraceEntry) (comes : RunResult) (at : FilesAt) → RunRepresents s start planned going.secure going.taken seen held kept trace below (λ more. Return comes) at → IsLife s most start planned trace comes
     is_life trace below comes at stands = record {
       way = subst (λ (n : ℕ). Execution (life s (ends_of s) None n) trace (Return comes)) (rest_is going.taken most fits) (stands.way (most - going.taken));
-      links = stands.links;
+      answers = stands.answers;
       below = below;
       handshakes = going.secure.state;
       secured = stands.secured;
@@ -137,7 +137,7 @@ module _ (s : AllSettings) (start : Start) (planned : Life) where
           way =
               subst (λ (p : Action RunResult). Execution (life s (ends_of s) None going.taken) under.trace p) (spent s None h)
               (subst (λ (n : ℕ). Execution (life s (ends_of s) None n) under.trace (run s None 0 h)) none (under.stands.way 0));
-          links = under.stands.links;
+          answers = under.stands.answers;
           below = under.below;
           handshakes = going.secure.state;
           secured = under.stands.secured;
@@ -195,7 +195,7 @@ module _ (s : AllSettings) (start : Start) (planned : Life) where
     pub asked_in : List MemEntry
     pub is : planned.cut ≡ Some cut
     pub cut_in : IsCutIn s most before history handshakes (course_after (course_of start planned) below) turn
-    pub links : AreNewLinks 0 (loop_part (before ++ turn))
+    pub answers : AreLoopAnswers (loop_part (before ++ turn))
     pub secured : IsSecured (keys_of s) no_handshakes before below handshakes
     pub secured_in : IsSecured (keys_of s) handshakes turn below_in handshakes_last
     pub uncut : has_cut start planned below ≡ false
@@ -239,7 +239,7 @@ module _ (s : AllSettings) (start : Start) (planned : Life) where
         is = record {
           is = calls.is;
           cut_in = calls.cut_in;
-          links = calls.links;
+          answers = calls.answers;
           secured = calls.secured;
           secured_in = calls.secured_in;
           uncut = calls.uncut;
@@ -284,7 +284,7 @@ module _ (s : AllSettings) (start : Start) (planned : Life) where
         asked_in = [];
         is = is;
         cut_in = WasOver ended.way refl;
-        links = subst (λ (es : List TraceEntry). AreNewLinks 0 (loop_part es)) (sym (append-nil trace)) over.stands.links;
+        answers = subst (λ (es : List TraceEntry). AreLoopAnswers (loop_part es)) (sym (append-nil trace)) over.stands.answers;
         secured = over.stands.secured;
         secured_in = (refl, refl);
         uncut = over.stands.uncut;
@@ -406,7 +406,7 @@ module _ (s : AllSettings) (start : Start) (planned : Life) (going : Going) (see
         way = ready.stands.way;
         waits = ready.stands.waits;
         secured = ready.stands.secured;
-        links = ready.stands.links;
+        answers = ready.stands.answers;
         loop = same_loop going.secure (loop_part ready.trace) (loop_part ready.below) ready.stands.loop;
         uncut = refl;
         asked = ready.stands.asked;
@@ -418,7 +418,7 @@ module _ (s : AllSettings) (start : Start) (planned : Life) (going : Going) (see
         kept_calls = ready.stands.kept_calls;
       })
       (uncut_always planned (takes_last (holds mask going.secure.state.kept) mask place)) taken.plain taken.ways
-      (record { next = more.next; secured = more.secured; links = more.links; loop = same_loop going2.secure (loop_part (ready.trace ++ turn_is)) (loop_part whole_below) more.loop }) taken.asked.disk taken.asked.files plays
+      (record { next = more.next; secured = more.secured; answers = more.answers; loop = same_loop going2.secure (loop_part (ready.trace ++ turn_is)) (loop_part whole_below) more.loop }) taken.asked.disk taken.asked.files plays
 
   -- the calls on the disk in the turn
   turn_asked : (made : List MemEntry) × (seen2.calls ≡ seen.calls ++ made) × (disk.entries_of made ≡ disk_part turn_is)
@@ -466,7 +466,7 @@ module _ (s : AllSettings) (start : Start) (planned : Life) (going : Going) (see
         asked_in = turn_asked.0;
         is = last.2;
         cut_in = turn_cut_in most less last.0 last.1;
-        links = more.links;
+        answers = more.answers;
         secured = ready.stands.secured;
         secured_in = more.secured;
         uncut = ready.stands.uncut;

@@ -4,11 +4,12 @@ use Rattle.std.proofs.lemmas.List.{append-nil}
 use Rattle.fwd_outside.specs.Program.{Return, Execution}
 use Rattle.fwd_outside.specs.Log.{LogGrew}
 use Rattle.fwd_outside.proofs.LogGrowth.{grew_none}
+use Rattle.fwd_outside.proofs.LoopAnswers.{answers_none}
 use Rattle.fwd_outside.specs.Cause.{HasCause}
 use Rattle.fwd_outside.specs.Loop.{LoopCounts, LoopEntry, LoopLog}
 use Rattle.fwd_outside.specs.Disk.{DiskEntry, DiskLog}
 use Rattle.fwd_outside.specs.Files.{FilesEntry, FilesLog}
-use Rattle.fwd_outside.specs.NewLinks.{AreNewLinks}
+use Rattle.fwd_outside.specs.LoopAnswers.{AreLoopAnswers}
 use Rattle.fwd_keeper.specs.Keeper.{KeeperEntry, KeeperLog}
 use Rattle.fwd_settings.specs.Endpoints.{ends_of}
 use Rattle.fwd_settings.specs.declared.settings_types.AllSettings.{AllSettings}
@@ -53,7 +54,7 @@ pub record Kept (s : AllSettings) (old new : LoopLog) (trace : List TraceEntry) 
   pub below : List TraceEntry
   pub handshakes : Handshakes
   pub secured : IsSecured (keys_of s) no_handshakes trace below handshakes
-  pub links : AreNewLinks 0 (loop_part trace)
+  pub answers : AreLoopAnswers (loop_part trace)
   pub allowed : AllMayOccur (loop_part below)
   pub begun : List LoopEntry
   pub short : (begun ≡ []) ⊎ IsCutShort (keys_of s) handshakes begun
@@ -86,7 +87,7 @@ kept_from s after old now are first trace all is log =
       below = made.below;
       handshakes = so.at;
       secured = made.so;
-      links = subst (λ (l : List LoopEntry). AreNewLinks 0 l) all is.new_links;
+      answers = subst (λ (l : List LoopEntry). AreLoopAnswers l) all (record { links = is.new_links; bytes = is.bytes });
       allowed = subst AllMayOccur (sym made.is) (first_allowed so.below so.begun so.allowed);
       begun = so.begun;
       short = no_calls (keys_of s) after.state so.at so.begun after.out_of_memory so.ends;
@@ -134,7 +135,7 @@ begins_none s ticks turns w = record {
   trace = [];
   left = life s (ends_of s) ticks turns;
   way = refl;
-  links = tt;
+  answers = answers_none;
   below = [];
   handshakes = no_handshakes;
   secured = (refl, refl);
@@ -160,7 +161,7 @@ module _ (s : AllSettings) (ticks : Option ℕ) (turns : ℕ) (disk disk2 : Disk
             trace = trace;
             left = left;
             way = way;
-            links = so.links;
+            answers = so.answers;
             below = so.below;
             handshakes = so.handshakes;
             secured = so.secured;
@@ -183,7 +184,7 @@ module _ (s : AllSettings) (ticks : Option ℕ) (turns : ℕ) (disk disk2 : Disk
             lived = ran.lived;
             trace = trace;
             way = ran.did.way;
-            links = so.links;
+            answers = so.answers;
             below = so.below;
             handshakes = so.handshakes;
             secured = so.secured;

@@ -3,7 +3,8 @@ use Rattle.std.proofs.Common.{◌≡◌, ℕ, Bool, true, false, ◌&&◌, ◌||
 use Rattle.std.proofs.lemmas.List.{append-nil}
 use Rattle.fwd_outside.specs.Program.{entry, Return, Ask, Execution}
 use Rattle.fwd_outside.specs.Log.{LogGrew}
-use Rattle.fwd_outside.specs.NewLinks.{AreNewLinks, greatest_by}
+use Rattle.fwd_outside.specs.LoopAnswers.{AreLoopAnswers}
+use Rattle.fwd_outside.proofs.LoopAnswers.{answers_first}
 use Rattle.fwd_outside.specs.Loop.{LoopCall, LoopAnswer, LoopEntry, LoopGiven, LoopLog, LoopProgram, Start, Wait}
 use Rattle.fwd_outside.specs.declared.ends.Ends.{Ends as InputEnds}
 use Rattle.fwd_outside.specs.Files.{FilesEntry}
@@ -178,7 +179,7 @@ pub record Grown (s : AllSettings) (planned : Life) (old new : Secure) (trace be
   -- the calls on the devices
   pub next : List TraceEntry
   pub secured : IsSecured (keys_of s) old.state more next new.state
-  pub links : AreNewLinks 0 (loop_part (trace ++ more))
+  pub answers : AreLoopAnswers (loop_part (trace ++ more))
   pub loop : IsKeyedLoop s planned new (loop_part (trace ++ more)) (loop_part (below ++ next))
 
 module _ (s : AllSettings) (planned : Life) (old new : Secure) (trace below more : List TraceEntry) where
@@ -202,7 +203,7 @@ module _ (s : AllSettings) (planned : Life) (old new : Secure) (trace below more
       record {
         next = so.below;
         secured = so.so;
-        links = subst (λ (l : List LoopEntry). AreNewLinks 0 l) (above ∙ sym (loop_append trace more)) is.new_links;
+        answers = subst (λ (l : List LoopEntry). AreLoopAnswers l) (above ∙ sym (loop_append trace more)) (record { links = is.new_links; bytes = is.bytes });
         loop = record {
           keys = are;
           memory = memory;
@@ -213,12 +214,8 @@ module _ (s : AllSettings) (planned : Life) (old new : Secure) (trace below more
         };
       }
 
-new_both : (greatest : ℕ) (es more : List LoopEntry) → AreNewLinks greatest (es ++ more) → AreNewLinks greatest es
-new_both greatest [] more new = tt
-new_both greatest (e ∷ es) more new = (new.0, new_both (greatest_by greatest e.call e.answer) es more new.1)
-
-pub new_first : (trace more : List TraceEntry) → AreNewLinks 0 (loop_part (trace ++ more)) → AreNewLinks 0 (loop_part trace)
-new_first trace more new = new_both 0 (loop_part trace) (loop_part more) (subst (λ (l : List LoopEntry). AreNewLinks 0 l) (loop_append trace more) new)
+pub first_answers : (trace more : List TraceEntry) → AreLoopAnswers (loop_part (trace ++ more)) → AreLoopAnswers (loop_part trace)
+first_answers trace more all = answers_first (loop_part trace) (loop_part more) (subst (λ (l : List LoopEntry). AreLoopAnswers l) (loop_append trace more) all)
 
 -- ---- the calls of a turn on the devices
 

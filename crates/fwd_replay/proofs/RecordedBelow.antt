@@ -6,7 +6,6 @@ use Rattle.fwd_outside.specs.Cause.{HasCause}
 use Rattle.fwd_outside.specs.Program.{Return, Execution}
 use Rattle.fwd_outside.specs.Log.{LogGrew}
 use Rattle.fwd_outside.specs.Loop.{LoopCounts, LoopEntry, LoopGiven, LoopLog}
-use Rattle.fwd_outside.specs.NewLinks.{AreNewLinks}
 use Rattle.fwd_settings.specs.Endpoints.{ends_of}
 use Rattle.fwd_settings.specs.declared.settings_types.AllSettings.{AllSettings}
 use Rattle.fwd_model.specs.Trace.{Action, TraceEntry, loop_part}
@@ -99,7 +98,7 @@ module _ (s : AllSettings) (ticks : Option ℕ) (turns : ℕ) (w w2 : CallLogs) 
         trace = trace;
         left = left;
         way = way;
-        links = so.links;
+        answers = so.answers;
         below = so.below;
         handshakes = so.handshakes;
         secured = so.secured;
@@ -126,7 +125,7 @@ module _ (s : AllSettings) (ticks : Option ℕ) (turns : ℕ) (w w2 : CallLogs) 
             result = over.result;
             trace = over.trace;
             way = over.way;
-            links = so.links;
+            answers = so.answers;
             below = so.below;
             handshakes = so.handshakes;
             secured = so.secured;
@@ -159,7 +158,7 @@ module _ (s : AllSettings) (ticks : Option ℕ) (turns : ℕ) (w w2 : CallLogs) 
           below = below;
           handshakes = after.state;
           secured = parts_secured first second here parts;
-          links = (kept_of (first ++ second) answered).links;
+          answers = (kept_of (first ++ second) answered).answers;
           allowed = all_may_occur (given_of r0) after (loop_part below) (ap (λ (b : SecuredBelow). b.call_log) answered.start ∙ made.start) is parts.log;
           begun = [];
           short = inl refl;
@@ -184,7 +183,7 @@ module _ (s : AllSettings) (ticks : Option ℕ) (turns : ℕ) (w w2 : CallLogs) 
             result = over.result;
             trace = first ++ second;
             way = subst (λ (es : List TraceEntry). Execution (runs_on s ticks turns) es (Return over.result)) split over.way;
-            links = kept.links;
+            answers = kept.answers;
             below = below;
             handshakes = after.state;
             secured = parts_secured first second at.here parts;

@@ -7,10 +7,11 @@ use Rattle.fwd_outside.specs.Program.{entry, Return, bind, Execution}
 use Rattle.fwd_outside.specs.Log.{LogGrew}
 use Rattle.fwd_outside.specs.Loop.{LoopEntry, LoopGiven, LoopLog, Wait}
 use Rattle.fwd_outside.specs.Disk.{DiskEntry, DiskGiven, DiskLog}
-use Rattle.fwd_outside.specs.NewLinks.{AreNewLinks}
+use Rattle.fwd_outside.specs.LoopAnswers.{AreLoopAnswers}
 use Rattle.fwd_outside.specs.declared.happening.Happening.{Happening}
 use Rattle.fwd_outside.proofs.Executions.{way_bind, way_trans}
 use Rattle.fwd_outside.proofs.LogGrowth.{grew_none, grew_trans}
+use Rattle.fwd_outside.proofs.LoopAnswers.{answers_none}
 use Rattle.fwd_settings.specs.Endpoints.{ends_of}
 use Rattle.fwd_settings.specs.declared.settings_types.AllSettings.{AllSettings}
 use Rattle.fwd_script.specs.declared.schedule.Schedule.{Schedule}
@@ -92,7 +93,7 @@ module _ (name : ℕ) (faults number : ℕ) (d0 d1 : DiskLog) (c0 c1 : Counting)
       result = run.result;
       trace = run.trace;
       way = run.way;
-      links = run.links;
+      answers = run.answers;
       below = run.below;
       handshakes = run.handshakes;
       secured = run.secured;
@@ -121,7 +122,7 @@ module _ (name : ℕ) (faults number : ℕ) (d0 d1 : DiskLog) (c0 c1 : Counting)
             trace = begins.trace;
             left = begins.left;
             way = begins.way;
-            links = begins.links;
+            answers = begins.answers;
             below = begins.below;
             handshakes = begins.handshakes;
             secured = begins.secured;
@@ -198,7 +199,7 @@ module _ (s : AllSettings) (ticks : Option ℕ) (turns : ℕ) where
     trace = began.1.entries;
     left = bind began.0 (after_recovery s (ends_of s) ticks turns);
     way = way_bind (recovers s) began.0 began.1.entries (after_recovery s (ends_of s) ticks turns) began.1.way;
-    links = subst (λ (x : List LoopEntry). AreNewLinks 0 x) (sym (quiet_loop w w2 began.1.entries began.1.asked)) tt;
+    answers = subst (λ (x : List LoopEntry). AreLoopAnswers x) (sym (quiet_loop w w2 began.1.entries began.1.asked)) answers_none;
     below = began.1.entries;
     handshakes = no_handshakes;
     secured = untouched (keys_of s) no_handshakes began.1.entries (quiet_loop w w2 began.1.entries began.1.asked);
@@ -225,7 +226,7 @@ module _ (s : AllSettings) (ticks : Option ℕ) (turns : ℕ) where
         lived = lived [] DiskFailed;
         trace = es;
         way = life_way es None did.way;
-        links = subst (λ (x : List LoopEntry). AreNewLinks 0 x) (sym none) tt;
+        answers = subst (λ (x : List LoopEntry). AreLoopAnswers x) (sym none) answers_none;
         below = es;
         handshakes = no_handshakes;
         secured = untouched (keys_of s) no_handshakes es none;
@@ -254,8 +255,8 @@ module _ (s : AllSettings) (ticks : Option ℕ) (turns : ℕ) where
     loop_from : (es : List TraceEntry) → loop_part (recovery ++ es) ≡ loop_part es
     loop_from es = loop_append recovery es ∙ ap (λ (x : List LoopEntry). x ++ loop_part es) silent
 
-    links_from : (es : List TraceEntry) → AreNewLinks 0 (loop_part es) → AreNewLinks 0 (loop_part (recovery ++ es))
-    links_from es links = subst (λ (x : List LoopEntry). AreNewLinks 0 x) (sym (loop_from es)) links
+    answers_from : (es : List TraceEntry) → AreLoopAnswers (loop_part es) → AreLoopAnswers (loop_part (recovery ++ es))
+    answers_from es answers = subst (λ (x : List LoopEntry). AreLoopAnswers x) (sym (loop_from es)) answers
 
     secured_from : (es below : List TraceEntry) (handshakes : Handshakes) → IsSecured (keys_of s) no_handshakes es below handshakes → IsSecured (keys_of s) no_handshakes (recovery ++ es) (recovery ++ below) handshakes
     secured_from es below handshakes so = secured_append (keys_of s) no_handshakes no_handshakes handshakes recovery es recovery below (untouched (keys_of s) no_handshakes recovery silent) so
@@ -270,7 +271,7 @@ module _ (s : AllSettings) (ticks : Option ℕ) (turns : ℕ) where
           trace = recovery ++ began.trace;
           left = began.left;
           way = on_from began.trace began.left began.way;
-          links = links_from began.trace began.links;
+          answers = answers_from began.trace began.answers;
           below = recovery ++ began.below;
           handshakes = began.handshakes;
           secured = secured_from began.trace began.below began.handshakes began.secured;
@@ -286,7 +287,7 @@ module _ (s : AllSettings) (ticks : Option ℕ) (turns : ℕ) where
           lived = run.result;
           trace = recovery ++ run.trace;
           way = on_from run.trace (Return run.result) run.way;
-          links = links_from run.trace run.links;
+          answers = answers_from run.trace run.answers;
           below = recovery ++ run.below;
           handshakes = run.handshakes;
           secured = secured_from run.trace run.below run.handshakes run.secured;
@@ -314,7 +315,7 @@ module _ (s : AllSettings) (ticks : Option ℕ) (turns : ℕ) where
           trace = run.trace;
           result = run.result;
           way = run.way;
-          links = run.links;
+          answers = run.answers;
           below = run.below;
           handshakes = run.handshakes;
           seen = was.seen;

@@ -114,7 +114,7 @@ module _ (s : AllSettings) (ticks : Option ℕ) (turns : ℕ) (w w2 : CallLogs) 
       result = run.result;
       trace = run.trace;
       way = run.way;
-      links = run.links;
+      answers = run.answers;
       below = run.below;
       handshakes = run.handshakes;
       secured = run.secured;
@@ -159,7 +159,7 @@ module _ (s : AllSettings) (ticks : Option ℕ) (turns : ℕ) (w w2 : CallLogs) 
     trace = below.run.trace;
     left = Return below.run.result;
     way = below.run.way;
-    links = below.run.links;
+    answers = below.run.answers;
     below = below.run.below;
     handshakes = below.run.handshakes;
     secured = below.run.secured;
@@ -173,7 +173,7 @@ module _ (s : AllSettings) (ticks : Option ℕ) (turns : ℕ) (w w2 : CallLogs) 
     trace = began.trace;
     left = began.left;
     way = began.way;
-    links = began.links;
+    answers = began.answers;
     below = began.below;
     handshakes = began.handshakes;
     secured = began.secured;

@@ -6,9 +6,10 @@ use Rattle.fwd_outside.specs.Log.{LogGrew, log_of_call}
 use Rattle.fwd_outside.specs.declared.answers.Begun.{Begun as LoopBegun}
 use Rattle.fwd_outside.specs.declared.answers.Begun.TheVariants as loop_begun
 use Rattle.fwd_outside.proofs.Executions.{way_bind, way_trans}
+use Rattle.fwd_outside.proofs.LoopAnswers.{answers_none}
 use Rattle.fwd_outside.specs.Disk.{DiskEntry}
 use Rattle.fwd_outside.specs.Files.{FilesEntry, FilesGiven, found}
-use Rattle.fwd_outside.specs.NewLinks.{AreNewLinks}
+use Rattle.fwd_outside.specs.LoopAnswers.{AreLoopAnswers}
 use Rattle.fwd_outside.specs.Loop.{LoopEntry, LoopGiven, Start as Starting, start_outcome}
 use Rattle.fwd_outside.specs.declared.ends.Ends.{Ends}
 use Rattle.fwd_disk_mem.specs.declared.entry.MemEntry.{MemEntry}
@@ -173,7 +174,7 @@ load_fails s start planned old new held kept ready did played =
       trace = loaded.trace;
       is = λ turns. record {
         way = loads_on s turns None loaded.trace loaded.way;
-        links = subst (λ (es : List LoopEntry). AreNewLinks 0 es) (sym loaded.no_loop) tt;
+        answers = subst (λ (es : List LoopEntry). AreLoopAnswers es) (sym loaded.no_loop) answers_none;
         below = loaded.trace;
         handshakes = no_handshakes;
         secured = unlooped (keys_of s) no_handshakes loaded.trace loaded.no_loop;
@@ -235,7 +236,7 @@ module _ (s : AllSettings) (start : Start) (planned : Life) (seen : Seen) (h : H
         trace = recovered.trace ++ es;
         is = λ turns. record {
           way = subst (λ (x : RunResult). Execution (life s (ends_of s) None turns) (recovered.trace ++ es) (left_of (starts s (ends_of s) None turns) x)) is (got_way turns);
-          links = subst (λ (l : List LoopEntry). AreNewLinks 0 l) (sym got_loop) tt;
+          answers = subst (λ (l : List LoopEntry). AreLoopAnswers l) (sym got_loop) answers_none;
           below = recovered.trace ++ es;
           handshakes = no_handshakes;
           secured = unlooped (keys_of s) no_handshakes (recovered.trace ++ es) got_loop;
@@ -312,8 +313,8 @@ module _ (s : AllSettings) (start : Start) (planned : Life) (begun : Begun) (h :
       secured_append (keys_of s) no_handshakes no_handshakes secure.state has.trace entries has.trace entries (unlooped (keys_of s) no_handshakes has.trace has.no_loop)
       (subst (λ (l : List TraceEntry). IsSecured (keys_of s) no_handshakes entries l secure.state) same so.so)
 
-  whole_links : AreNewLinks 0 (loop_part whole)
-  whole_links = subst (λ (l : List LoopEntry). AreNewLinks 0 l) (sym whole_loop) (tt, tt)
+  whole_answers : AreLoopAnswers (loop_part whole)
+  whole_answers = subst (λ (l : List LoopEntry). AreLoopAnswers l) (sym whole_loop) (record { links = (tt, tt); bytes = (tt, tt) })
 
   whole_played : place.IsPlayed (given_of planned) (loop_part whole)
   whole_played = subst (λ (l : List LoopEntry). place.IsPlayed (given_of planned) l) calls_are (log_played (given_of planned) made.calls secure.below.call_log made.log started.played)
@@ -328,7 +329,7 @@ loop_failed s start planned begun h seen held kept has secure started =
       trace = trace;
       is = λ turns. record {
         way = whole_way s start planned begun h seen held kept has None secure started turns;
-        links = whole_links s start planned begun h seen held kept has None secure started;
+        answers = whole_answers s start planned begun h seen held kept has None secure started;
         below = trace;
         handshakes = secure.state;
         secured = whole_secured s start planned begun h seen held kept has None secure started;
@@ -367,7 +368,7 @@ under_way s start planned begun h seen held kept has going started engine offset
             rw untaken (subst (λ (n : ℕ). Execution (life s (ends_of s) None n) trace (run s None more h)) (all_left more) (whole_way s start planned begun h seen held kept has (Some tt) secure started more));
         waits = no_waits trace still ∙ sym untaken;
         secured = whole_secured s start planned begun h seen held kept has (Some tt) secure started;
-        links = whole_links s start planned begun h seen held kept has (Some tt) secure started;
+        answers = whole_answers s start planned begun h seen held kept has (Some tt) secure started;
         loop = record {
           keys = started.keys;
           memory = started.memory;

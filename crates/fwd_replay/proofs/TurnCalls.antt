@@ -3,7 +3,7 @@ use Rattle.std.proofs.Common.{◌≡◌, ℕ, suc, ◌+◌, Bool, true, false, i
 use Rattle.std.proofs.lemmas.List.{append-nil, map-append}
 use Rattle.fwd_outside.specs.Program.{entry, Return, bind, Execution}
 use Rattle.fwd_outside.specs.Log.{LogGrew}
-use Rattle.fwd_outside.specs.NewLinks.{AreNewLinks}
+use Rattle.fwd_outside.specs.LoopAnswers.{AreLoopAnswers}
 use Rattle.fwd_outside.proofs.Executions.{way_trans, way_bind}
 use Rattle.fwd_outside.specs.declared.happening.Happening.{Happening}
 use Rattle.fwd_outside.specs.declared.happening.Happening.TheVariants as happening
@@ -188,7 +188,7 @@ module _ (s : AllSettings) (start : Start) (planned : Life) (h : History) (trace
             let none = plain_waitless es plain in
             waits_append trace turn ∙ omega (arith, here, none);
         secured = secured_append (keys_of s) no_handshakes secure.state secure2.state trace turn below next stands.secured grown.secured;
-        links = grown.links;
+        answers = grown.answers;
         loop = grown.loop;
         uncut = uncut_append planned.cut course below next stands.uncut (turn_uncut planned.cut gives mask here next shape uncut);
         asked = stands.asked ++ made.0;
@@ -244,7 +244,7 @@ module _ (s : AllSettings) (start : Start) (planned : Life) (going : Going) (see
       way = under.stands.way;
       waits = under.stands.waits;
       secured = under.stands.secured;
-      links = under.stands.links;
+      answers = under.stands.answers;
       loop = under.stands.loop;
       uncut = under.stands.uncut;
       asked = under.stands.asked;
@@ -393,7 +393,7 @@ module _ (s : AllSettings) (start : Start) (planned : Life) (secure : Secure) (t
         way = λ more. way_trans (life s (ends_of s) None (taken + more)) (left more) (left2 more) trace es (stands.way more) (ways more);
         waits = let here = stands.waits in let none = no_waits es still in waits_append trace es ∙ omega (arith, here, none);
         secured = secured_append (keys_of s) no_handshakes secure.state secure.state trace es below es stands.secured (unlooped (keys_of s) secure.state es (aside_loop es aside));
-        links = subst (λ (l : List LoopEntry). AreNewLinks 0 l) (sym (no_loop trace)) stands.links;
+        answers = subst (λ (l : List LoopEntry). AreLoopAnswers l) (sym (no_loop trace)) stands.answers;
         loop =
             subst (λ (l : List LoopEntry). IsKeyedLoop s planned secure l (loop_part (below ++ es))) (sym (no_loop trace))
             (subst (λ (l : List LoopEntry). IsKeyedLoop s planned secure (loop_part trace) l) (sym (no_loop below)) stands.loop);

@@ -2,7 +2,7 @@
 use Rattle.std.specs.Prelude.{◌≡◌, ◌⊎◌, ℕ, ◌+◌, ◌/◌, List, [], ◌++◌, map, Option, Result, Ok, Err, MatchResult, if◌then◌else◌}
 use Rattle.fwd_outside.specs.Program.{Return, Execution}
 use Rattle.fwd_outside.specs.Loop.{LoopEntry}
-use Rattle.fwd_outside.specs.NewLinks.{AreNewLinks}
+use Rattle.fwd_outside.specs.LoopAnswers.{AreLoopAnswers}
 use Rattle.fwd_settings.specs.Endpoints.{ends_of}
 use Rattle.fwd_settings.specs.declared.settings_types.AllSettings.{AllSettings}
 use Rattle.fwd_model.specs.Fact.{History}
@@ -26,15 +26,15 @@ use Rattle.fwd_replay.specs.declared.report.Reported.{Reported}
 use Rattle.fwd_replay.specs.declared.report.Ending.{Ending}
 use Rattle.fwd_replay.specs.declared.report.Ending.TheVariants as ending
 
--- The engine had this trace, which is one of the reference model to its end; the calls on the devices, in a call
--- log or not, were those that the keyed loop made of it; each event that came may occur; and the text is the
--- report of its history.
+-- The engine had this trace, which is one of the reference model to its end; the calls on the devices, in a
+-- call log or not, were those that the keyed loop made of it; each event that came may occur; and the text
+-- is the report of its history.
 pub record RunsToEnd (s : AllSettings) (ticks : Option ℕ) (turns : ℕ) (old new : CallLogs)
     (reported : Reported) : Type 0 where
   pub lived : RunResult
   pub trace : List TraceEntry
   pub way : Execution (life s (ends_of s) ticks turns) trace (Return lived)
-  pub links : AreNewLinks 0 (loop_part trace)
+  pub answers : AreLoopAnswers (loop_part trace)
   pub below : List TraceEntry
   pub handshakes : Handshakes
   pub secured : IsSecured (keys_of s) no_handshakes trace below handshakes
@@ -42,13 +42,13 @@ pub record RunsToEnd (s : AllSettings) (ticks : Option ℕ) (turns : ℕ) (old n
   pub asked : LogsGrew old new below
   pub reports : reported ≡ reported_by (report s lived.history) lived.end
 
--- It had the first calls of the reference model, and after those of the keyed loop for them came, at most, the
--- first ones of one more rule.
+-- It had the first calls of the reference model, and after those of the keyed loop for them came, at most,
+-- the first ones of one more rule.
 pub record BeginsRun (s : AllSettings) (ticks : Option ℕ) (turns : ℕ) (old new : CallLogs) : Type 0 where
   pub trace : List TraceEntry
   pub left : Action RunResult
   pub way : Execution (life s (ends_of s) ticks turns) trace left
-  pub links : AreNewLinks 0 (loop_part trace)
+  pub answers : AreLoopAnswers (loop_part trace)
   pub below : List TraceEntry
   pub handshakes : Handshakes
   pub secured : IsSecured (keys_of s) no_handshakes trace below handshakes
@@ -70,11 +70,12 @@ pub data IsRunLive (s : AllSettings) (ticks : Option ℕ) (turns : ℕ) (old new
   RanOutOfMemory : BeginsRun s ticks turns old new → reported ≡ out_of_memory
       → IsRunLive s ticks turns old new reported
 
--- The same over any loop that isn't keyed, of which the engine asks what it asks. With a keyed loop between, it
--- is this of the keyed loop.
+-- The same over any loop that isn't keyed, of which the engine asks what it asks. With a keyed loop
+-- between, it is this of the keyed loop.
 pub data IsRunOver (s : AllSettings) (ticks : Option ℕ) (turns : ℕ) (old new : CallLogs)
     (reported : Reported) : Type 0 where
-  WasOver : HasRun s (life s (ends_of s) ticks turns) old new reported → IsRunOver s ticks turns old new reported
+  WasOver : HasRun s (life s (ends_of s) ticks turns) old new reported
+      → IsRunOver s ticks turns old new reported
   WasCutShort : IsBegun old new (life s (ends_of s) ticks turns) → reported ≡ out_of_memory
       → IsRunOver s ticks turns old new reported
 
@@ -113,7 +114,8 @@ abbrev pub RunProduces : {E : Type 0} → AllSettings → Option ℕ → ℕ →
     → Type 0
 RunProduces s ticks turns old new result = ActionProduces s (life s (ends_of s) ticks turns) old new result
 
--- The least number of events of the loop below, for so many of the keyed loop: one of them becomes at most two.
+-- The least number of events of the loop below, for so many of the keyed loop: one of them becomes at most
+-- two.
 abbrev pub events_below : AllSettings → ℕ → ℕ
 events_below s n = if has_keys (keys_of s) then (n + 1) / 2 else n
 

@@ -4,6 +4,7 @@ use Rattle.fwd_base.specs.declared.memory.Memory.{Memory}
 use Rattle.fwd_outside.specs.Program.{entry, Return, Execution}
 use Rattle.fwd_outside.specs.Loop.{LoopEntry, LoopLog, Wait}
 use Rattle.fwd_outside.specs.NewLinks.{AreNewLinks}
+use Rattle.fwd_outside.specs.LoopAnswers.{AreLoopAnswers}
 use Rattle.fwd_outside.specs.declared.happening.Happening.{Happening}
 use Rattle.fwd_settings.specs.Endpoints.{ends_of}
 use Rattle.fwd_settings.specs.declared.settings_types.AllSettings.{AllSettings}
@@ -178,7 +179,7 @@ pub record RanBelow (a b : CallLogs) (s : AllSettings) (ticks : Option ℕ) (tur
   pub result : RunResult
   pub trace : List TraceEntry
   pub way : Execution (runs_on s ticks turns) trace (Return result)
-  pub links : AreNewLinks 0 (loop_part trace)
+  pub answers : AreLoopAnswers (loop_part trace)
   pub below : List TraceEntry
   pub handshakes : Handshakes
   pub secured : IsSecured (keys_of s) no_handshakes trace below handshakes
@@ -198,7 +199,7 @@ pub record BeganBelow (a b : CallLogs) (s : AllSettings) (ticks : Option ℕ) (t
   pub trace : List TraceEntry
   pub left : Action RunResult
   pub way : Execution (runs_on s ticks turns) trace left
-  pub links : AreNewLinks 0 (loop_part trace)
+  pub answers : AreLoopAnswers (loop_part trace)
   pub below : List TraceEntry
   pub handshakes : Handshakes
   pub secured : IsSecured (keys_of s) no_handshakes trace below handshakes

@@ -5,6 +5,7 @@ use Rattle.fwd_base.specs.declared.memory.Memory.{Memory}
 use Rattle.fwd_outside.specs.Program.{entry, Return, Execution}
 use Rattle.fwd_outside.specs.Loop.{Wait}
 use Rattle.fwd_outside.specs.NewLinks.{AreNewLinks}
+use Rattle.fwd_outside.specs.LoopAnswers.{AreLoopAnswers}
 use Rattle.fwd_outside.specs.declared.happening.Happening.{Happening}
 use Rattle.fwd_outside.specs.declared.happening.Happening.TheVariants as happening
 use Rattle.fwd_settings.specs.Endpoints.{ends_of}
@@ -56,16 +57,17 @@ pub record IsNotRecordable (s : AllSettings) (old new : CallLogs) : Type 0 where
 abbrev pub runs_on : AllSettings → Option ℕ → ℕ → Action RunResult
 runs_on s ticks turns = after_recovery s (ends_of s) ticks turns (Some [])
 
--- After these calls the last of `ticks` ticks stopped the run, without a call. A run without a number of ticks
--- makes the same calls up to there, and goes on.
-pub record StopsAfter (s : AllSettings) (ticks : Option ℕ) (turns : ℕ) (first : List TraceEntry) : Type 0 where
+-- After these calls the last of `ticks` ticks stopped the run, without a call. A run without a number of
+-- ticks makes the same calls up to there, and goes on.
+pub record StopsAfter (s : AllSettings) (ticks : Option ℕ) (turns : ℕ)
+    (first : List TraceEntry) : Type 0 where
   pub now : History
   pub left : ℕ
   pub stops : Execution (runs_on s ticks turns) first (steps_on s (run s ticks left) happening.Stop now)
   pub goes_on : Execution (runs_on s None turns) first (run s None left now)
 
--- What a recorder saw, which stands below the keyed loop: the engine had this trace, the devices had these calls.
--- If the last tick stopped the run, the recorder saw the stop there.
+-- What a recorder saw, which stands below the keyed loop: the engine had this trace, the devices had these
+-- calls. If the last tick stopped the run, the recorder saw the stop there.
 pub data IsSeen (s : AllSettings) (ticks : Option ℕ) (turns : ℕ)
     : (trace below : List TraceEntry) → Handshakes → List Seen → Type 0 where
   Unstopped : (trace below : List TraceEntry) (handshakes : Handshakes) (result : RunResult)
@@ -81,8 +83,8 @@ pub data IsSeen (s : AllSettings) (ticks : Option ℕ) (turns : ℕ)
 
 -- ---- a recorded run
 
--- The number of the first disk call after recovery, in a replay. Its disk is empty, so recovery is one call if
--- there is a storage path, and none otherwise.
+-- The number of the first disk call after recovery, in a replay. Its disk is empty, so recovery is one call
+-- if there is a storage path, and none otherwise.
 abbrev pub first_number : Option (List ℕ) → ℕ
 first_number None = 1
 first_number (Some root) = 2
@@ -91,8 +93,8 @@ first_number (Some root) = 2
 abbrev pub HasReport : RunResult → Type 0
 HasReport result = (result.end ≡ Over) ⊎ (result.end ≡ TurnsSpent)
 
--- The calls of recovery, which found nothing, and those after it. The schedule has the one life that was recorded,
--- and a text can express it; it is missing only if memory ran out for it.
+-- The calls of recovery, which found nothing, and those after it. The schedule has the one life that was
+-- recorded, and a text can express it; it is missing only if memory ran out for it.
 pub record IsRecorded (s : AllSettings) (ticks : Option ℕ) (turns : ℕ) (old new : CallLogs) (endless : Bool)
     (reported : Reported) (made : Result Schedule Memory) : Type 0 where
   pub recovery : List TraceEntry
@@ -101,7 +103,7 @@ pub record IsRecorded (s : AllSettings) (ticks : Option ℕ) (turns : ℕ) (old 
   pub trace : List TraceEntry
   pub result : RunResult
   pub way : Execution (runs_on s ticks turns) trace (Return result)
-  pub links : AreNewLinks 0 (loop_part trace)
+  pub answers : AreLoopAnswers (loop_part trace)
   pub below : List TraceEntry
   pub handshakes : Handshakes
   pub seen : List Seen
@@ -112,7 +114,8 @@ pub record IsRecorded (s : AllSettings) (ticks : Option ℕ) (turns : ℕ) (old 
   pub allowed : AreAllowed endless (calls_of seen)
   pub new_links : AreNewLinks 0 (calls_of seen)
   pub schedule : IfOk made (λ schedule.
-      schedule ≡ record { lives = recorded seen (failed_from (first_number s.service.path) (disk_part below)) ∷ [] })
+      schedule
+      ≡ record { lives = recorded seen (failed_from (first_number s.service.path) (disk_part below)) ∷ [] })
   pub writable : IfOk made IsWritable
 
 -- ---- a run that isn't recorded

@@ -1,6 +1,6 @@
 -- The state of a run of a schedule while it is replayed.
 use Rattle.std.specs.Prelude.{◌≡◌, ℕ, ◌+◌, ◌-◌, ◌<◌, ◌%◌, Bool, true, false, if◌then◌else◌, List, [], ◌∷◌, ◌++◌, Option, Some, None, Result, Ok, Err}
-use Rattle.fwd_outside.specs.NewLinks.{AreNewLinks}
+use Rattle.fwd_outside.specs.LoopAnswers.{AreLoopAnswers}
 use Rattle.fwd_outside.specs.Program.{entry, Return, Execution}
 use Rattle.fwd_outside.specs.File.{content}
 use Rattle.fwd_outside.specs.Files.{found}
@@ -111,7 +111,7 @@ pub record RunRepresents (s : AllSettings) (start : Start) (planned : Life) (sec
   pub way : (more : ℕ) → Execution (life s (ends_of s) None (taken + more)) trace (left more)
   pub waits : waits_in trace ≡ taken
   pub secured : IsSecured (keys_of s) no_handshakes trace below secure.state
-  pub links : AreNewLinks 0 (loop_part trace)
+  pub answers : AreLoopAnswers (loop_part trace)
   pub loop : IsKeyedLoop s planned secure (loop_part trace) (loop_part below)
   pub uncut : has_cut start planned below ≡ false
   pub asked : List MemEntry

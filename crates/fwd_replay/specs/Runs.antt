@@ -2,7 +2,7 @@
 use Rattle.std.specs.Prelude.{◌≡◌, ℕ, ◌+◌, ◌-◌, ◌<◌, ◌%◌, Bool, true, false, ◌&&◌, List, [], ◌∷◌, ◌++◌, map, take, Some, None, is_some}
 use Rattle.fwd_outside.specs.Program.{Return, Execution}
 use Rattle.fwd_outside.specs.File.{content}
-use Rattle.fwd_outside.specs.NewLinks.{AreNewLinks}
+use Rattle.fwd_outside.specs.LoopAnswers.{AreLoopAnswers}
 use Rattle.fwd_disk_mem.specs.declared.entry.MemEntry.{MemEntry}
 use Rattle.fwd_disk_mem.specs.declared.entry.MemEntry.TheVariants.{Preset, FailAt}
 use Rattle.fwd_disk_mem.specs.Entry as disk
@@ -83,7 +83,7 @@ has_cut start planned trace = is_some planned.cut && has_last (course_of start p
 pub record IsLife (s : AllSettings) (turns : ℕ) (start : Start) (planned : Life) (trace : List TraceEntry)
     (comes : RunResult) : Type 0 where
   pub way : Execution (life s (ends_of s) None turns) trace (Return comes)
-  pub links : AreNewLinks 0 (loop_part trace)
+  pub answers : AreLoopAnswers (loop_part trace)
   -- the calls on the devices, and the handshakes after them
   pub below : List TraceEntry
   pub handshakes : Handshakes
@@ -103,9 +103,9 @@ pub record EndsIn (shown : Shown) (s : AllSettings) (turns : ℕ) (start : Start
 
 -- ---- a run that is cut
 
--- The turn in which it is cut: the run has that many turns left, and the turn's wait takes the event from the
--- schedule, as no kept bytes come first. No offset is put after it. If the run is over before, the turn makes no
--- call. In this turn a `failed` line is no failure of the loop.
+-- The turn in which it is cut: the run has that many turns left, and the turn's wait takes the event from
+-- the schedule, as no kept bytes come first. No offset is put after it. If the run is over before, the turn
+-- makes no call. In this turn a `failed` line is no failure of the loop.
 pub data IsCutIn (s : AllSettings) (turns : ℕ) (before : List TraceEntry) (h : History)
     (k : Handshakes) (course : Course) (calls : List TraceEntry) : Type 0 where
   InTurn : waits_in before < turns
@@ -142,7 +142,7 @@ pub record IsCut (s : AllSettings) (turns : ℕ) (start : Start) (planned : Life
   pub is : planned.cut ≡ Some c.cut
   pub cut_in : IsCutIn s turns c.before c.history c.handshakes
       (course_after (course_of start planned) c.below) c.turn
-  pub links : AreNewLinks 0 (loop_part (c.before ++ c.turn))
+  pub answers : AreLoopAnswers (loop_part (c.before ++ c.turn))
   pub secured : IsSecured (keys_of s) no_handshakes c.before c.below c.handshakes
   pub secured_in : IsSecured (keys_of s) c.handshakes c.turn c.below_in c.handshakes_last
   pub uncut : has_cut start planned c.below ≡ false
@@ -154,7 +154,8 @@ pub record IsCut (s : AllSettings) (turns : ℕ) (start : Start) (planned : Life
       → content (disk.files_of c.next.disk name)
       ≡ picked (c.cut.pick % 4)
       ((disk_of start planned ++ c.asked) ++ first_calls c.cut.calls c.asked_in) name
-  pub changes : c.next.changes ≡ (course_after (course_of start planned) (c.below ++ c.below_in)).files.changes
+  pub changes : c.next.changes
+      ≡ (course_after (course_of start planned) (c.below ++ c.below_in)).files.changes
   pub offsets : SameOffsets (offsets_after_all start.offsets (keeper_part (c.below ++ c.below_in)))
       c.next.offsets
 

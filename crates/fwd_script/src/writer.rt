@@ -340,7 +340,7 @@ fn write_lives(alloc: Global, text: &mut Bytes, lives: &[Life]) -> Result<(), Me
 /// and clock readings keep the limits of the format; and no line is `End`. Any other schedule is written by
 /// the same rules, and the meaning of its text is unspecified.
 ///
-/// The only error is out of memory. The program doesn't use it: it is for tools that generate schedules.
+/// The only error is out of memory.
 pub fn write_schedule(alloc: Global, s: &Schedule) -> Result<Bytes, Memory>
     ensures text { IfOk result (λ text. text ≡ text_of s.now) }
     ensures read_back { IsWritable s.now → IfOk result (λ text. schedule_of text ≡ Ok s.now) }

@@ -4,7 +4,7 @@ use Rattle.std.proofs.lemmas.Bool.{cases_lt}
 use Rattle.fwd_outside.specs.Program.{entry}
 use Rattle.fwd_outside.specs.Log.{LogGrew, RunsProgram, log_of_call}
 use Rattle.fwd_outside.specs.Cause.{HasIncreased, HasCause}
-use Rattle.fwd_outside.specs.Loop.{LoopCall, LoopAnswer, LoopEntry, LoopLog, LoopCounts, Start, Wait, Dial, Push, Reply, Took, Again, Broke, start_outcome, push_outcome, reply_outcome}
+use Rattle.fwd_outside.specs.Loop.{LoopCall, LoopAnswer, LoopEntry, LoopLog, LoopCounts, Start, Wait, Dial, Push, Close, Reply, DropConn, Word, Took, Again, Broke, start_outcome, push_outcome, reply_outcome}
 use Rattle.fwd_outside.specs.declared.ends.Ends.{Ends}
 use Rattle.fwd_outside.specs.declared.happening.Happening.{Happening}
 use Rattle.fwd_outside.specs.declared.happening.Happening.TheVariants as happening
@@ -15,8 +15,10 @@ use Rattle.fwd_outside.specs.declared.answers.Pushed.TheVariants as pushed
 use Rattle.fwd_outside.specs.declared.answers.Replied.{Replied}
 use Rattle.fwd_outside.specs.declared.answers.Replied.TheVariants as replied
 use Rattle.fwd_outside.specs.NewLinks.{greatest_by, IsNewLink}
+use Rattle.fwd_outside.specs.LoopAnswers.{IsOfBytes, BringsBytes}
 use Rattle.fwd_outside.proofs.LogGrowth.{grew_trans}
 use Rattle.fwd_outside.proofs.RisingLinks.{new_append, greatest_append}
+use Rattle.fwd_outside.proofs.LoopAnswers.{bytes_append}
 use Rattle.fwd_secure.specs.declared.keys.Keys.{Keys}
 use Rattle.fwd_secure.specs.Keys.{has_keys}
 use Rattle.fwd_secure.specs.Kept.{holds}
@@ -133,6 +135,17 @@ by_rule : (keys : Keys) (keyed : Bool) (k : Handshakes) (call : LoopCall) (old n
     → keyed ≡ has_keys keys → RunsAllowed old new (answers_by keyed keys k call) r → RunsAllowed old new (answers keys k call) r
 by_rule keys keyed k call old new r is runs = by_keyed keys k call (has_keys keys) keyed old new r (sym is) runs
 
+-- a call that isn't a wait brings nothing
+no_bytes : (call : LoopCall) (answer : LoopAnswer call) → NotWait call → BringsBytes call answer
+no_bytes (Start ends) answer other = tt
+no_bytes (Wait until paused) answer other = absurd other
+no_bytes (Dial output tag) answer other = tt
+no_bytes (Push link bytes) answer other = tt
+no_bytes (Close link) answer other = tt
+no_bytes (Reply conn bytes) answer other = tt
+no_bytes (DropConn conn) answer other = tt
+no_bytes Word answer other = tt
+
 module _ {keys : Keys} {keyed : Bool} {k : Handshakes} {name : ℕ} {start old : LoopBelow} {marked : LoopLog} {above : List LoopEntry} {happenings greatest : ℕ}
     (is : IsSecure (secure keys keyed k false name start marked old above happenings greatest)) where
   -- a call was answered
@@ -140,9 +153,9 @@ module _ {keys : Keys} {keyed : Bool} {k : Handshakes} {name : ℕ} {start old :
       → RunsAllowed old.call_log new.call_log (answers_by keyed keys k call) (Some (answer, u))
       → new.counts.endless ≡ start.counts.endless → HasHeard (secure keys keyed u false name start marked new (above ++ entry call answer ∷ []) heard newest)
       → HasCause old.faults new.faults (is_failure call answer ≡ true) → old.counts.greatest ≤ new.counts.greatest → newest ≤ new.counts.greatest
-      → IsNewLink greatest call answer → greatest_by greatest call answer ≡ newest
+      → IsNewLink greatest call answer → greatest_by greatest call answer ≡ newest → BringsBytes call answer
       → IsSecure (secure keys keyed u false name start marked new (above ++ entry call answer ∷ []) heard newest)
-  secure_more call answer u new heard newest runs on hears cause rises below link same = record {
+  secure_more call answer u new heard newest runs on hears cause rises below link same read = record {
     carried = answered keys start.call_log old.call_log new.call_log above k call is.carried answer u (by_rule keys keyed k call old.call_log new.call_log (Some (answer, u)) is.keyed runs);
     since = (is.since.0 ++ runs.made.entries, grew_trans marked old.call_log new.call_log is.since.0 runs.made.entries is.since.1 runs.made.grew);
     keyed = is.keyed;
@@ -154,6 +167,7 @@ module _ {keys : Keys} {keyed : Bool} {k : Handshakes} {name : ℕ} {start old :
     greatest = below;
     new_links = new_append 0 above (entry call answer ∷ []) is.new_links (subst (λ (g : ℕ). IsNewLink g call answer) (sym is.newest) link, tt);
     newest = greatest_append 0 above (entry call answer ∷ []) ∙ ap (λ (g : ℕ). greatest_by g call answer) is.newest ∙ same;
+    bytes = bytes_append above (entry call answer ∷ []) is.bytes (read, tt);
   }
 
   -- memory was out
@@ -172,6 +186,7 @@ module _ {keys : Keys} {keyed : Bool} {k : Handshakes} {name : ℕ} {start old :
     greatest = omega (arith, is.greatest, rise.greatest);
     new_links = is.new_links;
     newest = is.newest;
+    bytes = is.bytes;
   }
 
   -- a call but `wait` was answered, and the counts of events below are the same
@@ -187,15 +202,15 @@ module _ {keys : Keys} {keyed : Bool} {k : Handshakes} {name : ℕ} {start old :
       (heard_as_before start.counts.happenings happenings keyed (length k.kept) (length u.kept) new.counts.happenings
       (kept_of_call keyed keys k call other made.entries answer u made.way)
       (subst (λ (n : ℕ). Heard start.counts.happenings happenings keyed happenings (length k.kept) n) (sym same) is.heard))
-      cause rises below link last
+      cause rises below link last (no_bytes call answer other)
 
   -- a wait was answered
   secure_wait : (E : Type 0) (until paused : ℕ) (brought : Happening) (u : Handshakes) (new : LoopBelow)
       → RunsAllowed old.call_log new.call_log (answers_by keyed keys k (Wait until paused)) (Some (brought, u))
       → WaitCounts {T = Happening} {E = E} (keyed && holds paused k.kept) old.counts new.counts (Ok brought)
-      → HasCause old.faults new.faults (is_failure (Wait until paused) brought ≡ true)
+      → HasCause old.faults new.faults (is_failure (Wait until paused) brought ≡ true) → IsOfBytes brought
       → IsSecure (secure keys keyed u false name start marked new (above ++ entry (Wait until paused) brought ∷ []) (min (happenings + 1) (2 ^ 64 - 1)) greatest)
-  secure_wait E until paused brought u new runs counts cause =
+  secure_wait E until paused brought u new runs counts cause read =
       by (keyed && holds paused k.kept) counts (kept_of_wait keyed keys k until paused runs.made.entries brought u runs.made.way)
     where
       by : (given : Bool) → WaitCounts {T = Happening} {E = E} given old.counts new.counts (Ok brought) → KeptAfter given keyed k u
@@ -205,13 +220,13 @@ module _ {keys : Keys} {keyed : Bool} {k : Handshakes} {name : ℕ} {start old :
           (ap (λ (c : LoopCounts). c.endless) same ∙ is.endless)
           (subst (λ (c : LoopCounts). Heard start.counts.happenings happenings keyed (min (happenings + 1) (2 ^ 64 - 1)) (length u.kept) c.happenings) (sym same)
           (heard_kept start.counts.happenings happenings keyed (length k.kept) (length u.kept) old.counts.happenings kept is.heard))
-          cause (as_great old.counts new.counts (ap (λ (c : LoopCounts). c.greatest) same)) (subst (λ (c : LoopCounts). greatest ≤ c.greatest) (sym same) is.greatest) tt refl
+          cause (as_great old.counts new.counts (ap (λ (c : LoopCounts). c.greatest) same)) (subst (λ (c : LoopCounts). greatest ≤ c.greatest) (sym same) is.greatest) tt refl read
       by false one kept =
           secure_more (Wait until paused) brought u new (min (happenings + 1) (2 ^ 64 - 1)) greatest runs
           (ap (λ (c : LoopCounts). c.endless) one ∙ is.endless)
           (subst (λ (c : LoopCounts). Heard start.counts.happenings happenings keyed (min (happenings + 1) (2 ^ 64 - 1)) (length u.kept) c.happenings) (sym one)
           (heard_event start.counts.happenings happenings keyed (length k.kept) (length u.kept) old.counts.happenings kept is.heard))
-          cause (as_great old.counts new.counts (ap (λ (c : LoopCounts). c.greatest) one)) (subst (λ (c : LoopCounts). greatest ≤ c.greatest) (sym one) is.greatest) tt refl
+          cause (as_great old.counts new.counts (ap (λ (c : LoopCounts). c.greatest) one)) (subst (λ (c : LoopCounts). greatest ≤ c.greatest) (sym one) is.greatest) tt refl read
 
 -- a call that can't fail
 pub no_failure : (old new : ℕ) (call : LoopCall) (answer : LoopAnswer call) → is_failure call answer ≡ false → old ≤ new → HasCause old new (is_failure call answer ≡ true)
@@ -254,12 +269,12 @@ module _ {keys : Keys} {keyed out : Bool} {k : Handshakes} {name : ℕ} {start o
   pub wait_closes : (E : Type 0) (until paused : ℕ) (brought : Happening) (u : Handshakes) (new : LoopBelow) (later : List LoopEntry) (heard : ℕ)
       → RunsAllowed old.call_log new.call_log (answers_by keyed keys k (Wait until paused)) (Some (brought, u))
       → WaitCounts {T = Happening} {E = E} (keyed && holds paused k.kept) old.counts new.counts (Ok brought)
-      → HasCause old.faults new.faults (is_failure (Wait until paused) brought ≡ true) → heard ≡ min (happenings + 1) (2 ^ 64 - 1)
+      → HasCause old.faults new.faults (is_failure (Wait until paused) brought ≡ true) → IsOfBytes brought → heard ≡ min (happenings + 1) (2 ^ 64 - 1)
       → later ≡ above ++ entry (Wait until paused) brought ∷ [] → IsSecure (secure keys keyed u out name start marked new later heard greatest)
-  wait_closes E until paused brought u new later heard runs counts cause one log =
+  wait_closes E until paused brought u new later heard runs counts cause read one log =
       as_closed u new later (above ++ entry (Wait until paused) brought ∷ []) heard greatest log
       (subst (λ (n : ℕ). IsSecure (secure keys keyed u false name start marked new (above ++ entry (Wait until paused) brought ∷ []) n greatest)) (sym one)
-      (secure_wait before E until paused brought u new runs counts cause))
+      (secure_wait before E until paused brought u new runs counts cause read))
 
   -- a start, a push and a reply, by what they return
   pub start_closes : (ends : Ends) (b : Begun) (u : Handshakes) (new : LoopBelow) (later : List LoopEntry) → b ≢ begun.Memory

@@ -6,6 +6,7 @@ use Rattle.fwd_outside.specs.Log.{LogGrew}
 use Rattle.fwd_outside.specs.Loop.{LoopCall, LoopAnswer, LoopEntry, LoopLog, LoopCounts, Start, Wait}
 use Rattle.fwd_outside.specs.declared.happening.Happening.TheVariants as happening
 use Rattle.fwd_outside.specs.NewLinks.{AreNewLinks, greatest_after}
+use Rattle.fwd_outside.specs.LoopAnswers.{WaitsBringBytes}
 use Rattle.fwd_secure.specs.declared.keys.Keys.{Keys}
 use Rattle.fwd_secure.specs.Keys.{AreShort, has_keys}
 use Rattle.fwd_secure.specs.Handshakes.{Handshakes}
@@ -84,3 +85,4 @@ pub record IsSecure (s : Secure) : Type 0 where
   pub greatest : s.greatest ≤ s.below.counts.greatest
   pub new_links : AreNewLinks 0 s.above
   pub newest : greatest_after 0 s.above ≡ s.greatest
+  pub bytes : WaitsBringBytes s.above

@@ -10,6 +10,7 @@ use crate::keys::Keys;
 use crate::log_markers::{LoopRecord, LoopStart};
 use crate::rules;
 use crate::state::State;
+use crate::stream::are_bytes;
 use fwd_base::{ConnId, LinkId, Memory, OutputId};
 use fwd_outside::{Begun, Calls, Dialed, Ends, Happening, Loop, Pushed, Replied};
 use std::alloc::Global;
@@ -192,6 +193,7 @@ impl<L: Loop> Loop for SecureLoop<'_, L> {
             paused,
         ) {
             Ok(brought) => {
+                are_bytes(&brought);
                 self.calls = self.calls.then(&(until, paused, &brought));
                 self.happenings = self.happenings.saturating_add(1);
                 Ok(brought)

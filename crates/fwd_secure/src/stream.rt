@@ -1,12 +1,40 @@
 //! What is read at the start of a stream, and what is left after it.
 
-ghost use Rattle.std.specs.Prelude.{◌≡◌, drop, IfOk};
+ghost use Rattle.std.specs.Prelude.{◌≡◌, ℕ, ◌<◌, drop, slice_index, IfOk};
+ghost use Rattle.fwd_outside.specs.LoopAnswers.{IsOfBytes};
 ghost use Rattle.fwd_handshake.specs.Judgement.{helo_received, ping_received};
 ghost use Rattle.fwd_secure.specs.Readable.{HasShortContent};
 
 use fwd_base::{Bytes, Memory};
 use fwd_handshake::{Received, Ring};
+use fwd_outside::Happening;
 use std::alloc::Global;
+
+/// States that each number is below 256. It does nothing.
+fn are_below_256(bytes: &[u8])
+    ensures { (i : ℕ) → slice_index bytes.now i < 256 }
+{
+    let _ = bytes;
+}
+
+/// States that what comes over a connection are bytes. It does nothing.
+pub fn are_bytes(brought: &Happening)
+    ensures { IsOfBytes brought.now }
+{
+    match brought {
+        Happening::Piece { bytes, .. } => are_below_256(bytes.as_slice()),
+        Happening::Tick { .. }
+        | Happening::Joined { .. }
+        | Happening::Gone { .. }
+        | Happening::Room { .. }
+        | Happening::Back { .. }
+        | Happening::Broken { .. }
+        | Happening::InputEnd { .. }
+        | Happening::Stop
+        | Happening::End
+        | Happening::Failed => {}
+    }
+}
 
 /// Returns a copy of the bytes after the first `len`.
 pub fn bytes_after(alloc: Global, bytes: &[u8], len: u64) -> Result<Bytes, Memory>

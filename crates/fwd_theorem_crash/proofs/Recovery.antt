@@ -25,7 +25,7 @@ use Rattle.fwd_theorem_trace.proofs.Members.{from_filter, in_filter, not_where_o
 use Rattle.fwd_theorem_crash.specs.CrashPoint.{CrashPoint, crash_point, LeadsTo}
 use Rattle.fwd_theorem_crash.specs.RecordedOutcomes.{is_recorded}
 use Rattle.fwd_theorem_crash.specs.ChunkFile.{RepresentsChunk, IsIntact}
-use Rattle.fwd_theorem_crash.specs.Safety.{IsSafe}
+use Rattle.fwd_theorem_crash.specs.Safety.{PendingAreSafe}
 use Rattle.fwd_theorem_crash.specs.Recovery.{IsRecovered}
 use Rattle.fwd_theorem_crash.proofs.LoadedHistory.{LogsOnlyFiles, gathered_loading, was_read, known, found_chunk, IsFileOf, file_chunk}
 use Rattle.fwd_theorem_crash.proofs.LoadingFacts.{AllNoted, Along, LoadedTo, goes_loading}
@@ -92,13 +92,13 @@ module _ (s : AllSettings) (before : History) (c : ChunkInfo) (image : Files) (h
       let is : was.1 ≡ bytes = read.part ∙ all_is_read read.all whole.chunk (ap recovered_chunk same ∙ whole.found) ∙ same in
       again_in was.0 path.stream path.name bytes (subst (λ (b : List ℕ). Contains h (Found was.0 path.stream path.name b)) is was.2) whole
 
-pub found_again : (s : AllSettings) (first : Files) (m last : CrashPoint) (image : Files) (entries : List TraceEntry) (h : History) (c : ChunkInfo)
-    → IsSafe s first m → AreDurable image → ((name : List ℕ) → IsPostCrash (m.files name) (content (image name)))
+pub found_again : (s : AllSettings) (m last : CrashPoint) (image : Files) (entries : List TraceEntry) (h : History) (c : ChunkInfo)
+    → PendingAreSafe s m → AreDurable image → ((name : List ℕ) → IsPostCrash (m.files name) (content (image name)))
     → Execution (recovers s) entries (Return (Some h)) → Ends LeadsTo (crash_point [] image) entries last
     → Contains (chunks_of (logged m.past)) c → is_owed s (logged m.past) c ≡ true → home_of s c.input ≡ Disk → IsRecovered s (logged m.past) h c
-found_again s first m last image entries h c safe fresh left way ends has owes home =
+found_again s m last image entries h c safe fresh left way ends has owes home =
     let end = holds_end LeadsTo (Along s image) (LoadedTo s image) (crash_point [] image) (recovers s) (goes_loading s image fresh) entries (Some h) last way ends in
-    let kept = safe.owed c has owes home in
+    let kept = safe c has owes home in
     let name : List ℕ = path_of kept.root kept.path in
     by end.2 end.3 kept.root kept.path kept.under kept.named (content (image name)) refl (kept.images (content (image name)) (left name))
   where

@@ -41,6 +41,5 @@ Changes (Note fact) answer old during new = disk.NoFileChanges old during new
 
 -- An entry leads from one crash point to the next. Inside it nothing more is logged.
 abbrev pub LeadsTo : TransitionsOf Call Answer CrashPoint
-LeadsTo call answer old during new =
-    Changes call answer old.files during.files new.files × (during.past ≡ old.past)
-    × (new.past ≡ entry call answer ∷ old.past)
+LeadsTo call answer old during new = Changes call answer old.files during.files new.files
+    × (during.past ≡ old.past) × (new.past ≡ entry call answer ∷ old.past)

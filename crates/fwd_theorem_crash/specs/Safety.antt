@@ -47,9 +47,14 @@ pub data AccountsFor (s : AllSettings) (first : Files) (h : History) (name bytes
       → AccountsFor s first h name bytes
   StoodThere : first name ≡ whole bytes → AccountsFor s first h name bytes
 
+-- whatever a crash at this point leaves has the file of each pending chunk that is kept in one, whole
+abbrev pub PendingAreSafe : AllSettings → CrashPoint → Type 0
+PendingAreSafe s m =
+    (c : ChunkInfo) → Contains (chunks_of (logged m.past)) c → is_owed s (logged m.past) c ≡ true
+    → home_of s c.input ≡ Disk → IsFileSafe s (logged m.past) c m.files
+
 -- a point of a run that began with these files
 pub record IsSafe (s : AllSettings) (first : Files) (m : CrashPoint) : Type 0 where
-  pub owed : (c : ChunkInfo) → Contains (chunks_of (logged m.past)) c → is_owed s (logged m.past) c ≡ true
-      → home_of s c.input ≡ Disk → IsFileSafe s (logged m.past) c m.files
+  pub owed : PendingAreSafe s m
   pub others : (name bytes : List ℕ) → IsPostCrash (m.files name) (Some bytes)
       → AccountsFor s first (logged m.past) name bytes

@@ -22,7 +22,7 @@ ghost use Rattle.fwd_theorem_trace.specs.Allowed.{EventAllowed};
 ghost use Rattle.fwd_theorem_trace.specs.Resolution.{WasRecoveredDone};
 ghost use Rattle.fwd_theorem_crash.specs.CrashPoint.{CrashPoint, crash_point, LeadsTo};
 ghost use Rattle.fwd_theorem_crash.specs.RecordedOutcomes.{is_recorded};
-ghost use Rattle.fwd_theorem_crash.specs.Safety.{IsSafe};
+ghost use Rattle.fwd_theorem_crash.specs.Safety.{IsSafe, PendingAreSafe};
 ghost use Rattle.fwd_theorem_crash.specs.StepBoundaries.{HasReached, turn};
 ghost use Rattle.fwd_theorem_crash.specs.Recovery.{IsRecovered};
 ghost use Rattle.fwd_theorem_crash.specs.FlushEvents.{FlushesSendTheirChunks};
@@ -72,12 +72,12 @@ pub fn offset_calls_are_reached()
         → HasReached s first m → Execution (puts s (tracked s) Return (logged m.past)) entries (Return now) → Ends LeadsTo m entries last → HasReached s first last × (now ≡ logged last.past) }
 {}
 
-/// After a crash at a safe point, a run on whatever the crash left recovers each pending chunk that is
-/// kept in a file: it is whole, and still pending for the same outputs. The exception: a call on the disk
-/// fails as the run loads.
+/// After a crash at a point where the pending chunks are safe, a run on whatever the crash left recovers each
+/// of them that is kept in a file: it is whole, and still pending for the same outputs. The exception: a call
+/// on the disk fails as the run loads.
 pub fn safe_chunks_are_recovered()
-    ensures { (s : AllSettings) (first : Files) (m last : CrashPoint) (image : Files) (entries : List TraceEntry) (h : History) (c : ChunkInfo)
-        → IsSafe s first m → AreDurable image → ((name : List ℕ) → IsPostCrash (m.files name) (content (image name)))
+    ensures { (s : AllSettings) (m last : CrashPoint) (image : Files) (entries : List TraceEntry) (h : History) (c : ChunkInfo)
+        → PendingAreSafe s m → AreDurable image → ((name : List ℕ) → IsPostCrash (m.files name) (content (image name)))
         → Execution (recovers s) entries (Return (Some h)) → Ends LeadsTo (crash_point [] image) entries last
         → Contains (chunks_of (logged m.past)) c → is_owed s (logged m.past) c ≡ true → home_of s c.input ≡ Disk → IsRecovered s (logged m.past) h c }
 {}

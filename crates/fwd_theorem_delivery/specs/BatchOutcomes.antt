@@ -70,6 +70,5 @@ until_next fact during = fact ∷ during
 -- for each batch that was completed
 abbrev pub AllBatchOutcomes : AllSettings → History → History → Type 0
 AllBatchOutcomes s during [] = Unit {0}
-AllBatchOutcomes s during (fact ∷ before) =
-    BatchOutcomes (conn_of fact) during (completed_by s before fact)
+AllBatchOutcomes s during (fact ∷ before) = BatchOutcomes (conn_of fact) during (completed_by s before fact)
     × AllBatchOutcomes s (until_next fact during) before

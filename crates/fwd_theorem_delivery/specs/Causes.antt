@@ -46,12 +46,10 @@ pub record IsOverLimit (s : AllSettings) (h : History) (r : Route) : Type 0 wher
   pub among : output_at s r.output ≡ Some output
   pub limit : ℕ
   pub limited : output.total_limit ≡ Some limit
-  pub passed : limit
-      < pending_bytes (record { 0 = r.output }) (record { 0 = closed }) (rows_of s (ChunkClosed closed ∷ before))
-  pub oldest : Contains
-      (evicted_for (record { 0 = r.output }) limit (record { 0 = closed })
-      (rows_of s (ChunkClosed closed ∷ before)))
-      (record { 0 = r.chunk })
+  pub passed : limit < pending_bytes (record { 0 = r.output }) (record { 0 = closed })
+      (rows_of s (ChunkClosed closed ∷ before))
+  pub oldest : Contains (evicted_for (record { 0 = r.output }) limit (record { 0 = closed })
+      (rows_of s (ChunkClosed closed ∷ before))) (record { 0 = r.chunk })
 
 -- Each refusal, each last retry and each eviction has its cause, in the history before it. Each flush begins
 -- with the events of its chunk.

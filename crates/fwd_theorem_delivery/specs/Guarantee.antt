@@ -54,8 +54,7 @@ pub record KeepsGuarantee (s : AllSettings) (trace : List TraceEntry) : Type 0 w
       → IsAccountedFor s (history_after trace []) (loop_part trace) (route c.number output)
   -- It is pending, and in the report, exactly as long as the route isn't resolved.
   pub pending : (c : ChunkInfo) (output : ℕ) → Contains (chunks_of (history_after trace [])) c
-      → Contains (outputs_for s c.tag) output
-      → IsReported s (history_after trace []) (route c.number output)
+      → Contains (outputs_for s c.tag) output → IsReported s (history_after trace []) (route c.number output)
       ↔ (IsResolved s (history_after trace []) (route c.number output) → ⊥)
   -- A refusal, the end of retries and an eviction have their causes.
   pub causes : HaveCauses s (history_after trace [])

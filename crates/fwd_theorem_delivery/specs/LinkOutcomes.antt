@@ -65,7 +65,8 @@ pub record SendsPrefix (s : AllSettings) (h : History) (es : List LoopEntry) (to
   pub rest : List ℕ
   pub beginning : bytes_pushed (since_dial link es) ++ rest ≡ payload s h route events
   pub followed : IsTracked h link route (flush_outcome (delivers s h route events) (since_dial link es))
-  pub closed : close_count link es ≡ closed_for (flush_outcome (delivers s h route events) (since_dial link es))
+  pub closed : close_count link es
+      ≡ closed_for (flush_outcome (delivers s h route events) (since_dial link es))
 
 -- A link that was dialled for a flush of the route with these events has this outcome.
 pub record HasOutcome (s : AllSettings) (h : History) (es : List LoopEntry) (r : Route) (events : List Event)
@@ -100,6 +101,5 @@ pub record IsInProgress (s : AllSettings) (h : History) (es : List LoopEntry) (r
 
 -- a dial for it was refused, or a link of it has the outcome RETRY
 abbrev pub HasRetryCause : AllSettings → History → List LoopEntry → Route → Type 0
-HasRetryCause s h es r =
-    DialWasRefused (dial_target h r) es
+HasRetryCause s h es r = DialWasRefused (dial_target h r) es
     ⊎ ((link : ℕ) × (events : List Event) × HasOutcome s h es r events (Some Retry) link)

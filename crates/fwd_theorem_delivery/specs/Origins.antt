@@ -1,51 +1,21 @@
 -- The origins of accepted and refused batches.
 use Rattle.std.specs.Prelude.{◌≡◌, Bool, true, false, not, List, [], ◌∷◌, ◌++◌, All, Contains, filter}
 use Rattle.fwd_settings.specs.declared.settings_types.AllSettings.{AllSettings}
-use Rattle.fwd_model.specs.Fact.{Fact, History, Batch, Happened, Resumed, Saved, Polled, Disconnected, Malformed, Found, Offered, Accepted, Refused, ChunkClosed, Sent, OnRoute, MarkStarted, Marked, Removed, FileLeft, IoFailed}
+use Rattle.fwd_model.specs.Fact.{Fact, History, Batch, Happened, Polled, Accepted, Refused}
 use Rattle.fwd_model.specs.Notes.{is_empty}
 use Rattle.fwd_theorem_delivery.specs.BatchOutcomes.{completed_by}
 
 -- an event, or a poll of a followed file
 abbrev pub is_arrival : Fact → Bool
 is_arrival (Happened brought) = true
-is_arrival (Resumed input index place) = false
-is_arrival (Saved input index place) = false
 is_arrival (Polled input index length bytes) = true
-is_arrival (Disconnected conn) = false
-is_arrival (Malformed input) = false
-is_arrival (Found number stream name bytes) = false
-is_arrival (Offered chunk b) = false
-is_arrival (Accepted b place) = false
-is_arrival (Refused b why) = false
-is_arrival (ChunkClosed chunk) = false
-is_arrival (Sent output bytes) = false
-is_arrival (OnRoute r outcome) = false
-is_arrival (MarkStarted r) = false
-is_arrival (Marked r) = false
-is_arrival (Removed chunk) = false
-is_arrival (FileLeft chunk) = false
-is_arrival IoFailed = false
+is_arrival fact = false
 
 -- the batch that a fact accepts or refuses
 abbrev pub decided_by : Fact → List Batch
-decided_by (Happened brought) = []
-decided_by (Resumed input index place) = []
-decided_by (Saved input index place) = []
-decided_by (Polled input index length bytes) = []
-decided_by (Disconnected conn) = []
-decided_by (Malformed input) = []
-decided_by (Found number stream name bytes) = []
-decided_by (Offered chunk b) = []
 decided_by (Accepted b place) = b ∷ []
 decided_by (Refused b why) = b ∷ []
-decided_by (ChunkClosed chunk) = []
-decided_by (Sent output bytes) = []
-decided_by (OnRoute r outcome) = []
-decided_by (MarkStarted r) = []
-decided_by (Marked r) = []
-decided_by (Removed chunk) = []
-decided_by (FileLeft chunk) = []
-decided_by IoFailed = []
+decided_by fact = []
 
 -- the accepted and refused batches, in the order of their facts
 abbrev pub decided_batches : History → List Batch

@@ -127,8 +127,7 @@ pub record IsDueReply (s : AllSettings) (past : Past) (conn : ℕ) (bytes : List
   pub input : InputId
   pub piece : List ℕ
   pub during : List TraceEntry
-  pub is : past
-      ≡ past_after
+  pub is : past ≡ past_after
       (entry (Note (Happened (happening.Piece input (record { 0 = conn }) piece))) tt ∷ older) during
   pub last : events_only (facts_in during) ≡ []
   pub over : stream_of s (logged older) input.0 conn ≡ Some (MessageStream conn)

@@ -6,6 +6,8 @@ use Rattle.fwd_base.specs.Limits.{longest_wait}
 use Rattle.fwd_outside.specs.Program.{entry, Return, Execution}
 use Rattle.fwd_outside.specs.Loop.{LoopEntry, Wait}
 use Rattle.fwd_outside.specs.NewLinks.{AreNewLinks}
+use Rattle.fwd_outside.specs.LoopAnswers.{WaitsBringBytes, AreLoopAnswers}
+use Rattle.fwd_outside.proofs.LoopAnswers.{bytes_append}
 use Rattle.fwd_outside.specs.declared.happening.Happening.TheVariants as happening
 use Rattle.fwd_outside.proofs.Executions.{way_trans}
 use Rattle.fwd_outside.specs.Disk.{DiskEntry}
@@ -54,7 +56,7 @@ use Rattle.fwd_theorem_recorded.specs.RenamedHandshakes.{IsSecuredRenamed}
 use Rattle.fwd_theorem_recorded.proofs.HandedBytes.{handed_wait, handed_same}
 use Rattle.fwd_theorem_recorded.proofs.LoopSimulation.{LinksAreDialed, renamed_calls}
 use Rattle.fwd_theorem_recorded.proofs.KeyedTraces.{keyed_from, links_dialed}
-use Rattle.fwd_theorem_recorded.proofs.NumberedLinks.{same_links, numbers_keep_apart, numbers_are_new}
+use Rattle.fwd_theorem_recorded.proofs.NumberedLinks.{same_links, numbers_keep_apart, numbers_are_new, bytes_renamed}
 use Rattle.fwd_theorem_recorded.proofs.RecordedCalls.{calls_answered, for_end, calls_end, all_end, recorded_end, allowed_end, new_end, replayable_end, replayed_answered, calls_renamed_append}
 use Rattle.fwd_theorem_recorded.proofs.ReplayableCalls.{recovery_loop, run_replayable}
 use Rattle.fwd_theorem_recorded.proofs.TraceParts.{loop_renamed, disk_renamed, trace_dialed, dialed_both, above_dialed, recovery_secured, end_passed, files_unasked}
@@ -154,8 +156,12 @@ module _ (numbers : ℕ → ℕ) (result : RunResult) where
   last_new es last (inl (over, is)) new = subst (λ (l : List LoopEntry). AreNewLinks 0 (es ++ l)) (sym is) (subst (AreNewLinks 0) (sym (append-nil es)) new)
   last_new es last (inr (spent, u, p, is)) new = subst (λ (l : List LoopEntry). AreNewLinks 0 (es ++ l)) (sym is) (new_end u p 0 es new)
 
+  last_bytes : (es last : List LoopEntry) → IsLastWait result last → WaitsBringBytes es → WaitsBringBytes (es ++ last)
+  last_bytes es last (inl (over, is)) are = subst (λ (l : List LoopEntry). WaitsBringBytes (es ++ l)) (sym is) (bytes_append es [] are tt)
+  last_bytes es last (inr (spent, u, p, is)) are = subst (λ (l : List LoopEntry). WaitsBringBytes (es ++ l)) (sym is) (bytes_append es (entry (Wait u p) happening.End ∷ []) are (tt, tt))
+
 module _ (s : AllSettings) (none : (input : ℕ) → paths_at s input ≡ []) (turns : ℕ) (trace below : List TraceEntry) (k : Handshakes) (result : RunResult) (endless : Bool) (seen : List Seen)
-    (way : Execution (runs_on s None turns) trace (Return result)) (ended : HasReport result) (so : IsSecured (keys_of s) no_handshakes trace below k) (new_above : AreNewLinks 0 (loop_part trace))
+    (way : Execution (runs_on s None turns) trace (Return result)) (ended : HasReport result) (so : IsSecured (keys_of s) no_handshakes trace below k) (loop_answers : AreLoopAnswers (loop_part trace))
     (saw : seen ≡ map Answered (loop_part below)) (allowed : AreAllowed endless (calls_of seen)) (new : AreNewLinks 0 (calls_of seen)) (can : CanReplay s below k result seen) where
   abbrev pub all : List ℕ
   all = links_in (calls_of seen)
@@ -219,7 +225,12 @@ module _ (s : AllSettings) (none : (input : ℕ) → paths_at s input ≡ []) (t
   made_links =
       subst (AreNewLinks 0) (sym (loop_renamed numbers Among above_whole))
       (numbers_are_new all (new_links_rise 0 (calls_of seen) new) (loop_part above_whole) dialed_above
-      (subst (AreNewLinks 0) (sym loop_above) (last_new numbers result (loop_part trace) (loop_part close.closing) close.last new_above)))
+      (subst (AreNewLinks 0) (sym loop_above) (last_new numbers result (loop_part trace) (loop_part close.closing) close.last loop_answers.links)))
+
+  pub made_bytes : WaitsBringBytes (loop_part made_above)
+  made_bytes =
+      subst WaitsBringBytes (sym (loop_renamed numbers Among above_whole)) (bytes_renamed numbers (loop_part above_whole)
+      (subst WaitsBringBytes (sym loop_above) (last_bytes numbers result (loop_part trace) (loop_part close.closing) close.last loop_answers.bytes)))
 
   -- ---- devices
 
@@ -247,7 +258,7 @@ module _ (s : AllSettings) (none : (input : ℕ) → paths_at s input ≡ []) (t
 
   -- a schedule can express what the loop answered
   answers : AreReplayable no_links seen
-  answers = subst (AreReplayable no_links) (sym saw) (run_replayable s (none_tracked s none) turns trace below k result way ended so new_above)
+  answers = subst (AreReplayable no_links) (sym saw) (run_replayable s (none_tracked s none) turns trace below k result way ended so loop_answers.links)
 
   plays_to : (last : List LoopEntry) → IsLastWait result last → IsPlayed (given_of (life_of s seen below)) (renamed_calls numbers (loop_part below ++ last))
   plays_to last (inl (over, is)) =
@@ -308,7 +319,7 @@ module _ (s : AllSettings) (none : (input : ℕ) → paths_at s input ≡ []) (t
   abbrev pub made : IsLife s (turns + 1) first (life_of s seen below) made_above (renamed_result numbers close.comes)
   made = record {
     way = made_way;
-    links = made_links;
+    answers = record { links = made_links; bytes = made_bytes };
     below = made_below;
     handshakes = made_secured.handshakes;
     secured = made_secured.secured;

@@ -4,8 +4,12 @@ use Rattle.std.proofs.lemmas.Bool.{cases_Bool, cases_lt, eq-eqb, eqb-true, ne_eq
 use Rattle.fwd_outside.specs.Program.{entry}
 use Rattle.fwd_outside.specs.Loop.{LoopCall, LoopAnswer, LoopEntry, Start, Wait, Dial, Push, Close, Reply, DropConn, Word}
 use Rattle.fwd_outside.specs.NewLinks.{greatest_by, AreNewLinks}
+use Rattle.fwd_outside.specs.LoopAnswers.{IsOfBytes, BringsBytes, WaitsBringBytes}
+use Rattle.fwd_outside.specs.declared.happening.Happening.{Happening}
+use Rattle.fwd_outside.specs.declared.happening.Happening.TheVariants as happening
 use Rattle.fwd_record.specs.Links.{AreRising, counted_on, links_in, number_of}
 use Rattle.fwd_theorem_links.specs.DialedLinks.{IsAmong, KeepsApart, dialed_links}
+use Rattle.fwd_theorem_links.specs.RenamedLinks.{renamed_event, renamed_loop_call, renamed_loop_answer}
 use Rattle.fwd_theorem_recorded.proofs.LoopSimulation.{LinkIsDialed, LinksAreDialed, renamed_calls}
 
 -- the links of a run are those that its dials gave
@@ -130,3 +134,32 @@ module _ (all : List ℕ) (rising : AreRising 0 all) where
   pub numbers_are_new : (es : List LoopEntry) → LinksAreDialed (number_of all) Among es → AreNewLinks 0 es → AreNewLinks 0 (renamed_calls (number_of all) es)
   numbers_are_new es dialed new =
       subst (λ (n : ℕ). AreNewLinks n (renamed_calls (number_of all) es)) (number_below 0 all 0 rising (omega arith)) (new_from 0 es dialed new)
+
+-- bytes stay bytes
+module _ (rename : ℕ → ℕ) where
+  event_of_bytes : (x : Happening) → IsOfBytes x → IsOfBytes (renamed_event rename x)
+  event_of_bytes (happening.Tick now) is = tt
+  event_of_bytes (happening.Joined input conn) is = tt
+  event_of_bytes (happening.Piece input conn bytes) is = is
+  event_of_bytes (happening.Gone input conn) is = tt
+  event_of_bytes (happening.Room link) is = tt
+  event_of_bytes (happening.Back link bytes) is = tt
+  event_of_bytes (happening.Broken link) is = tt
+  event_of_bytes (happening.InputEnd input) is = tt
+  event_of_bytes happening.Stop is = tt
+  event_of_bytes happening.End is = tt
+  event_of_bytes happening.Failed is = tt
+
+  brings : (call : LoopCall) (answer : LoopAnswer call) → BringsBytes call answer → BringsBytes (renamed_loop_call rename call) (renamed_loop_answer rename call answer)
+  brings (Wait until paused) x is = event_of_bytes x is
+  brings (Start ends) answer is = tt
+  brings (Dial output tag) answer is = tt
+  brings (Push link bytes) answer is = tt
+  brings (Close link) answer is = tt
+  brings (Reply conn bytes) answer is = tt
+  brings (DropConn conn) answer is = tt
+  brings Word answer is = tt
+
+  pub bytes_renamed : (es : List LoopEntry) → WaitsBringBytes es → WaitsBringBytes (renamed_calls rename es)
+  bytes_renamed [] are = tt
+  bytes_renamed (e ∷ es) are = (brings e.call e.answer are.0, bytes_renamed es are.1)

@@ -4,7 +4,8 @@ use Rattle.std.specs.Prelude.{slice_get, slice_set}
 use Rattle.std.proofs.lemmas.Bool.{eq-eqb, eqb-true}
 use Rattle.fwd_outside.specs.Program.{entry}
 use Rattle.fwd_outside.specs.Loop.{LoopCall, LoopAnswer, LoopEntry, Dial, Push, Close}
-use Rattle.fwd_outside.specs.NewLinks.{greatest_by, AreNewLinks}
+use Rattle.fwd_outside.specs.NewLinks.{AreNewLinks}
+use Rattle.fwd_outside.proofs.RisingLinks.{new_first}
 use Rattle.fwd_script_loop.specs.Place.{output_of, opened, closed}
 use Rattle.fwd_record.specs.Links.{Links, AreRising, counted_on, number_of, links_by, links_in, no_links, output_at, with_link, without_link, links_after, links_behind}
 use Rattle.fwd_record.proofs.AllowedCalls.{new_links_rise}
@@ -166,10 +167,6 @@ open_dialled so_far (e ∷ es) to link long rising dialed unclosed =
     by call answer rising (inr dialed) rest = rest dialed later
 
 -- ---- pushes on open links
-
-pub new_first : (greatest : ℕ) (xs ys : List LoopEntry) → AreNewLinks greatest (xs ++ ys) → AreNewLinks greatest xs
-new_first greatest [] ys new = tt
-new_first greatest (e ∷ xs) ys new = (new.0, new_first (greatest_by greatest e.call e.answer) xs ys new.1)
 
 behind_one : (so_far : Links) (es : List LoopEntry) (e : LoopEntry) → links_behind so_far (es ++ e ∷ []) ≡ links_after (links_behind so_far es) e.call e.answer
 behind_one so_far [] e = refl

@@ -3,6 +3,7 @@ use Rattle.std.proofs.Common.{◌≡◌, ◌⊎◌, inl, inr, ℕ, Bool, true, f
 use Rattle.fwd_outside.specs.Program.{entry, Return, Execution}
 use Rattle.fwd_outside.specs.Loop.{LoopCall, LoopAnswer, LoopEntry, Start, Wait, Push}
 use Rattle.fwd_outside.specs.NewLinks.{AreNewLinks}
+use Rattle.fwd_outside.proofs.RisingLinks.{new_first}
 use Rattle.fwd_outside.specs.declared.happening.Happening.{Happening}
 use Rattle.fwd_outside.specs.declared.happening.Happening.TheVariants as happening
 use Rattle.fwd_settings.specs.Endpoints.{ends_of}
@@ -28,7 +29,7 @@ use Rattle.fwd_theorem_delivery.proofs.RunEnd.{whole_at_end}
 use Rattle.fwd_theorem_runs.specs.SplitRun.{empty_recovery}
 use Rattle.fwd_theorem_runs.proofs.EmptyRecovery.{on_empty}
 use Rattle.fwd_theorem_recorded.proofs.KeyedPushes.{IsReplayed, AreReplayed, AreGreetingOpen, replayed_plain, keyed_replayed, keyed_end, unkeyed_same}
-use Rattle.fwd_theorem_recorded.proofs.PlacedLinks.{ArePlaced, placed_since, placed_first, new_first}
+use Rattle.fwd_theorem_recorded.proofs.PlacedLinks.{ArePlaced, placed_since, placed_first}
 use Rattle.fwd_theorem_recorded.proofs.RunEvents.{EndIsLast, end_is_last}
 
 -- ---- calls that a schedule can express

@@ -5,6 +5,7 @@ use Rattle.std.specs.List.{list_any}
 use Rattle.std.specs.Option.{option_map_or}
 use Rattle.fwd_outside.specs.Program.{entry, Return, Execution}
 use Rattle.fwd_outside.specs.NewLinks.{AreNewLinks}
+use Rattle.fwd_outside.specs.LoopAnswers.{AreLoopAnswers}
 use Rattle.fwd_outside.specs.declared.happening.Happening.TheVariants as happening
 use Rattle.fwd_settings.specs.declared.settings_types.AllSettings.{AllSettings}
 use Rattle.fwd_settings.specs.declared.settings_types.InputSet.{InputSet}
@@ -108,18 +109,18 @@ recovered_nothing (Some root) es = refl
 -- ---- the replay
 
 module _ (s : AllSettings) (none : (input : ℕ) → paths_at s input ≡ []) (turns : ℕ) (trace below : List TraceEntry) (k : Handshakes) (result : RunResult) (endless : Bool) (seen : List Seen)
-    (way : Execution (runs_on s None turns) trace (Return result)) (ended : HasReport result) (so : IsSecured (keys_of s) no_handshakes trace below k) (new_above : AreNewLinks 0 (loop_part trace))
+    (way : Execution (runs_on s None turns) trace (Return result)) (ended : HasReport result) (so : IsSecured (keys_of s) no_handshakes trace below k) (answers : AreLoopAnswers (loop_part trace))
     (saw : seen ≡ map Answered (loop_part below)) (allowed : AreAllowed endless (calls_of seen)) (new : AreNewLinks 0 (calls_of seen)) (can : CanReplay s below k result seen) where
   abbrev by_numbers : ℕ → ℕ
-  by_numbers = numbers s none turns trace below k result endless seen way ended so new_above saw allowed new can
+  by_numbers = numbers s none turns trace below k result endless seen way ended so answers saw allowed new can
 
   abbrev closed : Closing s turns trace k result
-  closed = close s none turns trace below k result endless seen way ended so new_above saw allowed new can
+  closed = close s none turns trace below k result endless seen way ended so answers saw allowed new can
 
   abbrev recovery : List TraceEntry
   recovery = empty_recovery s.service.path
 
-  step_same : (replay front rest : List TraceEntry) → replay ≡ made_above s none turns trace below k result endless seen way ended so new_above saw allowed new can → trace ≡ front ++ rest → ReachesSameCounts s (history_after front []) replay
+  step_same : (replay front rest : List TraceEntry) → replay ≡ made_above s none turns trace below k result endless seen way ended so answers saw allowed new can → trace ≡ front ++ rest → ReachesSameCounts s (history_after front []) replay
   step_same replay front rest same split =
       let parted : recovery ++ (trace ++ closed.closing) ≡ (recovery ++ front) ++ (rest ++ closed.closing) =
       ap (λ (l : List TraceEntry). recovery ++ (l ++ closed.closing)) split ∙ ap (λ (l : List TraceEntry). recovery ++ l) (append_assoc front rest closed.closing) ∙ sym (append_assoc recovery front (rest ++ closed.closing)) in
@@ -142,18 +143,18 @@ module _ (s : AllSettings) (none : (input : ℕ) → paths_at s input ≡ []) (t
   pub replay_of : (turns2 : ℕ) (replay : List TraceEntry) (comes : RunResult) (is : IsLife s turns2 first (life_of s seen below) replay comes) → (comes.end ≡ TurnsSpent → ⊥)
       → IsReplayOf s trace below result seen replay is.below comes
   replay_of turns2 replay comes is unspent =
-      let same : IsSameRun (made_above s none turns trace below k result endless seen way ended so new_above saw allowed new can)
-      (made_below s none turns trace below k result endless seen way ended so new_above saw allowed new can) (renamed_result by_numbers closed.comes) replay is.below comes =
+      let same : IsSameRun (made_above s none turns trace below k result endless seen way ended so answers saw allowed new can)
+      (made_below s none turns trace below k result endless seen way ended so answers saw allowed new can) (renamed_result by_numbers closed.comes) replay is.below comes =
       same_run s first (life_of s seen below) (turns + 1) turns2 _ replay (renamed_result by_numbers closed.comes) comes
-      (made s none turns trace below k result endless seen way ended so new_above saw allowed new can) is (over_spent closed.comes.end closed.over) unspent in
+      (made s none turns trace below k result endless seen way ended so answers saw allowed new can) is (over_spent closed.comes.end closed.over) unspent in
       record {
         until = 0;
         paused = 0;
         last = loop_part closed.closing;
         last_is = closed.last;
-        calls = ap loop_part same.same_below ∙ made_loop s none turns trace below k result endless seen way ended so new_above saw allowed new can;
-        handed = λ outputs. ap (λ (l : List TraceEntry). handed outputs [] (loop_part l)) same.same_below ∙ made_handed s none turns trace below k result endless seen way ended so new_above saw allowed new can outputs;
-        disk = ap disk_part same.same_below ∙ made_disk s none turns trace below k result endless seen way ended so new_above saw allowed new can;
+        calls = ap loop_part same.same_below ∙ made_loop s none turns trace below k result endless seen way ended so answers saw allowed new can;
+        handed = λ outputs. ap (λ (l : List TraceEntry). handed outputs [] (loop_part l)) same.same_below ∙ made_handed s none turns trace below k result endless seen way ended so answers saw allowed new can outputs;
+        disk = ap disk_part same.same_below ∙ made_disk s none turns trace below k result endless seen way ended so answers saw allowed new can;
         steps = λ front rest split. step_same replay front rest same.same_trace split;
         over = ap (λ (r : RunResult). r.end) same.same_result ∙ closed.over;
         reports = ap (λ (r : RunResult). report s r.history) same.same_result ∙ report_renamed by_numbers s closed.comes.history ∙ closed_report closed.history;

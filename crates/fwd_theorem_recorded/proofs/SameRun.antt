@@ -54,7 +54,7 @@ module _ (s : AllSettings) (start : Start) (planned : Life) where
     abbrev longer : (more : ℕ) → (comes.end ≡ TurnsSpent → ⊥) → IsLife s (turns + more) start planned trace comes
     longer more left = record {
       way = ended_is_same s None more (ends_of s) turns trace comes left is.way;
-      links = is.links;
+      answers = is.answers;
       below = is.below;
       handshakes = is.handshakes;
       secured = is.secured;

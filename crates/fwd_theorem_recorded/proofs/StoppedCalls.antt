@@ -3,6 +3,7 @@ use Rattle.std.proofs.Common.{◌≡◌, ℕ, Bool, List, [], ◌∷◌, ◌++�
 use Rattle.fwd_outside.specs.Program.{entry}
 use Rattle.fwd_outside.specs.Loop.{LoopEntry, Wait}
 use Rattle.fwd_outside.specs.NewLinks.{greatest_by, AreNewLinks}
+use Rattle.fwd_outside.specs.LoopAnswers.{WaitsBringBytes, AreLoopAnswers}
 use Rattle.fwd_outside.specs.declared.happening.Happening.{Happening}
 use Rattle.fwd_outside.specs.declared.happening.Happening.TheVariants as happening
 use Rattle.fwd_script.specs.declared.schedule.Given.{Given}
@@ -58,6 +59,13 @@ module _ (until paused : ℕ) (ys : List LoopEntry) where
   pub new_stop : (greatest : ℕ) (xs : List LoopEntry) → AreNewLinks greatest (xs ++ ys) → AreNewLinks greatest (with_stop xs)
   new_stop greatest [] new = (tt, new)
   new_stop greatest (x ∷ xs) new = (new.0, new_stop (greatest_by greatest x.call x.answer) xs new.1)
+
+  bytes_stop : (xs : List LoopEntry) → WaitsBringBytes (xs ++ ys) → WaitsBringBytes (with_stop xs)
+  bytes_stop [] are = (tt, are)
+  bytes_stop (x ∷ xs) are = (are.0, bytes_stop xs are.1)
+
+  pub answered_stop : (xs : List LoopEntry) → AreLoopAnswers (xs ++ ys) → AreLoopAnswers (with_stop xs)
+  answered_stop xs are = record { links = new_stop 0 xs are.links; bytes = bytes_stop xs are.bytes }
 
   pub handed_stop : (outputs : ℕ) (links targets : List ℕ) (xs : List LoopEntry) → handed_from outputs links targets (with_stop xs) ≡ handed_from outputs links targets (xs ++ ys)
   handed_stop outputs links targets [] = ap (λ (l : List ℕ). handed_from outputs l targets ys) (append-nil links)

@@ -4,6 +4,7 @@ use Rattle.fwd_base.specs.Limits.{longest_wait}
 use Rattle.fwd_outside.specs.Program.{entry, Return, bind, Execution}
 use Rattle.fwd_outside.specs.Loop.{LoopEntry, Wait}
 use Rattle.fwd_outside.specs.NewLinks.{AreNewLinks}
+use Rattle.fwd_outside.specs.LoopAnswers.{AreLoopAnswers}
 use Rattle.fwd_outside.specs.Disk.{DiskEntry}
 use Rattle.fwd_outside.specs.declared.happening.Happening.TheVariants as happening
 use Rattle.fwd_disk_mem.specs.declared.entry.MemEntry.TheVariants.{FailAt}
@@ -48,7 +49,7 @@ use Rattle.fwd_theorem_recorded.proofs.RecordedCalls.{calls_answered}
 use Rattle.fwd_theorem_recorded.proofs.ReplayedRun.{replay_of}
 use Rattle.fwd_theorem_recorded.proofs.SameLeft.{way_after}
 use Rattle.fwd_theorem_recorded.proofs.StopPlace.{PartsLonger, two_parts, after_stop, unstopped}
-use Rattle.fwd_theorem_recorded.proofs.StoppedCalls.{seen_stopped, with_stop, calls_stopped, all_stop, recorded_stop, allowed_stop, new_stop, handed_stop, replayed_stop}
+use Rattle.fwd_theorem_recorded.proofs.StoppedCalls.{seen_stopped, with_stop, calls_stopped, all_stop, recorded_stop, allowed_stop, new_stop, answered_stop, handed_stop, replayed_stop}
 use Rattle.fwd_theorem_recorded.proofs.TraceParts.{stop_passed}
 
 -- ---- the run, from its recovery of nothing
@@ -84,7 +85,7 @@ history_over (e ∷ es) fs until mask h = history_over es fs until mask (history
 
 module _ (s : AllSettings) (none : (input : ℕ) → paths_at s input ≡ []) (ticks turns : ℕ) (before after before_below after_below : List TraceEntry) (stopped k : Handshakes) (result : RunResult) (endless : Bool)
     (stops : StopsAfter s (Some ticks) turns before) (so : IsSecured (keys_of s) no_handshakes before before_below stopped) (more : IsSecured (keys_of s) stopped after after_below k)
-    (way : Execution (runs_on s (Some ticks) turns) (before ++ after) (Return result)) (ended : HasReport result) (new_above : AreNewLinks 0 (loop_part (before ++ after))) where
+    (way : Execution (runs_on s (Some ticks) turns) (before ++ after) (Return result)) (ended : HasReport result) (answers : AreLoopAnswers (loop_part (before ++ after))) where
   abbrev until : ℕ
   until = saturating_plus (clock stops.now) longest_wait
 
@@ -139,8 +140,8 @@ module _ (s : AllSettings) (none : (input : ℕ) → paths_at s input ≡ []) (t
   loop_below : loop_part below ≡ with_stop until mask ys xs
   loop_below = loop_append before_below (stop ∷ after_below)
 
-  new_trace : AreNewLinks 0 (loop_part trace)
-  new_trace = subst (AreNewLinks 0) (sym loop_trace) (new_stop until mask (loop_part after) 0 (loop_part before) (subst (AreNewLinks 0) (loop_append before after) new_above))
+  answers_trace : AreLoopAnswers (loop_part trace)
+  answers_trace = subst AreLoopAnswers (sym loop_trace) (answered_stop until mask (loop_part after) (loop_part before) (subst AreLoopAnswers (loop_append before after) answers))
 
   disk_same : disk_part below ≡ disk_part (before_below ++ after_below)
   disk_same = disk_append before_below (stop ∷ after_below) ∙ sym (disk_append before_below after_below)
@@ -189,7 +190,7 @@ module _ (s : AllSettings) (none : (input : ℕ) → paths_at s input ≡ []) (t
         → IsReplayOf s trace below result seen_waited replay is.below comes
     replay_waited turns2 replay comes =
         subst (λ (l : Life). (is : IsLife s turns2 first l replay comes) → (comes.end ≡ TurnsSpent → ⊥) → IsReplayOf s trace below result seen_waited replay is.below comes) same_life
-        (λ is unspent. replay_of s none (turns + 1) trace below k result endless seen_waited with_wait ended secured new_trace (ap (map Answered) (sym loop_below)) allowed_waited new_waited can_waited turns2 replay comes is unspent)
+        (λ is unspent. replay_of s none (turns + 1) trace below k result endless seen_waited with_wait ended secured answers_trace (ap (map Answered) (sym loop_below)) allowed_waited new_waited can_waited turns2 replay comes is unspent)
 
     -- ---- and of the run without it
 

@@ -39,16 +39,17 @@ use Rattle.fwd_theorem_recorded.specs.HandedBytes.{handed_from}
 abbrev pub life_of : AllSettings → List Seen → List TraceEntry → Life
 life_of s seen below = recorded seen (failed_from (first_number s.service.path) (disk_part below))
 
--- The disk kept its model: one could have answered these calls so on which, when the run began, each name had a
--- file, or had none that a crash could bring back.
+-- The disk kept its model: one could have answered these calls so on which, when the run began, each name
+-- had a file, or had none that a crash could bring back.
 pub record DiskKeptModel (calls : List TraceEntry) : Type 0 where
   pub start : Files
   pub last : CrashPoint
   pub known : NamesAreKnown start
   pub way : Ends LeadsTo (crash_point [] start) calls last
 
--- What a replay of a recorded run needs. The disk kept its model. Each call on the disk and each link has a number
--- of 64 bits. If the turns were used up, the keyed loop held no bytes that the next wait would have given.
+-- What a replay of a recorded run needs. The disk kept its model. Each call on the disk and each link has a
+-- number of 64 bits. If the turns were used up, the keyed loop held no bytes that the next wait would have
+-- given.
 pub record IsReplayable (s : AllSettings) (recovery trace : List TraceEntry) (handshakes : Handshakes)
     (result : RunResult) (seen : List Seen) : Type 0 where
   pub disk : DiskKeptModel (recovery ++ trace)
@@ -82,12 +83,13 @@ pub record ReachesSameCounts (s : AllSettings) (history : History) (replay : Lis
 abbrev pub IsLastWait : RunResult → List LoopEntry → Type 0
 IsLastWait result last =
     ((result.end ≡ Over) × (last ≡ []))
-    ⊎ ((result.end ≡ TurnsSpent) × (until : ℕ) × (paused : ℕ) × (last ≡ entry (Wait until paused) happening.End ∷ []))
+    ⊎ ((result.end ≡ TurnsSpent) × (until : ℕ) × (paused : ℕ)
+    × (last ≡ entry (Wait until paused) happening.End ∷ []))
 
--- A replay of a recorded run: `trace` and `below` are those of the live run after its recovery of nothing, and
--- `replay` and `replay_below` those of its replay.
-pub record IsReplayOf (s : AllSettings) (trace below : List TraceEntry) (result : RunResult) (seen : List Seen)
-    (replay replay_below : List TraceEntry) (replay_result : RunResult) : Type 0 where
+-- A replay of a recorded run: `trace` and `below` are those of the live run after its recovery of nothing,
+-- and `replay` and `replay_below` those of its replay.
+pub record IsReplayOf (s : AllSettings) (trace below : List TraceEntry) (result : RunResult)
+    (seen : List Seen) (replay replay_below : List TraceEntry) (replay_result : RunResult) : Type 0 where
   -- the same calls on the loop, with the same answers, and links numbered as in the schedule
   pub until : ℕ
   pub paused : ℕ
@@ -96,34 +98,38 @@ pub record IsReplayOf (s : AllSettings) (trace below : List TraceEntry) (result 
   pub calls :
       loop_part replay_below ≡ replayed (number_of (links_in (calls_of seen))) until paused seen ++ last
   -- the same bytes for each output
-  pub handed : (outputs : ℕ) → handed outputs [] (loop_part replay_below) ≡ handed_from outputs [] [] (calls_of seen)
+  pub handed : (outputs : ℕ)
+      → handed outputs [] (loop_part replay_below) ≡ handed_from outputs [] [] (calls_of seen)
   -- the same calls on the disk, after the recovery of an empty one
   pub disk : disk_part replay_below ≡ disk_part (empty_recovery s.service.path ++ below)
   -- at each step the same rows, tries, due times and counts
-  pub steps : (front rest : List TraceEntry) → trace ≡ front ++ rest → ReachesSameCounts s (history_after front []) replay
+  pub steps : (front rest : List TraceEntry) → trace ≡ front ++ rest
+      → ReachesSameCounts s (history_after front []) replay
   -- it is over, with the same report
   pub over : replay_result.end ≡ Over
   pub reports : report s replay_result.history ≡ report s result.history
 
 -- The replay of a recorded run, with at most `turns` turns. `reported` is what the recorded run wrote.
-pub record ReplaysTheRun (s : AllSettings) (trace below : List TraceEntry) (result : RunResult) (seen : List Seen)
-    (reported : Reported) (turns : ℕ) (replayed : Reported) : Type 0 where
+pub record ReplaysTheRun (s : AllSettings) (trace below : List TraceEntry) (result : RunResult)
+    (seen : List Seen) (reported : Reported) (turns : ℕ) (replayed : Reported) : Type 0 where
   -- the run of the recorded schedule that the replay shows
   pub replay : EndsIn All s turns first (life_of s seen below) replayed
   -- it is the recorded run again
   pub is : IsReplayOf s trace below result seen replay.trace replay.is.below replay.comes
   pub over : replayed.ending ≡ ending.Over
   -- it prints what the standard outputs took in the recorded run, and then the report of that run
-  pub text :
-      replayed.text ≡ with_line_end (handed_from (stdout_mask s.outputs) [] [] (calls_of seen)) ++ reported.text
+  pub text : replayed.text
+      ≡ with_line_end (handed_from (stdout_mask s.outputs) [] [] (calls_of seen)) ++ reported.text
 
--- What was recorded of this run replays: each replay of it whose turns and whose memory suffice is this run again.
+-- What was recorded of this run replays: each replay of it whose turns and whose memory suffice is this run
+-- again.
 abbrev pub RunReplays : (s : AllSettings) (ticks : Option ℕ) (turns : ℕ) (old new : CallLogs) (endless : Bool)
     (reported : Reported) (made : Result Schedule Memory)
     → IsRecorded s ticks turns old new endless reported made → Type 0
 RunReplays s ticks turns old new endless reported made run =
     IsReplayable s run.recovery run.trace run.handshakes run.result run.seen
     → IsUnheldAtStop s ticks turns run.trace run.below run.handshakes run.seen run.is_seen
-    → (most : ℕ) (replayed : Reported) → IsReplayed All s most first (life_of s run.seen run.below ∷ []) replayed
+    → (most : ℕ) (replayed : Reported)
+    → IsReplayed All s most first (life_of s run.seen run.below ∷ []) replayed
     → replayed.ending ≢ ending.TurnsSpent → replayed.ending ≢ ending.Memory
     → ReplaysTheRun s run.trace run.below run.result run.seen reported most replayed

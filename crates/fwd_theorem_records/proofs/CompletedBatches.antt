@@ -25,7 +25,7 @@ use Rattle.fwd_theorem_trace.proofs.Members.{either, from_map}
 use Rattle.fwd_theorem_delivery.specs.BatchOutcomes.{completed_over, completed_by}
 use Rattle.fwd_theorem_delivery.specs.Origins.{WasCompleted}
 use Rattle.fwd_theorem_crash.proofs.WritableBatches.{lines_writable, messages_writable}
-use Rattle.fwd_theorem_records.specs.Records.{PiecesAreBytes}
+use Rattle.fwd_theorem_records.proofs.ReadPieces.{PiecesAreBytes}
 use Rattle.fwd_theorem_records.proofs.RecordRanges.{AllRanged}
 use Rattle.fwd_theorem_records.proofs.FilterRanges.{filtered_ranged}
 use Rattle.fwd_theorem_records.proofs.LineRanges.{parsed_ranged}

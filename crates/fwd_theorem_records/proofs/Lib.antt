@@ -6,6 +6,7 @@ pub mod JsonRanges
 pub mod TimeRanges
 pub mod LineRanges
 pub mod MessageRanges
+pub mod ReadPieces
 pub mod ReadBytes
 pub mod WaitedPieces
 pub mod CompletedBatches

@@ -6,7 +6,7 @@ use Rattle.fwd_outside.specs.declared.happening.Happening.TheVariants as happeni
 use Rattle.fwd_settings.specs.declared.settings_types.AllSettings.{AllSettings}
 use Rattle.fwd_model.specs.Fact.{Fact, History, Stream, Standard, Happened, Disconnected}
 use Rattle.fwd_model.specs.Streams.{is_joined, stream_of, same_stream, is_stream, is_of_conn, said_more, emptied_if, said}
-use Rattle.fwd_theorem_records.specs.Records.{PiecesAreBytes}
+use Rattle.fwd_theorem_records.proofs.ReadPieces.{PiecesAreBytes}
 use Rattle.fwd_theorem_records.proofs.MessageRanges.{bytes_both}
 
 before_event : (x : Happening) (h : History) → PiecesAreBytes (Happened x ∷ h) → PiecesAreBytes h

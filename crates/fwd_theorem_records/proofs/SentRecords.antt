@@ -3,12 +3,16 @@ use Rattle.std.proofs.Common.{◌≡◌, ℕ, List, [], ◌∷◌, ◌++◌, Opt
 use Rattle.fwd_event.specs.declared.event.Event.{Event}
 use Rattle.fwd_chunk.specs.declared.kept.Kept.{Kept}
 use Rattle.fwd_chunk.specs.declared.kept.Kept.TheVariants.{InFile, Adopted, InMemory}
+use Rattle.fwd_backlog.specs.Recovered.{AreDurable}
 use Rattle.fwd_outside.specs.Program.{Execution}
+use Rattle.fwd_outside.specs.LoopAnswers.{WaitsBringBytes}
+use Rattle.fwd_outside.specs.AtCrashPoints.{Ends as MomentEnds}
+use Rattle.fwd_outside.specs.DiskStates.{Files}
 use Rattle.fwd_outside.specs.declared.ends.Ends.{Ends}
 use Rattle.fwd_settings.specs.declared.settings_types.AllSettings.{AllSettings}
 use Rattle.fwd_settings.specs.Requirements.{MeetsRequirements}
 use Rattle.fwd_model.specs.Fact.{Fact, History, Route, FlushStarted, OnRoute}
-use Rattle.fwd_model.specs.Trace.{Call, Action, TraceEntry, Note, history_after, history_after_call}
+use Rattle.fwd_model.specs.Trace.{Call, Action, TraceEntry, Note, history_after, history_after_call, loop_part}
 use Rattle.fwd_model.specs.Chunks.{records}
 use Rattle.fwd_model.specs.ChunkStorage.{kept_of}
 use Rattle.fwd_model.specs.Run.{RunResult, life}
@@ -18,8 +22,12 @@ use Rattle.fwd_theorem_trace.proofs.Traversal.{noted_since}
 use Rattle.fwd_theorem_trace.proofs.Run.{due_since}
 use Rattle.fwd_theorem_delivery.specs.FlushedEvents.{AreOfChunk, SendsChunk}
 use Rattle.fwd_theorem_delivery.proofs.RouteCauses.{causes_in_life}
+use Rattle.fwd_theorem_crash.specs.CrashPoint.{CrashPoint, crash_point, LeadsTo}
 use Rattle.fwd_theorem_crash.specs.FlushEvents.{chunk_events, FlushesSendTheirChunks}
-use Rattle.fwd_theorem_records.specs.Records.{PiecesAreBytes, StoredAreWritable, HoldsRecords, FlushesSendTheirRecords}
+use Rattle.fwd_theorem_content.proofs.Life.{hands_by_then}
+use Rattle.fwd_theorem_records.specs.Records.{StoredAreWritable, HoldsRecords, FlushesSendTheirRecords}
+use Rattle.fwd_theorem_records.proofs.ReadPieces.{PiecesAreBytes}
+use Rattle.fwd_theorem_records.proofs.WaitedPieces.{brought_so_far}
 use Rattle.fwd_theorem_records.proofs.StoredEvents.{writable_so_far}
 use Rattle.fwd_theorem_records.proofs.ChunkRecords.{call_stored, chunks_hold}
 
@@ -68,3 +76,9 @@ module _ (s : AllSettings) where
         subst FlushesSendTheirRecords same
         (past_sends (past_after [] es) (due_since s ends ticks turns es left way) (subst StoredAreWritable (sym same) (writable_so_far s settings ends ticks turns es left way are)) (subst (FlushesSendTheirChunks s) (sym same) hands)
         (subst Send (sym same) (causes_in_life s ends ticks turns es left way).sent))
+
+  -- on a durable disk at first, by what the waits brought
+  pub sent_by_then : MeetsRequirements s → (first : Files) (ends : Ends) (ticks : Option ℕ) (turns : ℕ) (es : List TraceEntry) (left : Action RunResult) (last : CrashPoint) → AreDurable first
+      → Execution (life s ends ticks turns) es left → MomentEnds LeadsTo (crash_point [] first) es last → WaitsBringBytes (loop_part es) → FlushesSendTheirRecords (history_after es [])
+  sent_by_then settings first ends ticks turns es left last fresh way along are =
+      sent_so_far settings ends ticks turns es left way (brought_so_far s ends ticks turns es left way are) (hands_by_then s settings first ends ticks turns es left last fresh way along)

@@ -1,7 +1,10 @@
 -- What a run read over connections is what its waits brought.
-use Rattle.std.proofs.Common.{◌≡◌, inl, inr, ℕ, List, [], ◌∷◌, ◌++◌, Option, Some, sym, subst}
+use Rattle.std.proofs.Common.{◌≡◌, inl, inr, ℕ, suc, ◌<◌, List, [], ◌∷◌, ◌++◌, Option, Some, sym, subst}
+use Rattle.std.specs.Prelude.{slice_index}
+use Rattle.fwd_msgpack.specs.Encodings.{AllBytes}
 use Rattle.fwd_outside.specs.Program.{Execution}
 use Rattle.fwd_outside.specs.Loop.{Wait}
+use Rattle.fwd_outside.specs.LoopAnswers.{IsOfBytes, BringsBytes, WaitsBringBytes}
 use Rattle.fwd_outside.specs.declared.ends.Ends.{Ends}
 use Rattle.fwd_outside.specs.declared.happening.Happening.{Happening}
 use Rattle.fwd_outside.specs.declared.happening.Happening.TheVariants as happening
@@ -13,7 +16,7 @@ use Rattle.fwd_theorem_trace.specs.Past.{Past, logged, past_after, event_by, las
 use Rattle.fwd_theorem_trace.specs.Allowed.{EventAllowed, FactAllowed, IsAllowed, Allowed}
 use Rattle.fwd_theorem_trace.proofs.Traversal.{noted_since}
 use Rattle.fwd_theorem_trace.proofs.Run.{due_since}
-use Rattle.fwd_theorem_records.specs.Records.{PiecesAreBytes, IsOfBytes, BringsBytes, WaitsBringBytes}
+use Rattle.fwd_theorem_records.proofs.ReadPieces.{PiecesAreBytes}
 
 abbrev Brought : (call : Call) → Answer call → Type 0
 Brought (OnLoop call) answer = BringsBytes call answer
@@ -40,13 +43,17 @@ last_brought : (past : Past) (x : Happening) → last_event past ≡ Some x → 
 last_brought [] x is all = absurd (cc is)
 last_brought (e ∷ past) x is all = call_brought e.call e.answer x is all.0
 
+all_bytes : (bytes : List ℕ) → ((i : ℕ) → slice_index bytes i < 256) → AllBytes bytes
+all_bytes [] is = tt
+all_bytes (byte ∷ bytes) is = (is 0, all_bytes bytes (λ i. is (suc i)))
+
 module _ (s : AllSettings) where
   event_brought : (x : Happening) (past : Past) → EventAllowed s x past → AllBrought past → IsOfBytes x
   event_brought x past (inl last) all = last_brought past x last all
   event_brought x past (inr stops) all = subst IsOfBytes (sym stops.0) tt
 
   one_more : (x : Happening) (h : History) → IsOfBytes x → PiecesAreBytes h → PiecesAreBytes (Happened x ∷ h)
-  one_more (happening.Piece input conn bytes) h is are = (is, are)
+  one_more (happening.Piece input conn bytes) h is are = (all_bytes bytes is, are)
   one_more x h is are = are
 
   fact_brought : (fact : Fact) (past : Past) → FactAllowed s fact past → AllBrought past → PiecesAreBytes (logged past) → PiecesAreBytes (fact ∷ logged past)

@@ -1,33 +1,11 @@
 -- The events of chunks in files, and what flushes begin with.
 use Rattle.std.specs.Prelude.{◌≡◌, ℕ, List, [], ◌∷◌, All, Contains}
-use Rattle.fwd_msgpack.specs.Encodings.{AllBytes}
 use Rattle.fwd_event.specs.EventPrefix.{events_in, IsWritable}
-use Rattle.fwd_outside.specs.Loop.{LoopCall, LoopAnswer, LoopEntry, Wait}
-use Rattle.fwd_outside.specs.declared.happening.Happening.{Happening}
-use Rattle.fwd_outside.specs.declared.happening.Happening.TheVariants as happening
-use Rattle.fwd_model.specs.Fact.{History, NewChunk, AppendedTo, OnRoute, FlushStarted, Happened, Found, Accepted}
+use Rattle.fwd_model.specs.Fact.{History, NewChunk, AppendedTo, OnRoute, FlushStarted, Found, Accepted}
 use Rattle.fwd_model.specs.RecoveredFile.{recovered_content}
 use Rattle.fwd_model.specs.Chunks.{records, content, encoded}
-
--- What came over connections are bytes: numbers below 256. The model's bytes are numbers without a bound.
-abbrev pub IsOfBytes : Happening → Type 0
-IsOfBytes (happening.Piece input conn bytes) = AllBytes bytes
-IsOfBytes brought = Unit {0}
-
--- so it is of all that waits brought
-abbrev pub BringsBytes : (call : LoopCall) → LoopAnswer call → Type 0
-BringsBytes (Wait until paused) brought = IsOfBytes brought
-BringsBytes call answer = Unit {0}
-
-abbrev pub WaitsBringBytes : List LoopEntry → Type 0
-WaitsBringBytes [] = Unit {0}
-WaitsBringBytes (e ∷ es) = BringsBytes e.call e.answer × WaitsBringBytes es
-
--- and of all that a run read
-abbrev pub PiecesAreBytes : History → Type 0
-PiecesAreBytes [] = Unit {0}
-PiecesAreBytes (Happened (happening.Piece input conn bytes) ∷ h) = AllBytes bytes × PiecesAreBytes h
-PiecesAreBytes (_ ∷ h) = PiecesAreBytes h
+-- what a disk held when a run began
+pub use Rattle.fwd_theorem_content.specs.KnownNames.{NamesAreKnown}
 
 -- each event that was stored in a chunk can be encoded and read back
 abbrev pub StoredAreWritable : History → Type 0

@@ -5,9 +5,9 @@
 //! filters give an event are in the ranges that events in files have (`parsed_numbers_fit`,
 //! `message_numbers_fit`, `filtered_numbers_fit`). Its nesting and its lengths are so by `fwd_theorem_depth`.
 //!
-//! The premise `PiecesAreBytes`: the reference model doesn't bound the numbers that stand for the bytes of a
-//! connection. A forward message of greater ones could have a whole number of more than 64 bits. It holds if
-//! the loop brings bytes (`waits_bring_what_is_read`).
+//! The premise `WaitsBringBytes`: the reference model doesn't bound the numbers that stand for the bytes of a
+//! connection. A forward message of greater ones could have a whole number of more than 64 bits. It holds of
+//! each run, since a keyed loop is around its loop (`fwd_secure::SecureLoop`).
 #![tactic(auto)]
 
 mod ranges;
@@ -16,5 +16,4 @@ mod records;
 pub use ranges::{filtered_numbers_fit, message_numbers_fit, parsed_numbers_fit};
 pub use records::{
     chunks_hold_their_records, flushes_send_their_records, stored_events_are_writable,
-    waits_bring_what_is_read,
 };

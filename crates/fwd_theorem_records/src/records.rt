@@ -3,6 +3,7 @@
 ghost use Rattle.std.specs.Prelude.{ℕ, List, [], Option};
 ghost use Rattle.fwd_outside.specs.Program.{Execution};
 ghost use Rattle.fwd_outside.specs.AtCrashPoints.{Ends};
+ghost use Rattle.fwd_outside.specs.LoopAnswers.{WaitsBringBytes};
 ghost use Rattle.fwd_outside.specs.declared.ends.Ends.{Ends as InputEnds};
 ghost use Rattle.fwd_outside.specs.DiskStates.{Files};
 ghost use Rattle.fwd_settings.specs.declared.settings_types.AllSettings.{AllSettings};
@@ -10,27 +11,20 @@ ghost use Rattle.fwd_settings.specs.Requirements.{MeetsRequirements};
 ghost use Rattle.fwd_model.specs.Trace.{Action, TraceEntry, history_after, loop_part};
 ghost use Rattle.fwd_model.specs.Run.{RunResult, life};
 ghost use Rattle.fwd_theorem_crash.specs.CrashPoint.{CrashPoint, crash_point, LeadsTo};
-ghost use Rattle.fwd_theorem_content.specs.KnownNames.{NamesAreKnown};
-ghost use Rattle.fwd_theorem_records.specs.Records.{WaitsBringBytes, PiecesAreBytes, StoredAreWritable, HoldsRecords, FlushesSendTheirRecords};
+ghost use Rattle.fwd_theorem_records.specs.Records.{StoredAreWritable, HoldsRecords, FlushesSendTheirRecords, NamesAreKnown};
 
-/// What a run read over connections are bytes, if what its waits brought are.
-pub fn waits_bring_what_is_read()
-    ensures { (s : AllSettings) (ends : InputEnds) (ticks : Option ℕ) (turns : ℕ) (entries : List TraceEntry) (left : Action RunResult)
-        → Execution (life s ends ticks turns) entries left → WaitsBringBytes (loop_part entries) → PiecesAreBytes (history_after entries []) }
-{}
-
-/// However far a run has come, each event that it stored in a chunk can be encoded and read back, if what came
-/// over connections are bytes.
+/// However far a run has come, each event that it stored in a chunk can be encoded and read back, if its waits
+/// brought bytes.
 pub fn stored_events_are_writable()
     ensures { (s : AllSettings) (ends : InputEnds) (ticks : Option ℕ) (turns : ℕ) (entries : List TraceEntry) (left : Action RunResult)
-        → MeetsRequirements s → Execution (life s ends ticks turns) entries left → PiecesAreBytes (history_after entries []) → StoredAreWritable (history_after entries []) }
+        → MeetsRequirements s → Execution (life s ends ticks turns) entries left → WaitsBringBytes (loop_part entries) → StoredAreWritable (history_after entries []) }
 {}
 
 /// Under the same premise, the events in the bytes of each chunk are its records: those that were accepted into
 /// it, in order. A recovered chunk has the bytes of its file, and no event is added.
 pub fn chunks_hold_their_records()
     ensures { (s : AllSettings) (ends : InputEnds) (ticks : Option ℕ) (turns : ℕ) (entries : List TraceEntry) (left : Action RunResult) (chunk : ℕ)
-        → MeetsRequirements s → Execution (life s ends ticks turns) entries left → PiecesAreBytes (history_after entries []) → HoldsRecords (history_after entries []) chunk }
+        → MeetsRequirements s → Execution (life s ends ticks turns) entries left → WaitsBringBytes (loop_part entries) → HoldsRecords (history_after entries []) chunk }
 {}
 
 /// Under the same premise, each flush of a run began with the records of its chunk, in memory or in a file,
@@ -39,5 +33,5 @@ pub fn chunks_hold_their_records()
 pub fn flushes_send_their_records()
     ensures { (s : AllSettings) (ends : InputEnds) (ticks : Option ℕ) (turns : ℕ) (first : Files) (entries : List TraceEntry) (left : Action RunResult) (last : CrashPoint)
         → MeetsRequirements s → NamesAreKnown first → Execution (life s ends ticks turns) entries left → Ends LeadsTo (crash_point [] first) entries last
-        → PiecesAreBytes (history_after entries []) → FlushesSendTheirRecords (history_after entries []) }
+        → WaitsBringBytes (loop_part entries) → FlushesSendTheirRecords (history_after entries []) }
 {}

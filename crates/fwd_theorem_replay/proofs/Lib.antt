@@ -3,7 +3,7 @@ pub mod PresetDisk
 pub mod DiskPoints
 pub mod CutRun
 pub mod NextRun
-pub mod SentContents
+pub mod SentRecords
 pub mod PresetFiles
 pub mod EventsTaken
 pub mod TurnsSpent

@@ -93,7 +93,7 @@ module _ (s : AllSettings) (settings : MeetsRequirements s) (full : s.service.fu
         let loads = loads_first c.next next trace below loaded.loading loaded.rest asked set_next answered same loaded.is in
         subst (λ (before : History). RecoversAll s before h) (noted_since [] gone)
         (λ chunk has owes home.
-        found_again s (files_of (disk_of start planned)) now (crash_point (past_after [] loaded.loading) loads.last) image loaded.loading h chunk safe
+        found_again s now (crash_point (past_after [] loaded.loading) loads.last) image loaded.loading h chunk safe.owed
         (fresh_files (disk_of c.next next) (set_disk c.next next set_next)) (left_there next none) loaded.way loads.ends has owes home)
 
     next_loses : (shown : Shown) (turns_left : ℕ) (lives : List Life) (reported : Reported) → All Bare lives → (is : IsReplayed shown s turns_left c.next lives reported) → NextLosesNothing shown s turns_left c lives reported is

@@ -32,15 +32,13 @@ pub record HasLoaded (s : AllSettings) (trace : List TraceEntry) (h : History) :
 
 -- each pending file-backed chunk is recovered, whole, and pending for the same outputs
 abbrev pub RecoversAll : AllSettings → History → History → Type 0
-RecoversAll s before after =
-    (c : ChunkInfo) → Contains (chunks_of before) c → is_owed s before c ≡ true → home_of s c.input ≡ Disk
-    → IsRecovered s before after c
+RecoversAll s before after = (c : ChunkInfo) → Contains (chunks_of before) c → is_owed s before c ≡ true
+    → home_of s c.input ≡ Disk → IsRecovered s before after c
 
 -- this run recovers what the run that was cut had logged at the crash, if no call on the disk fails as it
 -- loads
 abbrev pub LosesNothing : AllSettings → CutRun → List TraceEntry → Type 0
-LosesNothing s c next =
-    (gone : List TraceEntry) (h : History) → CrashedAfter c gone → HasLoaded s next h
+LosesNothing s c next = (gone : List TraceEntry) (h : History) → CrashedAfter c gone → HasLoaded s next h
     → RecoversAll s (history_after gone []) h
 
 -- the run after a crash, as the first of what is left of a replay

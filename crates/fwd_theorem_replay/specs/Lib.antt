@@ -1,3 +1,3 @@
 pub mod Crashes
-pub mod SentContents
+pub mod SentRecords
 pub mod PresetFiles

@@ -16,9 +16,9 @@ use Rattle.fwd_model.specs.RecoveryActions.{recovers}
 use Rattle.fwd_model.specs.Run.{RunResult, after_recovery, life}
 use Rattle.fwd_theorem_trace.specs.Past.{logged}
 use Rattle.fwd_theorem_crash.specs.CrashPoint.{CrashPoint, crash_point, LeadsTo}
-use Rattle.fwd_theorem_crash.specs.Safety.{IsFileSafe, IsSafe}
+use Rattle.fwd_theorem_crash.specs.Safety.{IsFileSafe, IsSafe, PendingAreSafe}
 use Rattle.fwd_theorem_content.proofs.SyncedDisk.{synced_state, synced_files, state_alike, are_durable}
-use Rattle.fwd_theorem_restart.specs.Restart.{IsLeftByKill, PendingAreSafe}
+use Rattle.fwd_theorem_restart.specs.Restart.{IsLeftByKill}
 use Rattle.fwd_theorem_restart.proofs.NearDisk.{NearBy, AreNear, equal_since, equal_stays, synced_passes, reaches, Shares, shared}
 use Rattle.fwd_theorem_restart.proofs.SyncedByLoading.{loaded_synced}
 
@@ -50,7 +50,7 @@ module _ (s : AllSettings) (first : Files) (killed : IsLeftByKill first) where
 
   module _ (ends : InputEnds) (ticks : Option ℕ) (turns : ℕ) (loading entries : List TraceEntry) (found : History) (m : CrashPoint) (left : Action RunResult) (loads : Execution (recovers s) loading (Return (Some found))) (along : Ends LeadsTo (crash_point [] first) loading m)
       (way : Execution (after_recovery s ends ticks turns (Some found)) entries left) where
-    whole_run : Execution (life s ends ticks turns) (loading ++ entries) left
+    pub whole_run : Execution (life s ends ticks turns) (loading ++ entries) left
     unfolding life
     whole_run =
         way_trans (bind (recovers s) (after_recovery s ends ticks turns)) (after_recovery s ends ticks turns (Some found)) left loading entries

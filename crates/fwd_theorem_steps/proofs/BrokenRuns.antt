@@ -2,7 +2,8 @@
 use Rattle.std.proofs.Common.{◌≡◌, ◌⊎◌, inl, inr, ℕ, zero, suc, ◌+◌, ◌≤◌, Bool, true, false, cond, List, [], ◌∷◌, ◌++◌, append-nil, Option, Some, None, refl, sym, ◌∙◌, ap, subst, arith}
 use Rattle.fwd_outside.specs.Program.{entry, Return, Ask, bind, Execution}
 use Rattle.fwd_outside.specs.Loop.{LoopEntry, Start}
-use Rattle.fwd_outside.specs.NewLinks.{AreNewLinks, greatest_by}
+use Rattle.fwd_outside.specs.NewLinks.{AreNewLinks}
+use Rattle.fwd_outside.proofs.RisingLinks.{new_first}
 use Rattle.fwd_outside.specs.declared.ends.Ends.{Ends}
 use Rattle.fwd_keeper.specs.Keeper.{Get}
 use Rattle.fwd_settings.specs.declared.settings_types.AllSettings.{AllSettings}
@@ -137,9 +138,5 @@ pub come_by_turns : (s : AllSettings) (ends : Ends) (ticks : Option ℕ) (turns 
 come_by_turns s ends ticks turns es left way = last_turn s ends ticks turns es left way
 
 -- the links of the first calls are new too
-new_both : (greatest : ℕ) (es more : List LoopEntry) → AreNewLinks greatest (es ++ more) → AreNewLinks greatest es
-new_both greatest [] more new = tt
-new_both greatest (e ∷ es) more new = (new.0, new_both (greatest_by greatest e.call e.answer) es more new.1)
-
 pub first_new : (first more entries : List TraceEntry) → entries ≡ first ++ more → AreNewLinks 0 (loop_part entries) → AreNewLinks 0 (loop_part first)
-first_new first more entries is new = new_both 0 (loop_part first) (loop_part more) (subst (λ (l : List LoopEntry). AreNewLinks 0 l) (ap loop_part is ∙ loop_append first more) new)
+first_new first more entries is new = new_first 0 (loop_part first) (loop_part more) (subst (λ (l : List LoopEntry). AreNewLinks 0 l) (ap loop_part is ∙ loop_append first more) new)

@@ -21,15 +21,15 @@ use Rattle.fwd_theorem_trace.proofs.Members.{on_where_off}
 use Rattle.fwd_theorem_crash.specs.CrashPoint.{CrashPoint, crash_point, LeadsTo}
 use Rattle.fwd_theorem_crash.specs.RecordedOutcomes.{is_recorded}
 use Rattle.fwd_theorem_crash.specs.Recovery.{IsRecovered as IsChunkRecovered}
-use Rattle.fwd_theorem_crash.specs.Safety.{IsSafe}
+use Rattle.fwd_theorem_crash.specs.Safety.{PendingAreSafe}
 use Rattle.fwd_theorem_survival.specs.Survival.{Survives, WasResolved, IsRecovered, SurvivesCrash}
 use Rattle.fwd_theorem_survival.proofs.StoredBatches.{Holds, Stored, holds_more}
 
 -- ---- the theorems that are put together
 
-abbrev pub ChunksAreRecovered : AllSettings → Files → Type 0
-ChunksAreRecovered s first =
-    (m last : CrashPoint) (image : Files) (entries : List TraceEntry) (h : History) (c : ChunkInfo) → IsSafe s first m → AreDurable image
+abbrev pub ChunksAreRecovered : AllSettings → Type 0
+ChunksAreRecovered s =
+    (m last : CrashPoint) (image : Files) (entries : List TraceEntry) (h : History) (c : ChunkInfo) → PendingAreSafe s m → AreDurable image
     → ((name : List ℕ) → IsPostCrash (m.files name) (content_of_file (image name))) → Execution (recovers s) entries (Return (Some h)) → Ends LeadsTo (crash_point [] image) entries last
     → Contains (chunks_of (logged m.past)) c → is_owed s (logged m.past) c ≡ true → home_of s c.input ≡ Disk → IsChunkRecovered s (logged m.past) h c
 
@@ -42,7 +42,7 @@ OwedIff s = (h : History) (c : ChunkInfo) (output : ℕ) → Contains (owed s h 
 none_owed : (outputs : List ℕ) (output : ℕ) → not (length outputs == 0) ≡ false → Contains outputs output → ⊥
 none_owed outputs output none has = let is = eqb-true (length outputs) 0 (on_where_off (length outputs == 0) none) in absurd (omega (arith, is, has.1))
 
-module _ (s : AllSettings) (first : Files) (recovered_all : ChunksAreRecovered s first) (resolved_iff : ResolvedIff s) (owed_iff : OwedIff s) (at : CrashPoint) (safe : IsSafe s first at) (b : Batch) (n : ℕ) (disk : home_at s b.input ≡ Disk)
+module _ (s : AllSettings) (recovered_all : ChunksAreRecovered s) (resolved_iff : ResolvedIff s) (owed_iff : OwedIff s) (at : CrashPoint) (safe : PendingAreSafe s at) (b : Batch) (n : ℕ) (disk : home_at s b.input ≡ Disk)
     (is : Stored b n (logged at.past)) where
   abbrev h : History
   h = logged at.past

@@ -241,3 +241,9 @@ with_invariant P (e ∷ es) m sound all = (
       let step = all.1 during after leads in
       ((step.0, kept.0), with_invariant P es after kept.1 step.1),
 )
+
+-- after calls
+pub ends_sound : (es : List TraceEntry) (m last : CrashPoint) → AllInvariant m.files → Ends LeadsTo m es last → AllInvariant last.files
+ends_sound [] m last sound ends = subst (λ (at : CrashPoint). AllInvariant at.files) (sym ends) sound
+ends_sound (e ∷ es) m last sound ends =
+    let kept = change_sound e.call e.answer m.files ends.0.files ends.1.files (ends.2).0 sound in ends_sound es ends.1 last kept.1 ends.3

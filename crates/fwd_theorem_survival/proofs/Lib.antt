@@ -3,3 +3,4 @@ pub mod StoredBatches
 pub mod TakenMessages
 pub mod BatchSurvival
 pub mod KilledProcess
+pub mod KeptBatches

@@ -44,27 +44,25 @@ pub record IsRecoveredIn (s : AllSettings) (before after : History) (chunk : ℕ
 -- What the next run finds of a batch: its chunk was resolved for each output before the crash, or the run
 -- recovers it.
 pub data Survives (s : AllSettings) (before after : History) (chunk : ℕ) (b : Batch) : Type 0 where
-  WasResolved : ((output : ℕ) → Contains (outputs_for s b.tag) output → IsResolved s before (route chunk output))
-      → Survives s before after chunk b
+  WasResolved : ((output : ℕ) → Contains (outputs_for s b.tag) output
+      → IsResolved s before (route chunk output)) → Survives s before after chunk b
   IsRecovered : (again : ChunkInfo) → IsRecoveredIn s before after chunk b again
       → Survives s before after chunk b
 
 -- Whatever a crash at this point leaves of the disk: the next run with these settings finds the batch, if no
 -- call on the disk fails as it loads.
 abbrev pub SurvivesCrash : AllSettings → CrashPoint → ℕ → Batch → Type 0
-SurvivesCrash s m chunk b =
-    (left : Files) (entries : List TraceEntry) (after : History) (last : CrashPoint) → AreDurable left
-    → ((name : List ℕ) → IsPostCrash (m.files name) (content_of_file (left name)))
+SurvivesCrash s m chunk b = (left : Files) (entries : List TraceEntry) (after : History) (last : CrashPoint)
+    → AreDurable left → ((name : List ℕ) → IsPostCrash (m.files name) (content_of_file (left name)))
     → Execution (recovers s) entries (Return (Some after)) → Ends LeadsTo (crash_point [] left) entries last
     → Survives s (logged m.past) after chunk b
 
 -- The process was killed at this point, and the machine ran on: the next run with these settings finds the
 -- batch, if no call on the disk fails as it loads. It reads what was written, fsynced or not.
 abbrev pub SurvivesKill : AllSettings → CrashPoint → ℕ → Batch → Type 0
-SurvivesKill s m chunk b =
-    (entries : List TraceEntry) (after : History) (last : CrashPoint)
-    → Execution (recovers s) entries (Return (Some after)) → Ends LeadsTo (crash_point [] m.files) entries last
-    → Survives s (logged m.past) after chunk b
+SurvivesKill s m chunk b = (entries : List TraceEntry) (after : History) (last : CrashPoint)
+    → Execution (recovers s) entries (Return (Some after))
+    → Ends LeadsTo (crash_point [] m.files) entries last → Survives s (logged m.past) after chunk b
 
 -- A message was acknowledged: it came in whole, and its batch was stored, unless the filters left no event of
 -- it, or no output matches it.
@@ -76,8 +74,8 @@ pub record WasAcknowledged (s : AllSettings) (h : History) (older : Past) (conn 
       → (chunk : ℕ) × WasStored h (message_batch s due.input.0 due.message) chunk
 
 -- At a crash point of a run: each batch that was accepted from an input that keeps its chunks in files
--- survives a crash of the machine, and the end of the process alone. Each message that was answered before was
--- acknowledged, so its batch is one of these.
+-- survives a crash of the machine, and the end of the process alone. Each message that was answered before
+-- was acknowledged, so its batch is one of these.
 pub record KeepsAccepted (s : AllSettings) (m : CrashPoint) : Type 0 where
   pub accepted : (b : Batch) (chunk : ℕ) (input : InputSet) → WasStored (logged m.past) b chunk
       → input_at s b.input ≡ Some input → input.stored ≡ true → SurvivesCrash s m chunk b

@@ -121,15 +121,15 @@ recorded_for s ticks turns old new endless (ran.Recorded reported schedule) is =
 
 -- the calls on the files for a case
 asked_for : (turns : ℕ) (case : Case) (old new : Platform) (verdict : Verdict) → IsVerdict turns case old new verdict → (entries : List FilesEntry) × LogGrew old.files new.files entries
-asked_for turns (Replays s lives) old new verdict is = ([], is.1.comes.1.files)
-asked_for turns (Generates s lives) old new verdict is = ([], is.1.comes.1.files)
+asked_for turns (Replays s lives) old new verdict is = ([], is.1.comes.uncalled.files)
+asked_for turns (Generates s lives) old new verdict is = ([], is.1.comes.uncalled.files)
 asked_for turns (Runs s ticks) old new verdict is = run is.1.comes
   where
     run : IsRunLive s ticks turns (world old) (world new) is.0 → (entries : List FilesEntry) × LogGrew old.files new.files entries
     run (RanToEnd lived) = (files_part lived.below, lived.asked.files)
     run (RanOutOfMemory begun none) = (files_part (begun.below ++ map on_loop begun.begun), begun.asked.files)
 asked_for turns (Records s ticks) old new verdict is = recorded_for s ticks turns (world old) (world new) old.endless is.0 is.1.comes
-asked_for turns (Lists root) old new verdict is = ([], is.1.comes.1.0)
+asked_for turns (Lists root) old new verdict is = ([], is.1.comes.files)
 asked_for turns (Refuses other) old new verdict is = ([], is.1.files)
 
 -- of calls that found the existing bytes, the first ones did too

@@ -6,6 +6,7 @@ pub mod Delivery
 pub mod RunOffsets
 pub mod GeneratedLoad
 pub mod Recordings
+pub mod SpentTurns
 pub mod Taping
 pub mod WrittenVerdict
 pub mod ReadOptions

@@ -7,6 +7,8 @@ use Rattle.fwd_outside.specs.declared.happening.Happening.TheVariants as happeni
 use Rattle.fwd_outside.specs.Loop.{LoopCall, LoopAnswer, LoopEntry, Wait, MayOccur}
 use Rattle.fwd_outside.specs.Disk.{DiskProgram}
 use Rattle.fwd_outside.specs.NewLinks.{AreNewLinks}
+use Rattle.fwd_outside.specs.LoopAnswers.{AreLoopAnswers}
+use Rattle.fwd_outside.proofs.LoopAnswers.{answers_none}
 use Rattle.fwd_backlog.specs.declared.file_read.FileRead.{FileRead}
 use Rattle.fwd_backlog.specs.LoadProgram.{load_program}
 use Rattle.fwd_settings.specs.Endpoints.{ends_of}
@@ -137,7 +139,7 @@ module _ (s : AllSettings) (ticks : Option ℕ) (turns : ℕ) where
           lived = is.result;
           trace = is.recovery ++ is.trace;
           way = runs_on is.recovery is.trace (Some []) (Return is.result) is.loads is.way;
-          links = subst (λ (es : List LoopEntry). AreNewLinks 0 es) (sym (loop_append is.recovery is.trace ∙ ap (λ (l : List LoopEntry). l ++ loop_part is.trace) none)) is.links;
+          answers = subst (λ (es : List LoopEntry). AreLoopAnswers es) (sym (loop_append is.recovery is.trace ∙ ap (λ (l : List LoopEntry). l ++ loop_part is.trace) none)) is.answers;
           below = is.recovery ++ is.below;
           handshakes = is.handshakes;
           secured = secured_append (keys_of s) no_handshakes no_handshakes is.handshakes is.recovery is.trace is.recovery is.below (unlooped (keys_of s) no_handshakes is.recovery none)
@@ -155,12 +157,20 @@ module _ (s : AllSettings) (ticks : Option ℕ) (turns : ℕ) where
     way_of (ran.Unrecorded reported) (RanOutOfMemory begun none) = (begun.begins.left, begun.begins.way)
     way_of (ran.Recorded reported made) is = (Return is.result, runs_on is.recovery is.trace (Some []) (Return is.result) is.loads is.way)
 
+    -- its loop answered as a loop does
+    pub answers_of : (went : Ran) (comes : RanSo s ticks turns old new endless went) → AreLoopAnswers (loop_part (trace_of s ticks turns old new endless went comes))
+    answers_of ran.NotRecordable found =
+        subst (λ (es : List LoopEntry). AreLoopAnswers es) (sym (no_loop (recovers s) (Return (Some found.history)) found.did.entries (none_recovers s) found.did.way)) answers_none
+    answers_of (ran.Unrecorded reported) (Failed runs none) = runs.answers
+    answers_of (ran.Unrecorded reported) (RanOutOfMemory begun none) = begun.begins.answers
+    answers_of (ran.Recorded reported made) is = (whole reported made is).answers
+
     pub delivered_of : ((s : AllSettings) (ticks : Option ℕ) (turns : ℕ) (old new : CallLogs) (reported : Reported) (is : RunsToEnd s ticks turns old new reported) → KeepsGuarantee s is.trace)
         → ((trace : List TraceEntry) (left : Action RunResult) → Execution (life s (ends_of s) ticks turns) trace left → AreNewLinks 0 (loop_part trace) → KeepsToLastTurn s trace)
         → (went : Ran) (comes : RanSo s ticks turns old new endless went) → RecordedIsDelivered s ticks turns old new endless went comes
     delivered_of keeps broken ran.NotRecordable found = tt
     delivered_of keeps broken (ran.Unrecorded reported) (Failed runs none) = keeps s ticks turns old new reported runs
-    delivered_of keeps broken (ran.Unrecorded reported) (RanOutOfMemory begun none) = broken begun.begins.trace begun.begins.left begun.begins.way begun.begins.links
+    delivered_of keeps broken (ran.Unrecorded reported) (RanOutOfMemory begun none) = broken begun.begins.trace begun.begins.left begun.begins.way begun.begins.answers.links
     delivered_of keeps broken (ran.Recorded reported made) is = keeps s ticks turns old new reported (whole reported made is)
 
     pub reads_of : (went : Ran) → RanSo s ticks turns old new endless went → IsReadBack went

@@ -28,9 +28,10 @@ use Rattle.fwd_top.specs.Cases.{AreSound, Case, Generates, Lists, Records, Refus
 use Rattle.fwd_top.specs.Outcomes.{Platform, AreNotCalled, Produces, world}
 use Rattle.fwd_top.specs.Delivery.{IsDelivered}
 use Rattle.fwd_top.specs.Determinism.{IsDetermined}
+use Rattle.fwd_top.specs.EnoughTurns.{HasFewTurns}
 use Rattle.fwd_top.specs.CrashConsistency.{IsCrashConsistent}
 use Rattle.fwd_top.specs.Offsets.{EachRunKeepsOffsets}
-use Rattle.fwd_top.specs.Contents.{EachRunSendsContents}
+use Rattle.fwd_top.specs.SentRecords.{EachRunSendsRecords}
 use Rattle.fwd_top.specs.RecordedOutcome.{RecordedOutcome}
 use Rattle.fwd_top.specs.Answers.{Verdict, says, says_both, status_of, of_reported, of_ran, Outcome, IsVerdict, Devices, platform, Asks, Comes, WroteIt, WroteSchedule, Wrote, RanOutOfMemory, WhileAsking, InTheJob, WhileWriting, WhileRecording, Answers, half, is_over_disk, is_run, IsKeeperFault, IsLoopFault, IsDiskFault, least_heard, spent, spent_by}
 use Rattle.fwd_top.specs.Results.{of_job, HasDiskFailed, HasKeeperFailed, HasLoopFailed, IsRefusal, JobProduces, WritesVerdict, AllWritten, TextFailed, TextStopped, RecordFailed, RecordStopped, given_by, is_to_run, takes_disk, unless_memory}
@@ -47,10 +48,10 @@ still o = record { disk = grew_none o.disk; files = grew_none o.files; loop = gr
 pub outcome_of : ((turns : ℕ) (case : Case) (old new : Platform) (r : Reported) (comes : Produces turns case old new r) → IsDelivered turns case old new r comes)
     → ((turns : ℕ) (case : Case) (old new : Platform) (r : Reported) (comes : Produces turns case old new r) → AreSound (settings_for case) → OnlyFirstHasFiles (lives_of case) → IsCrashConsistent turns case old new r comes)
     → ((turns : ℕ) (case : Case) (old new : Platform) (r : Reported) (comes : Produces turns case old new r) → EachRunKeepsOffsets turns case old new r comes)
-    → ((turns : ℕ) (case : Case) (old new : Platform) (r : Reported) (comes : Produces turns case old new r) → AreSound (settings_for case) → EachRunSendsContents turns case old new r comes)
+    → ((turns : ℕ) (case : Case) (old new : Platform) (r : Reported) (comes : Produces turns case old new r) → AreSound (settings_for case) → EachRunSendsRecords turns case old new r comes)
     → ((turns : ℕ) (case : Case) (old new : Platform) (r : Reported) → Produces turns case old new r → IsDetermined turns case r)
     → (turns : ℕ) (case : Case) (old new : Platform) (r : Reported) → AreSound (settings_for case) → OnlyFirstHasFiles (lives_of case) → Produces turns case old new r → Outcome turns case old new r
-outcome_of delivers stands keeps sends determines turns case old new r sound later comes = record { comes = comes; sound = sound; delivered = delivers turns case old new r comes; safe = stands turns case old new r comes sound later; offsets = keeps turns case old new r comes; contents = sends turns case old new r comes sound; determined = determines turns case old new r comes }
+outcome_of delivers stands keeps sends determines turns case old new r sound later comes = record { comes = comes; sound = sound; delivered = delivers turns case old new r comes; safe = stands turns case old new r comes sound later; offsets = keeps turns case old new r comes; records = sends turns case old new r comes sound; determined = determines turns case old new r comes }
 
 -- ---- calls and written text
 
@@ -252,6 +253,22 @@ module _ {Y : Type 0} (words : List (String Y)) (turns : ℕ) (before after : Lo
   done_spent (job.Replay s schedule) went a b t u result tells heard spends = heard
   done_spent (job.Generate s schedule) went a b t u result tells heard spends = heard
   done_spent (job.List folder) went a b t u result tells heard spends = heard
+
+-- a replay whose turns were spent had too few
+pub done_few : ((turns : ℕ) (case : Case) (old new : Platform) (r : Reported) → Produces turns case old new r → r.ending ≡ ending.TurnsSpent → HasFewTurns case turns)
+    → (turns : ℕ) (j : Job) (old new : Platform) (went : Ran) (a b t u : SinkLog) (result : Status) → JobProduces turns (of_job j) old new went → WritesVerdict a b t u (of_ran went) result → result ≡ status.TurnsSpent
+    → HasFewTurns (of_job j) turns
+done_few few turns (job.Run s ticks) old new went a b t u result comes tells spends = tt
+done_few few turns (job.Record s ticks) old new went a b t u result comes tells spends = tt
+done_few few turns (job.Replay s schedule) old new (ran.Unrecorded reported) a b t u result comes tells spends =
+    few turns (Replays s schedule.lives) old new reported comes (ended_spent (ran.Unrecorded reported) a b t u result tells spends)
+done_few few turns (job.Replay s schedule) old new ran.NotRecordable a b t u result comes tells spends = absurd comes
+done_few few turns (job.Replay s schedule) old new (ran.Recorded reported made) a b t u result comes tells spends = absurd comes
+done_few few turns (job.Generate s schedule) old new (ran.Unrecorded reported) a b t u result comes tells spends =
+    few turns (Generates s schedule.lives) old new reported comes (ended_spent (ran.Unrecorded reported) a b t u result tells spends)
+done_few few turns (job.Generate s schedule) old new ran.NotRecordable a b t u result comes tells spends = absurd comes
+done_few few turns (job.Generate s schedule) old new (ran.Recorded reported made) a b t u result comes tells spends = absurd comes
+done_few few turns (job.List folder) old new went a b t u result comes tells spends = tt
 
 pub refused_spent : (result : Status) → IsRefusal result → result ≡ status.TurnsSpent → ⊥
 refused_spent status.TurnsSpent is same = is

@@ -29,8 +29,9 @@ use Rattle.fwd_top.specs.declared.status.Status.TheVariants as status
 use Rattle.fwd_top.specs.Outcomes.{Platform, platform_of, AreNotCalled, Produces}
 use Rattle.fwd_top.specs.Delivery.{IsDelivered}
 use Rattle.fwd_top.specs.Determinism.{IsDetermined}
+use Rattle.fwd_top.specs.EnoughTurns.{HasFewTurns}
 use Rattle.fwd_top.specs.CrashConsistency.{IsCrashConsistent}
-use Rattle.fwd_top.specs.Contents.{EachRunSendsContents}
+use Rattle.fwd_top.specs.SentRecords.{EachRunSendsRecords}
 use Rattle.fwd_top.specs.Offsets.{EachRunKeepsOffsets}
 use Rattle.fwd_top.specs.RecordedOutcome.{RecordedOutcome}
 
@@ -73,14 +74,15 @@ of_ran (ran.Recorded reported schedule) = of_recorded reported schedule
 
 -- What came of a case, and what holds of it: its settings meet what an engine requires, each of its runs
 -- keeps the delivery guarantee, no crash loses a pending chunk, each kept offset of a followed file has
--- nothing lost before it, each flush sends the content of its chunk, and a replay is the only one of its schedule.
+-- nothing lost before it, each flush sends the records of its chunk, and a replay is the only one of its
+-- schedule.
 pub record Outcome (turns : ℕ) (case : Case) (old new : Platform) (reported : Reported) : Type 0 where
   pub comes : Produces turns case old new reported
   pub sound : AreSound (settings_for case)
   pub delivered : IsDelivered turns case old new reported comes
   pub safe : IsCrashConsistent turns case old new reported comes
   pub offsets : EachRunKeepsOffsets turns case old new reported comes
-  pub contents : EachRunSendsContents turns case old new reported comes
+  pub records : EachRunSendsRecords turns case old new reported comes
   pub determined : IsDetermined turns case reported
 
 -- the verdict of a case is that of its outcome
@@ -100,18 +102,6 @@ pub record Devices : Type 0 where
   pub sink : SinkLog
   pub tape : SinkLog
   pub endless : Bool
-
-abbrev pub devices : DiskLog → FilesLog → LoopLog → KeeperLog → SinkLog → SinkLog → Bool → Devices
-devices disk files loop keeper sink tape endless =
-    record {
-      disk = disk;
-      files = files;
-      loop = loop;
-      keeper = keeper;
-      sink = sink;
-      tape = tape;
-      endless = endless;
-    }
 
 -- those of a run, when the files have this log
 abbrev pub platform : Devices → FilesLog → Platform
@@ -205,8 +195,8 @@ pub record IsVerdictOf {Y : Type 0} (words : List (String Y)) (env : Values) (tu
   pub read : FilesLog
   pub is : IsVerdict turns case (platform old read) (platform new new.files) verdict
 
--- The files log their calls, and each of the calls that were made found the existing bytes: those of the first
--- files, after the calls before.
+-- The files log their calls, and each of the calls that were made found the existing bytes: those of the
+-- first files, after the calls before.
 pub record AreConsistent (old new : FilesLog) (existing : FilesGiven) : Type 0 where
   pub first : FilesGiven
   pub before : List FilesEntry
@@ -268,10 +258,12 @@ least_heard (Runs s ticks) turns = events_below s turns
 least_heard (Records s ticks) turns = events_below s turns
 least_heard other turns = 0
 
--- the case that was asked for, and the events that its loop returned
+-- The case that was asked for, the events that its loop returned, and that a replay had fewer turns than its
+-- schedule needs.
 pub record SpendsTurns {Y : Type 0} (words : List (String Y)) (env : Values) (turns : ℕ) (old : FilesLog)
     (before after : LoopCounts) : Type 0 where
   pub case : Case
   pub read : FilesLog
   pub asks : Asks words env old read (Some case)
   pub heard : EventsTaken (least_heard case turns) before after
+  pub few : HasFewTurns case turns

@@ -41,9 +41,9 @@ RunIsSafe s ticks turns old new reported (RanOutOfMemory begun none) =
 abbrev pub IsCrashConsistent : (turns : ℕ) (case : Case) (old new : Platform) (reported : Reported)
     → Produces turns case old new reported → Type 0
 IsCrashConsistent turns (Replays s lives) old new reported comes =
-    AreSynced s → NothingIsLost All s turns first lives reported comes.0
+    AreSynced s → NothingIsLost All s turns first lives reported comes.replayed
 IsCrashConsistent turns (Generates s lives) old new reported comes =
-    AreSynced s → NothingIsLost Report s turns first lives reported comes.0
+    AreSynced s → NothingIsLost Report s turns first lives reported comes.replayed
 IsCrashConsistent turns (Runs s ticks) old new reported comes = RunIsSafe s ticks turns old new reported comes
 IsCrashConsistent turns (Records s ticks) old new reported comes = Unit {0}
 IsCrashConsistent turns (Lists root) old new reported comes = Unit {0}

@@ -26,11 +26,10 @@ EachIsDelivered shown s turns start (planned ∷ lives) reported (WasCut c is re
     × EachIsDelivered shown s (turns - waits_in (c.before ++ c.turn)) c.next lives rest more
 EachIsDelivered shown s turns start (planned ∷ lives) reported (OutOfMemory none) = Unit {0}
 
--- A run that was broken off hasn't waited yet, or it keeps the guarantee up to the end of its last whole turn: it
--- has waited at most once since.
+-- A run that was broken off hasn't waited yet, or it keeps the guarantee up to the end of its last whole
+-- turn: it has waited at most once since.
 abbrev pub KeepsToLastTurn : AllSettings → List TraceEntry → Type 0
-KeepsToLastTurn s trace =
-    (waits_in trace ≡ 0)
+KeepsToLastTurn s trace = (waits_in trace ≡ 0)
     ⊎ ((whole : List TraceEntry) × (since : List TraceEntry) × (trace ≡ whole ++ since) × (waits_in since ≤ 1)
     × KeepsGuarantee s whole)
 
@@ -44,9 +43,9 @@ RunIsDelivered s ticks turns old new reported (RanOutOfMemory begun none) = Keep
 abbrev pub IsDelivered : (turns : ℕ) (case : Case) (old new : Platform) (reported : Reported)
     → Produces turns case old new reported → Type 0
 IsDelivered turns (Replays s lives) old new reported comes =
-    EachIsDelivered All s turns first lives reported comes.0
+    EachIsDelivered All s turns first lives reported comes.replayed
 IsDelivered turns (Generates s lives) old new reported comes =
-    EachIsDelivered Report s turns first lives reported comes.0
+    EachIsDelivered Report s turns first lives reported comes.replayed
 IsDelivered turns (Runs s ticks) old new reported comes = RunIsDelivered s ticks turns old new reported comes
 IsDelivered turns (Records s ticks) old new reported comes = Unit {0}
 IsDelivered turns (Lists root) old new reported comes = Unit {0}

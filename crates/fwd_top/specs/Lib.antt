@@ -2,13 +2,15 @@ pub mod Words
 pub mod Status
 pub mod Cases
 pub mod Outcomes
+pub mod EnoughTurns
 pub mod Answers
 pub mod Results
 pub mod Views
 pub mod Delivery
 pub mod Determinism
-pub mod Contents
+pub mod SentRecords
 pub mod CrashConsistency
 pub mod Offsets
 pub mod RecordedOutcome
 pub mod Taped
+pub mod Forwards

@@ -60,9 +60,9 @@ RunKeepsOffsets s ticks turns old new reported (RanOutOfMemory begun none) =
 abbrev pub EachRunKeepsOffsets : (turns : ℕ) (case : Case) (old new : Platform) (reported : Reported)
     → Produces turns case old new reported → Type 0
 EachRunKeepsOffsets turns (Replays s lives) old new reported comes =
-    EachKeepsOffsets All s turns first lives reported comes.0
+    EachKeepsOffsets All s turns first lives reported comes.replayed
 EachRunKeepsOffsets turns (Generates s lives) old new reported comes =
-    EachKeepsOffsets Report s turns first lives reported comes.0
+    EachKeepsOffsets Report s turns first lives reported comes.replayed
 EachRunKeepsOffsets turns (Runs s ticks) old new reported comes =
     RunKeepsOffsets s ticks turns old new reported comes
 EachRunKeepsOffsets turns (Records s ticks) old new reported comes = Unit {0}

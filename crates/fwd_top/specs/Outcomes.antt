@@ -9,12 +9,15 @@ use Rattle.fwd_backlog.specs.declared.file_read.FileRead.{FileRead}
 use Rattle.fwd_backlog.specs.declared.load.Backlog.{Backlog}
 use Rattle.fwd_backlog.specs.LoadProgram.{IsBacklog, load_program}
 use Rattle.fwd_report.specs.Listing.{IsListing}
+use Rattle.fwd_settings.specs.declared.settings_types.AllSettings.{AllSettings}
+use Rattle.fwd_script.specs.declared.schedule.Life.{Life}
 use Rattle.fwd_model.specs.CallLogs.{CallLogs}
 use Rattle.fwd_replay.specs.LiveRun.{IsRunLive}
 use Rattle.fwd_replay.specs.Runs.{IsReplayed, first}
 use Rattle.fwd_replay.specs.declared.report.Ending.{Ending}
 use Rattle.fwd_replay.specs.declared.report.Ending.TheVariants as ending
 use Rattle.fwd_replay.specs.declared.report.Reported.{Reported}
+use Rattle.fwd_replay.specs.declared.report.Shown.{Shown}
 use Rattle.fwd_replay.specs.declared.report.Shown.TheVariants.{All, Report}
 use Rattle.fwd_top.specs.Cases.{Case, Replays, Generates, Runs, Records, Lists, Refuses}
 
@@ -54,17 +57,24 @@ IsListed root old new text ending.TurnsSpent = ⊥
 IsListed root old new text ending.KeeperFailed = ⊥
 IsListed root old new text ending.LoopFailed = ⊥
 
--- The outcome of a case, and the calls on the devices for it. A schedule and a generated load are
--- replayed without them, and a listing calls the disk alone. That of a run that is to be recorded is
--- `RecordedOutcome`.
+-- a schedule was replayed, without a device
+pub record ReplaysAlone (shown : Shown) (s : AllSettings) (turns : ℕ) (lives : List Life) (old new : Platform)
+    (reported : Reported) : Type 0 where
+  pub replayed : IsReplayed shown s turns first lives reported
+  pub uncalled : AreNotCalled old new
+
+-- a folder was listed, with calls on the disk alone
+pub record ListsAlone (root : List ℕ) (old new : Platform) (reported : Reported) : Type 0 where
+  pub listed : IsListed root old.disk new.disk reported.text reported.ending
+  pub files : LogGrew old.files new.files []
+  pub loop : LogGrew old.loop new.loop []
+  pub keeper : LogGrew old.keeper new.keeper []
+
+-- The outcome of a case. That of a run that is to be recorded is `RecordedOutcome`.
 abbrev pub Produces : ℕ → Case → Platform → Platform → Reported → Type 0
-Produces turns (Replays s lives) old new reported =
-    IsReplayed All s turns first lives reported × AreNotCalled old new
-Produces turns (Generates s lives) old new reported =
-    IsReplayed Report s turns first lives reported × AreNotCalled old new
+Produces turns (Replays s lives) old new reported = ReplaysAlone All s turns lives old new reported
+Produces turns (Generates s lives) old new reported = ReplaysAlone Report s turns lives old new reported
 Produces turns (Runs s ticks) old new reported = IsRunLive s ticks turns (world old) (world new) reported
 Produces turns (Records s ticks) old new reported = ⊥
-Produces turns (Lists root) old new reported =
-    IsListed root old.disk new.disk reported.text reported.ending
-    × (LogGrew old.files new.files [] × LogGrew old.loop new.loop [] × LogGrew old.keeper new.keeper [])
+Produces turns (Lists root) old new reported = ListsAlone root old new reported
 Produces turns (Refuses other) old new reported = ⊥

@@ -12,7 +12,6 @@
 //! clauses `promise` and `crashes` in words.
 #![tactic(auto)]
 
-mod contents;
 mod crash_consistency;
 mod determinism;
 mod guarantee;
@@ -20,8 +19,10 @@ mod job;
 mod offsets;
 mod record;
 mod recording;
+mod sent_records;
 mod status;
 mod top;
+mod turns;
 mod words;
 
 pub use fwd_config::{ConfigKind, Place};

@@ -4,14 +4,13 @@ ghost use Rattle.std.specs.Prelude.{◌≡◌, ◌≤◌, IsErrOf};
 ghost use Rattle.fwd_outside.specs.Cause.{HasCause};
 ghost use Rattle.fwd_config.specs.Variables.{environment};
 ghost use Rattle.fwd_engine_state.specs.LoopCounters.{EventsTaken};
-ghost use Rattle.fwd_top.specs.Answers.{Answers, IsDiskFault, IsKeeperFault, IsLoopFault, IsOfTheFiles, SpendsTurns, devices, half, of_ran, of_recorded, of_reported, spent, status_of};
+ghost use Rattle.fwd_top.specs.Answers.{of_ran, of_recorded, of_reported, status_of};
+ghost use Rattle.fwd_top.specs.Forwards.{Forwards};
 ghost use Rattle.fwd_top.specs.Cases.{AreSound};
 ghost use Rattle.fwd_top.specs.Outcomes.{IsListed, platform_of};
-ghost use Rattle.fwd_top.specs.Taped.{IsTaped};
 ghost use Rattle.fwd_replay.specs.declared.report.Ending.TheVariants as ending;
 ghost use Rattle.fwd_top.specs.Results.{HasDiskFailed, HasKeeperFailed, HasLoopFailed, JobProduces, WritesText, WritesVerdict, Writes, given_by, of_job, settings_in};
 
-use crate::contents::outcomes_send_contents;
 use crate::crash_consistency::outcomes_are_crash_consistent;
 use crate::determinism::outcomes_are_determined;
 use crate::guarantee::outcomes_are_delivered;
@@ -19,7 +18,9 @@ use crate::job::{Job, read_job};
 use crate::offsets::outcomes_keep_offsets;
 use crate::record::write_record;
 use crate::recording::recorded_outcomes_hold;
+use crate::sent_records::outcomes_send_records;
 use crate::status::Status;
+use crate::turns::spent_turns_were_few;
 use fwd_keeper::Keeper;
 use fwd_outside::{Bytes, Disk, Files, Loop, Memory, Sink, SinkErr};
 use fwd_replay::{Ending, Ran, Reported, Shown, replay, run_live, run_recorded};
@@ -198,24 +199,56 @@ pub fn watched_forwarder<D: Disk, F: Files, L: Loop, K: Keeper, S: Sink, T: Sink
     turns: u64,
     watch: &mut impl Watch,
 ) -> Status
-    ensures answers { Answers words.now (environment env.now) turns (devices (D.call_log disk.old) (F.call_log files.old) (L.call_log outside.old) (K.call_log keeper.old) (S.call_log out.old) (T.call_log tape.old) (L.counts outside.old).endless) (devices (D.call_log disk.new) (F.call_log files.new) (L.call_log outside.new) (K.call_log keeper.new) (S.call_log out.new) (T.call_log tape.new) (L.counts outside.new).endless) result }
-    ensures text { IsOfTheFiles words.now (environment env.now) turns (devices (D.call_log disk.old) (F.call_log files.old) (L.call_log outside.old) (K.call_log keeper.old) (S.call_log out.old) (T.call_log tape.old) (L.counts outside.old).endless) (devices (D.call_log disk.new) (F.call_log files.new) (L.call_log outside.new) (K.call_log keeper.new) (S.call_log out.new) (T.call_log tape.new) (L.counts outside.new).endless) result }
-    ensures file_cause { HasCause (F.faults files.old) (F.faults files.new) (result ≡ Status.FileFault) }
-    ensures disk_cause { HasCause (D.faults disk.old) (D.faults disk.new) (IsDiskFault words.now result) }
-    ensures keeper_cause { HasCause (K.faults keeper.old) (K.faults keeper.new) (IsKeeperFault words.now result) }
-    ensures loop_cause { HasCause (L.faults outside.old) (L.faults outside.new) (IsLoopFault words.now result) }
-    ensures heard { EventsTaken (half (spent words.now turns result)) (L.counts outside.old) (L.counts outside.new) }
-    ensures turns { result ≡ Status.TurnsSpent → SpendsTurns words.now (environment env.now) turns (F.call_log files.old) (L.counts outside.old) (L.counts outside.new) }
-    ensures out_cause { HasCause (S.faults out.old) (S.faults out.new) (result ≡ Status.OutFault) }
-    ensures taped { IsTaped words.now turns (devices (D.call_log disk.old) (F.call_log files.old) (L.call_log outside.old) (K.call_log keeper.old) (S.call_log out.old) (T.call_log tape.old) (L.counts outside.old).endless) (devices (D.call_log disk.new) (F.call_log files.new) (L.call_log outside.new) (K.call_log keeper.new) (S.call_log out.new) (T.call_log tape.new) (L.counts outside.new).endless) result }
-    ensures tape_cause { HasCause (T.faults tape.old) (T.faults tape.new) (result ≡ Status.RecordFault) }
+    ensures { Forwards words.now (environment env.now) turns
+        (record {
+          logs = record {
+            disk = D.call_log disk.old;
+            files = F.call_log files.old;
+            loop = L.call_log outside.old;
+            keeper = K.call_log keeper.old;
+            sink = S.call_log out.old;
+            tape = T.call_log tape.old;
+            endless = (L.counts outside.old).endless;
+          };
+          counts = L.counts outside.old;
+          faults = record {
+            disk = D.faults disk.old;
+            files = F.faults files.old;
+            loop = L.faults outside.old;
+            keeper = K.faults keeper.old;
+            sink = S.faults out.old;
+            tape = T.faults tape.old;
+          };
+        })
+        (record {
+          logs = record {
+            disk = D.call_log disk.new;
+            files = F.call_log files.new;
+            loop = L.call_log outside.new;
+            keeper = K.call_log keeper.new;
+            sink = S.call_log out.new;
+            tape = T.call_log tape.new;
+            endless = (L.counts outside.new).endless;
+          };
+          counts = L.counts outside.new;
+          faults = record {
+            disk = D.faults disk.new;
+            files = F.faults files.new;
+            loop = L.faults outside.new;
+            keeper = K.faults keeper.new;
+            sink = S.faults out.new;
+            tape = T.faults tape.new;
+          };
+        })
+        result }
 {
     outcomes_are_delivered();
     outcomes_are_crash_consistent();
     outcomes_keep_offsets();
-    outcomes_send_contents();
+    outcomes_send_records();
     outcomes_are_determined();
     recorded_outcomes_hold();
+    spent_turns_were_few();
     match read_job(alloc, words, env, files, watch) {
         Ok(job) => {
             let went = run_job(rt, alloc, job, disk, files, outside, keeper, turns, watch);
@@ -251,46 +284,69 @@ pub fn log_forwarder<D: Disk, F: Files, L: Loop, K: Keeper, S: Sink, T: Sink>(
     tape: &mut T,
     turns: u64,
 ) -> Status
-    // The calls on the files are those of the program's asking, and then those on all devices are those
-    // of the reference model, or for a listing those of loading on the disk; the text is written.
-    // Each run that was made keeps the delivery guarantee (`Outcome.delivered`), up to its last whole turn if
-    // memory ran out in a live run: complete input is accepted, or
-    // refused and counted, or followed the drop of its connection; each chunk is, for each output that it
-    // matches, delivered in full, failed, out of retries, evicted, marked done before, or still pending
-    // and in the report; the bytes sent over each link are a prefix of the payload of its flush, and each flush
-    // begins with the events of its chunk. Each batch is decided once, each reply is due, and a refusal, the
-    // end of retries and an eviction have their causes.
-    // If appends are fsynced, no crash loses a pending file-backed chunk (`Outcome.safe`): the next run of a
-    // schedule recovers it, whole, and pending for the same outputs; at each point of a run, even inside a call
-    // on the disk, whatever a crash leaves has the file of each such chunk. The next run that loads it finds
-    // each batch that was accepted before, and so each forward message that was answered before: whole, and
-    // pending for each output that matches it and hadn't resolved it.
-    // Each flush began with the events of its chunk, also if appends aren't fsynced (`Outcome.contents`): for a
-    // chunk in a file, those of all bytes that were accepted into it, or recovered. For a live run this assumes
-    // that, when it began, each name had a file, or had none that a crash could bring back.
-    // Each offset of a followed file that is put has nothing lost before it (`Outcome.offsets`): each batch that
-    // was complete by then was accepted, or refused and counted, or has no events. The next run reads on from
-    // the offset that the keeper gives.
+    // Each field of `Forwards` says what it means. `Forwards.answers` has, by what the words ask for, what holds of a run:
+    // Each run that was made keeps the delivery guarantee (`Outcome.delivered`), up to its last whole turn if memory ran
+    // out in a live run: complete input is accepted, or refused and counted, or followed the drop of its connection;
+    // each chunk is, for each output that it matches, delivered in full, failed, out of retries, evicted, marked done
+    // before, or still pending and in the report; the bytes sent over each link are a prefix of the payload of its flush.
+    // Each batch is decided once, each reply is due, and a refusal, the end of retries and an eviction have their causes.
+    // If appends are fsynced, no crash loses a pending file-backed chunk (`Outcome.safe`): the next run of a schedule
+    // recovers it, whole, and pending for the same outputs; at each point of a run, even inside a call on the disk,
+    // whatever a crash leaves has the file of each such chunk. The next run that loads it finds each batch that was
+    // accepted before, and so each forward message that was answered before: whole, and pending for each output that
+    // matches it and hadn't resolved it.
+    // Each flush began with the records of its chunk, also if appends aren't fsynced (`Outcome.records`): all events that
+    // were accepted into it, in order, or those of its recovered file. For a live run this assumes that, when it began,
+    // each name had a file, or had none that a crash could bring back.
+    // Each offset of a followed file that is put has nothing lost before it (`Outcome.offsets`): each batch that was
+    // complete by then was accepted, or refused and counted, or has no events. The next run reads on from the offset that
+    // the keeper gives.
     // A replay is the only one of its schedule (`Outcome.determined`), unless memory ran out.
-    ensures answers { Answers words.now (environment env.now) turns (devices (D.call_log disk.old) (F.call_log files.old) (L.call_log outside.old) (K.call_log keeper.old) (S.call_log out.old) (T.call_log tape.old) (L.counts outside.old).endless) (devices (D.call_log disk.new) (F.call_log files.new) (L.call_log outside.new) (K.call_log keeper.new) (S.call_log out.new) (T.call_log tape.new) (L.counts outside.new).endless) result }
-    ensures text { IsOfTheFiles words.now (environment env.now) turns (devices (D.call_log disk.old) (F.call_log files.old) (L.call_log outside.old) (K.call_log keeper.old) (S.call_log out.old) (T.call_log tape.old) (L.counts outside.old).endless) (devices (D.call_log disk.new) (F.call_log files.new) (L.call_log outside.new) (K.call_log keeper.new) (S.call_log out.new) (T.call_log tape.new) (L.counts outside.new).endless) result }
-    ensures file_cause { HasCause (F.faults files.old) (F.faults files.new) (result ≡ Status.FileFault) }
-    // A run answers `DiskFault`, `KeeperFault` or `LoopFault` only if a failure of its disk, its keeper or
-    // its loop was counted, and `TurnsSpent` only if the loop returned half as many events at least, or as many if no
-    // input and no output has a key (`turns`): an event of a keyed one becomes two at most; a listing answers `DiskFault` only if a failure of the disk was counted.
-    ensures disk_cause { HasCause (D.faults disk.old) (D.faults disk.new) (IsDiskFault words.now result) }
-    ensures keeper_cause { HasCause (K.faults keeper.old) (K.faults keeper.new) (IsKeeperFault words.now result) }
-    ensures loop_cause { HasCause (L.faults outside.old) (L.faults outside.new) (IsLoopFault words.now result) }
-    ensures heard { EventsTaken (half (spent words.now turns result)) (L.counts outside.old) (L.counts outside.new) }
-    ensures turns { result ≡ Status.TurnsSpent → SpendsTurns words.now (environment env.now) turns (F.call_log files.old) (L.counts outside.old) (L.counts outside.new) }
-    ensures out_cause { HasCause (S.faults out.old) (S.faults out.new) (result ≡ Status.OutFault) }
     // With `--record`, the same is said of the run, and each replay of what was recorded is this run again
-    // (`RecordedOutcome.replays`). `Done` and `TurnsSpent` come only after the whole schedule of the run was written to `tape`.
-    // Its one life has what the loop brought and answered and the disk calls that failed, and it is read back.
-    // `RecordFault` comes only if a failure of `tape` was counted, and the report is whole then. `NotRecordable`
-    // comes if an input follows files or loading found one, and then nothing was started.
-    ensures taped { IsTaped words.now turns (devices (D.call_log disk.old) (F.call_log files.old) (L.call_log outside.old) (K.call_log keeper.old) (S.call_log out.old) (T.call_log tape.old) (L.counts outside.old).endless) (devices (D.call_log disk.new) (F.call_log files.new) (L.call_log outside.new) (K.call_log keeper.new) (S.call_log out.new) (T.call_log tape.new) (L.counts outside.new).endless) result }
-    ensures tape_cause { HasCause (T.faults tape.old) (T.faults tape.new) (result ≡ Status.RecordFault) }
+    // (`RecordedOutcome.replays`). The schedule has what the loop brought and answered and the disk calls that failed, and
+    // it is read back. `NotRecordable` comes if an input follows files or loading found one, and then nothing was started.
+    ensures { Forwards words.now (environment env.now) turns
+        (record {
+          logs = record {
+            disk = D.call_log disk.old;
+            files = F.call_log files.old;
+            loop = L.call_log outside.old;
+            keeper = K.call_log keeper.old;
+            sink = S.call_log out.old;
+            tape = T.call_log tape.old;
+            endless = (L.counts outside.old).endless;
+          };
+          counts = L.counts outside.old;
+          faults = record {
+            disk = D.faults disk.old;
+            files = F.faults files.old;
+            loop = L.faults outside.old;
+            keeper = K.faults keeper.old;
+            sink = S.faults out.old;
+            tape = T.faults tape.old;
+          };
+        })
+        (record {
+          logs = record {
+            disk = D.call_log disk.new;
+            files = F.call_log files.new;
+            loop = L.call_log outside.new;
+            keeper = K.call_log keeper.new;
+            sink = S.call_log out.new;
+            tape = T.call_log tape.new;
+            endless = (L.counts outside.new).endless;
+          };
+          counts = L.counts outside.new;
+          faults = record {
+            disk = D.faults disk.new;
+            files = F.faults files.new;
+            loop = L.faults outside.new;
+            keeper = K.faults keeper.new;
+            sink = S.faults out.new;
+            tape = T.faults tape.new;
+          };
+        })
+        result }
 {
     watched_forwarder(
         rt,

@@ -8,5 +8,5 @@ pub returns : goal.returns
 returns c s ticks turns old new endless reported made sound run can unheld turns2 replayed shows unspent enough =
     let needs = needs_of c.disks_answer_as_in_memory.ensures s ticks turns run.recovery run.trace run.below run.handshakes run.result run.seen sound run.loads run.way run.is_seen can in
     replays_the_run s run.trace run.below run.result run.seen reported turns2 run.ended run.reports
-    (λ replay comes is left. replay_seen s (untailed_paths s run.untailed) turns run.result endless run.ended ticks run.trace run.below run.handshakes run.seen run.way run.is_seen run.links run.allowed run.new_links needs unheld turns2 replay comes is left)
+    (λ replay comes is left. replay_seen s (untailed_paths s run.untailed) turns run.result endless run.ended ticks run.trace run.below run.handshakes run.seen run.way run.is_seen run.answers run.allowed run.new_links needs unheld turns2 replay comes is left)
     replayed shows unspent enough

@@ -11,8 +11,8 @@ pub returns : goal.returns
 returns c turns case old new reported comes sound later = by case comes sound later
   where
     by : (case : Case) (comes : Produces turns case old new reported) → AreSound (settings_for case) → OnlyFirstHasFiles (lives_of case) → IsCrashConsistent turns case old new reported comes
-    by (Replays s lives) comes sound later = λ synced. c.no_crash_loses_a_chunk.ensures All s turns lives reported sound synced later comes.0
-    by (Generates s lives) comes sound later = λ synced. c.no_crash_loses_a_chunk.ensures Report s turns lives reported sound synced later comes.0
+    by (Replays s lives) comes sound later = λ synced. c.no_crash_loses_a_chunk.ensures All s turns lives reported sound synced later comes.replayed
+    by (Generates s lives) comes sound later = λ synced. c.no_crash_loses_a_chunk.ensures Report s turns lives reported sound synced later comes.replayed
     by (Runs s ticks) (RanToEnd lived) sound later = λ synced. record {
       files = λ start fresh. c.crash_points_are_safe.ensures s (ends_of s) ticks turns start lived.trace _ sound synced fresh lived.way;
       accepted = λ start fresh. c.accepted_batches_survive.ensures s (ends_of s) ticks turns start lived.trace _ sound synced fresh lived.way;

@@ -8,8 +8,8 @@ pub returns : goal.returns
 returns c turns case old new reported comes = by case comes
   where
     by : (case : Case) → Produces turns case old new reported → IsDetermined turns case reported
-    by (Replays s lives) comes = λ other is enough left. c.schedules_determine_text.ensures All s turns lives reported other comes.0 is enough left
-    by (Generates s lives) comes = λ other is enough left. c.schedules_determine_text.ensures Report s turns lives reported other comes.0 is enough left
+    by (Replays s lives) comes = λ other is enough left. c.schedules_determine_text.ensures All s turns lives reported other comes.replayed is enough left
+    by (Generates s lives) comes = λ other is enough left. c.schedules_determine_text.ensures Report s turns lives reported other comes.replayed is enough left
     by (Runs s ticks) comes = tt
     by (Records s ticks) comes = tt
     by (Lists root) comes = tt

@@ -12,8 +12,8 @@ pub returns : goal.returns
 returns c turns case old new reported comes = by case comes
   where
     by : (case : Case) (comes : Produces turns case old new reported) → EachRunKeepsOffsets turns case old new reported comes
-    by (Replays s lives) comes = each_keeps_offsets c.put_offsets_are_passed.ensures c.kept_offsets_split_files.ensures c.runs_resume_at_kept_offsets.ensures.begun All s turns first lives reported comes.0
-    by (Generates s lives) comes = each_keeps_offsets c.put_offsets_are_passed.ensures c.kept_offsets_split_files.ensures c.runs_resume_at_kept_offsets.ensures.begun Report s turns first lives reported comes.0
+    by (Replays s lives) comes = each_keeps_offsets c.put_offsets_are_passed.ensures c.kept_offsets_split_files.ensures c.runs_resume_at_kept_offsets.ensures.begun All s turns first lives reported comes.replayed
+    by (Generates s lives) comes = each_keeps_offsets c.put_offsets_are_passed.ensures c.kept_offsets_split_files.ensures c.runs_resume_at_kept_offsets.ensures.begun Report s turns first lives reported comes.replayed
     by (Runs s ticks) (RanToEnd lived) = keeps_offsets c.put_offsets_are_passed.ensures c.kept_offsets_split_files.ensures c.runs_resume_at_kept_offsets.ensures.begun s (ends_of s) ticks turns lived.trace _ lived.way
     by (Runs s ticks) (RanOutOfMemory begun none) = keeps_offsets c.put_offsets_are_passed.ensures c.kept_offsets_split_files.ensures c.runs_resume_at_kept_offsets.ensures.begun s (ends_of s) ticks turns begun.trace begun.left begun.way
     by (Records s ticks) comes = tt

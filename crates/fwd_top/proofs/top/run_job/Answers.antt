@@ -35,7 +35,10 @@ pub returns-in-Record-clause-disk_cause : goal.returns-in-Record-clause-disk_cau
 returns-in-Record-clause-disk_cause g c = rw c.in-Record.is c.run_recorded.ensures.disk_cause
 
 pub returns-in-Replay-clause-comes : goal.returns-in-Replay-clause-comes
-returns-in-Replay-clause-comes g c = rw c.in-Replay.is (c.replay.ensures, still (platform_of (g.D.Disk.call_log c.args.disk.now) (g.F.Files.call_log c.args.files.now) (g.L.Loop.call_log c.args.outside.now) (g.K.Keeper.call_log c.args.keeper.now) (g.L.Loop.counts c.args.outside.now).endless))
+returns-in-Replay-clause-comes g c = rw c.in-Replay.is (record {
+  replayed = c.replay.ensures;
+  uncalled = still (platform_of (g.D.Disk.call_log c.args.disk.now) (g.F.Files.call_log c.args.files.now) (g.L.Loop.call_log c.args.outside.now) (g.K.Keeper.call_log c.args.keeper.now) (g.L.Loop.counts c.args.outside.now).endless);
+})
 
 pub returns-in-Replay-clause-heard : goal.returns-in-Replay-clause-heard
 returns-in-Replay-clause-heard g c = rw c.in-Replay.is (heard_none (g.L.Loop.counts c.args.outside.now))
@@ -50,7 +53,10 @@ pub returns-in-Replay-clause-disk_cause : goal.returns-in-Replay-clause-disk_cau
 returns-in-Replay-clause-disk_cause g c = rw c.in-Replay.is (no_cause (g.D.Disk.faults c.args.disk.now) (λ none. none))
 
 pub returns-in-Generate-clause-comes : goal.returns-in-Generate-clause-comes
-returns-in-Generate-clause-comes g c = rw c.in-Generate.is (c.replay-in-Generate.ensures, still (platform_of (g.D.Disk.call_log c.args.disk.now) (g.F.Files.call_log c.args.files.now) (g.L.Loop.call_log c.args.outside.now) (g.K.Keeper.call_log c.args.keeper.now) (g.L.Loop.counts c.args.outside.now).endless))
+returns-in-Generate-clause-comes g c = rw c.in-Generate.is (record {
+  replayed = c.replay-in-Generate.ensures;
+  uncalled = still (platform_of (g.D.Disk.call_log c.args.disk.now) (g.F.Files.call_log c.args.files.now) (g.L.Loop.call_log c.args.outside.now) (g.K.Keeper.call_log c.args.keeper.now) (g.L.Loop.counts c.args.outside.now).endless);
+})
 
 pub returns-in-Generate-clause-heard : goal.returns-in-Generate-clause-heard
 returns-in-Generate-clause-heard g c = rw c.in-Generate.is (heard_none (g.L.Loop.counts c.args.outside.now))
@@ -65,4 +71,9 @@ pub returns-in-Generate-clause-disk_cause : goal.returns-in-Generate-clause-disk
 returns-in-Generate-clause-disk_cause g c = rw c.in-Generate.is (no_cause (g.D.Disk.faults c.args.disk.now) (λ none. none))
 
 pub returns-in-List-clause-comes : goal.returns-in-List-clause-comes
-returns-in-List-clause-comes g c = rw c.in-List.is (rw c.as_slice.ensures at c.list_folder.ensures.lists, (grew_none (g.F.Files.call_log c.args.files.now), grew_none (g.L.Loop.call_log c.args.outside.now), grew_none (g.K.Keeper.call_log c.args.keeper.now)))
+returns-in-List-clause-comes g c = rw c.in-List.is (record {
+  listed = rw c.as_slice.ensures at c.list_folder.ensures.lists;
+  files = grew_none (g.F.Files.call_log c.args.files.now);
+  loop = grew_none (g.L.Loop.call_log c.args.outside.now);
+  keeper = grew_none (g.K.Keeper.call_log c.args.keeper.now);
+})

@@ -6,7 +6,7 @@ use Rattle.fwd_secure.proofs.secure_loop.SecureLoopLoop.wait.Goals as goal
 pub invariant_of-self : goal.invariant_of-self
 invariant_of-self g c =
     wait_closes c.self.invariant c.if-self.false Memory c.args.until c.args.paused c.in-Ok.brought _ _ _ _ c.in-Ok.ensures.calls c.in-Ok.ensures.counted
-    (wait_failed _ _ c.args.until c.args.paused c.in-Ok.brought c.in-Ok.ensures.cause) c.saturating_add-self-inside.ensures c.then-self-inside.ensures.1
+    (wait_failed _ _ c.args.until c.args.paused c.in-Ok.brought c.in-Ok.ensures.cause) c.are_bytes.ensures c.saturating_add-self-inside.ensures c.then-self-inside.ensures.1
 
 pub invariant_of-self-in-Err : goal.invariant_of-self-in-Err
 invariant_of-self-in-Err g c =
