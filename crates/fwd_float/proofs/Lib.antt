@@ -1,0 +1,9 @@
+pub mod Words
+pub mod Fractions
+pub mod Quotients
+pub mod Sizes
+pub mod Reading
+pub mod Search
+pub mod Written
+pub mod Texts
+pub mod Fewest
