@@ -1,3 +1,2 @@
 pub mod ObjectPairs
 pub mod TextLoops
-mod FloatNumbers

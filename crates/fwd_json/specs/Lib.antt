@@ -1,3 +1,2 @@
 pub mod LinePairs
 pub mod Text
-pub mod FloatLaws

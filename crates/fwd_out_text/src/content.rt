@@ -8,9 +8,8 @@ ghost use Rattle.fwd_out_text.specs.Payload.{record_of, payload_of};
 
 use crate::payload::write_record;
 use crate::transcode::write_encoded;
-use fwd_base::{Bytes, Memory};
+use fwd_base::{Bytes, Form, Memory};
 use fwd_event::{Event, event_of};
-use fwd_json::PayloadForm;
 use fwd_msgpack::{DecodeErr, decode};
 use std::alloc::Global;
 
@@ -18,7 +17,7 @@ use std::alloc::Global;
 /// of events.
 pub fn payload_of_content(
     alloc: Global,
-    form: PayloadForm,
+    form: Form,
     tag: &[u8],
     content: &[u8],
 ) -> Result<Option<Bytes>, Memory>
@@ -38,7 +37,7 @@ pub fn payload_of_content(
 /// events.
 fn write_content(
     alloc: Global,
-    form: PayloadForm,
+    form: Form,
     tag: &[u8],
     content: &[u8],
     out: &mut Bytes,
@@ -60,7 +59,7 @@ fn write_content(
 /// there is none.
 fn write_next(
     alloc: Global,
-    form: PayloadForm,
+    form: Form,
     tag: &[u8],
     content: &[u8],
     at: usize,
@@ -81,7 +80,7 @@ fn write_next(
 /// is none.
 fn write_read(
     alloc: Global,
-    form: PayloadForm,
+    form: Form,
     tag: &[u8],
     bytes: &[u8],
     out: &mut Bytes,

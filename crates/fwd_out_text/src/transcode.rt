@@ -15,7 +15,7 @@ use crate::header::{event_head, split_text};
 use crate::record_text::{write_date, write_tag};
 use fwd_base::limits::DEEPEST;
 use fwd_base::{Bytes, Form, Memory};
-use fwd_json::{Floats, PayloadForm, key_text, string_text, value_text};
+use fwd_json::{key_text, string_text, value_text};
 use fwd_msgpack::decode;
 use std::alloc::Global;
 
@@ -27,7 +27,7 @@ const MEMBER_DEPTH: u64 = DEEPEST as u64 - 2;
 /// writes, has metadata, or has a key that isn't a text.
 pub fn write_encoded(
     alloc: Global,
-    form: PayloadForm,
+    form: Form,
     tag: &[u8],
     bytes: &[u8],
     out: &mut Bytes,
@@ -46,7 +46,7 @@ pub fn write_encoded(
 /// The same, but `out` may end in an unfinished line if this returns `None`.
 fn write_partial(
     alloc: Global,
-    form: PayloadForm,
+    form: Form,
     tag: &[u8],
     bytes: &[u8],
     out: &mut Bytes,
@@ -54,28 +54,23 @@ fn write_partial(
     ensures given { IfOk result (λ found. IfSome found (λ n. (e : Event) × StartsWithEvent e n bytes.now × (out.new ≡ out.old ++ record_of form tag.now e))) }
     ensures kept { OnOk result (KeepsFront out.old out.new) }
 {
-    match form.form {
-        Form::JsonLines => write_line(alloc, bytes, form.floats, out),
-        Form::OutFile => write_tagged(alloc, tag, bytes, form.floats, out),
+    match form {
+        Form::JsonLines => write_line(alloc, bytes, out),
+        Form::OutFile => write_tagged(alloc, tag, bytes, out),
         Form::MsgPack => Ok(None),
     }
 }
 
 /// Appends the JSON line of the event that the bytes start with, and returns its encoded length.
-fn write_line(
-    alloc: Global,
-    bytes: &[u8],
-    floats: Floats,
-    out: &mut Bytes,
-) -> Result<Option<usize>, Memory>
-    ensures given { IfOk result (λ found. IfSome found (λ n. (e : Event) × StartsWithEvent e n bytes.now × (out.new ≡ out.old ++ json_line floats e))) }
+fn write_line(alloc: Global, bytes: &[u8], out: &mut Bytes) -> Result<Option<usize>, Memory>
+    ensures given { IfOk result (λ found. IfSome found (λ n. (e : Event) × StartsWithEvent e n bytes.now × (out.new ≡ out.old ++ json_line e))) }
     ensures kept { OnOk result (KeepsFront out.old out.new) }
 {
     let Some((sec, nsec, count, pairs)) = event_head(bytes) else {
         return Ok(None);
     };
     write_date(sec, nsec, out)?;
-    match write_pairs(alloc, count, pairs, floats, out)? {
+    match write_pairs(alloc, count, pairs, out)? {
         Some(rest) => {
             out.extend_from_slice(b"}\n")?;
             Ok(Some(bytes.len() - rest.len()))
@@ -89,17 +84,16 @@ fn write_tagged(
     alloc: Global,
     tag: &[u8],
     bytes: &[u8],
-    floats: Floats,
     out: &mut Bytes,
 ) -> Result<Option<usize>, Memory>
-    ensures given { IfOk result (λ found. IfSome found (λ n. (e : Event) × StartsWithEvent e n bytes.now × (out.new ≡ out.old ++ tagged_line floats tag.now e))) }
+    ensures given { IfOk result (λ found. IfSome found (λ n. (e : Event) × StartsWithEvent e n bytes.now × (out.new ≡ out.old ++ tagged_line tag.now e))) }
     ensures kept { OnOk result (KeepsFront out.old out.new) }
 {
     let Some((sec, nsec, count, pairs)) = event_head(bytes) else {
         return Ok(None);
     };
     write_tag(tag, sec, nsec, out)?;
-    match write_map(alloc, count, pairs, floats, out)? {
+    match write_map(alloc, count, pairs, out)? {
         Some(rest) => {
             out.extend_from_slice(b"]\n")?;
             Ok(Some(bytes.len() - rest.len()))
@@ -113,14 +107,13 @@ fn write_map<'b>(
     alloc: Global,
     count: usize,
     bytes: &'b [u8],
-    floats: Floats,
     out: &mut Bytes,
 ) -> Result<Option<&'b [u8]>, Memory>
-    ensures given { IfOk result (λ found. IfSome found (λ rest. (pairs : List (Val × Val)) × (length pairs ≡ count) × StartsWithPairs pairs rest.now bytes.now × (out.new ≡ out.old ++ json floats (mapping (entries_of pairs))))) }
+    ensures given { IfOk result (λ found. IfSome found (λ rest. (pairs : List (Val × Val)) × (length pairs ≡ count) × StartsWithPairs pairs rest.now bytes.now × (out.new ≡ out.old ++ json (mapping (entries_of pairs))))) }
     ensures kept { OnOk result (KeepsFront out.old out.new) }
 {
     out.push(b'{')?;
-    match write_members(alloc, count, bytes, floats, out)? {
+    match write_members(alloc, count, bytes, out)? {
         Some(rest) => {
             out.push(b'}')?;
             Ok(Some(rest))
@@ -134,17 +127,16 @@ fn write_members<'b>(
     alloc: Global,
     count: usize,
     bytes: &'b [u8],
-    floats: Floats,
     out: &mut Bytes,
 ) -> Result<Option<&'b [u8]>, Memory>
-    ensures given { IfOk result (λ found. IfSome found (λ rest. (pairs : List (Val × Val)) × (length pairs ≡ count) × StartsWithPairs pairs rest.now bytes.now × (out.new ≡ out.old ++ pairs_text floats (entries_of pairs)))) }
+    ensures given { IfOk result (λ found. IfSome found (λ rest. (pairs : List (Val × Val)) × (length pairs ≡ count) × StartsWithPairs pairs rest.now bytes.now × (out.new ≡ out.old ++ pairs_text (entries_of pairs)))) }
     ensures kept { OnOk result (KeepsFront out.old out.new) }
 {
     if count == 0 {
         return Ok(Some(bytes));
     }
-    match write_pair(alloc, bytes, floats, out)? {
-        Some(rest) => write_pairs(alloc, count - 1, rest, floats, out),
+    match write_pair(alloc, bytes, out)? {
+        Some(rest) => write_pairs(alloc, count - 1, rest, out),
         None => Ok(None),
     }
 }
@@ -154,16 +146,15 @@ fn write_pairs<'b>(
     alloc: Global,
     count: usize,
     bytes: &'b [u8],
-    floats: Floats,
     out: &mut Bytes,
 ) -> Result<Option<&'b [u8]>, Memory>
-    ensures given { IfOk result (λ found. IfSome found (λ rest. (pairs : List (Val × Val)) × (length pairs ≡ count) × StartsWithPairs pairs rest.now bytes.now × (out.new ≡ out.old ++ more_pairs floats (entries_of pairs)))) }
+    ensures given { IfOk result (λ found. IfSome found (λ rest. (pairs : List (Val × Val)) × (length pairs ≡ count) × StartsWithPairs pairs rest.now bytes.now × (out.new ≡ out.old ++ more_pairs (entries_of pairs)))) }
     ensures kept { OnOk result (KeepsFront out.old out.new) }
 {
     let mut rest = bytes;
     for _ in 0..count {
         out.push(b',')?;
-        match write_pair(alloc, rest, floats, out)? {
+        match write_pair(alloc, rest, out)? {
             Some(behind) => rest = behind,
             None => return Ok(None),
         }
@@ -175,17 +166,16 @@ fn write_pairs<'b>(
 fn write_pair<'b>(
     alloc: Global,
     bytes: &'b [u8],
-    floats: Floats,
     out: &mut Bytes,
 ) -> Result<Option<&'b [u8]>, Memory>
-    ensures given { IfOk result (λ found. IfSome found (λ rest. (p : Val × Val) × StartsWithPair p rest.now bytes.now × (out.new ≡ out.old ++ pair_text floats p))) }
+    ensures given { IfOk result (λ found. IfSome found (λ rest. (p : Val × Val) × StartsWithPair p rest.now bytes.now × (out.new ≡ out.old ++ pair_text p))) }
     ensures kept { OnOk result (KeepsFront out.old out.new) }
 {
     match split_text(bytes) {
         Some((key, rest)) => {
             key_text(alloc, key, out)?;
             out.push(b':')?;
-            write_value(alloc, rest, floats, out)
+            write_value(alloc, rest, out)
         }
         None => Ok(None),
     }
@@ -195,10 +185,9 @@ fn write_pair<'b>(
 fn write_value<'b>(
     alloc: Global,
     bytes: &'b [u8],
-    floats: Floats,
     out: &mut Bytes,
 ) -> Result<Option<&'b [u8]>, Memory>
-    ensures given { IfOk result (λ found. IfSome found (λ rest. (v : Val) × StartsWith v rest.now bytes.now × (nesting v ≤ deepest_member) × (out.new ≡ out.old ++ json floats v))) }
+    ensures given { IfOk result (λ found. IfSome found (λ rest. (v : Val) × StartsWith v rest.now bytes.now × (nesting v ≤ deepest_member) × (out.new ≡ out.old ++ json v))) }
     ensures kept { OnOk result (KeepsFront out.old out.new) }
 {
     match split_text(bytes) {
@@ -206,7 +195,7 @@ fn write_value<'b>(
             string_text(alloc, text, out)?;
             Ok(Some(rest))
         }
-        None => write_decoded(alloc, bytes, floats, out),
+        None => write_decoded(alloc, bytes, out),
     }
 }
 
@@ -214,10 +203,9 @@ fn write_value<'b>(
 fn write_decoded<'b>(
     alloc: Global,
     bytes: &'b [u8],
-    floats: Floats,
     out: &mut Bytes,
 ) -> Result<Option<&'b [u8]>, Memory>
-    ensures given { IfOk result (λ found. IfSome found (λ rest. (v : Val) × StartsWith v rest.now bytes.now × (nesting v ≤ deepest_member) × (out.new ≡ out.old ++ json floats v))) }
+    ensures given { IfOk result (λ found. IfSome found (λ rest. (v : Val) × StartsWith v rest.now bytes.now × (nesting v ≤ deepest_member) × (out.new ≡ out.old ++ json v))) }
     ensures kept { OnOk result (KeepsFront out.old out.new) }
 {
     let Ok((value, length)) = decode(alloc, bytes) else {
@@ -226,7 +214,7 @@ fn write_decoded<'b>(
     if !value.nests_within(MEMBER_DEPTH) {
         return Ok(None);
     }
-    value_text(alloc, &value, floats, out)?;
+    value_text(alloc, &value, out)?;
     let (_, rest) = bytes.split_at(length as usize);
     Ok(Some(rest))
 }

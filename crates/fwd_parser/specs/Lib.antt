@@ -1,4 +1,3 @@
-pub mod Floats
 pub mod Number
 pub mod Time
 pub mod Field

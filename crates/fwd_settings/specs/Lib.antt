@@ -2,7 +2,6 @@ pub mod Reading
 pub mod Service
 pub mod SharedKeys
 pub mod Inputs
-pub mod Floats
 pub mod Filters
 pub mod Outputs
 pub mod Settings

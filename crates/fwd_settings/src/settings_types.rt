@@ -1,9 +1,8 @@
 //! The typed settings of a configuration.
 
-use fwd_base::{Bytes, Items, Names, Retries};
+use fwd_base::{Bytes, Form, Items, Names, Retries};
 use fwd_filters::FilterSteps;
 use fwd_http::{HeaderFields, StatusRanges};
-use fwd_json::PayloadForm;
 use fwd_parser::Parser;
 use std::fmt;
 
@@ -83,18 +82,18 @@ pub type InputSets = Items<InputSet>;
 #[derive(Debug, Drop)]
 pub enum OutputKind {
     Stdout {
-        form: PayloadForm,
+        form: Form,
     },
     /// A file in a folder. Without a name, the tag names it.
     File {
         folder: Bytes,
         file: Option<Bytes>,
-        form: PayloadForm,
+        form: Form,
     },
     Tcp {
         host: Bytes,
         port: u16,
-        form: PayloadForm,
+        form: Form,
     },
     Forward {
         host: Bytes,
@@ -108,7 +107,7 @@ pub enum OutputKind {
         host: Bytes,
         port: u16,
         uri: Bytes,
-        form: PayloadForm,
+        form: Form,
         options: HttpOptions,
     },
 }

@@ -2,7 +2,6 @@ pub mod Options
 pub mod RecordRanges
 pub mod ReshapeRanges
 pub mod FilterRanges
-pub mod FloatRanges
 pub mod JsonRanges
 pub mod TimeRanges
 pub mod LineRanges

@@ -16,7 +16,6 @@ const NAMES: &[&str] = &[
     "storage.metrics",
     "scheduler.base",
     "scheduler.cap",
-    "json.floats",
     "Parsers_File",
     "Plugins_File",
     "Daemon",
