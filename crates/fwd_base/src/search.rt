@@ -74,7 +74,7 @@ fn named_captures<'p, 't>(
     ensures { (text : List ℕ) (m : Found) → IsCapturesOf text m captures.now →
         IfOk result (λ named. map captured named.items ≡ captures_of (names_of names.now) text m) }
 {
-    let mut named = Vec::new(alloc);
+    let mut named = Vec::with_capacity(alloc, names.len())?;
     for n in 1..names.len() {
         push_named(&mut named, &names[n], captures.get(n))?;
     }

@@ -4,6 +4,7 @@ use fwd_base::{Bytes, Memory, Pattern};
 use fwd_event::{Event, Events};
 use fwd_filters::{FilterKind, FilterStep, FilterSteps, filter};
 use fwd_grep::{GrepRule, GrepRules};
+use fwd_parser::Floats;
 use fwd_reshape::{Change, Changes, Conditions, ModifyRules};
 use fwd_value::{Pairs, Value};
 use std::alloc::Global;
@@ -110,6 +111,7 @@ fn grep(alloc: Global, text: &str) -> Result<FilterKind, Memory> {
         exclude: true,
         key,
         pattern,
+        floats: Floats::Tagged,
     })?;
     Ok(FilterKind::Grep(rules))
 }

@@ -2,7 +2,7 @@
 
 use fwd_event::{Bytes, Memory};
 use fwd_frames::{Frames, Lines};
-use fwd_parser::{FieldTypes, Parser, Pattern, Shape, TimeRule};
+use fwd_parser::{FieldTypes, Floats, Parser, Pattern, Shape, TimeRule};
 use std::alloc::Global;
 use std::io;
 use std::time::Instant;
@@ -36,6 +36,7 @@ fn pattern_parser(alloc: Global) -> Result<Parser, Memory> {
             skip_empty: true,
         },
         time: time(alloc)?,
+        floats: Floats::Tagged,
     })
 }
 
@@ -43,6 +44,7 @@ fn json_parser(alloc: Global) -> Result<Parser, Memory> {
     Ok(Parser {
         shape: Shape::Json,
         time: time(alloc)?,
+        floats: Floats::Tagged,
     })
 }
 

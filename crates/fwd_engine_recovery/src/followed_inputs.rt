@@ -6,7 +6,7 @@ ghost use Rattle.fwd_engine_recovery.specs.FollowedPaths.{followed_paths_of};
 use fwd_base::{Bytes, InputId, Memory};
 use fwd_engine_inputs::FollowedFiles;
 use fwd_engine_settings::RunSettings;
-use fwd_parser::{Parser, Shape};
+use fwd_parser::{Floats, Parser, Shape};
 use fwd_settings::{InputKind, InputSet};
 use std::alloc::Global;
 
@@ -40,6 +40,7 @@ fn copy_followed_input(alloc: Global, set: &InputSet) -> Result<InputSet, Memory
         parser: Parser {
             shape: Shape::Plain,
             time: None,
+            floats: Floats::Tagged,
         },
         shared: None,
     })

@@ -9,8 +9,6 @@
 //! One division of exact numbers gives 18 to 20 digits, of which the last are then cut off, one by one, as long
 //! as the parser of `fast_float` reads back the float. The division begins with guesses in 128 bits; a wrong
 //! guess costs time only.
-//!
-//! The program calls nothing of this yet: `fwd_json` writes floats as tagged strings.
 #![tactic(auto)]
 
 mod big;

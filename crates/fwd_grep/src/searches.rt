@@ -2,11 +2,14 @@
 
 ghost use Rattle.std.specs.Prelude.{◌≡◌, map, IfOk};
 ghost use Rattle.fwd_base.specs.Pattern.{search_expression, expression_of};
+ghost use Rattle.fwd_value.specs.Val.{float32, float64};
 ghost use Rattle.fwd_value.specs.View.{val_of};
 ghost use Rattle.fwd_grep.specs.Grep.{is_found, matches, passes, kept, searched_pattern};
 
 use crate::{GrepRule, GrepRules};
 use fwd_base::{Memory, Search};
+use fwd_float::{text32, text64};
+use fwd_json::Floats;
 use fwd_value::{Pairs, Value, value_of};
 use itoa::Buffer;
 use std::alloc::Global;
@@ -45,8 +48,8 @@ impl<'r> GrepSearches<'r> {
     }
 
     /// Returns whether every rule keeps an event with this record. The pattern is compared with the bytes
-    /// of a text or bin, a whole number in decimal, and `true` or `false`; a missing key, and every other
-    /// value, doesn't match.
+    /// of a text or bin, a whole number in decimal, `true` or `false`, and the JSON text of a float that is a
+    /// number in JSON; a missing key, and every other value, doesn't match.
     pub fn keeps(&mut self, body: &Pairs) -> bool
         ensures kept { result ≡ kept self.old body.now }
         ensures same { self.new ≡ self.old }
@@ -95,14 +98,14 @@ fn passes(rule: &GrepRule, search: &mut Search<'_>, body: &Pairs) -> bool
     ensures same { search_expression search.new ≡ search_expression search.old }
 {
     let found = match value_of(body, &rule.key) {
-        Some(value) => matches(search, value),
+        Some(value) => matches(search, rule.floats, value),
         None => false,
     };
     found != rule.exclude
 }
 
-fn matches(search: &mut Search<'_>, value: &Value) -> bool
-    ensures found { result ≡ matches (search_expression search.old) (val_of value.now) }
+fn matches(search: &mut Search<'_>, floats: Floats, value: &Value) -> bool
+    ensures found { result ≡ matches floats (search_expression search.old) (val_of value.now) }
     ensures same { search_expression search.new ≡ search_expression search.old }
 {
     match value {
@@ -117,12 +120,29 @@ fn matches(search: &mut Search<'_>, value: &Value) -> bool
         }
         Value::Truth(true) => hits(search, b"true"),
         Value::Truth(false) => hits(search, b"false"),
-        Value::Nil
-        | Value::Float32(_)
-        | Value::Float64(_)
-        | Value::Ext(_, _)
-        | Value::List(_)
-        | Value::Map(_) => false,
+        Value::Float32(bits) => single_matches(search, floats, *bits),
+        Value::Float64(bits) => double_matches(search, floats, *bits),
+        Value::Nil | Value::Ext(_, _) | Value::List(_) | Value::Map(_) => false,
+    }
+}
+
+fn single_matches(search: &mut Search<'_>, floats: Floats, bits: u32) -> bool
+    ensures found { result ≡ matches floats (search_expression search.old) (float32 bits) }
+    ensures same { search_expression search.new ≡ search_expression search.old }
+{
+    match floats {
+        Floats::Tagged => false,
+        Floats::Numbers => hits(search, text32(bits).as_bytes()),
+    }
+}
+
+fn double_matches(search: &mut Search<'_>, floats: Floats, bits: u64) -> bool
+    ensures found { result ≡ matches floats (search_expression search.old) (float64 bits) }
+    ensures same { search_expression search.new ≡ search_expression search.old }
+{
+    match floats {
+        Floats::Tagged => false,
+        Floats::Numbers => hits(search, text64(bits).as_bytes()),
     }
 }
 

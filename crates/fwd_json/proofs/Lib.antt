@@ -1,2 +1,3 @@
 pub mod ObjectPairs
 pub mod TextLoops
+mod FloatNumbers

@@ -5,6 +5,7 @@ use Rattle.fwd_value.specs.Val.{vals_of, entries_of}
 use Rattle.fwd_value.specs.View.{val_of, pair_of}
 use Rattle.fwd_value.specs.Weight.{weight, weights, entry_weights}
 use Rattle.fwd_value.specs.declared.value.Value.{Value}
+use Rattle.fwd_json.specs.declared.floats.Floats.{Floats}
 use Rattle.fwd_json.specs.Text.{escaped, escapes, json, more_values, more_pairs, pair_text}
 
 escapes_suc : (bytes : List ℕ) (i : ℕ) → i < length bytes → escapes (take (suc i) bytes) ≡ escapes (take i bytes) ++ escaped (get_or bytes i 0)
@@ -39,27 +40,27 @@ run_extends before all out run_out new rest (c ∷ more) n so_far plain ran is s
     ∙ ap (λ (t : List ℕ). t ++ escapes (c ∷ more)) ran ∙ append_assoc out (take n rest) (escapes (c ∷ more)) ∙ ap (λ (t : List ℕ). out ++ (take n rest ++ escapes t)) is
     ∙ ap (λ (t : List ℕ). out ++ t) (sym (escapes_run rest n plain)) ∙ so_far
 
-values_suc : (vs : List Value) (i : ℕ) (v : Value) → i < length vs → v ≡ get_or vs i v
-    → more_values (vals_of (map val_of (take (suc i) vs))) ≡ more_values (vals_of (map val_of (take i vs))) ++ 44 ∷ json (val_of v)
-values_suc [] i v lt e = absurd (omega arith)
-values_suc (x ∷ xs) zero v lt e = rw e (append-nil (44 ∷ json (val_of x)))
-values_suc (x ∷ xs) (suc i) v lt e =
-    ap (λ (t : List ℕ). (44 ∷ json (val_of x)) ++ t) (values_suc xs i v (omega arith) e) ∙ sym (append_assoc (44 ∷ json (val_of x)) (more_values (vals_of (map val_of (take i xs)))) (44 ∷ json (val_of v)))
+values_suc : (floats : Floats) (vs : List Value) (i : ℕ) (v : Value) → i < length vs → v ≡ get_or vs i v
+    → more_values floats (vals_of (map val_of (take (suc i) vs))) ≡ more_values floats (vals_of (map val_of (take i vs))) ++ 44 ∷ json floats (val_of v)
+values_suc floats [] i v lt e = absurd (omega arith)
+values_suc floats (x ∷ xs) zero v lt e = rw e (append-nil (44 ∷ json floats (val_of x)))
+values_suc floats (x ∷ xs) (suc i) v lt e =
+    ap (λ (t : List ℕ). (44 ∷ json floats (val_of x)) ++ t) (values_suc floats xs i v (omega arith) e) ∙ sym (append_assoc (44 ∷ json floats (val_of x)) (more_values floats (vals_of (map val_of (take i xs)))) (44 ∷ json floats (val_of v)))
 
-pub values_more : (vs : List Value) (i : ℕ) (v : Value) → i < length vs → v ≡ get_or vs i v
-    → more_values (vals_of (map val_of (take (i + 1) vs))) ≡ more_values (vals_of (map val_of (take i vs))) ++ 44 ∷ json (val_of v)
-values_more vs i v lt e = rw add-one (values_suc vs i v lt e)
+pub values_more : (floats : Floats) (vs : List Value) (i : ℕ) (v : Value) → i < length vs → v ≡ get_or vs i v
+    → more_values floats (vals_of (map val_of (take (i + 1) vs))) ≡ more_values floats (vals_of (map val_of (take i vs))) ++ 44 ∷ json floats (val_of v)
+values_more floats vs i v lt e = rw add-one (values_suc floats vs i v lt e)
 
-pairs_suc : (ps : List (Value × Value)) (i : ℕ) (p : Value × Value) → i < length ps → p ≡ get_or ps i p
-    → more_pairs (entries_of (map pair_of (take (suc i) ps))) ≡ more_pairs (entries_of (map pair_of (take i ps))) ++ 44 ∷ pair_text (pair_of p)
-pairs_suc [] i p lt e = absurd (omega arith)
-pairs_suc (x ∷ xs) zero p lt e = rw e (append-nil (44 ∷ pair_text (pair_of x)))
-pairs_suc (x ∷ xs) (suc i) p lt e =
-    ap (λ (t : List ℕ). (44 ∷ pair_text (pair_of x)) ++ t) (pairs_suc xs i p (omega arith) e) ∙ sym (append_assoc (44 ∷ pair_text (pair_of x)) (more_pairs (entries_of (map pair_of (take i xs)))) (44 ∷ pair_text (pair_of p)))
+pairs_suc : (floats : Floats) (ps : List (Value × Value)) (i : ℕ) (p : Value × Value) → i < length ps → p ≡ get_or ps i p
+    → more_pairs floats (entries_of (map pair_of (take (suc i) ps))) ≡ more_pairs floats (entries_of (map pair_of (take i ps))) ++ 44 ∷ pair_text floats (pair_of p)
+pairs_suc floats [] i p lt e = absurd (omega arith)
+pairs_suc floats (x ∷ xs) zero p lt e = rw e (append-nil (44 ∷ pair_text floats (pair_of x)))
+pairs_suc floats (x ∷ xs) (suc i) p lt e =
+    ap (λ (t : List ℕ). (44 ∷ pair_text floats (pair_of x)) ++ t) (pairs_suc floats xs i p (omega arith) e) ∙ sym (append_assoc (44 ∷ pair_text floats (pair_of x)) (more_pairs floats (entries_of (map pair_of (take i xs)))) (44 ∷ pair_text floats (pair_of p)))
 
-pub pairs_more : (ps : List (Value × Value)) (i : ℕ) (p : Value × Value) → i < length ps → p ≡ get_or ps i p
-    → more_pairs (entries_of (map pair_of (take (i + 1) ps))) ≡ more_pairs (entries_of (map pair_of (take i ps))) ++ 44 ∷ pair_text (pair_of p)
-pairs_more ps i p lt e = rw add-one (pairs_suc ps i p lt e)
+pub pairs_more : (floats : Floats) (ps : List (Value × Value)) (i : ℕ) (p : Value × Value) → i < length ps → p ≡ get_or ps i p
+    → more_pairs floats (entries_of (map pair_of (take (i + 1) ps))) ≡ more_pairs floats (entries_of (map pair_of (take i ps))) ++ 44 ∷ pair_text floats (pair_of p)
+pairs_more floats ps i p lt e = rw add-one (pairs_suc floats ps i p lt e)
 
 pub value_weighs_less : (vs : List Value) (i : ℕ) (v : Value) → i < length vs → v ≡ get_or vs i v → weight (val_of v) < weights (vals_of (map val_of vs))
 value_weighs_less [] i v lt e = absurd (omega arith)

@@ -1,2 +1,3 @@
 pub mod LinePairs
 pub mod Text
+pub mod FloatLaws

@@ -6,9 +6,11 @@ ghost use Rattle.std.specs.Fmt.{signed_decimal};
 ghost use Rattle.hex.specs.Hex.{encode_lower};
 ghost use Rattle.fwd_value.specs.Val.{vals_of, entries_of, mapping, text};
 ghost use Rattle.fwd_value.specs.View.{val_of, pair_of};
-ghost use Rattle.fwd_json.specs.Text.{escaped, escapes, quoted, tagged, string, key_text, pair_text, json, values_text, more_values, pairs_text, more_pairs};
+ghost use Rattle.fwd_json.specs.Text.{escaped, escapes, quoted, tagged, string, key_text, pair_text, single, double, json, values_text, more_values, pairs_text, more_pairs};
 
+use crate::Floats;
 use fwd_base::{Bytes, Memory, is_utf8};
+use fwd_float::{text32, text64};
 use fwd_value::{Pairs, Value};
 use itoa::{Buffer, Integer};
 use std::alloc::Global;
@@ -118,7 +120,7 @@ fn put_string(alloc: Global, out: &mut Bytes, bytes: &[u8]) -> Result<(), Memory
 
 /// Appends a key that is a text.
 fn put_key(alloc: Global, out: &mut Bytes, bytes: &[u8]) -> Result<(), Memory>
-    ensures { OnOk result (out.new ≡ out.old ++ key_text (text bytes.now) (json (text bytes.now))) }
+    ensures { OnOk result (out.new ≡ out.old ++ key_text (text bytes.now) (string bytes.now)) }
 {
     if is_utf8(bytes) {
         put_quoted(out, bytes)
@@ -148,9 +150,29 @@ fn put_ext(alloc: Global, out: &mut Bytes, kind: i8, bytes: &[u8]) -> Result<(),
     out.push(b'"')
 }
 
+/// Appends a float of 32 bits.
+fn put_single(alloc: Global, out: &mut Bytes, bits: u32, floats: Floats) -> Result<(), Memory>
+    ensures { OnOk result (out.new ≡ out.old ++ single floats bits) }
+{
+    match floats {
+        Floats::Tagged => put_tagged(alloc, out, b"f32:", bits.to_be_bytes().as_slice()),
+        Floats::Numbers => out.extend_from_slice(text32(bits).as_bytes()),
+    }
+}
+
+/// Appends a float of 64 bits.
+fn put_double(alloc: Global, out: &mut Bytes, bits: u64, floats: Floats) -> Result<(), Memory>
+    ensures { OnOk result (out.new ≡ out.old ++ double floats bits) }
+{
+    match floats {
+        Floats::Tagged => put_tagged(alloc, out, b"f64:", bits.to_be_bytes().as_slice()),
+        Floats::Numbers => out.extend_from_slice(text64(bits).as_bytes()),
+    }
+}
+
 #[cycle(write)]
-fn write_value(alloc: Global, value: &Value, out: &mut Bytes) -> Result<(), Memory>
-    ensures { OnOk result (out.new ≡ out.old ++ json (val_of value.now)) }
+fn write_value(alloc: Global, value: &Value, floats: Floats, out: &mut Bytes) -> Result<(), Memory>
+    ensures { OnOk result (out.new ≡ out.old ++ json floats (val_of value.now)) }
 {
     match value {
         Value::Nil => out.extend_from_slice(b"null"),
@@ -160,17 +182,17 @@ fn write_value(alloc: Global, value: &Value, out: &mut Bytes) -> Result<(), Memo
         Value::Neg(n) => put_number(out, n.get()),
         Value::Text(bytes) => put_string(alloc, out, bytes.as_slice()),
         Value::Bin(bytes) => put_tagged(alloc, out, b"bin:", bytes.as_slice()),
-        Value::Float32(bits) => put_tagged(alloc, out, b"f32:", bits.to_be_bytes().as_slice()),
-        Value::Float64(bits) => put_tagged(alloc, out, b"f64:", bits.to_be_bytes().as_slice()),
+        Value::Float32(bits) => put_single(alloc, out, *bits, floats),
+        Value::Float64(bits) => put_double(alloc, out, *bits, floats),
         Value::Ext(kind, bytes) => put_ext(alloc, out, *kind, bytes.as_slice()),
         Value::List(values) => {
             out.push(b'[')?;
-            write_values(alloc, values.as_slice(), out)?;
+            write_values(alloc, values.as_slice(), floats, out)?;
             out.push(b']')
         }
         Value::Map(pairs) => {
             out.push(b'{')?;
-            write_pairs(alloc, pairs.as_slice(), out)?;
+            write_pairs(alloc, pairs.as_slice(), floats, out)?;
             out.push(b'}')
         }
     }
@@ -178,102 +200,137 @@ fn write_value(alloc: Global, value: &Value, out: &mut Bytes) -> Result<(), Memo
 
 /// Appends a key: UTF-8 text as it is, and any other key as its JSON text in quotes.
 #[cycle(write)]
-fn write_key(alloc: Global, key: &Value, out: &mut Bytes) -> Result<(), Memory>
-    ensures { OnOk result (out.new ≡ out.old ++ key_text (val_of key.now) (json (val_of key.now))) }
+fn write_key(alloc: Global, key: &Value, floats: Floats, out: &mut Bytes) -> Result<(), Memory>
+    ensures { OnOk result (out.new ≡ out.old ++ key_text (val_of key.now) (json floats (val_of key.now))) }
 {
     match key {
         Value::Text(bytes) => put_key(alloc, out, bytes.as_slice()),
         _ => {
             let mut shown = Bytes::new(alloc);
-            write_value(alloc, key, &mut shown)?;
+            write_value(alloc, key, floats, &mut shown)?;
             put_quoted(out, shown.as_slice())
         }
     }
 }
 
 #[cycle(write)]
-fn write_pair(alloc: Global, pair: &(Value, Value), out: &mut Bytes) -> Result<(), Memory>
-    ensures { OnOk result (out.new ≡ out.old ++ pair_text (pair_of pair.now)) }
+fn write_pair(
+    alloc: Global,
+    pair: &(Value, Value),
+    floats: Floats,
+    out: &mut Bytes,
+) -> Result<(), Memory>
+    ensures { OnOk result (out.new ≡ out.old ++ pair_text floats (pair_of pair.now)) }
 {
-    write_key(alloc, &pair.0, out)?;
+    write_key(alloc, &pair.0, floats, out)?;
     out.push(b':')?;
-    write_value(alloc, &pair.1, out)
+    write_value(alloc, &pair.1, floats, out)
 }
 
 #[cycle(write)]
-fn write_values(alloc: Global, values: &[Value], out: &mut Bytes) -> Result<(), Memory>
-    ensures { OnOk result (out.new ≡ out.old ++ values_text (vals_of (map val_of values.now))) }
+fn write_values(
+    alloc: Global,
+    values: &[Value],
+    floats: Floats,
+    out: &mut Bytes,
+) -> Result<(), Memory>
+    ensures { OnOk result (out.new ≡ out.old ++ values_text floats (vals_of (map val_of values.now))) }
 {
     match values {
         [] => Ok(()),
         [first, rest @ ..] => {
-            write_value(alloc, first, out)?;
-            write_more_values(alloc, rest, out)
+            write_value(alloc, first, floats, out)?;
+            write_more_values(alloc, rest, floats, out)
         }
     }
 }
 
 /// Appends values, a comma before each.
 #[cycle(write)]
-fn write_more_values(alloc: Global, values: &[Value], out: &mut Bytes) -> Result<(), Memory>
-    ensures { OnOk result (out.new ≡ out.old ++ more_values (vals_of (map val_of values.now))) }
+fn write_more_values(
+    alloc: Global,
+    values: &[Value],
+    floats: Floats,
+    out: &mut Bytes,
+) -> Result<(), Memory>
+    ensures { OnOk result (out.new ≡ out.old ++ more_values floats (vals_of (map val_of values.now))) }
 {
     for value in values {
         out.push(b',')?;
-        write_value(alloc, value, out)?;
+        write_value(alloc, value, floats, out)?;
     }
     Ok(())
 }
 
 #[cycle(write)]
-fn write_pairs(alloc: Global, pairs: &[(Value, Value)], out: &mut Bytes) -> Result<(), Memory>
-    ensures { OnOk result (out.new ≡ out.old ++ pairs_text (entries_of (map pair_of pairs.now))) }
+fn write_pairs(
+    alloc: Global,
+    pairs: &[(Value, Value)],
+    floats: Floats,
+    out: &mut Bytes,
+) -> Result<(), Memory>
+    ensures { OnOk result (out.new ≡ out.old ++ pairs_text floats (entries_of (map pair_of pairs.now))) }
 {
     match pairs {
         [] => Ok(()),
         [first, rest @ ..] => {
-            write_pair(alloc, first, out)?;
-            write_more_pairs(alloc, rest, out)
+            write_pair(alloc, first, floats, out)?;
+            write_more_pairs(alloc, rest, floats, out)
         }
     }
 }
 
 /// Appends pairs, a comma before each.
 #[cycle(write)]
-fn write_more_pairs(alloc: Global, pairs: &[(Value, Value)], out: &mut Bytes) -> Result<(), Memory>
-    ensures { OnOk result (out.new ≡ out.old ++ more_pairs (entries_of (map pair_of pairs.now))) }
+fn write_more_pairs(
+    alloc: Global,
+    pairs: &[(Value, Value)],
+    floats: Floats,
+    out: &mut Bytes,
+) -> Result<(), Memory>
+    ensures { OnOk result (out.new ≡ out.old ++ more_pairs floats (entries_of (map pair_of pairs.now))) }
 {
     for pair in pairs {
         out.push(b',')?;
-        write_pair(alloc, pair, out)?;
+        write_pair(alloc, pair, floats, out)?;
     }
     Ok(())
 }
 
-/// Appends the JSON text of a value, without blanks. Byte strings, extensions, floats and text that isn't
-/// UTF-8 become strings with a tag and hex digits; a key that isn't UTF-8 text becomes its JSON text in
-/// quotes. After `Err` the bytes are unchanged.
-pub fn json_text(alloc: Global, value: &Value, out: &mut Bytes) -> Result<(), Memory>
-    ensures ok { OnOk result (out.new ≡ out.old ++ json (val_of value.now)) }
+/// Appends the JSON text of a value, without blanks. Byte strings, extensions, text that isn't UTF-8, and
+/// floats that aren't written as numbers become strings with a tag and hex digits; a key that isn't UTF-8
+/// text becomes its JSON text in quotes. After `Err` the bytes are unchanged.
+pub fn json_text(
+    alloc: Global,
+    value: &Value,
+    floats: Floats,
+    out: &mut Bytes,
+) -> Result<(), Memory>
+    ensures ok { OnOk result (out.new ≡ out.old ++ json floats (val_of value.now)) }
     ensures err { OnErr result (out.new ≡ out.old) }
 {
     let mut text = Bytes::new(alloc);
-    write_value(alloc, value, &mut text)?;
+    write_value(alloc, value, floats, &mut text)?;
     out.extend_from_slice(text.as_slice())
 }
 
 /// Appends the JSON text of a value, as `json_text` does, without a separate buffer. After `Err` a part of
 /// it may have been appended.
-pub fn value_text(alloc: Global, value: &Value, out: &mut Bytes) -> Result<(), Memory>
-    ensures { OnOk result (out.new ≡ out.old ++ json (val_of value.now)) }
+pub fn value_text(
+    alloc: Global,
+    value: &Value,
+    floats: Floats,
+    out: &mut Bytes,
+) -> Result<(), Memory>
+    ensures { OnOk result (out.new ≡ out.old ++ json floats (val_of value.now)) }
 {
-    write_value(alloc, value, out)
+    write_value(alloc, value, floats, out)
 }
 
 /// Appends the JSON text of a text, given by its bytes, as `json_text` does. After `Err` a part of it may
 /// have been appended.
 pub fn string_text(alloc: Global, bytes: &[u8], out: &mut Bytes) -> Result<(), Memory>
-    ensures { OnOk result (out.new ≡ out.old ++ json (text bytes.now)) }
+    ensures { OnOk result (out.new ≡ out.old ++ string bytes.now) }
 {
     put_string(alloc, out, bytes)
 }
@@ -281,25 +338,30 @@ pub fn string_text(alloc: Global, bytes: &[u8], out: &mut Bytes) -> Result<(), M
 /// Appends a text, given by its bytes, as a key of a JSON object. After `Err` a part of it may have been
 /// appended.
 pub fn key_text(alloc: Global, bytes: &[u8], out: &mut Bytes) -> Result<(), Memory>
-    ensures { OnOk result (out.new ≡ out.old ++ key_text (text bytes.now) (json (text bytes.now))) }
+    ensures { OnOk result (out.new ≡ out.old ++ key_text (text bytes.now) (string bytes.now)) }
 {
     put_key(alloc, out, bytes)
 }
 
 /// Appends the JSON text of a map, given by its pairs, as `json_text` does. After `Err` a part of it may
 /// have been appended.
-pub fn map_text(alloc: Global, pairs: &Pairs, out: &mut Bytes) -> Result<(), Memory>
-    ensures { OnOk result (out.new ≡ out.old ++ json (mapping (entries_of pairs.now))) }
+pub fn map_text(alloc: Global, pairs: &Pairs, floats: Floats, out: &mut Bytes) -> Result<(), Memory>
+    ensures { OnOk result (out.new ≡ out.old ++ json floats (mapping (entries_of pairs.now))) }
 {
     out.push(b'{')?;
-    write_pairs(alloc, pairs.as_slice(), out)?;
+    write_pairs(alloc, pairs.as_slice(), floats, out)?;
     out.push(b'}')
 }
 
 /// Appends further pairs of a JSON object, with a comma before each. After `Err` some of them may have been
 /// appended.
-pub fn more_pairs_text(alloc: Global, pairs: &Pairs, out: &mut Bytes) -> Result<(), Memory>
-    ensures { OnOk result (out.new ≡ out.old ++ more_pairs (entries_of pairs.now)) }
+pub fn more_pairs_text(
+    alloc: Global,
+    pairs: &Pairs,
+    floats: Floats,
+    out: &mut Bytes,
+) -> Result<(), Memory>
+    ensures { OnOk result (out.new ≡ out.old ++ more_pairs floats (entries_of pairs.now)) }
 {
-    write_more_pairs(alloc, pairs.as_slice(), out)
+    write_more_pairs(alloc, pairs.as_slice(), floats, out)
 }

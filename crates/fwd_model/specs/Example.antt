@@ -8,6 +8,7 @@ use Rattle.fwd_base.specs.declared.ids.ConnId.{ConnId}
 use Rattle.fwd_base.specs.declared.ids.InputId.{InputId}
 use Rattle.fwd_base.specs.declared.ids.LinkId.{LinkId}
 use Rattle.fwd_event.specs.EventPrefix.{events_in}
+use Rattle.fwd_json.specs.declared.floats.Floats.TheVariants.{Tagged}
 use Rattle.fwd_parser.specs.declared.parser.Parser.{Parser}
 use Rattle.fwd_parser.specs.declared.parser.Shape.TheVariants.{Plain}
 use Rattle.fwd_parser.specs.LineEvent.{parsed}
@@ -30,7 +31,7 @@ use Rattle.fwd_model.specs.Routes.{route}
 
 -- a line is an event with the key `log`
 abbrev pub plain : Parser
-plain = record { shape = Plain; time = None }
+plain = record { shape = Plain; time = None; floats = Tagged }
 
 abbrev pub localhost : List ℕ
 localhost = codes "127.0.0.1"
@@ -78,7 +79,7 @@ settings = record {
         name = codes "stdout.0";
         id = codes "stdout.0";
         glob = codes "*";
-        kind = output_kind.Stdout JsonLines;
+        kind = output_kind.Stdout (record { form = JsonLines; floats = Tagged });
         retries = Times 1;
         total_limit = None;
         shared = None;

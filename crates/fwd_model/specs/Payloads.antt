@@ -52,7 +52,7 @@ delivery_to (output_kind.Tcp host port form) tag r events = without_reply (paylo
 delivery_to (output_kind.Forward host port ack whole_time) tag r events =
     message_to ack whole_time tag r events
 delivery_to (output_kind.Http host port uri form options) tag r events =
-    request_to options (http_request host port uri form options.fields (payload_of form tag events))
+    request_to options (http_request host port uri form.form options.fields (payload_of form tag events))
 
 abbrev pub delivery_at : Option OutputSet → List ℕ → Route → List Event → Delivery
 delivery_at None tag r events = without_reply []

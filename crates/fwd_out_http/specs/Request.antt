@@ -5,6 +5,7 @@ use Rattle.std.specs.Char.{is_ascii_graphic}
 use Rattle.fwd_base.specs.declared.output_options.Form.{Form}
 use Rattle.fwd_base.specs.declared.output_options.Form.TheVariants.{JsonLines, OutFile, MsgPack}
 use Rattle.fwd_event.specs.declared.event.Event.{Event}
+use Rattle.fwd_json.specs.declared.floats.PayloadForm.{PayloadForm}
 use Rattle.fwd_out_text.specs.Payload.{payload_of}
 use Rattle.httparse.specs.Grammar.{RequestHead, ReadsRequest, trim_ows}
 use Rattle.httparse.specs.Spans.{name_and_value}
@@ -48,8 +49,9 @@ abbrev pub http_request : List ℕ → ℕ → List ℕ → Form → List Header
 http_request host port uri form fields body = http_head host port uri form fields (length body) ++ body
 
 -- the request with the events of a tag: its body is their payload in the format
-abbrev pub http_payload : List ℕ → ℕ → List ℕ → Form → List ℕ → List Event → List ℕ
-http_payload host port uri form tag events = http_request host port uri form [] (payload_of form tag events)
+abbrev pub http_payload : List ℕ → ℕ → List ℕ → PayloadForm → List ℕ → List Event → List ℕ
+http_payload host port uri form tag events =
+    http_request host port uri form.form [] (payload_of form tag events)
 
 -- only visible ASCII characters: bytes from 21 to 7e in hex
 abbrev pub IsVisible : List ℕ → Type 0

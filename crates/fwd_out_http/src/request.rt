@@ -8,7 +8,7 @@ ghost use Rattle.fwd_out_http.specs.Request.{content_type, field, further_fields
 use fwd_base::{Bytes, Form, Memory};
 use fwd_event::Events;
 use fwd_http::HeaderField;
-use fwd_out_text::payload_text;
+use fwd_out_text::{PayloadForm, payload_text};
 use itoa::Buffer;
 use std::alloc::Global;
 
@@ -104,15 +104,15 @@ pub fn payload_http(
     host: &[u8],
     port: u16,
     uri: &[u8],
-    form: Form,
+    form: PayloadForm,
     tag: &[u8],
     events: &Events,
 ) -> Result<Bytes, Memory>
-    requires { form ≡ MsgPack → All EventFits events.now }
+    requires { form.form ≡ MsgPack → All EventFits events.now }
     ensures { IfOk result (λ request. request ≡ http_payload host.now port uri.now form tag.now events.now) }
 {
     let body = payload_text(alloc, form, tag, events)?;
-    request_of(alloc, host, port, uri, form, &[], body.as_slice())
+    request_of(alloc, host, port, uri, form.form, &[], body.as_slice())
 }
 
 /// Returns the same request for a body that is already written, with further fields in its head.

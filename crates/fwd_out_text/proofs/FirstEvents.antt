@@ -1,7 +1,7 @@
 -- What the next event says about a list of events.
 use Rattle.std.proofs.Common.{◌≡◌, ℕ, ◌+◌, ◌<◌, ◌≤◌, List, [], ◌∷◌, ◌++◌, length, take, drop, sym, ap, subst, ◌∙◌, arith}
 use Rattle.std.proofs.lemmas.List.{take_all, flat_map_more}
-use Rattle.fwd_base.specs.declared.output_options.Form.{Form}
+use Rattle.fwd_json.specs.declared.floats.PayloadForm.{PayloadForm}
 use Rattle.fwd_event.specs.declared.event.Event.{Event}
 use Rattle.fwd_event.specs.Event.{AreEvents}
 use Rattle.fwd_event.proofs.EventLists.{one_more, event_at}
@@ -15,7 +15,7 @@ none_are es fs p b a lt none f =
     none h.1 h.2 (h.0, h.3, h.4)
 
 -- one more event is decoded and written after the others
-pub one_written : (form : Form) (tag old new out : List ℕ) (p n : ℕ) (b : List ℕ) → p ≤ length b
+pub one_written : (form : PayloadForm) (tag old new out : List ℕ) (p n : ℕ) (b : List ℕ) → p ≤ length b
     → ((es : List Event) × AreEvents es (take p b) × (out ≡ old ++ payload_of form tag es)) → ((e : Event) × StartsWithEvent e n (drop p b) × (new ≡ out ++ record_of form tag e))
     → (es : List Event) × AreEvents es (take (p + n) b) × (new ≡ old ++ payload_of form tag es)
 one_written form tag old new out p n b le a e =

@@ -5,6 +5,7 @@ use Rattle.fwd_value.specs.Val.{Val, mapping, entries_of}
 use Rattle.fwd_msgpack.specs.Encodings.{Encodes}
 use Rattle.fwd_msgpack.specs.DecodeAnswers.{EncodesPrefix}
 use Rattle.fwd_msgpack.proofs.EncodeLoops.{how_many_entries_is}
+use Rattle.fwd_json.specs.declared.floats.Floats.{Floats}
 use Rattle.fwd_json.specs.Text.{pair_text, pairs_text, more_pairs}
 use Rattle.fwd_event.specs.declared.event.Event.{Event}
 use Rattle.fwd_event.proofs.PartwiseDecoding.{empty_encoded, event_encoded}
@@ -53,10 +54,10 @@ event_written sec nsec count b pairs rest text before behind old start middle ne
 -- ---- pairs with commas between
 
 -- one pair and those after it
-pub members_written : (count : ℕ) (b behind rest old between new : List ℕ) → 0 < count → ((p : Val × Val) × StartsWithPair p behind b × (between ≡ old ++ pair_text p))
-    → ((ps : List (Val × Val)) × (length ps ≡ count - 1) × StartsWithPairs ps rest behind × (new ≡ between ++ more_pairs (entries_of ps)))
-    → (ps : List (Val × Val)) × (length ps ≡ count) × StartsWithPairs ps rest b × (new ≡ old ++ pairs_text (entries_of ps))
-members_written count b behind rest old between new some first w =
+pub members_written : (floats : Floats) (count : ℕ) (b behind rest old between new : List ℕ) → 0 < count → ((p : Val × Val) × StartsWithPair p behind b × (between ≡ old ++ pair_text floats p))
+    → ((ps : List (Val × Val)) × (length ps ≡ count - 1) × StartsWithPairs ps rest behind × (new ≡ between ++ more_pairs floats (entries_of ps)))
+    → (ps : List (Val × Val)) × (length ps ≡ count) × StartsWithPairs ps rest b × (new ≡ old ++ pairs_text floats (entries_of ps))
+members_written floats count b behind rest old between new some first w =
     let p = first.0 in
     let ps = w.0 in
     let one = first.1 in
@@ -66,5 +67,5 @@ members_written count b behind rest old between new some first w =
       encoded = (one.key, one.value, w.2.front, refl, one.key_encoded, one.value_encoded, w.2.encoded);
       nested = omega (arith, one.key_nested, one.value_nested, w.2.nested);
     } in
-    let rest_text = more_pairs (entries_of ps) in
-    (p ∷ ps, omega (arith, w.1), read, w.3 ∙ ap (λ (t : List ℕ). t ++ rest_text) first.2 ∙ append_assoc old (pair_text p) rest_text)
+    let rest_text = more_pairs floats (entries_of ps) in
+    (p ∷ ps, omega (arith, w.1), read, w.3 ∙ ap (λ (t : List ℕ). t ++ rest_text) first.2 ∙ append_assoc old (pair_text floats p) rest_text)

@@ -5,7 +5,8 @@ use Rattle.std.proofs.lemmas.List.{append-nil, length-append}
 use Rattle.fwd_value.specs.Val.{Val, text, entries_of}
 use Rattle.fwd_value.specs.Limits.{nesting, entry_nestings}
 use Rattle.fwd_msgpack.specs.Encodings.{Encodes, EncodesEntries}
-use Rattle.fwd_json.specs.Text.{json, key_text, pair_text, more_pairs}
+use Rattle.fwd_json.specs.declared.floats.Floats.{Floats}
+use Rattle.fwd_json.specs.Text.{json, string, key_text, pair_text, more_pairs}
 use Rattle.fwd_out_text.specs.Headers.{deepest_member, StartsWith, StartsWithPair, StartsWithPairs}
 
 -- a property of a result implies a weaker one
@@ -15,11 +16,11 @@ if_ok (Err e) P Q f h = tt
 
 -- ---- one pair
 
-pub pair_written : (key b behind rest old between colon new : List ℕ) → StartsWith (text key) behind b → between ≡ old ++ key_text (text key) (json (text key)) → colon ≡ between ++ 58 ∷ []
-    → ((v : Val) × StartsWith v rest behind × (nesting v ≤ deepest_member) × (new ≡ colon ++ json v)) → (p : Val × Val) × StartsWithPair p rest b × (new ≡ old ++ pair_text p)
-pair_written key b behind rest old between colon new k one two w =
+pub pair_written : (floats : Floats) (key b behind rest old between colon new : List ℕ) → StartsWith (text key) behind b → between ≡ old ++ key_text (text key) (string key) → colon ≡ between ++ 58 ∷ []
+    → ((v : Val) × StartsWith v rest behind × (nesting v ≤ deepest_member) × (new ≡ colon ++ json floats v)) → (p : Val × Val) × StartsWithPair p rest b × (new ≡ old ++ pair_text floats p)
+pair_written floats key b behind rest old between colon new k one two w =
     let v = w.0 in
-    let shown = key_text (text key) (json (text key)) in
+    let shown = key_text (text key) (string key) in
     let read : StartsWithPair (text key, v) rest b = record {
       key = k.0;
       value = w.1.0;
@@ -29,8 +30,8 @@ pair_written key b behind rest old between colon new k one two w =
       key_nested = omega arith;
       value_nested = w.2;
     } in
-    let said : new ≡ old ++ (shown ++ 58 ∷ json v) =
-    w.3 ∙ ap (λ (t : List ℕ). t ++ json v) (two ∙ ap (λ (t : List ℕ). t ++ 58 ∷ []) one) ∙ append_assoc (old ++ shown) (58 ∷ []) (json v) ∙ append_assoc old shown (58 ∷ json v) in
+    let said : new ≡ old ++ (shown ++ 58 ∷ json floats v) =
+    w.3 ∙ ap (λ (t : List ℕ). t ++ json floats v) (two ∙ ap (λ (t : List ℕ). t ++ 58 ∷ []) one) ∙ append_assoc (old ++ shown) (58 ∷ []) (json floats v) ∙ append_assoc old shown (58 ∷ json floats v) in
     ((text key, v), read, said)
 
 -- ---- one more pair
@@ -48,26 +49,26 @@ nested_more : (ps : List (Val × Val)) (p : Val × Val) (n : ℕ) → entry_nest
 nested_more [] p n h k v = omega (arith, k, v)
 nested_more (q ∷ ps) p n h k v = let more = nested_more ps p n (omega (arith, h)) k v in omega (arith, h, more)
 
-text_more : (ps : List (Val × Val)) (p : Val × Val) → more_pairs (entries_of (ps ++ p ∷ [])) ≡ more_pairs (entries_of ps) ++ 44 ∷ pair_text p
-text_more [] p = append-nil (44 ∷ pair_text p)
-text_more (q ∷ ps) p =
-    ap (λ (t : List ℕ). (44 ∷ pair_text q) ++ t) (text_more ps p) ∙ sym (append_assoc (44 ∷ pair_text q) (more_pairs (entries_of ps)) (44 ∷ pair_text p))
+text_more : (floats : Floats) (ps : List (Val × Val)) (p : Val × Val) → more_pairs floats (entries_of (ps ++ p ∷ [])) ≡ more_pairs floats (entries_of ps) ++ 44 ∷ pair_text floats p
+text_more floats [] p = append-nil (44 ∷ pair_text floats p)
+text_more floats (q ∷ ps) p =
+    ap (λ (t : List ℕ). (44 ∷ pair_text floats q) ++ t) (text_more floats ps p) ∙ sym (append_assoc (44 ∷ pair_text floats q) (more_pairs floats (entries_of ps)) (44 ∷ pair_text floats p))
 
 -- so many pairs were decoded, and written after the old text
-pub record IsWritten (old new : List ℕ) (count : ℕ) (rest b : List ℕ) : Type 0 where
+pub record IsWritten (floats : Floats) (old new : List ℕ) (count : ℕ) (rest b : List ℕ) : Type 0 where
   pub pairs : List (Val × Val)
   pub many : length pairs ≡ count
   pub lead : StartsWithPairs pairs rest b
-  pub written : new ≡ old ++ more_pairs (entries_of pairs)
+  pub written : new ≡ old ++ more_pairs floats (entries_of pairs)
 
-pub one_more : (old between comma new : List ℕ) (count : ℕ) (b behind rest : List ℕ) → IsWritten old between count behind b → comma ≡ between ++ 44 ∷ []
-    → ((p : Val × Val) × StartsWithPair p rest behind × (new ≡ comma ++ pair_text p)) → IsWritten old new (count + 1) rest b
-one_more old between comma new count b behind rest so_far said w =
+pub one_more : (floats : Floats) (old between comma new : List ℕ) (count : ℕ) (b behind rest : List ℕ) → IsWritten floats old between count behind b → comma ≡ between ++ 44 ∷ []
+    → ((p : Val × Val) × StartsWithPair p rest behind × (new ≡ comma ++ pair_text floats p)) → IsWritten floats old new (count + 1) rest b
+one_more floats old between comma new count b behind rest so_far said w =
     let ps = so_far.pairs in
     let p = w.0 in
     let front = so_far.lead.front in
     let pair = w.1 in
-    let before = more_pairs (entries_of ps) in
+    let before = more_pairs floats (entries_of ps) in
     record {
       pairs = ps ++ p ∷ [];
       many = length-append ps (p ∷ []) ∙ ap (λ (n : ℕ). n + 1) so_far.many;
@@ -78,6 +79,6 @@ one_more old between comma new count b behind rest so_far said w =
         nested = nested_more ps p deepest_member so_far.lead.nested pair.key_nested pair.value_nested;
       };
       written =
-          w.2 ∙ ap (λ (t : List ℕ). t ++ pair_text p) (said ∙ ap (λ (t : List ℕ). t ++ 44 ∷ []) so_far.written) ∙ append_assoc (old ++ before) (44 ∷ []) (pair_text p) ∙ append_assoc old before (44 ∷ pair_text p)
-          ∙ ap (λ (t : List ℕ). old ++ t) (sym (text_more ps p));
+          w.2 ∙ ap (λ (t : List ℕ). t ++ pair_text floats p) (said ∙ ap (λ (t : List ℕ). t ++ 44 ∷ []) so_far.written) ∙ append_assoc (old ++ before) (44 ∷ []) (pair_text floats p) ∙ append_assoc old before (44 ∷ pair_text floats p)
+          ∙ ap (λ (t : List ℕ). old ++ t) (sym (text_more floats ps p));
     }

@@ -2,6 +2,8 @@
 use Rattle.std.specs.Prelude.{ℕ, ◌-◌, List, ◌++◌, length, codes, decimal, replicate}
 use Rattle.std.specs.List.{flat_map}
 use Rattle.fwd_value.specs.Val.{entries_of, mapping}
+use Rattle.fwd_json.specs.declared.floats.Floats.{Floats}
+pub use Rattle.fwd_json.specs.declared.floats.PayloadForm.{PayloadForm}
 use Rattle.fwd_json.specs.Text.{json, more_pairs}
 use Rattle.fwd_msgpack.specs.Canonical.{canonical}
 use Rattle.fwd_base.specs.declared.output_options.Form.{Form}
@@ -22,23 +24,27 @@ abbrev pub date_text : ℕ → ℕ → List ℕ
 date_text sec nsec = codes "{\"date\":" ++ time_text sec nsec
 
 -- {"date":TIME,"key":value, ..} and a line feed
-abbrev pub json_line : Event → List ℕ
-json_line e = date_text e.sec e.nsec ++ more_pairs (entries_of e.body) ++ codes "}\n"
+abbrev pub json_line : Floats → Event → List ℕ
+json_line floats e = date_text e.sec e.nsec ++ more_pairs floats (entries_of e.body) ++ codes "}\n"
 
 -- TAG: [TIME, and a space
 abbrev pub tag_text : List ℕ → ℕ → ℕ → List ℕ
 tag_text tag sec nsec = tag ++ codes ": [" ++ time_text sec nsec ++ codes ", "
 
 -- TAG: [TIME, BODY] and a line feed
-abbrev pub tagged_line : List ℕ → Event → List ℕ
-tagged_line tag e = tag_text tag e.sec e.nsec ++ json (mapping (entries_of e.body)) ++ codes "]\n"
+abbrev pub tagged_line : Floats → List ℕ → Event → List ℕ
+tagged_line floats tag e =
+    tag_text tag e.sec e.nsec ++ json floats (mapping (entries_of e.body)) ++ codes "]\n"
+
+abbrev pub record_by : Form → Floats → List ℕ → Event → List ℕ
+record_by JsonLines floats tag e = json_line floats e
+record_by OutFile floats tag e = tagged_line floats tag e
+record_by MsgPack floats tag e = canonical (event_val e)
 
 -- the text of an event of a tag
-abbrev pub record_of : Form → List ℕ → Event → List ℕ
-record_of JsonLines tag e = json_line e
-record_of OutFile tag e = tagged_line tag e
-record_of MsgPack tag e = canonical (event_val e)
+abbrev pub record_of : PayloadForm → List ℕ → Event → List ℕ
+record_of form tag e = record_by form.form form.floats tag e
 
 -- the payload for events of a tag
-abbrev pub payload_of : Form → List ℕ → List Event → List ℕ
+abbrev pub payload_of : PayloadForm → List ℕ → List Event → List ℕ
 payload_of form tag events = flat_map (record_of form tag) events

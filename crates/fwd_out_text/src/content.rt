@@ -8,8 +8,9 @@ ghost use Rattle.fwd_out_text.specs.Payload.{record_of, payload_of};
 
 use crate::payload::write_record;
 use crate::transcode::write_encoded;
-use fwd_base::{Bytes, Form, Memory};
+use fwd_base::{Bytes, Memory};
 use fwd_event::{Event, event_of};
+use fwd_json::PayloadForm;
 use fwd_msgpack::{DecodeErr, decode};
 use std::alloc::Global;
 
@@ -17,7 +18,7 @@ use std::alloc::Global;
 /// of events.
 pub fn payload_of_content(
     alloc: Global,
-    form: Form,
+    form: PayloadForm,
     tag: &[u8],
     content: &[u8],
 ) -> Result<Option<Bytes>, Memory>
@@ -37,7 +38,7 @@ pub fn payload_of_content(
 /// events.
 fn write_content(
     alloc: Global,
-    form: Form,
+    form: PayloadForm,
     tag: &[u8],
     content: &[u8],
     out: &mut Bytes,
@@ -59,7 +60,7 @@ fn write_content(
 /// there is none.
 fn write_next(
     alloc: Global,
-    form: Form,
+    form: PayloadForm,
     tag: &[u8],
     content: &[u8],
     at: usize,
@@ -80,7 +81,7 @@ fn write_next(
 /// is none.
 fn write_read(
     alloc: Global,
-    form: Form,
+    form: PayloadForm,
     tag: &[u8],
     bytes: &[u8],
     out: &mut Bytes,

@@ -1,7 +1,8 @@
 //! Payloads of text and MessagePack for outputs.
 //!
 //! The events of a chunk become one payload: lines of JSON with the time as `date`, lines of tag, time and
-//! record, or the events as they are stored. Each format writes the events in their order.
+//! record, or the events as they are stored. Each format writes the events in their order. In text, a float is
+//! a number or a string with a tag.
 //!
 //! `payload_text` writes decoded events. `payload_of_content` writes encoded ones, without a list of them.
 #![tactic(auto)]
@@ -15,4 +16,5 @@ mod transcode;
 pub use content::payload_of_content;
 pub use fwd_base::{Bytes, Form, Memory};
 pub use fwd_event::{Event, Events};
+pub use fwd_json::{Floats, PayloadForm};
 pub use payload::payload_text;

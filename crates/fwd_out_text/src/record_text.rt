@@ -5,7 +5,7 @@ ghost use Rattle.fwd_out_text.specs.Payload.{nanoseconds, time_text, date_text, 
 
 use fwd_base::{Bytes, Memory};
 use fwd_event::Event;
-use fwd_json::{map_text, more_pairs_text};
+use fwd_json::{Floats, map_text, more_pairs_text};
 use itoa::Buffer;
 use std::alloc::Global;
 
@@ -41,11 +41,16 @@ pub fn write_date(sec: u32, nsec: u32, out: &mut Bytes) -> Result<(), Memory>
 }
 
 /// Appends `{"date":TIME,"key":value}` and a line feed, with the pairs of the record in their order.
-pub fn write_json_line(alloc: Global, event: &Event, out: &mut Bytes) -> Result<(), Memory>
-    ensures { OnOk result (out.new ≡ out.old ++ json_line event.now) }
+pub fn write_json_line(
+    alloc: Global,
+    event: &Event,
+    floats: Floats,
+    out: &mut Bytes,
+) -> Result<(), Memory>
+    ensures { OnOk result (out.new ≡ out.old ++ json_line floats event.now) }
 {
     write_date(event.sec, event.nsec, out)?;
-    more_pairs_text(alloc, &event.body, out)?;
+    more_pairs_text(alloc, &event.body, floats, out)?;
     out.extend_from_slice(b"}\n")
 }
 
@@ -64,11 +69,12 @@ pub fn write_tagged_line(
     alloc: Global,
     tag: &[u8],
     event: &Event,
+    floats: Floats,
     out: &mut Bytes,
 ) -> Result<(), Memory>
-    ensures { OnOk result (out.new ≡ out.old ++ tagged_line tag.now event.now) }
+    ensures { OnOk result (out.new ≡ out.old ++ tagged_line floats tag.now event.now) }
 {
     write_tag(tag, event.sec, event.nsec, out)?;
-    map_text(alloc, &event.body, out)?;
+    map_text(alloc, &event.body, floats, out)?;
     out.extend_from_slice(b"]\n")
 }

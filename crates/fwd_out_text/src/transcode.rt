@@ -15,7 +15,7 @@ use crate::header::{event_head, split_text};
 use crate::record_text::{write_date, write_tag};
 use fwd_base::limits::DEEPEST;
 use fwd_base::{Bytes, Form, Memory};
-use fwd_json::{key_text, string_text, value_text};
+use fwd_json::{Floats, PayloadForm, key_text, string_text, value_text};
 use fwd_msgpack::decode;
 use std::alloc::Global;
 
@@ -27,7 +27,7 @@ const MEMBER_DEPTH: u64 = DEEPEST as u64 - 2;
 /// writes, has metadata, or has a key that isn't a text.
 pub fn write_encoded(
     alloc: Global,
-    form: Form,
+    form: PayloadForm,
     tag: &[u8],
     bytes: &[u8],
     out: &mut Bytes,
@@ -46,7 +46,7 @@ pub fn write_encoded(
 /// The same, but `out` may end in an unfinished line if this returns `None`.
 fn write_partial(
     alloc: Global,
-    form: Form,
+    form: PayloadForm,
     tag: &[u8],
     bytes: &[u8],
     out: &mut Bytes,
@@ -54,23 +54,28 @@ fn write_partial(
     ensures given { IfOk result (λ found. IfSome found (λ n. (e : Event) × StartsWithEvent e n bytes.now × (out.new ≡ out.old ++ record_of form tag.now e))) }
     ensures kept { OnOk result (KeepsFront out.old out.new) }
 {
-    match form {
-        Form::JsonLines => write_line(alloc, bytes, out),
-        Form::OutFile => write_tagged(alloc, tag, bytes, out),
+    match form.form {
+        Form::JsonLines => write_line(alloc, bytes, form.floats, out),
+        Form::OutFile => write_tagged(alloc, tag, bytes, form.floats, out),
         Form::MsgPack => Ok(None),
     }
 }
 
 /// Appends the JSON line of the event that the bytes start with, and returns its encoded length.
-fn write_line(alloc: Global, bytes: &[u8], out: &mut Bytes) -> Result<Option<usize>, Memory>
-    ensures given { IfOk result (λ found. IfSome found (λ n. (e : Event) × StartsWithEvent e n bytes.now × (out.new ≡ out.old ++ json_line e))) }
+fn write_line(
+    alloc: Global,
+    bytes: &[u8],
+    floats: Floats,
+    out: &mut Bytes,
+) -> Result<Option<usize>, Memory>
+    ensures given { IfOk result (λ found. IfSome found (λ n. (e : Event) × StartsWithEvent e n bytes.now × (out.new ≡ out.old ++ json_line floats e))) }
     ensures kept { OnOk result (KeepsFront out.old out.new) }
 {
     let Some((sec, nsec, count, pairs)) = event_head(bytes) else {
         return Ok(None);
     };
     write_date(sec, nsec, out)?;
-    match write_pairs(alloc, count, pairs, out)? {
+    match write_pairs(alloc, count, pairs, floats, out)? {
         Some(rest) => {
             out.extend_from_slice(b"}\n")?;
             Ok(Some(bytes.len() - rest.len()))
@@ -84,16 +89,17 @@ fn write_tagged(
     alloc: Global,
     tag: &[u8],
     bytes: &[u8],
+    floats: Floats,
     out: &mut Bytes,
 ) -> Result<Option<usize>, Memory>
-    ensures given { IfOk result (λ found. IfSome found (λ n. (e : Event) × StartsWithEvent e n bytes.now × (out.new ≡ out.old ++ tagged_line tag.now e))) }
+    ensures given { IfOk result (λ found. IfSome found (λ n. (e : Event) × StartsWithEvent e n bytes.now × (out.new ≡ out.old ++ tagged_line floats tag.now e))) }
     ensures kept { OnOk result (KeepsFront out.old out.new) }
 {
     let Some((sec, nsec, count, pairs)) = event_head(bytes) else {
         return Ok(None);
     };
     write_tag(tag, sec, nsec, out)?;
-    match write_map(alloc, count, pairs, out)? {
+    match write_map(alloc, count, pairs, floats, out)? {
         Some(rest) => {
             out.extend_from_slice(b"]\n")?;
             Ok(Some(bytes.len() - rest.len()))
@@ -107,13 +113,14 @@ fn write_map<'b>(
     alloc: Global,
     count: usize,
     bytes: &'b [u8],
+    floats: Floats,
     out: &mut Bytes,
 ) -> Result<Option<&'b [u8]>, Memory>
-    ensures given { IfOk result (λ found. IfSome found (λ rest. (pairs : List (Val × Val)) × (length pairs ≡ count) × StartsWithPairs pairs rest.now bytes.now × (out.new ≡ out.old ++ json (mapping (entries_of pairs))))) }
+    ensures given { IfOk result (λ found. IfSome found (λ rest. (pairs : List (Val × Val)) × (length pairs ≡ count) × StartsWithPairs pairs rest.now bytes.now × (out.new ≡ out.old ++ json floats (mapping (entries_of pairs))))) }
     ensures kept { OnOk result (KeepsFront out.old out.new) }
 {
     out.push(b'{')?;
-    match write_members(alloc, count, bytes, out)? {
+    match write_members(alloc, count, bytes, floats, out)? {
         Some(rest) => {
             out.push(b'}')?;
             Ok(Some(rest))
@@ -127,16 +134,17 @@ fn write_members<'b>(
     alloc: Global,
     count: usize,
     bytes: &'b [u8],
+    floats: Floats,
     out: &mut Bytes,
 ) -> Result<Option<&'b [u8]>, Memory>
-    ensures given { IfOk result (λ found. IfSome found (λ rest. (pairs : List (Val × Val)) × (length pairs ≡ count) × StartsWithPairs pairs rest.now bytes.now × (out.new ≡ out.old ++ pairs_text (entries_of pairs)))) }
+    ensures given { IfOk result (λ found. IfSome found (λ rest. (pairs : List (Val × Val)) × (length pairs ≡ count) × StartsWithPairs pairs rest.now bytes.now × (out.new ≡ out.old ++ pairs_text floats (entries_of pairs)))) }
     ensures kept { OnOk result (KeepsFront out.old out.new) }
 {
     if count == 0 {
         return Ok(Some(bytes));
     }
-    match write_pair(alloc, bytes, out)? {
-        Some(rest) => write_pairs(alloc, count - 1, rest, out),
+    match write_pair(alloc, bytes, floats, out)? {
+        Some(rest) => write_pairs(alloc, count - 1, rest, floats, out),
         None => Ok(None),
     }
 }
@@ -146,15 +154,16 @@ fn write_pairs<'b>(
     alloc: Global,
     count: usize,
     bytes: &'b [u8],
+    floats: Floats,
     out: &mut Bytes,
 ) -> Result<Option<&'b [u8]>, Memory>
-    ensures given { IfOk result (λ found. IfSome found (λ rest. (pairs : List (Val × Val)) × (length pairs ≡ count) × StartsWithPairs pairs rest.now bytes.now × (out.new ≡ out.old ++ more_pairs (entries_of pairs)))) }
+    ensures given { IfOk result (λ found. IfSome found (λ rest. (pairs : List (Val × Val)) × (length pairs ≡ count) × StartsWithPairs pairs rest.now bytes.now × (out.new ≡ out.old ++ more_pairs floats (entries_of pairs)))) }
     ensures kept { OnOk result (KeepsFront out.old out.new) }
 {
     let mut rest = bytes;
     for _ in 0..count {
         out.push(b',')?;
-        match write_pair(alloc, rest, out)? {
+        match write_pair(alloc, rest, floats, out)? {
             Some(behind) => rest = behind,
             None => return Ok(None),
         }
@@ -166,16 +175,17 @@ fn write_pairs<'b>(
 fn write_pair<'b>(
     alloc: Global,
     bytes: &'b [u8],
+    floats: Floats,
     out: &mut Bytes,
 ) -> Result<Option<&'b [u8]>, Memory>
-    ensures given { IfOk result (λ found. IfSome found (λ rest. (p : Val × Val) × StartsWithPair p rest.now bytes.now × (out.new ≡ out.old ++ pair_text p))) }
+    ensures given { IfOk result (λ found. IfSome found (λ rest. (p : Val × Val) × StartsWithPair p rest.now bytes.now × (out.new ≡ out.old ++ pair_text floats p))) }
     ensures kept { OnOk result (KeepsFront out.old out.new) }
 {
     match split_text(bytes) {
         Some((key, rest)) => {
             key_text(alloc, key, out)?;
             out.push(b':')?;
-            write_value(alloc, rest, out)
+            write_value(alloc, rest, floats, out)
         }
         None => Ok(None),
     }
@@ -185,9 +195,10 @@ fn write_pair<'b>(
 fn write_value<'b>(
     alloc: Global,
     bytes: &'b [u8],
+    floats: Floats,
     out: &mut Bytes,
 ) -> Result<Option<&'b [u8]>, Memory>
-    ensures given { IfOk result (λ found. IfSome found (λ rest. (v : Val) × StartsWith v rest.now bytes.now × (nesting v ≤ deepest_member) × (out.new ≡ out.old ++ json v))) }
+    ensures given { IfOk result (λ found. IfSome found (λ rest. (v : Val) × StartsWith v rest.now bytes.now × (nesting v ≤ deepest_member) × (out.new ≡ out.old ++ json floats v))) }
     ensures kept { OnOk result (KeepsFront out.old out.new) }
 {
     match split_text(bytes) {
@@ -195,7 +206,7 @@ fn write_value<'b>(
             string_text(alloc, text, out)?;
             Ok(Some(rest))
         }
-        None => write_decoded(alloc, bytes, out),
+        None => write_decoded(alloc, bytes, floats, out),
     }
 }
 
@@ -203,9 +214,10 @@ fn write_value<'b>(
 fn write_decoded<'b>(
     alloc: Global,
     bytes: &'b [u8],
+    floats: Floats,
     out: &mut Bytes,
 ) -> Result<Option<&'b [u8]>, Memory>
-    ensures given { IfOk result (λ found. IfSome found (λ rest. (v : Val) × StartsWith v rest.now bytes.now × (nesting v ≤ deepest_member) × (out.new ≡ out.old ++ json v))) }
+    ensures given { IfOk result (λ found. IfSome found (λ rest. (v : Val) × StartsWith v rest.now bytes.now × (nesting v ≤ deepest_member) × (out.new ≡ out.old ++ json floats v))) }
     ensures kept { OnOk result (KeepsFront out.old out.new) }
 {
     let Ok((value, length)) = decode(alloc, bytes) else {
@@ -214,7 +226,7 @@ fn write_decoded<'b>(
     if !value.nests_within(MEMBER_DEPTH) {
         return Ok(None);
     }
-    value_text(alloc, &value, out)?;
+    value_text(alloc, &value, floats, out)?;
     let (_, rest) = bytes.split_at(length as usize);
     Ok(Some(rest))
 }

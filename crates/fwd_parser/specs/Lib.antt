@@ -1,3 +1,4 @@
+pub mod Floats
 pub mod Number
 pub mod Time
 pub mod Field

@@ -8,6 +8,7 @@ use Rattle.fwd_base.specs.Pattern.{expression_of, group_names, captures_of}
 use Rattle.fwd_value.specs.Val.{Val, text}
 use Rattle.fwd_value.specs.Keys.{Record, key, has_key}
 use Rattle.fwd_event.specs.declared.event.Event.{Event}
+use Rattle.fwd_json.specs.declared.floats.Floats.{Floats}
 use Rattle.fwd_json.specs.LinePairs.{pairs_in}
 use Rattle.fwd_parser.specs.Field.{fields_of}
 use Rattle.fwd_parser.specs.Time.{time_of}
@@ -22,11 +23,11 @@ plain line = (text (codes "log"), text line) ∷ []
 
 -- the record of a line; one that isn't a JSON object within the limits, or that the pattern doesn't match,
 -- is kept under `log`
-unfoldable pub body_of : Shape → List ℕ → Record
-body_of Plain line = plain line
-body_of Json line = unwrap_or (result_ok (pairs_in line)) (plain line)
-body_of (Groups pattern types skip_empty) line =
-    option_map_or (λ m. fields_of types skip_empty (captures_of (group_names pattern) line m))
+unfoldable pub body_of : Floats → Shape → List ℕ → Record
+body_of floats Plain line = plain line
+body_of floats Json line = unwrap_or (result_ok (pairs_in floats line)) (plain line)
+body_of floats (Groups pattern types skip_empty) line =
+    option_map_or (λ m. fields_of floats types skip_empty (captures_of (group_names pattern) line m))
     (find (expression_of pattern) line 0) (plain line)
 
 -- seconds since 1970 in UTC, and nanoseconds
@@ -78,4 +79,4 @@ timed_event (Some rule) clock body =
 
 -- the event of a line that is read when the greatest clock reading so far is `clock` milliseconds
 unfoldable pub parsed : Parser → List ℕ → ℕ → Event
-parsed parser line clock = timed_event parser.time clock (body_of parser.shape line)
+parsed parser line clock = timed_event parser.time clock (body_of parser.floats parser.shape line)

@@ -3,15 +3,17 @@
 ghost use Rattle.std.specs.Prelude.{◌≡◌, ◌++◌, [], ◌∷◌, map, option_map, if◌then◌else◌, IfOk, OnOk};
 ghost use Rattle.std.specs.Str.{bytes_eq};
 ghost use Rattle.fwd_base.specs.Pattern.{captured};
-ghost use Rattle.fwd_value.specs.Val.{whole};
+ghost use Rattle.fwd_value.specs.Val.{whole, float64};
 ghost use Rattle.fwd_value.specs.View.{val_of};
-ghost use Rattle.fwd_parser.specs.Field.{below_zero, integer_of, hex_of, truth_of, read_as, typed, kind_of, fields_of};
+ghost use Rattle.fwd_parser.specs.Field.{below_zero, integer_of, hex_of, truth_of, float_of, float_in, read_as, typed, kind_of, fields_of};
 
 use crate::digits::number;
 use crate::parser::{FieldType, FieldTypes, TypeKind};
 use fwd_base::{Bytes, Capture, Memory};
 use fwd_event::{Below, Pairs, Value};
+use fwd_json::Floats;
 use std::alloc::Global;
+use std::num::f64_to_bits_with_nan;
 
 /// Returns the negated number, if it is at least -2^63.
 fn negative(number: u64) -> Option<Value>
@@ -61,25 +63,49 @@ fn truth(text: &[u8]) -> Option<bool>
     None
 }
 
+/// Parses a decimal numeral, and returns the bits of the float of 64 bits nearest to it, if it is finite.
+#[tactic(auto, unfolding(crate::specs::Field::float_of))]
+fn float(text: &[u8]) -> Option<u64>
+    ensures { result ≡ float_of text.now }
+{
+    let number: f64 = fast_float::parse(text).ok()?;
+    if number.is_finite() {
+        Some(f64_to_bits_with_nan(number))
+    } else {
+        None
+    }
+}
+
+/// Parses a float, if floats are read.
+fn float_in(floats: Floats, text: &[u8]) -> Option<u64>
+    ensures { result ≡ float_in floats text.now }
+{
+    match floats {
+        Floats::Tagged => None,
+        Floats::Numbers => float(text),
+    }
+}
+
 /// Parses the bytes of a field as a type.
 #[tactic(auto, unfolding(crate::specs::Field::read_as))]
-fn read_as(kind: TypeKind, text: &[u8]) -> Option<Value>
-    ensures { option_map val_of result ≡ read_as kind text.now }
+fn read_as(floats: Floats, kind: TypeKind, text: &[u8]) -> Option<Value>
+    ensures { option_map val_of result ≡ read_as floats kind text.now }
 {
     match kind {
         TypeKind::Integer => integer(text),
         TypeKind::Hex => Some(Value::Uint(hex(text)?)),
         TypeKind::Bool => Some(Value::Truth(truth(text)?)),
+        TypeKind::Float => Some(Value::Float64(float_in(floats, text)?)),
         TypeKind::Text => None,
     }
 }
 
 /// Returns the value of a field. Bytes that don't have the form of the type are text.
 #[tactic(auto, unfolding(crate::specs::Field::typed))]
-fn value_of(alloc: Global, kind: TypeKind, bytes: &[u8]) -> Result<Value, Memory>
-    ensures { IfOk result (λ value. val_of value ≡ typed kind bytes.now) }
+fn value_of(alloc: Global, floats: Floats, kind: TypeKind, bytes: &[u8]) -> Result<Value, Memory>
+    ensures { IfOk result (λ value. val_of value ≡ typed floats kind bytes.now) }
 {
-    match read_as(kind, bytes) {
+    match read_as(floats, kind, bytes) {
         Some(value) => Ok(value),
         None => Ok(Value::Text(Bytes::from_slice(alloc, bytes)?)),
     }
@@ -113,15 +139,16 @@ fn kind_after(given: &FieldType, key: &[u8], former: TypeKind) -> TypeKind
 #[tactic(auto, using(crate::proofs::Groups::fields_of_more))]
 pub fn fields_of(
     alloc: Global,
+    floats: Floats,
     types: &FieldTypes,
     skip_empty: bool,
     groups: &[Capture<'_, '_>],
 ) -> Result<Pairs, Memory>
-    ensures { IfOk result (λ body. body ≡ fields_of types.now skip_empty (map captured groups.now)) }
+    ensures { IfOk result (λ body. body ≡ fields_of floats types.now skip_empty (map captured groups.now)) }
 {
     let mut body = Pairs::new(alloc);
     for group in groups {
-        push_field(alloc, &mut body, types, skip_empty, group)?;
+        push_field(alloc, &mut body, floats, types, skip_empty, group)?;
     }
     Ok(body)
 }
@@ -130,16 +157,17 @@ pub fn fields_of(
 fn push_field(
     alloc: Global,
     body: &mut Pairs,
+    floats: Floats,
     types: &FieldTypes,
     skip_empty: bool,
     group: &Capture<'_, '_>,
 ) -> Result<(), Memory>
-    ensures { OnOk result (body.new ≡ body.old ++ fields_of types.now skip_empty (captured group.now ∷ [])) }
+    ensures { OnOk result (body.new ≡ body.old ++ fields_of floats types.now skip_empty (captured group.now ∷ [])) }
 {
     if skip_empty && group.bytes.is_empty() {
         return Ok(());
     }
-    let value = value_of(alloc, kind_of(types, group.name), group.bytes)?;
+    let value = value_of(alloc, floats, kind_of(types, group.name), group.bytes)?;
     let key = Value::Text(Bytes::from_slice(alloc, group.name)?);
     body.push((key, value))
 }

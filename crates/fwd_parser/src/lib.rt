@@ -4,8 +4,8 @@
 //!
 //! `Parser::parse`, and for many lines the reader that a parser makes, return the event that the definition
 //! gives for the parser, the line and the clock, or out of memory and no other error. `time_of` returns the
-//! moment of a text under a format. The calendar is that of `jiff`, JSON that of `serde_json`, patterns
-//! that of `regex`.
+//! moment of a text under a format. The calendar is that of `jiff`, JSON that of `serde_json`, floats in
+//! texts those of `fast_float`, patterns that of `regex`.
 #![tactic(auto)]
 
 mod calendar;
@@ -20,6 +20,7 @@ mod time;
 
 pub use fwd_base::{Bytes, Memory, Pattern};
 pub use fwd_event::{Event, Pairs, Value};
+pub use fwd_json::Floats;
 pub use parser::{FieldType, FieldTypes, Parser, Shape, TimeRule, TypeKind};
 pub use reader::LineReader;
 pub use time::time_of;

@@ -3,6 +3,7 @@
 use crate::LineReader;
 use fwd_base::{Bytes, Items, Memory, Pattern};
 use fwd_event::Event;
+use fwd_json::Floats;
 use std::alloc::Global;
 
 /// How to read the event of a line.
@@ -12,6 +13,9 @@ pub struct Parser {
 
     /// The field with the event's time. Without it, the event has the time of the clock.
     pub time: Option<TimeRule>,
+
+    /// Whether floats are read.
+    pub floats: Floats,
 }
 
 /// What to read a line as.
@@ -46,6 +50,8 @@ pub enum TypeKind {
     Hex,
     /// `true` or `false`.
     Bool,
+    /// A float of 64 bits, if floats are read.
+    Float,
     /// The text itself.
     Text,
 }

@@ -57,7 +57,13 @@ impl<'p> LineReader<'p> {
         ensures event { IfOk result (λ event. event ≡ parsed self.old line now) }
         ensures same { self.new ≡ self.old }
     {
-        let body = body_of(alloc, &self.parser.shape, &mut self.search, line)?;
+        let body = body_of(
+            alloc,
+            &self.parser.shape,
+            self.parser.floats,
+            &mut self.search,
+            line,
+        )?;
         Ok(timed_event(alloc, &self.parser.time, now, body))
     }
 }

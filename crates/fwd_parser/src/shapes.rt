@@ -11,7 +11,7 @@ use crate::fields::fields_of;
 use crate::parser::{FieldTypes, Shape};
 use fwd_base::{Bytes, Memory, Search};
 use fwd_event::{Pairs, Value};
-use fwd_json::{JsonErr, pairs_of_json};
+use fwd_json::{Floats, JsonErr, pairs_of_json};
 use std::alloc::Global;
 
 /// The capacity of the record of a whole line: its own pair, and some that filters add.
@@ -28,10 +28,10 @@ fn plain(alloc: Global, line: Bytes) -> Result<Pairs, Memory>
 }
 
 #[tactic(auto, unfolding(crate::specs::LineEvent::body_of))]
-fn json(alloc: Global, line: Bytes) -> Result<Pairs, Memory>
-    ensures { IfOk result (λ body. body ≡ body_of shape.Json line) }
+fn json(alloc: Global, floats: Floats, line: Bytes) -> Result<Pairs, Memory>
+    ensures { IfOk result (λ body. body ≡ body_of floats shape.Json line) }
 {
-    match pairs_of_json(alloc, line.as_slice()) {
+    match pairs_of_json(alloc, line.as_slice(), floats) {
         Ok(pairs) => Ok(pairs),
         Err(JsonErr::Memory) => Err(Memory),
         Err(_) => plain(alloc, line),
@@ -43,16 +43,17 @@ fn json(alloc: Global, line: Bytes) -> Result<Pairs, Memory>
 fn groups(
     alloc: Global,
     search: &mut Search<'_>,
+    floats: Floats,
     types: &FieldTypes,
     skip_empty: bool,
     line: Bytes,
 ) -> Result<Pairs, Memory>
     ensures body { (pattern : Pattern) → SearchesFor pattern search.old →
-        IfOk result (λ body. body ≡ body_of (shape.Groups pattern types.now skip_empty) line) }
+        IfOk result (λ body. body ≡ body_of floats (shape.Groups pattern types.now skip_empty) line) }
     ensures same { SearchesAs search.old search.new }
 {
     if let Some(groups) = search.captures(alloc, line.as_slice())? {
-        return fields_of(alloc, types, skip_empty, groups.as_slice());
+        return fields_of(alloc, floats, types, skip_empty, groups.as_slice());
     }
     plain(alloc, line)
 }
@@ -73,22 +74,23 @@ pub fn search_of(alloc: Global, shape: &Shape) -> Result<Option<Search<'_>>, Mem
 pub fn body_of(
     alloc: Global,
     shape: &Shape,
+    floats: Floats,
     search: &mut Option<Search<'_>>,
     line: Bytes,
 ) -> Result<Pairs, Memory>
     requires { IsReady shape.now search.old }
-    ensures body { IfOk result (λ body. body ≡ body_of shape.now line) }
+    ensures body { IfOk result (λ body. body ≡ body_of floats shape.now line) }
     ensures ready { IsReady shape.now search.new }
 {
     match shape {
         Shape::Plain => plain(alloc, line),
-        Shape::Json => json(alloc, line),
+        Shape::Json => json(alloc, floats, line),
         Shape::Groups {
             types,
             skip_empty,
             ..
         } => match search {
-            Some(search) => groups(alloc, search, types, *skip_empty, line),
+            Some(search) => groups(alloc, search, floats, types, *skip_empty, line),
             None => unreachable!(),
         },
     }

@@ -6,21 +6,21 @@ ghost use Rattle.fwd_event.specs.Event.{AreEvents};
 ghost use Rattle.fwd_out_text.specs.Payload.{payload_of};
 ghost use Rattle.fwd_payload.specs.Content.{MadeOf};
 
-use fwd_base::{Bytes, Form, Memory};
-use fwd_out_text::payload_of_content;
+use fwd_base::{Bytes, Memory};
+use fwd_out_text::{PayloadForm, payload_of_content};
 use std::alloc::Global;
 use std::marker::Model;
 
 /// A text made from a content, with its format and tag.
 #[derive(Drop)]
 struct Text {
-    form: Form,
+    form: PayloadForm,
     tag: Bytes,
     payload: Bytes,
 }
 
 impl Text {
-    fn new(alloc: Global, form: Form, tag: &[u8], payload: &Bytes) -> Result<Text, Memory>
+    fn new(alloc: Global, form: PayloadForm, tag: &[u8], payload: &Bytes) -> Result<Text, Memory>
         ensures { IfOk result (λ text. (text.form ≡ form) × (text.tag ≡ tag.now) × (text.payload ≡ payload.now)) }
     {
         Ok(Text {
@@ -85,7 +85,7 @@ impl Content {
     pub fn text(
         &mut self,
         alloc: Global,
-        form: Form,
+        form: PayloadForm,
         tag: &[u8],
         is_shared: bool,
     ) -> Result<Option<Bytes>, Memory>
@@ -103,7 +103,7 @@ impl Content {
     }
 
     /// Returns a copy of the cached text, if it has this format and tag.
-    fn copy(&self, alloc: Global, form: Form, tag: &[u8]) -> Result<Option<Bytes>, Memory>
+    fn copy(&self, alloc: Global, form: PayloadForm, tag: &[u8]) -> Result<Option<Bytes>, Memory>
         ensures { IfOk result (λ found. IfSome found (λ payload. (events : List Event) × AreEvents events self.now × (payload ≡ payload_of form tag.now events))) }
     {
         match &self.text {

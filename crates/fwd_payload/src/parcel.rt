@@ -13,11 +13,12 @@ ghost use Rattle.fwd_payload.specs.Reader.{SendsAndJudges, IsFlushTo};
 use crate::Reader;
 use crate::content::Content;
 use crate::sizes::fits_every_output;
-use fwd_base::{Bytes, ChunkId, Form, Memory, OutputId};
+use fwd_base::{Bytes, ChunkId, Memory, OutputId};
 use fwd_event::{Events, whole_prefix};
 use fwd_flush::Flush;
 use fwd_out_http::{HttpReader, request_of};
 use fwd_out_net::{EndReader, chunk_id, entries_are_short};
+use fwd_out_text::PayloadForm;
 use fwd_settings::{HttpOptions, OutputKind};
 use fwd_wire::write_forward;
 use std::alloc::Global;
@@ -46,7 +47,7 @@ fn events_of(alloc: Global, content: &[u8]) -> Result<Option<Events>, Memory>
 /// Returns a text without a reply.
 fn text(
     alloc: Global,
-    form: Form,
+    form: PayloadForm,
     tag: &[u8],
     content: &mut Content,
     is_shared: bool,
@@ -120,13 +121,13 @@ fn request(
     host: &[u8],
     port: u16,
     uri: &[u8],
-    form: Form,
+    form: PayloadForm,
     options: &HttpOptions,
     tag: &[u8],
     content: &mut Content,
     is_shared: bool,
 ) -> Result<Option<Parcel>, Memory>
-    ensures request { MadeOf content.old (λ events parcel. SendsAndJudges (request_to options.now (http_request host.now port uri.now form options.now.fields (payload_of form tag.now events))) parcel.payload parcel.reader) result }
+    ensures request { MadeOf content.old (λ events parcel. SendsAndJudges (request_to options.now (http_request host.now port uri.now form.form options.now.fields (payload_of form tag.now events))) parcel.payload parcel.reader) result }
     ensures same { content.new ≡ content.old }
 {
     match content.text(alloc, form, tag, is_shared)? {
@@ -136,7 +137,7 @@ fn request(
                 host,
                 port,
                 uri,
-                form,
+                form.form,
                 options.fields.as_slice(),
                 body.as_slice(),
             )?,

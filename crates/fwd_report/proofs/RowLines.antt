@@ -11,6 +11,7 @@ use Rattle.std.proofs.lemmas.List.Sums.{sum_by_push}
 use Rattle.std.proofs.lemmas.Bool.{eq-eqb, ne_eqb}
 use Prim.Native.Nat.{◌^◌}
 use Rattle.fwd_json.specs.Text.{json}
+use Rattle.fwd_json.specs.declared.floats.Floats.TheVariants.{Tagged}
 use Rattle.fwd_value.specs.Val.{text}
 use Rattle.fwd_table.specs.Row.{Row}
 use Rattle.fwd_table.specs.RowSeen.{RowSeen}
@@ -46,7 +47,7 @@ name_left row owed rest i name outputs whole before mask at clear less item is =
 -- ---- rows
 
 pub chunk_text : (row : Row) (seen : RowSeen) (tag : List ℕ) (outputs : List (List ℕ)) (old sized named new : List ℕ) → seen ≡ seen_of row → tag ≡ row.tag
-    → sized ≡ (((old ++ codes "chunk " ++ decimal seen.chunk.0) ++ codes " ") ++ json (text tag)) ++ codes " " ++ decimal seen.size
+    → sized ≡ (((old ++ codes "chunk " ++ decimal seen.chunk.0) ++ codes " ") ++ json Tagged (text tag)) ++ codes " " ++ decimal seen.size
     → named ≡ sized ++ names_from 0 outputs row → new ≡ named ++ codes "\n" → new ≡ old ++ chunk_line outputs row
 unfolding chunk_line
 chunk_text row seen tag outputs old sized named new is same first then last =

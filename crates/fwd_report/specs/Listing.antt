@@ -5,6 +5,7 @@ use Rattle.std.specs.declared.cmp.Ordering.{Ordering}
 use Rattle.std.specs.Ordering.{nat_cmp, ordering_then}
 use Rattle.std.specs.Cmp.Lexicographic.{slice_cmp}
 use Rattle.fwd_json.specs.Text.{json}
+use Rattle.fwd_json.specs.declared.floats.Floats.TheVariants.{Tagged}
 use Rattle.fwd_value.specs.Val.{text as text_value}
 use Rattle.fwd_chunk.specs.declared.chunk.Brief.{Brief}
 use Rattle.fwd_chunk.specs.declared.chunk.Found.{Found}
@@ -16,7 +17,7 @@ use Rattle.fwd_report.specs.declared.listing_line.ListingLine.{ListingLine}
 
 -- a text in quotes
 abbrev pub quoted : List ℕ → List ℕ
-quoted bytes = json (text_value bytes)
+quoted bytes = json Tagged (text_value bytes)
 
 -- an output with a recorded outcome
 abbrev pub done_text : List ℕ → List ℕ

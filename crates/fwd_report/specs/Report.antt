@@ -2,6 +2,7 @@
 use Rattle.std.specs.Prelude.{ℕ, ◌+◌, ◌-◌, ◌^◌, ◌==◌, min, Bool, List, [], ◌∷◌, ◌++◌, length, sum_by, codes, decimal, if◌then◌else◌}
 use Rattle.std.specs.List.{flat_map, list_any, zip}
 use Rattle.fwd_json.specs.Text.{json}
+use Rattle.fwd_json.specs.declared.floats.Floats.TheVariants.{Tagged}
 use Rattle.fwd_value.specs.Val.{text}
 use Rattle.fwd_table.specs.Row.{Row}
 use Rattle.fwd_table.specs.declared.tally.InputTally.{InputTally}
@@ -57,7 +58,7 @@ names_from output (name ∷ names) row =
 -- a chunk's id, its tag as JSON text, its size, and the outputs that it is pending for
 unfoldable pub chunk_line : List (List ℕ) → Row → List ℕ
 chunk_line outputs row =
-    codes "chunk " ++ decimal row.chunk.0 ++ codes " " ++ json (text row.tag) ++ codes " " ++ decimal row.size
+    codes "chunk " ++ decimal row.chunk.0 ++ codes " " ++ json Tagged (text row.tag) ++ codes " " ++ decimal row.size
     ++ names_from 0 outputs row ++ codes "\n"
 
 -- a line for a chunk that is pending for an output, none for any other

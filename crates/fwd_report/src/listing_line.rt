@@ -7,7 +7,7 @@ ghost use Rattle.fwd_report.specs.Listing.{quoted, done_text, chunk_text, kind_n
 use crate::counters::push_count;
 use fwd_backlog::{Brief, ChunkKind, Found, Seen};
 use fwd_base::{Bytes, Memory, Names};
-use fwd_json::{Value, json_text};
+use fwd_json::{Floats, Value, json_text};
 use std::alloc::Global;
 
 /// A line of the listing, with the folder and the name that order the lines.
@@ -23,7 +23,7 @@ fn push_quoted(alloc: Global, text: &mut Bytes, bytes: &[u8]) -> Result<(), Memo
     ensures { OnOk result (text.new ≡ text.old ++ quoted bytes.now) }
 {
     let value = Value::Text(Bytes::from_slice(alloc, bytes)?);
-    json_text(alloc, &value, text)?;
+    json_text(alloc, &value, Floats::Tagged, text)?;
     Ok(())
 }
 

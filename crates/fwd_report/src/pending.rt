@@ -4,6 +4,7 @@ ghost use Rattle.std.specs.Prelude.{◌≡◌, [], ◌++◌, get_or, None, OnOk}
 ghost use Rattle.std.specs.List.{flat_map};
 ghost use Rattle.std.specs.Option.{option_map_or};
 ghost use Rattle.fwd_json.specs.Text.{json};
+ghost use Rattle.fwd_json.specs.declared.floats.Floats.TheVariants.{Tagged};
 ghost use Rattle.fwd_value.specs.Val.{text as text_value};
 ghost use Rattle.fwd_table.specs.Row.{Row};
 ghost use Rattle.fwd_table.specs.Routes.{IsMaskOf};
@@ -12,7 +13,7 @@ ghost use Rattle.fwd_report.specs.Report.{owed_routes, names_from, chunk_line, r
 
 use crate::counters::push_count;
 use fwd_base::{Bytes, Memory};
-use fwd_json::{Value, json_text};
+use fwd_json::{Floats, Value, json_text};
 use fwd_table::{RowSeen, Table};
 use std::alloc::Global;
 
@@ -31,10 +32,10 @@ fn owed_routes(table: &Table) -> u64
 
 /// Appends a tag as JSON text.
 fn push_tag(alloc: Global, text: &mut Bytes, tag: &[u8]) -> Result<(), Memory>
-    ensures { OnOk result (text.new ≡ text.old ++ json (text_value tag.now)) }
+    ensures { OnOk result (text.new ≡ text.old ++ json Tagged (text_value tag.now)) }
 {
     let tag = Value::Text(Bytes::from_slice(alloc, tag)?);
-    json_text(alloc, &tag, text)?;
+    json_text(alloc, &tag, Floats::Tagged, text)?;
     Ok(())
 }
 

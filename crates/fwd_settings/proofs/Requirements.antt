@@ -13,6 +13,7 @@ use Rattle.std.proofs.lemmas.Slice.Eq.{bytes_eq-Decides}
 use Rattle.std.proofs.Common.{zero, suc}
 use Rattle.std.proofs.Common.{lit≤}
 use Rattle.fwd_settings_values.specs.Text.{is_visible_text, is_uri_text, is_hostname_text}
+use Rattle.fwd_json.specs.declared.floats.Floats.{Floats}
 use Rattle.fwd_settings_schema.specs.declared.error_kind.SettingKind.TheVariants.{Missing, TooMany, BadChoice}
 use Rattle.fwd_filters.specs.declared.filter_step.FilterStep.{FilterStep}
 use Rattle.fwd_config.specs.declared.section.Place.{Place}
@@ -48,6 +49,7 @@ use Rattle.fwd_settings_entries.specs.Parsers.{parser_named, name_entry}
 use Rattle.fwd_settings.specs.Inputs.{input_plugin, is_input_of, input_kind, input_name, tag_of, input_set, stored_in, input_by, input_from, has_path, is_path_entry, names_path, is_service_head, tail_by}
 use Rattle.fwd_settings.specs.Outputs.{output_plugin, output_kind, output_set, output_from, output_name, most_headers, is_output_of, has_id}
 use Rattle.fwd_settings.specs.Filters.{filter_from}
+use Rattle.fwd_settings.specs.Floats.{floats_in}
 use Rattle.fwd_settings.specs.Settings.{nothing, plugin_at, by_name, of_header, part_of, entries_here, with_input, with_filter, with_output, with_target, with_section, with_sections, all_of, settings_of}
 use Rattle.fwd_settings.specs.SharedKeys.{shared_by, hostname_of, shared_key_of}
 use Rattle.fwd_settings.specs.Requirements.{AreInputsNamed, AreOutputsNamed, IsTagText, IsIdText, HasTag, CanRequest, HasShortHost, MeetsRequirements}
@@ -248,12 +250,12 @@ path_passes : list_all (row_passes target.Service key.StoragePath is_text) table
 unfolding table
 path_passes = refl
 
-can_request : (p : OutputPlugin) (properties : List Property) → AllByRecursion (ArePropertiesOf (target.Output p)) properties → CanRequest (output_kind p properties)
-can_request out_plugin.Stdout properties all = tt
-can_request out_plugin.File properties all = tt
-can_request out_plugin.Tcp properties all = tt
-can_request out_plugin.Forward properties all = tt
-can_request out_plugin.Http properties all = (
+can_request : (floats : Floats) (p : OutputPlugin) (properties : List Property) → AllByRecursion (ArePropertiesOf (target.Output p)) properties → CanRequest (output_kind floats p properties)
+can_request floats out_plugin.Stdout properties all = tt
+can_request floats out_plugin.File properties all = tt
+can_request floats out_plugin.Tcp properties all = tt
+can_request floats out_plugin.Forward properties all = tt
+can_request floats out_plugin.Http properties all = (
   text_or_so is_visible_text (codes "127.0.0.1") refl (last_value key.Host properties) (last_of_named key.Host is_visible (IsTextSo is_visible_text) visible_of_kind (target.Output out_plugin.Http) host_passes properties all),
   text_or_so is_uri_text (codes "/") refl (last_value key.Uri properties) (last_of_named key.Uri is_uri (IsTextSo is_uri_text) uri_of_kind (target.Output out_plugin.Http) uri_passes properties all),
 )
@@ -440,12 +442,12 @@ stored_is path place set out is = by_tests set.stored path refl is
 abbrev IsNewInput : Bool → List InputSet → InputSet → Type 0
 IsNewInput path before set = (set.name ≡ input_name before (input_plugin set.kind)) × (HasTag set.kind set.tag × (HasShortHost set.shared × (set.stored ≡ true → path ≡ true)))
 
-new_input : (path : Bool) (p : InputPlugin) (place : Place) (before : List InputSet) (properties : List Property) (set : InputSet) (r : Checked InputKind) → ((kind : InputKind) → r ≡ Ok kind → input_plugin kind ≡ p)
-    → IsTagText (input_name before p) → HoldsText (text_at key.Tag properties) → HasShortHost (shared_key_of properties) → input_by path p place (input_name before p) properties r ≡ Ok set → IsNewInput path before set
-new_input path p place before properties set (Err refusal) kinds name_is tag shared is = absurd (cc is)
-new_input path p place before properties set (Ok kind) kinds name_is tag shared is =
+new_input : (path : Bool) (floats : Floats) (p : InputPlugin) (place : Place) (before : List InputSet) (properties : List Property) (set : InputSet) (r : Checked InputKind) → ((kind : InputKind) → r ≡ Ok kind → input_plugin kind ≡ p)
+    → IsTagText (input_name before p) → HoldsText (text_at key.Tag properties) → HasShortHost (shared_key_of properties) → input_by path floats p place (input_name before p) properties r ≡ Ok set → IsNewInput path before set
+new_input path floats p place before properties set (Err refusal) kinds name_is tag shared is = absurd (cc is)
+new_input path floats p place before properties set (Ok kind) kinds name_is tag shared is =
     let same : input_plugin kind ≡ p = kinds kind refl in
-    let both = stored_is path place (input_set p (input_name before p) properties kind) set is in
+    let both = stored_is path place (input_set floats p (input_name before p) properties kind) set is in
     subst (IsNewInput path before) both.0
     (ap (input_name before) (sym same), (own_tag p kind (input_name before p) (text_at key.Tag properties) same name_is tag, (shared, both.1)))
 
@@ -558,21 +560,21 @@ plain_output out_plugin.Forward = (refl, lit≤ tt)
 plain_output out_plugin.Http = (refl, lit≤ tt)
 
 -- an output has the plugin that it is built for
-its_plugin : (p : OutputPlugin) (properties : List Property) → output_plugin (output_kind p properties) ≡ p
-its_plugin out_plugin.Stdout properties = refl
-its_plugin out_plugin.File properties = refl
-its_plugin out_plugin.Tcp properties = refl
-its_plugin out_plugin.Forward properties = refl
-its_plugin out_plugin.Http properties = refl
+its_plugin : (floats : Floats) (p : OutputPlugin) (properties : List Property) → output_plugin (output_kind floats p properties) ≡ p
+its_plugin floats out_plugin.Stdout properties = refl
+its_plugin floats out_plugin.File properties = refl
+its_plugin floats out_plugin.Tcp properties = refl
+its_plugin floats out_plugin.Forward properties = refl
+its_plugin floats out_plugin.Http properties = refl
 
 module _ (path : Bool) (s : PartialSettings) (place : Place) (properties : List Property) (new : PartialSettings) (sound : Sound path s) where
-  input_meets : (p : InputPlugin) → AllByRecursion (ArePropertiesOf (target.Input p)) properties → length s.inputs < 64 → (r : Checked InputSet) → input_from path p place s.inputs properties ≡ r → with_input s r ≡ Ok new → Sound path new
+  input_meets : (p : InputPlugin) → AllByRecursion (ArePropertiesOf (target.Input p)) properties → length s.inputs < 64 → (r : Checked InputSet) → input_from path s.floats p place s.inputs properties ≡ r → with_input s r ≡ Ok new → Sound path new
   input_meets p all room (Err refusal) r_is is = absurd (cc is)
   input_meets p all room (Ok set) r_is is =
       let tag : HoldsText (text_at key.Tag properties) = tag_is (last_value key.Tag properties) (last_of_named key.Tag is_tag IsTagValue tag_of_kind (target.Input p) (tag_passes p) properties all) in
       subst (Sound path) (so_far_ok is)
       (with_input_meets path s set sound room
-      (new_input path p place s.inputs properties set (input_kind p place properties) (λ kind e. kind_is p place properties kind e) (input_name_tag s.inputs p (omega arith)) tag (short_host (target.Input p) properties (hostname_passes_input p) all) r_is))
+      (new_input path s.floats p place s.inputs properties set (input_kind p place properties) (λ kind e. kind_is p place properties kind e) (input_name_tag s.inputs p (omega arith)) tag (short_host (target.Input p) properties (hostname_passes_input p) all) r_is))
 
   filter_meets : (r : Checked FilterStep) → with_filter s r ≡ Ok new → Sound path new
   filter_meets (Err refusal) is = absurd (cc is)
@@ -603,16 +605,16 @@ module _ (path : Bool) (s : PartialSettings) (place : Place) (properties : List 
       let plain = plain_output p in
       name_short (name_of_output p) (count_by (is_output_of p) s.outputs) plain.0 plain.1 (omega (arith, few, count_by-le-length (is_output_of p) s.outputs))
 
-  output_meets : (p : OutputPlugin) → AllByRecursion (ArePropertiesOf (target.Output p)) properties → length s.outputs < 64 → (r : Checked OutputSet) → output_from p place s.outputs properties ≡ r → with_output s r ≡ Ok new → Sound path new
+  output_meets : (p : OutputPlugin) → AllByRecursion (ArePropertiesOf (target.Output p)) properties → length s.outputs < 64 → (r : Checked OutputSet) → output_from s.floats p place s.outputs properties ≡ r → with_output s r ≡ Ok new → Sound path new
   output_meets p all room (Err refusal) r_is is = absurd (cc is)
   output_meets p all room (Ok set) r_is is =
-      let made : OutputSet = output_set p s.outputs properties in
+      let made : OutputSet = output_set s.floats p s.outputs properties in
       let parts = output_is (nat_lt most_headers (header_count properties)) (list_any (has_id made.id) s.outputs) (unwrap_or (id_place_at key.StorageId properties) place) made set r_is in
       let id = id_is (last_value key.StorageId properties) (last_of_named key.StorageId is_id_kind IsIdValue id_of_kind (target.Output p) (id_passes p) properties all) in
       subst (Sound path) (so_far_ok is)
       (subst (λ (x : OutputSet). Sound path (record s { outputs = s.outputs ++ x ∷ [] })) parts.0
-      (with_output_meets path s made sound room (ap (output_name s.outputs) (sym (its_plugin p properties)))
-      (id_short p (id_at key.StorageId properties) id (omega (arith, room))) (no_id made.id s.outputs parts.1) (can_request p properties all)
+      (with_output_meets path s made sound room (ap (output_name s.outputs) (sym (its_plugin s.floats p properties)))
+      (id_short p (id_at key.StorageId properties) id (omega (arith, room))) (no_id made.id s.outputs parts.1) (can_request s.floats p properties all)
       (short_host (target.Output p) properties (hostname_passes_output p) all)))
 
   service_meets : AllByRecursion (ArePropertiesOf target.Service) properties → ◌≡◌ {A = Checked PartialSettings} (Ok (record s { service = s.service ++ properties })) (Ok new) → Sound path new
@@ -634,9 +636,9 @@ module _ (path : Bool) (s : PartialSettings) (place : Place) (properties : List 
   target_meets : (p : Target) → HasRoom s p → AllByRecursion (ArePropertiesOf p) properties → with_target path s p place properties ≡ Ok new → Sound path new
   target_meets target.Service room all is = service_meets all is
   target_meets target.Parser room all is = subst (Sound path) (so_far_ok is) sound
-  target_meets (target.Input plugin) room all is = input_meets plugin all room (input_from path plugin place s.inputs properties) refl is
-  target_meets (target.Filter plugin) room all is = filter_meets (filter_from plugin place properties) is
-  target_meets (target.Output plugin) room all is = output_meets plugin all room (output_from plugin place s.outputs properties) refl is
+  target_meets (target.Input plugin) room all is = input_meets plugin all room (input_from path s.floats plugin place s.inputs properties) refl is
+  target_meets (target.Filter plugin) room all is = filter_meets (filter_from s.floats plugin place properties) is
+  target_meets (target.Output plugin) room all is = output_meets plugin all room (output_from s.floats plugin place s.outputs properties) refl is
 
 -- ---- a storage path that is set is there at the end
 
@@ -697,9 +699,9 @@ with_output_stays s new (Ok set) is any = subst (λ (x : PartialSettings). Names
 service_stays : (path : Bool) (s : PartialSettings) (place : Place) (properties : List Property) (new : PartialSettings) (p : Target) → with_target path s p place properties ≡ Ok new → NamesPath s.service → NamesPath new.service
 service_stays path s place properties new target.Service is any = subst (λ (x : PartialSettings). NamesPath x.service) (so_far_ok is) (any_before s.service properties any)
 service_stays path s place properties new target.Parser is any = subst (λ (x : PartialSettings). NamesPath x.service) (so_far_ok is) any
-service_stays path s place properties new (target.Input plugin) is any = with_input_stays s new (input_from path plugin place s.inputs properties) is any
-service_stays path s place properties new (target.Filter plugin) is any = with_filter_stays s new (filter_from plugin place properties) is any
-service_stays path s place properties new (target.Output plugin) is any = with_output_stays s new (output_from plugin place s.outputs properties) is any
+service_stays path s place properties new (target.Input plugin) is any = with_input_stays s new (input_from path s.floats plugin place s.inputs properties) is any
+service_stays path s place properties new (target.Filter plugin) is any = with_filter_stays s new (filter_from s.floats plugin place properties) is any
+service_stays path s place properties new (target.Output plugin) is any = with_output_stays s new (output_from s.floats plugin place s.outputs properties) is any
 
 -- ---- all sections
 
@@ -772,14 +774,14 @@ all_meet path s sound there = record {
       s.inputs sound.stored;
 }
 
-nothing_meets : (path : Bool) → Sound path nothing
-nothing_meets path = record { properties = tt; few_inputs = omega arith; few_outputs = omega arith; inputs_named = tt; outputs_named = tt; ids = All-nil (λ set. IsIdText set.id); ids_differ = λ i j d less within. absurd (omega (arith, within)); requests = tt; tagged = tt; shared_inputs = tt; shared_outputs = tt; stored = tt }
+nothing_meets : (path : Bool) (floats : Floats) → Sound path (nothing floats)
+nothing_meets path floats = record { properties = tt; few_inputs = omega arith; few_outputs = omega arith; inputs_named = tt; outputs_named = tt; ids = All-nil (λ set. IsIdText set.id); ids_differ = λ i j d less within. absurd (omega (arith, within)); requests = tt; tagged = tt; shared_inputs = tt; shared_outputs = tt; stored = tt }
 
 always_meets : (sections : List Section) → Always MeetsRequirements (settings_of sections)
 unfolding settings_of
 always_meets sections =
-    always_then (λ end. Sound (list_any has_path sections) end × (list_any has_path sections ≡ true → NamesPath end.service)) MeetsRequirements (with_sections sections (list_any has_path sections) nothing sections) (λ s. known (Ok (all_of s)))
-    (sections_go sections (list_any has_path sections) sections nothing (nothing_meets (list_any has_path sections)) (λ so. inr so))
+    always_then (λ end. Sound (list_any has_path sections) end × (list_any has_path sections ≡ true → NamesPath end.service)) MeetsRequirements (with_sections sections (list_any has_path sections) (nothing (floats_in sections)) sections) (λ s. known (Ok (all_of s)))
+    (sections_go sections (list_any has_path sections) sections (nothing (floats_in sections)) (nothing_meets (list_any has_path sections) (floats_in sections)) (λ so. inr so))
     (λ s both. all_meet (list_any has_path sections) s both.0 both.1)
 
 -- settings that are read meet what the engine requires

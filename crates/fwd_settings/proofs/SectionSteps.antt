@@ -12,6 +12,7 @@ use Rattle.fwd_settings_schema.specs.declared.section_kind.Target.{Target}
 use Rattle.fwd_settings_schema.specs.declared.properties.Property.{Property}
 use Rattle.fwd_settings_entries.specs.Values.{entry_properties}
 use Rattle.fwd_settings_entries.specs.Parsers.{parser_named}
+use Rattle.fwd_settings.specs.Floats.{floats_in}
 
 module _ (all : List Section) (path : Bool) (s : PartialSettings) (section : Section) where
   abbrev with_property : Target → List Property → Reading PartialSettings
@@ -38,9 +39,9 @@ module _ (all : List Section) (path : Bool) (s : PartialSettings) (section : Sec
 module _ (all : List Section) (path : Bool) where
   -- what the rest comes to, from the settings so far, is what all come to
   abbrev pub CheckedFrom : ℕ → PartialSettings → Type 0
-  CheckedFrom i partial = (result : Checked PartialSettings) → IsResult (with_sections all path partial (drop i all)) result → IsResult (with_sections all path nothing all) result
+  CheckedFrom i partial = (result : Checked PartialSettings) → IsResult (with_sections all path partial (drop i all)) result → IsResult (with_sections all path (nothing (floats_in all)) all) result
 
-  pub checked_from_start : (partial : PartialSettings) → partial ≡ nothing → CheckedFrom 0 partial
+  pub checked_from_start : (partial : PartialSettings) → partial ≡ nothing (floats_in all) → CheckedFrom 0 partial
   checked_from_start partial none result comes = subst (λ (s : PartialSettings). IsResult (with_sections all path s all) result) none comes
 
   module _ (i : ℕ) (section : Section) (here : i < length all) (is : section ≡ get_or all i section) (partial : PartialSettings) (leads : CheckedFrom i partial) where
@@ -56,11 +57,11 @@ module _ (all : List Section) (path : Bool) where
     checked_from_next new one result rest =
         leads result (from_here result (result_then (with_section all path partial section) (λ s. with_sections all path s (drop (i + 1) all)) new result one rest))
 
-    pub checked_from_refused : (s : ReadErr) → ReturnsResult (with_section all path partial section) (Err s) → ReturnsResult (with_sections all path nothing all) (Err s)
+    pub checked_from_refused : (s : ReadErr) → ReturnsResult (with_section all path partial section) (Err s) → ReturnsResult (with_sections all path (nothing (floats_in all)) all) (Err s)
     checked_from_refused read_err.Memory refused = tt
     checked_from_refused (read_err.Refused refusal) refused =
         leads (Err refusal) (from_here (Err refusal) (result_refused (with_section all path partial section) (λ s. with_sections all path s (drop (i + 1) all)) refusal refused))
 
-  pub checked_from_end : (i : ℕ) (partial : PartialSettings) → length all ≤ i → CheckedFrom i partial → IsResult (with_sections all path nothing all) (Ok partial)
+  pub checked_from_end : (i : ℕ) (partial : PartialSettings) → length all ≤ i → CheckedFrom i partial → IsResult (with_sections all path (nothing (floats_in all)) all) (Ok partial)
   unfolding with_sections
   checked_from_end i partial done leads = leads (Ok partial) (subst (λ (l : List Section). IsResult (with_sections all path partial l) (Ok partial)) (sym (drop_all i all done)) refl)

@@ -4,6 +4,7 @@ use Rattle.std.specs.List.{filter_map}
 use Rattle.fwd_filters.specs.declared.filter_step.FilterKind.{FilterKind}
 use Rattle.fwd_filters.specs.declared.filter_step.FilterKind.TheVariants as filter
 use Rattle.fwd_filters.specs.declared.filter_step.FilterStep.{FilterStep}
+use Rattle.fwd_json.specs.declared.floats.Floats.{Floats}
 use Rattle.fwd_settings_schema.specs.declared.error_kind.SettingKind.TheVariants.{Missing}
 use Rattle.fwd_config.specs.declared.section.Place.{Place}
 use Rattle.fwd_settings_schema.specs.declared.plugins.FilterPlugin.{FilterPlugin}
@@ -56,12 +57,13 @@ operation_by place properties (Some operation.Lift) =
 operation_by place properties None = Err (fault Missing place)
 
 -- every rule counts, in order
-abbrev pub filter_kind : FilterPlugin → Place → List Property → Checked FilterKind
-filter_kind plugin.Grep place properties = Ok (filter.Grep (filter_map grep_in properties))
-filter_kind plugin.Modify place properties =
+abbrev pub filter_kind : Floats → FilterPlugin → Place → List Property → Checked FilterKind
+filter_kind floats plugin.Grep place properties =
+    Ok (filter.Grep (filter_map (grep_in floats) properties))
+filter_kind floats plugin.Modify place properties =
     Ok (filter.Modify
     (record { conditions = filter_map condition_in properties; rules = filter_map change_in properties }))
-filter_kind plugin.Nest place properties =
+filter_kind floats plugin.Nest place properties =
     operation_by place properties (operation_at key.Operation properties)
 
 -- a filter or an output without Match gets all tags
@@ -72,5 +74,5 @@ abbrev pub filter_by : List Property → Checked FilterKind → Checked FilterSt
 filter_by properties (Ok kind) = Ok (record { glob = glob_of properties; kind = kind })
 filter_by properties (Err refusal) = Err refusal
 
-abbrev pub filter_from : FilterPlugin → Place → List Property → Checked FilterStep
-filter_from plugin place properties = filter_by properties (filter_kind plugin place properties)
+abbrev pub filter_from : Floats → FilterPlugin → Place → List Property → Checked FilterStep
+filter_from floats plugin place properties = filter_by properties (filter_kind floats plugin place properties)

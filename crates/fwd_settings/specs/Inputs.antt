@@ -2,6 +2,7 @@
 use Rattle.std.specs.Prelude.{ℕ, Bool, true, false, ◌&&◌, not, if◌then◌else◌, List, ◌++◌, codes, count_by, decimal, Option, Some, None, Ok, Err, unwrap_or}
 use Rattle.std.specs.List.{list_any}
 use Rattle.std.specs.Str.{bytes_eq}
+use Rattle.fwd_json.specs.declared.floats.Floats.{Floats}
 use Rattle.fwd_parser.specs.declared.parser.Parser.{Parser}
 use Rattle.fwd_parser.specs.declared.parser.Shape.{Shape}
 use Rattle.fwd_parser.specs.declared.parser.Shape.TheVariants as shape
@@ -87,6 +88,10 @@ input_parser plugin.Stdin properties = unwrap_or (last_in parser_in properties) 
 input_parser plugin.Tcp properties = timeless (lines_shape (format_at key.Format properties))
 input_parser plugin.Forward properties = timeless shape.Plain
 
+-- a parser that reads floats, or that reads none
+abbrev pub with_floats : Floats → Parser → Parser
+with_floats floats parser = record parser { floats = floats }
+
 -- some SERVICE section has a storage.path
 abbrev pub names_path : Option (Key × Kind) → Bool
 names_path None = false
@@ -102,15 +107,15 @@ is_service_head _ = false
 abbrev pub has_path : Section → Bool
 has_path section = is_service_head (head_of section.name) && list_any is_path_entry section.entries
 
-abbrev pub input_set : InputPlugin → List ℕ → List Property → InputKind → InputSet
-input_set plugin name properties kind = record {
+abbrev pub input_set : Floats → InputPlugin → List ℕ → List Property → InputKind → InputSet
+input_set floats plugin name properties kind = record {
   name = name;
   kind = kind;
   tag = tag_of plugin name (text_at key.Tag properties);
   stored = unwrap_or (truth_at key.StorageType properties) false;
   mem_limit = number_at key.MemBufLimit properties;
   db = text_at key.Database properties;
-  parser = input_parser plugin properties;
+  parser = with_floats floats (input_parser plugin properties);
   shared = shared_key_of properties;
 }
 
@@ -118,13 +123,15 @@ input_set plugin name properties kind = record {
 abbrev pub stored_in : Bool → Place → InputSet → Checked InputSet
 stored_in path place set = if set.stored && not path then Err (fault Missing place) else Ok set
 
-abbrev pub input_by : Bool → InputPlugin → Place → List ℕ → List Property → Checked InputKind
+abbrev pub input_by : Bool → Floats → InputPlugin → Place → List ℕ → List Property → Checked InputKind
     → Checked InputSet
-input_by path plugin place name properties (Ok kind) =
-    stored_in path place (input_set plugin name properties kind)
-input_by path plugin place name properties (Err refusal) = Err refusal
+input_by path floats plugin place name properties (Ok kind) =
+    stored_in path place (input_set floats plugin name properties kind)
+input_by path floats plugin place name properties (Err refusal) = Err refusal
 
 -- the settings of an input, given those of the inputs before it
-abbrev pub input_from : Bool → InputPlugin → Place → List InputSet → List Property → Checked InputSet
-input_from path plugin place before properties =
-    input_by path plugin place (input_name before plugin) properties (input_kind plugin place properties)
+abbrev pub input_from : Bool → Floats → InputPlugin → Place → List InputSet → List Property
+    → Checked InputSet
+input_from path floats plugin place before properties =
+    input_by path floats plugin place (input_name before plugin) properties
+    (input_kind plugin place properties)

@@ -2,6 +2,7 @@ pub mod Reading
 pub mod Service
 pub mod SharedKeys
 pub mod Inputs
+pub mod Floats
 pub mod Filters
 pub mod Outputs
 pub mod Settings

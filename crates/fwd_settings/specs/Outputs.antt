@@ -6,7 +6,10 @@ use Rattle.base64.specs.Engines.{standard}
 use Rattle.base64.specs.GeneralPurpose.{encode_of}
 use Rattle.fwd_config.specs.declared.section.Place.{Place}
 use Rattle.fwd_http.specs.declared.fields.HeaderField.{HeaderField}
+use Rattle.fwd_json.specs.declared.floats.Floats.{Floats}
+use Rattle.fwd_json.specs.declared.floats.PayloadForm.{PayloadForm}
 use Rattle.fwd_settings_schema.specs.declared.error_kind.SettingKind.TheVariants.{TooMany, BadChoice}
+use Rattle.fwd_base.specs.declared.output_options.Form.{Form}
 use Rattle.fwd_base.specs.declared.output_options.Form.TheVariants as form
 use Rattle.fwd_base.specs.declared.output_options.Retries.TheVariants.{Times}
 use Rattle.fwd_settings.specs.declared.settings_types.OutputKind.{OutputKind}
@@ -71,32 +74,36 @@ options_of properties = record {
   fields = header_fields properties;
 }
 
+-- the form that is given, or a default, with what floats are in it
+abbrev pub payload_form : Floats → Option Form → Form → PayloadForm
+payload_form floats given default = record { form = unwrap_or given default; floats = floats }
+
 -- by default events are written as lines of JSON to a stream, with the tag to a file, and as they are stored
 -- in a request
-abbrev pub output_kind : OutputPlugin → List Property → OutputKind
-output_kind plugin.Stdout properties =
-    output.Stdout (unwrap_or (form_at key.Format properties) form.JsonLines)
-output_kind plugin.File properties =
+abbrev pub output_kind : Floats → OutputPlugin → List Property → OutputKind
+output_kind floats plugin.Stdout properties =
+    output.Stdout (payload_form floats (form_at key.Format properties) form.JsonLines)
+output_kind floats plugin.File properties =
     output.File (unwrap_or (text_at key.Path properties) (codes ".")) (text_at key.File properties)
-    (unwrap_or (form_at key.Format properties) form.OutFile)
-output_kind plugin.Tcp properties =
+    (payload_form floats (form_at key.Format properties) form.OutFile)
+output_kind floats plugin.Tcp properties =
     output.Tcp (host_of properties) (unwrap_or (port_at key.Port properties) tcp_port)
-    (unwrap_or (form_at key.Format properties) form.JsonLines)
-output_kind plugin.Forward properties =
+    (payload_form floats (form_at key.Format properties) form.JsonLines)
+output_kind floats plugin.Forward properties =
     output.Forward (host_of properties) (unwrap_or (port_at key.Port properties) forward_port)
     (unwrap_or (truth_at key.RequireAck properties) false)
     (unwrap_or (truth_at key.TimeAsInteger properties) false)
-output_kind plugin.Http properties =
+output_kind floats plugin.Http properties =
     output.Http (host_of properties) (unwrap_or (port_at key.Port properties) http_port)
     (unwrap_or (text_at key.Uri properties) (codes "/"))
-    (unwrap_or (form_at key.Format properties) form.MsgPack) (options_of properties)
+    (payload_form floats (form_at key.Format properties) form.MsgPack) (options_of properties)
 
-abbrev pub output_set : OutputPlugin → List OutputSet → List Property → OutputSet
-output_set plugin before properties = record {
+abbrev pub output_set : Floats → OutputPlugin → List OutputSet → List Property → OutputSet
+output_set floats plugin before properties = record {
   name = output_name before plugin;
   id = unwrap_or (id_at key.StorageId properties) (output_name before plugin);
   glob = glob_of properties;
-  kind = output_kind plugin properties;
+  kind = output_kind floats plugin properties;
   retries = unwrap_or (retries_at key.RetryLimit properties) (Times 1);
   total_limit = number_at key.TotalLimit properties;
   shared = shared_key_of properties;
@@ -114,8 +121,8 @@ abbrev pub with_new_id : Place → List OutputSet → OutputSet → Checked Outp
 with_new_id place before set = if list_any (has_id set.id) before then Err (fault BadChoice place) else Ok set
 
 -- the settings of an output, given those of the outputs before it
-abbrev pub output_from : OutputPlugin → Place → List OutputSet → List Property → Checked OutputSet
-output_from plugin place before properties =
+abbrev pub output_from : Floats → OutputPlugin → Place → List OutputSet → List Property → Checked OutputSet
+output_from floats plugin place before properties =
     if nat_lt most_headers (header_count properties) then Err (fault TooMany place)
     else with_new_id (unwrap_or (id_place_at key.StorageId properties) place) before
-    (output_set plugin before properties)
+    (output_set floats plugin before properties)

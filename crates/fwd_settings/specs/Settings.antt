@@ -3,6 +3,7 @@ use Rattle.std.specs.Prelude.{◌≡◌, ◌⊎◌, Bool, false, nat_le, if◌th
 use Rattle.std.specs.List.{list_any}
 use Rattle.fwd_base.specs.Limits.{most_inputs, most_outputs}
 use Rattle.fwd_filters.specs.declared.filter_step.FilterStep.{FilterStep}
+use Rattle.fwd_json.specs.declared.floats.Floats.{Floats}
 use Rattle.fwd_settings_schema.specs.declared.error_kind.SettingKind.TheVariants as kind
 use Rattle.fwd_config.specs.declared.section.Place.{Place}
 use Rattle.fwd_config.specs.declared.section.Entry.{Entry}
@@ -24,11 +25,12 @@ use Rattle.fwd_settings_entries.specs.Parsers.{name_entry, parser_named}
 use Rattle.fwd_settings.specs.Service.{service_of}
 use Rattle.fwd_settings.specs.Inputs.{has_path, input_from}
 use Rattle.fwd_settings.specs.Filters.{filter_from}
+use Rattle.fwd_settings.specs.Floats.{floats_in}
 use Rattle.fwd_settings.specs.Outputs.{output_from}
 
 -- before the first section
-abbrev pub nothing : PartialSettings
-nothing = record { service = []; inputs = []; filters = []; outputs = [] }
+abbrev pub nothing : Floats → PartialSettings
+nothing floats = record { service = []; inputs = []; filters = []; outputs = []; floats = floats }
 
 -- there are as many inputs or outputs as the limit allows
 abbrev pub is_full : PartialSettings → SectionKind → Bool
@@ -86,11 +88,11 @@ with_target path partial target.Service place properties =
     Ok (record partial { service = partial.service ++ properties })
 with_target path partial target.Parser place properties = Ok partial
 with_target path partial (target.Input plugin) place properties =
-    with_input partial (input_from path plugin place partial.inputs properties)
+    with_input partial (input_from path partial.floats plugin place partial.inputs properties)
 with_target path partial (target.Filter plugin) place properties =
-    with_filter partial (filter_from plugin place properties)
+    with_filter partial (filter_from partial.floats plugin place properties)
 with_target path partial (target.Output plugin) place properties =
-    with_output partial (output_from plugin place partial.outputs properties)
+    with_output partial (output_from partial.floats plugin place partial.outputs properties)
 
 -- A section is checked in five steps: its header, its Name if it requires one, its plugin, each entry in
 -- order, and what else is required.
@@ -118,7 +120,7 @@ all_of partial =
 
 unfoldable pub settings_of : List Section → Reading AllSettings
 settings_of sections = do
-  partial ← with_sections sections (list_any has_path sections) nothing sections
+  partial ← with_sections sections (list_any has_path sections) (nothing (floats_in sections)) sections
   known (Ok (all_of partial))
 
 -- the settings of the sections, or their first error; or out of memory

@@ -9,6 +9,7 @@ ghost use Rattle.fwd_settings_schema.specs.Property.{text_at};
 use fwd_base::{Bytes, Memory};
 use fwd_config::Place;
 use fwd_filters::{FilterKind, FilterStep};
+use fwd_json::Floats;
 use fwd_reshape::{LiftRule, NestRule};
 use fwd_settings_entries::{ReadErr, refuse};
 use fwd_settings_schema::{
@@ -66,14 +67,15 @@ fn nest_kind(
 /// Returns the rules of a filter.
 fn filter_kind(
     alloc: Global,
+    floats: Floats,
     plugin: FilterPlugin,
     place: &Place,
     properties: Properties,
 ) -> Result<FilterKind, ReadErr>
-    ensures { ReturnsResult (known (filter_kind plugin place.now properties)) result }
+    ensures { ReturnsResult (known (filter_kind floats plugin place.now properties)) result }
 {
     match plugin {
-        FilterPlugin::Grep => Ok(FilterKind::Grep(grep_rules(alloc, properties)?)),
+        FilterPlugin::Grep => Ok(FilterKind::Grep(grep_rules(alloc, floats, properties)?)),
         FilterPlugin::Modify => Ok(FilterKind::Modify(modify_rules(alloc, properties)?)),
         FilterPlugin::Nest => {
             let operation = operation_at(properties.as_slice(), Key::Operation);
@@ -92,13 +94,14 @@ pub fn glob_of(alloc: Global, properties: &[Property]) -> Result<Bytes, Memory>
 /// Returns the settings of a filter.
 pub fn filter_from(
     alloc: Global,
+    floats: Floats,
     plugin: FilterPlugin,
     place: &Place,
     properties: Properties,
 ) -> Result<FilterStep, ReadErr>
-    ensures { ReturnsResult (known (filter_from plugin place.now properties)) result }
+    ensures { ReturnsResult (known (filter_from floats plugin place.now properties)) result }
 {
     let glob = glob_of(alloc, properties.as_slice())?;
-    let kind = filter_kind(alloc, plugin, place, properties)?;
+    let kind = filter_kind(alloc, floats, plugin, place, properties)?;
     Ok(FilterStep { glob, kind })
 }

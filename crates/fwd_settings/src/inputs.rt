@@ -6,7 +6,7 @@ ghost use Rattle.std.specs.Option.{option_copied};
 ghost use Rattle.std.specs.List.{list_any};
 ghost use Rattle.fwd_settings_schema.specs.Keys.{head_of};
 ghost use Rattle.fwd_settings_entries.specs.Reading.{ReturnsResult, known};
-ghost use Rattle.fwd_settings.specs.Inputs.{instance, input_plugin, is_input_of, input_name, input_kind, tag_of, lines_shape, input_parser, is_path_entry, is_service_head, has_path, input_from};
+ghost use Rattle.fwd_settings.specs.Inputs.{instance, input_plugin, is_input_of, input_name, input_kind, tag_of, lines_shape, input_parser, with_floats, is_path_entry, is_service_head, has_path, input_from};
 ghost use Rattle.std.specs.Prelude.{unwrap_or};
 ghost use Rattle.fwd_settings_entries.specs.Parsers.{timeless};
 ghost use Rattle.fwd_settings_schema.specs.Property.{text_at, last_in, parser_in};
@@ -15,6 +15,7 @@ use crate::shared_keys::shared_key_of;
 use crate::{InputKind, InputSet};
 use fwd_base::{Bytes, Memory};
 use fwd_config::{Entry, Place, Section};
+use fwd_json::Floats;
 use fwd_parser::{Parser, Shape};
 use fwd_settings_entries::{ReadErr, refuse, timeless};
 use fwd_settings_schema::{
@@ -143,6 +144,17 @@ fn parser_or(shape: Shape, properties: Properties) -> Parser
     }
 }
 
+/// Returns a parser that reads floats, or that reads none.
+fn with_floats(floats: Floats, parser: Parser) -> Parser
+    ensures { result ≡ with_floats floats parser }
+{
+    Parser {
+        shape: parser.shape,
+        time: parser.time,
+        floats,
+    }
+}
+
 fn is_path_entry(entry: &Entry) -> bool
     ensures { result ≡ is_path_entry entry.now }
 {
@@ -158,7 +170,7 @@ fn any_path_entry(entries: &[Entry]) -> bool
     entries.iter().any(|entry| is_path_entry(entry))
 }
 
-fn is_service(section: &Section) -> bool
+pub fn is_service(section: &Section) -> bool
     ensures { result ≡ is_service_head (head_of section.now.name) }
 {
     matches!(
@@ -185,12 +197,13 @@ pub fn any_path(all: &[Section]) -> bool
 pub fn input_from(
     alloc: Global,
     path: bool,
+    floats: Floats,
     plugin: InputPlugin,
     place: &Place,
     before: &[InputSet],
     properties: Properties,
 ) -> Result<InputSet, ReadErr>
-    ensures { ReturnsResult (known (input_from path plugin place.now before.now properties)) result }
+    ensures { ReturnsResult (known (input_from path floats plugin place.now before.now properties)) result }
 {
     let kind = input_kind(alloc, plugin, place, properties.as_slice())?;
     let name = instance(alloc, plugin.name(), count_of(plugin, before))?;
@@ -202,7 +215,7 @@ pub fn input_from(
     let mem_limit = number_at(properties.as_slice(), Key::MemBufLimit);
     let db = own_text(alloc, properties.as_slice(), Key::Database)?;
     let shared = shared_key_of(alloc, properties.as_slice())?;
-    let parser = input_parser(plugin, properties);
+    let parser = with_floats(floats, input_parser(plugin, properties));
     Ok(InputSet {
         name,
         kind,

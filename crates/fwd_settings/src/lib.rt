@@ -8,6 +8,7 @@
 
 mod endpoints;
 mod filters;
+mod floats;
 mod inputs;
 mod outputs;
 mod sections;
@@ -17,6 +18,7 @@ mod shared_keys;
 
 pub use endpoints::ends;
 pub use fwd_base::{Form, Retries};
+pub use fwd_json::{Floats, PayloadForm};
 pub use fwd_outside::{Ends, InEnd, InEnds, OutEnd, OutEnds};
 pub use fwd_settings_schema::{SettingFault, SettingKind};
 pub use sections::settings;

@@ -16,6 +16,7 @@ use base64::engine::general_purpose::STANDARD;
 use fwd_base::{Bytes, Form, Memory, Retries};
 use fwd_config::Place;
 use fwd_http::{HeaderField, HeaderFields, StatusRanges};
+use fwd_json::{Floats, PayloadForm};
 use fwd_settings_entries::{ReadErr, refuse};
 use fwd_settings_schema::{
     FORWARD_PORT, HTTP_PORT, Key, OutputPlugin, Property, SettingKind, TCP_PORT, form_at,
@@ -124,24 +125,34 @@ fn options_of(alloc: Global, properties: &[Property]) -> Result<HttpOptions, Mem
 /// Returns the plugin of an output with its own settings.
 fn output_kind(
     alloc: Global,
+    floats: Floats,
     plugin: OutputPlugin,
     properties: &[Property],
 ) -> Result<OutputKind, Memory>
-    ensures { IfOk result (λ kind. kind ≡ output_kind plugin properties.now) }
+    ensures { IfOk result (λ kind. kind ≡ output_kind floats plugin properties.now) }
 {
     match plugin {
         OutputPlugin::Stdout => Ok(OutputKind::Stdout {
-            form: form_at(properties, Key::Format).unwrap_or(Form::JsonLines),
+            form: PayloadForm {
+                form: form_at(properties, Key::Format).unwrap_or(Form::JsonLines),
+                floats,
+            },
         }),
         OutputPlugin::File => Ok(OutputKind::File {
             folder: text_or(alloc, properties, Key::Path, b".")?,
             file: own_text(alloc, properties, Key::File)?,
-            form: form_at(properties, Key::Format).unwrap_or(Form::OutFile),
+            form: PayloadForm {
+                form: form_at(properties, Key::Format).unwrap_or(Form::OutFile),
+                floats,
+            },
         }),
         OutputPlugin::Tcp => Ok(OutputKind::Tcp {
             host: host_of(alloc, properties)?,
             port: port_at(properties, Key::Port).unwrap_or(TCP_PORT),
-            form: form_at(properties, Key::Format).unwrap_or(Form::JsonLines),
+            form: PayloadForm {
+                form: form_at(properties, Key::Format).unwrap_or(Form::JsonLines),
+                floats,
+            },
         }),
         OutputPlugin::Forward => Ok(OutputKind::Forward {
             host: host_of(alloc, properties)?,
@@ -153,7 +164,10 @@ fn output_kind(
             host: host_of(alloc, properties)?,
             port: port_at(properties, Key::Port).unwrap_or(HTTP_PORT),
             uri: text_or(alloc, properties, Key::Uri, b"/")?,
-            form: form_at(properties, Key::Format).unwrap_or(Form::MsgPack),
+            form: PayloadForm {
+                form: form_at(properties, Key::Format).unwrap_or(Form::MsgPack),
+                floats,
+            },
             options: options_of(alloc, properties)?,
         }),
     }
@@ -194,11 +208,12 @@ fn is_taken(outputs: &[OutputSet], id: &[u8]) -> bool
 
 fn output_set(
     alloc: Global,
+    floats: Floats,
     plugin: OutputPlugin,
     before: &[OutputSet],
     properties: &[Property],
 ) -> Result<OutputSet, Memory>
-    ensures { IfOk result (λ set. set ≡ output_set plugin before.now properties.now) }
+    ensures { IfOk result (λ set. set ≡ output_set floats plugin before.now properties.now) }
 {
     let name = instance(alloc, plugin.name(), count_of(plugin, before))?;
     let id = id_or(alloc, properties, name.as_slice())?;
@@ -206,7 +221,7 @@ fn output_set(
         name,
         id,
         glob: glob_of(alloc, properties)?,
-        kind: output_kind(alloc, plugin, properties)?,
+        kind: output_kind(alloc, floats, plugin, properties)?,
         retries: retries_at(properties, Key::RetryLimit).unwrap_or(Retries::Times(1)),
         total_limit: number_at(properties, Key::TotalLimit),
         shared: shared_key_of(alloc, properties)?,
@@ -216,17 +231,18 @@ fn output_set(
 /// Returns the settings of an output, given those of the outputs before it.
 pub fn output_from(
     alloc: Global,
+    floats: Floats,
     plugin: OutputPlugin,
     place: &Place,
     before: &[OutputSet],
     properties: &[Property],
 ) -> Result<OutputSet, ReadErr>
-    ensures { ReturnsResult (known (output_from plugin place.now before.now properties.now)) result }
+    ensures { ReturnsResult (known (output_from floats plugin place.now before.now properties.now)) result }
 {
     if header_count(properties) > MOST_HEADERS {
         return refuse(alloc, SettingKind::TooMany, place);
     }
-    let set = output_set(alloc, plugin, before, properties)?;
+    let set = output_set(alloc, floats, plugin, before, properties)?;
     if is_taken(before, set.id.as_slice()) {
         return refuse(
             alloc,

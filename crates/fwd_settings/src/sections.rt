@@ -6,12 +6,14 @@ ghost use Rattle.fwd_settings_schema.specs.Keys.{head_of};
 ghost use Rattle.fwd_settings_entries.specs.Reading.{ReturnsResult, known};
 ghost use Rattle.fwd_settings.specs.Inputs.{has_path, input_from};
 ghost use Rattle.fwd_settings.specs.Filters.{filter_from};
+ghost use Rattle.fwd_settings.specs.Floats.{floats_in};
 ghost use Rattle.fwd_settings.specs.Outputs.{output_from};
 ghost use Rattle.fwd_settings_entries.specs.Parsers.{name_entry};
 ghost use Rattle.fwd_settings.specs.Settings.{nothing, is_full, by_name, of_header, part_of, entries_here, with_target, with_input, with_filter, with_output, with_section, with_sections, all_of, settings_of, AreSettingsOf};
 ghost use Rattle.fwd_settings.specs.Requirements.{MeetsRequirements};
 
 use crate::filters::filter_from;
+use crate::floats::floats_in;
 use crate::inputs::{any_path, input_from};
 use crate::outputs::output_from;
 use crate::service::service_of;
@@ -20,6 +22,7 @@ use fwd_base::Memory;
 use fwd_base::limits::{MOST_INPUTS, MOST_OUTPUTS};
 use fwd_config::{Entry, Place, Section, Sections};
 use fwd_filters::FilterSteps;
+use fwd_json::Floats;
 use fwd_settings_entries::{ReadErr, name_entry, read_entries, refuse};
 use fwd_settings_schema::{
     FilterPlugin, InputPlugin, OutputPlugin, Properties, SectionKind, SettingKind, Target,
@@ -34,17 +37,20 @@ pub struct PartialSettings {
     pub inputs: InputSets,
     pub filters: FilterSteps,
     pub outputs: OutputSets,
+    /// What floats are, by all SERVICE sections.
+    pub floats: Floats,
 }
 
 impl PartialSettings {
-    fn new(alloc: Global) -> Self
-        ensures { result ≡ nothing }
+    fn new(alloc: Global, floats: Floats) -> Self
+        ensures { result ≡ nothing floats }
     {
         PartialSettings {
             service: Properties::new(alloc),
             inputs: InputSets::new(alloc),
             filters: FilterSteps::new(alloc),
             outputs: OutputSets::new(alloc),
+            floats,
         }
     }
 
@@ -113,12 +119,13 @@ impl PartialSettings {
         place: &Place,
         properties: Properties,
     ) -> Result<PartialSettings, ReadErr>
-        ensures { ReturnsResult (known (with_input self (input_from path plugin place.now self.inputs properties))) result }
+        ensures { ReturnsResult (known (with_input self (input_from path self.floats plugin place.now self.inputs properties))) result }
     {
         let mut partial = self;
         let set = input_from(
             alloc,
             path,
+            partial.floats,
             plugin,
             place,
             partial.inputs.as_slice(),
@@ -135,10 +142,10 @@ impl PartialSettings {
         place: &Place,
         properties: Properties,
     ) -> Result<PartialSettings, ReadErr>
-        ensures { ReturnsResult (known (with_filter self (filter_from plugin place.now properties))) result }
+        ensures { ReturnsResult (known (with_filter self (filter_from self.floats plugin place.now properties))) result }
     {
         let mut partial = self;
-        let step = filter_from(alloc, plugin, place, properties)?;
+        let step = filter_from(alloc, partial.floats, plugin, place, properties)?;
         partial.filters.push(step)?;
         Ok(partial)
     }
@@ -150,11 +157,12 @@ impl PartialSettings {
         place: &Place,
         properties: Properties,
     ) -> Result<PartialSettings, ReadErr>
-        ensures { ReturnsResult (known (with_output self (output_from plugin place.now self.outputs properties))) result }
+        ensures { ReturnsResult (known (with_output self (output_from self.floats plugin place.now self.outputs properties))) result }
     {
         let mut partial = self;
         let set = output_from(
             alloc,
+            partial.floats,
             plugin,
             place,
             partial.outputs.as_slice(),
@@ -173,6 +181,7 @@ impl PartialSettings {
             inputs,
             filters,
             outputs,
+            floats: _,
         } = self;
         Ok(AllSettings {
             service: service_of(alloc, service.as_slice())?,
@@ -225,9 +234,9 @@ fn take_section(
 }
 
 fn take_sections(alloc: Global, all: &[Section], path: bool) -> Result<PartialSettings, ReadErr>
-    ensures { ReturnsResult (with_sections all.now path nothing all.now) result }
+    ensures { ReturnsResult (with_sections all.now path (nothing (floats_in all.now)) all.now) result }
 {
-    let mut partial = PartialSettings::new(alloc);
+    let mut partial = PartialSettings::new(alloc, floats_in(all));
     for section in all {
         partial = take_section(alloc, all, path, partial, section)?;
     }

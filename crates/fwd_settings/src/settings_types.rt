@@ -1,8 +1,9 @@
 //! The typed settings of a configuration.
 
-use fwd_base::{Bytes, Form, Items, Names, Retries};
+use fwd_base::{Bytes, Items, Names, Retries};
 use fwd_filters::FilterSteps;
 use fwd_http::{HeaderFields, StatusRanges};
+use fwd_json::PayloadForm;
 use fwd_parser::Parser;
 use std::fmt;
 
@@ -82,18 +83,18 @@ pub type InputSets = Items<InputSet>;
 #[derive(Debug, Drop)]
 pub enum OutputKind {
     Stdout {
-        form: Form,
+        form: PayloadForm,
     },
     /// A file in a folder. Without a name, the tag names it.
     File {
         folder: Bytes,
         file: Option<Bytes>,
-        form: Form,
+        form: PayloadForm,
     },
     Tcp {
         host: Bytes,
         port: u16,
-        form: Form,
+        form: PayloadForm,
     },
     Forward {
         host: Bytes,
@@ -107,7 +108,7 @@ pub enum OutputKind {
         host: Bytes,
         port: u16,
         uri: Bytes,
-        form: Form,
+        form: PayloadForm,
         options: HttpOptions,
     },
 }

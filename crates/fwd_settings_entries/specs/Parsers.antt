@@ -3,6 +3,7 @@ use Rattle.std.specs.Prelude.{ℕ, Bool, true, false, ◌&&◌, List, [], codes,
 use Rattle.std.specs.List.{find, filter, last_or}
 use Rattle.std.specs.Str.{bytes_eq, str_eq_ignore_ascii_case}
 use Rattle.fwd_base.specs.declared.pattern.Pattern.{Pattern}
+use Rattle.fwd_parser.specs.Floats.{Tagged}
 use Rattle.fwd_parser.specs.declared.parser.Parser.{Parser}
 use Rattle.fwd_parser.specs.declared.parser.Shape.{Shape}
 use Rattle.fwd_parser.specs.declared.parser.Shape.TheVariants as shape
@@ -25,9 +26,9 @@ use Rattle.fwd_settings_schema.specs.Property.{format_at, text_at, truth_at, las
 use Rattle.fwd_settings_entries.specs.Reading.{Reading, Checked, ◌>>=◌, known, fault}
 use Rattle.fwd_settings_entries.specs.Values.{entry_properties}
 
--- a parser without a time
+-- a parser without a time; whether parsers read floats is known where an input has one
 abbrev pub timeless : Shape → Parser
-timeless shape = record { shape = shape; time = None }
+timeless shape = record { shape = shape; time = None; floats = Tagged }
 
 -- the time is read if a format is given
 abbrev pub time_of : List Property → Option TimeRule
@@ -41,7 +42,7 @@ time_of properties =
     (text_at key.TimeFormat properties)
 
 abbrev pub parser_by : List Property → Shape → Parser
-parser_by properties shape = record { shape = shape; time = time_of properties }
+parser_by properties shape = record { shape = shape; time = time_of properties; floats = Tagged }
 
 -- the types of fields, none without a text
 abbrev pub types_by : Option (List ℕ) → List FieldType

@@ -2,6 +2,7 @@
 use Rattle.std.specs.Prelude.{ℕ, Bool, false, ◌&&◌, if◌then◌else◌, List, Option, Some, None, Result, Ok, Err, is_some}
 use Rattle.fwd_base.specs.Number.{number_of}
 use Rattle.fwd_base.specs.Size.{size_of}
+use Rattle.fwd_parser.specs.Floats.{Tagged}
 use Rattle.fwd_parser.specs.declared.parser.Parser.{Parser}
 use Rattle.fwd_settings_schema.specs.declared.error_kind.SettingKind.{SettingKind}
 use Rattle.fwd_settings_schema.specs.declared.error_kind.SettingKind.TheVariants.{UnknownKey, BadNumber, BadSize, BadChoice}
@@ -73,12 +74,13 @@ pattern_property entry = do
   p ← pattern entry.value entry.place
   known (Ok (value.Pattern p))
 
--- a rule of grep: its key, and the whole rest as a pattern
+-- a rule of grep: its key, and the whole rest as a pattern; whether floats have a text to compare is known
+-- where the rules are collected
 abbrev pub grep_of : Bool → Place → Option (List ℕ × List ℕ) → Reading Value
 grep_of exclude place None = known (Err (fault BadChoice place))
 grep_of exclude place (Some parts) = do
   p ← pattern parts.1 place
-  known (Ok (value.Grep (record { exclude = exclude; key = parts.0; pattern = p })))
+  known (Ok (value.Grep (record { exclude = exclude; key = parts.0; pattern = p; floats = Tagged })))
 
 -- the id of an output, with its place
 abbrev pub id_value : Entry → Checked Value

@@ -11,6 +11,7 @@ use crate::values::read_plain;
 use fwd_base::{Bytes, Pattern, PatternErr};
 use fwd_config::{Entry, Place, Section};
 use fwd_grep::GrepRule;
+use fwd_parser::Floats;
 use fwd_settings_schema::{
     Kind, Plain, Properties, Property, SettingFault, SettingKind, Target, Value, is_id,
     key_and_rest, key_of,
@@ -64,6 +65,7 @@ fn build_grep_rule(
             exclude,
             key,
             pattern,
+            floats: Floats::Tagged,
         })),
         Err(PatternErr::Refused) => refuse(alloc, SettingKind::PatternRefused, place),
         Err(PatternErr::Memory) => Err(ReadErr::Memory),

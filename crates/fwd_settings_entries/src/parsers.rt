@@ -11,18 +11,22 @@ use crate::entries::{read_parser_entries, refuse};
 use crate::read_err::ReadErr;
 use fwd_base::Memory;
 use fwd_config::{Entry, Place, Section};
-use fwd_parser::{FieldTypes, Parser, Shape, TimeRule};
+use fwd_parser::{FieldTypes, Floats, Parser, Shape, TimeRule};
 use fwd_settings_schema::{
     Key, LineFormat, Properties, Property, SectionKind, SettingKind, field_types, format_at,
     last_pattern, own_text, same_name, text_at, text_or, truth_at,
 };
 use std::alloc::Global;
 
-/// Returns a parser that reads no time.
+/// Returns a parser that reads no time and no floats.
 pub fn timeless(shape: Shape) -> Parser
     ensures { result ≡ timeless shape }
 {
-    Parser { shape, time: None }
+    Parser {
+        shape,
+        time: None,
+        floats: Floats::Tagged,
+    }
 }
 
 /// Returns how to read the time, if a format is given.
@@ -82,14 +86,18 @@ fn groups(alloc: Global, place: &Place, properties: Properties) -> Result<Shape,
     })
 }
 
-/// Returns the parser that the entries of a section describe.
+/// Returns the parser that the entries of a section describe, which reads no floats.
 fn parser_from(alloc: Global, place: &Place, properties: Properties) -> Result<Parser, ReadErr>
     ensures { ReturnsResult (known (parser_from place.now properties)) result }
 {
     let time = time_of(alloc, properties.as_slice())?;
     let format = format_at(properties.as_slice(), Key::Format);
     let shape = shape_of(alloc, place, format, properties)?;
-    Ok(Parser { shape, time })
+    Ok(Parser {
+        shape,
+        time,
+        floats: Floats::Tagged,
+    })
 }
 
 /// Returns the parser that a section describes.

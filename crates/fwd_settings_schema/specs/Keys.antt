@@ -84,6 +84,7 @@ name_of key.MaxChunksUp = codes "storage.max_chunks_up"
 name_of key.BacklogMemLimit = codes "storage.backlog.mem_limit"
 name_of key.SchedulerBase = codes "scheduler.base"
 name_of key.SchedulerCap = codes "scheduler.cap"
+name_of key.JsonFloats = codes "json.floats"
 name_of key.ParsersFile = codes "parsers_file"
 name_of key.Daemon = codes "daemon"
 name_of key.LogLevel = codes "log_level"
@@ -168,6 +169,7 @@ table =
     (part.Service, key.BacklogMemLimit, kind.Plain plain.Size) ∷
     (part.Service, key.SchedulerBase, kind.Plain plain.Positive) ∷
     (part.Service, key.SchedulerCap, kind.Plain plain.Positive) ∷
+    (part.Service, key.JsonFloats, kind.Plain plain.Truth) ∷
     (part.Service, key.ParsersFile, kind.Plain plain.Ignored) ∷
     (part.Service, key.Daemon, kind.Plain plain.Ignored) ∷
     (part.Service, key.LogLevel, kind.Plain plain.Ignored) ∷

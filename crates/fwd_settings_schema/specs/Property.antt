@@ -9,6 +9,7 @@ use Rattle.fwd_parser.specs.declared.parser.Parser.{Parser}
 use Rattle.fwd_http.specs.declared.fields.HeaderField.{HeaderField}
 use Rattle.fwd_config.specs.declared.section.Place.{Place}
 use Rattle.fwd_grep.specs.declared.rules.GrepRule.{GrepRule}
+use Rattle.fwd_parser.specs.Floats.{Floats}
 use Rattle.fwd_reshape.specs.declared.rules.Condition.{Condition}
 use Rattle.fwd_reshape.specs.declared.rules.Change.{Change}
 use Rattle.fwd_settings_schema.specs.declared.keys.Key.{Key}
@@ -113,11 +114,11 @@ parser_in item = parser_of item.value
     parser_of (value.Parser p) = Some p
     parser_of _ = None
 
-abbrev pub grep_in : Property → Option GrepRule
-grep_in item = grep_of item.value
+abbrev pub grep_in : Floats → Property → Option GrepRule
+grep_in floats item = grep_of item.value
   where
     grep_of : Value → Option GrepRule
-    grep_of (value.Grep g) = Some g
+    grep_of (value.Grep g) = Some (record g { floats = floats })
     grep_of _ = None
 
 abbrev pub condition_in : Property → Option Condition

@@ -10,7 +10,7 @@ use fwd_base::{Bytes, Form, Items, Memory, Names, Pattern, Retries};
 use fwd_config::Place;
 use fwd_grep::{GrepRule, GrepRules};
 use fwd_http::{HeaderField, HeaderFields};
-use fwd_parser::Parser;
+use fwd_parser::{Floats, Parser};
 use fwd_reshape::{Change, Changes, Condition, Conditions, ModifyRules};
 use fwd_settings_values::{LineFormat, Operation};
 use std::alloc::Global;
@@ -303,33 +303,42 @@ pub fn last_parser(properties: Properties) -> Option<Parser>
 }
 
 /// Returns the rule of an entry, if it has one.
-fn grep_in(item: Property) -> Option<GrepRule>
-    ensures { result ≡ grep_in item }
+fn grep_in(floats: Floats, item: Property) -> Option<GrepRule>
+    ensures { result ≡ grep_in floats item }
 {
     if let Value::Grep(rule) = item.value {
-        Some(rule)
+        Some(GrepRule {
+            exclude: rule.exclude,
+            key: rule.key,
+            pattern: rule.pattern,
+            floats,
+        })
     } else {
         None
     }
 }
 
 /// Appends the rule of an entry, if it has one.
-fn push_grep(rules: &mut GrepRules, item: Property) -> Result<(), Memory>
-    ensures { OnOk result (rules.new ≡ rules.old ++ filter_map grep_in (item ∷ [])) }
+fn push_grep(rules: &mut GrepRules, floats: Floats, item: Property) -> Result<(), Memory>
+    ensures { OnOk result (rules.new ≡ rules.old ++ filter_map (grep_in floats) (item ∷ [])) }
 {
-    match grep_in(item) {
+    match grep_in(floats, item) {
         Some(rule) => rules.push(rule),
         None => Ok(()),
     }
 }
 
 /// Returns the rules of `grep`, in order.
-pub fn grep_rules(alloc: Global, properties: Properties) -> Result<GrepRules, Memory>
-    ensures { IfOk result (λ rules. rules ≡ filter_map grep_in properties) }
+pub fn grep_rules(
+    alloc: Global,
+    floats: Floats,
+    properties: Properties,
+) -> Result<GrepRules, Memory>
+    ensures { IfOk result (λ rules. rules ≡ filter_map (grep_in floats) properties) }
 {
     let mut rules = GrepRules::new(alloc);
     for item in properties.into_vec() {
-        push_grep(&mut rules, item)?;
+        push_grep(&mut rules, floats, item)?;
     }
     Ok(rules)
 }

@@ -122,6 +122,7 @@ const TABLE: &[Row] = &[
     (Part::Service, Key::BacklogMemLimit, SIZE),
     (Part::Service, Key::SchedulerBase, POSITIVE),
     (Part::Service, Key::SchedulerCap, POSITIVE),
+    (Part::Service, Key::JsonFloats, TRUTH),
     (Part::Service, Key::ParsersFile, IGNORED),
     (Part::Service, Key::Daemon, IGNORED),
     (Part::Service, Key::LogLevel, IGNORED),

@@ -13,7 +13,8 @@ type_of name =
     if bytes_eq name (codes "integer") then kind.Integer
     else (if bytes_eq name (codes "hex") then kind.Hex
     else (if bytes_eq name (codes "bool") then kind.Bool
-    else kind.Text))
+    else (if bytes_eq name (codes "float") then kind.Float
+    else kind.Text)))
 
 abbrev pub is_colon : ℕ → Bool
 is_colon b = b == byte ":"

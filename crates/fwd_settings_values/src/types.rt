@@ -56,6 +56,8 @@ fn type_kind(name: &[u8]) -> TypeKind
         TypeKind::Hex
     } else if name == b"bool".as_slice() {
         TypeKind::Bool
+    } else if name == b"float".as_slice() {
+        TypeKind::Float
     } else {
         TypeKind::Text
     }

@@ -3,11 +3,11 @@
 use fwd_base::{Bytes, Memory, Names};
 use fwd_filters::{FilterKind, FilterStep};
 use fwd_grep::GrepRules;
-use fwd_parser::{FieldTypes, Parser, Shape, TypeKind};
+use fwd_parser::{FieldTypes, Floats, Parser, Shape, TypeKind};
 use fwd_reshape::{Change, Condition, LiftRule, ModifyRules, NestRule};
 use fwd_settings::{
     AllSettings, Ends, Form, HttpOptions, InEnd, InputKind, InputSet, OutEnd, OutputKind,
-    OutputSet, Retries, Service, SettingFault, SharedKey,
+    OutputSet, PayloadForm, Retries, Service, SettingFault, SharedKey,
 };
 
 /// The kind of a refusal, its line and its file.
@@ -114,6 +114,7 @@ fn type_word(kind: TypeKind) -> &'static str {
         TypeKind::Integer => "integer",
         TypeKind::Hex => "hex",
         TypeKind::Bool => "bool",
+        TypeKind::Float => "float",
         TypeKind::Text => "text",
     }
 }
@@ -143,8 +144,18 @@ fn show_shape(out: &mut String, shape: &Shape) -> Result<(), Memory> {
     Ok(())
 }
 
+/// Whether floats are numbers in JSON; nothing if they aren't.
+fn show_floats(out: &mut String, floats: Floats) -> Result<(), Memory> {
+    match floats {
+        Floats::Tagged => {}
+        Floats::Numbers => out.push_str(" floats")?,
+    }
+    Ok(())
+}
+
 fn show_parser(out: &mut String, parser: &Parser) -> Result<(), Memory> {
     show_shape(out, &parser.shape)?;
+    show_floats(out, parser.floats)?;
     if let Some(time) = &parser.time {
         let key = text(&time.key);
         let format = text(&time.format);
@@ -226,6 +237,7 @@ fn show_grep(out: &mut String, rules: &GrepRules) -> Result<(), Memory> {
         let word = if rule.exclude { "exclude" } else { "regex" };
         let key = text(&rule.key);
         write!(out, " {word} {key}")?;
+        show_floats(out, rule.floats)?;
     }
     Ok(())
 }
@@ -286,10 +298,10 @@ fn show_change(out: &mut String, change: &Change) -> Result<(), Memory> {
     Ok(())
 }
 
-fn show_form(out: &mut String, form: Form) -> Result<(), Memory> {
-    let form = form_word(form);
-    write!(out, " {form}")?;
-    Ok(())
+fn show_form(out: &mut String, form: PayloadForm) -> Result<(), Memory> {
+    let word = form_word(form.form);
+    write!(out, " {word}")?;
+    show_floats(out, form.floats)
 }
 
 fn show_output_kind(out: &mut String, kind: &OutputKind) -> Result<(), Memory> {

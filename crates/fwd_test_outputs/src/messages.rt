@@ -5,7 +5,7 @@ ghost use Rattle.std.specs.Prelude.{◌<◌, ◌≡◌, []};
 use fwd_base::{Bytes, Memory};
 use fwd_event::{Event, Events, Value, can_write, write_event};
 use fwd_in_forward::{Fed, ForwardConn};
-use fwd_json::json_text;
+use fwd_json::{Floats, json_text};
 use fwd_test_rows::put_bytes;
 use fwd_wire::{ConnFault, Message, read_message, write_forward};
 use std::alloc::Global;
@@ -32,7 +32,7 @@ fn put_stored(alloc: Global, out: &mut String, events: &Events) -> Result<(), Me
 
 fn text_of(alloc: Global, value: &Value) -> Result<Bytes, Memory> {
     let mut text = Bytes::new(alloc);
-    json_text(alloc, value, &mut text)?;
+    json_text(alloc, value, Floats::Tagged, &mut text)?;
     Ok(text)
 }
 

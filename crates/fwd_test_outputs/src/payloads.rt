@@ -6,15 +6,30 @@ ghost use Rattle.fwd_event.specs.Event.{EventFits};
 use fwd_base::{Bytes, Form, Memory};
 use fwd_event::{Events, can_write, read_events};
 use fwd_out_http::{HeaderField, payload_http, request_of};
-use fwd_out_text::{payload_of_content, payload_text};
+use fwd_out_text::{Floats, PayloadForm, payload_of_content, payload_text};
 use fwd_test_rows::{argument, put_bytes};
 use std::alloc::Global;
 
-fn form(word: &[u8]) -> Form {
-    match str::from_utf8(word).unwrap_or("") {
+fn plain_form(word: &str) -> Form {
+    match word {
         "json_lines" => Form::JsonLines,
         "msgpack" => Form::MsgPack,
         _ => Form::OutFile,
+    }
+}
+
+/// The form that a word names. Behind it may stand that floats are numbers.
+fn form(word: &[u8]) -> PayloadForm {
+    let word = str::from_utf8(word).unwrap_or("");
+    match word.split_once(' ') {
+        Some((word, _)) => PayloadForm {
+            form: plain_form(word),
+            floats: Floats::Numbers,
+        },
+        None => PayloadForm {
+            form: plain_form(word),
+            floats: Floats::Tagged,
+        },
     }
 }
 
@@ -30,7 +45,12 @@ fn can_write_all(events: &Events) -> bool
 }
 
 /// Whether the payload of a list of events is this one.
-fn is_payload(alloc: Global, form: Form, events: &Events, payload: &[u8]) -> Result<bool, Memory> {
+fn is_payload(
+    alloc: Global,
+    form: PayloadForm,
+    events: &Events,
+    payload: &[u8],
+) -> Result<bool, Memory> {
     if !can_write_all(events) {
         return Ok(false);
     }
@@ -39,7 +59,12 @@ fn is_payload(alloc: Global, form: Form, events: &Events, payload: &[u8]) -> Res
 }
 
 /// Whether the events of a content have this payload.
-fn agrees(alloc: Global, form: Form, content: &[u8], payload: &[u8]) -> Result<bool, Memory> {
+fn agrees(
+    alloc: Global,
+    form: PayloadForm,
+    content: &[u8],
+    payload: &[u8],
+) -> Result<bool, Memory> {
     match read_events(alloc, content) {
         Ok(events) => is_payload(alloc, form, &events, payload),
         Err(_) => Ok(false),
@@ -49,7 +74,7 @@ fn agrees(alloc: Global, form: Form, content: &[u8], payload: &[u8]) -> Result<b
 fn put_payload(
     alloc: Global,
     out: &mut String,
-    form: Form,
+    form: PayloadForm,
     content: &[u8],
     payload: &[u8],
 ) -> Result<(), Memory> {
@@ -73,7 +98,12 @@ pub fn put_content(
     }
 }
 
-fn put_http(alloc: Global, out: &mut String, form: Form, events: &Events) -> Result<(), Memory> {
+fn put_http(
+    alloc: Global,
+    out: &mut String,
+    form: PayloadForm,
+    events: &Events,
+) -> Result<(), Memory> {
     if !can_write_all(events) {
         return Ok(());
     }

@@ -3,6 +3,7 @@
 use crate::encoded::{put_error, put_pairs};
 use fwd_base::{Bytes, Memory, Names, Pattern, PatternErr};
 use fwd_grep::{GrepRule, GrepRules, keeps};
+use fwd_json::Floats;
 use fwd_msgpack::{DecodeErr, decode};
 use fwd_reshape::{
     Change, Changes, Condition, Conditions, LiftRule, ModifyRules, NestRule, lift, modify, nest,
@@ -80,7 +81,7 @@ fn put_changed(
     bytes: &[u8],
 ) -> Result<(), Memory> {
     let new = modify(alloc, rules, body(alloc, bytes)?)?;
-    put_pairs(alloc, out, &new)
+    put_pairs(alloc, out, Floats::Tagged, &new)
 }
 
 /// `modify|RULE|KEY|OTHER|BODY`: what one change makes of a body.
@@ -142,7 +143,7 @@ fn put_nested(
     bytes: &[u8],
 ) -> Result<(), Memory> {
     let new = nest(alloc, rule, body(alloc, bytes)?)?;
-    put_pairs(alloc, out, &new)
+    put_pairs(alloc, out, Floats::Tagged, &new)
 }
 
 /// `nest|WILDCARDS|PREFIX|UNDER|BODY`: gathers keys under one, without the prefix.
@@ -158,7 +159,7 @@ fn put_unnested(
     bytes: &[u8],
 ) -> Result<(), Memory> {
     let new = lift(alloc, rule, body(alloc, bytes)?)?;
-    put_pairs(alloc, out, &new)
+    put_pairs(alloc, out, Floats::Tagged, &new)
 }
 
 /// `lift|UNDER|PREFIX|BODY`: lifts the pairs of a map out of it, with the prefix.
@@ -167,19 +168,30 @@ pub fn put_lifted(alloc: Global, out: &mut String, row: &[Bytes]) -> Result<(), 
     put_unnested(alloc, out, &rule, argument(row, 3))
 }
 
-fn grep_rule(alloc: Global, exclude: bool, pattern: &[u8]) -> Result<GrepRule, PatternErr> {
+fn grep_rule(
+    alloc: Global,
+    floats: Floats,
+    exclude: bool,
+    pattern: &[u8],
+) -> Result<GrepRule, PatternErr> {
     let key = copy_of(alloc, b"k")?;
     Ok(GrepRule {
         exclude,
         key,
         pattern: Pattern::new(alloc, pattern)?,
+        floats,
     })
 }
 
 /// A list of one rule about the key `k`.
-fn grep_rules(alloc: Global, exclude: bool, pattern: &[u8]) -> Result<GrepRules, PatternErr> {
+fn grep_rules(
+    alloc: Global,
+    floats: Floats,
+    exclude: bool,
+    pattern: &[u8],
+) -> Result<GrepRules, PatternErr> {
     let mut rules = GrepRules::new(alloc);
-    rules.push(grep_rule(alloc, exclude, pattern)?)?;
+    rules.push(grep_rule(alloc, floats, exclude, pattern)?)?;
     Ok(rules)
 }
 
@@ -194,9 +206,15 @@ fn put_whether_kept(
 }
 
 /// `grep|regex or exclude|PATTERN|BODY`: whether a rule about the key `k` keeps the event.
-pub fn put_kept(alloc: Global, out: &mut String, row: &[Bytes]) -> Result<(), Memory> {
+pub fn put_kept(
+    alloc: Global,
+    out: &mut String,
+    floats: Floats,
+    row: &[Bytes],
+) -> Result<(), Memory> {
     match grep_rules(
         alloc,
+        floats,
         argument(row, 1) == b"exclude".as_slice(),
         argument(row, 2),
     ) {

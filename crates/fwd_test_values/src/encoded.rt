@@ -8,7 +8,7 @@ ghost use Rattle.fwd_value.specs.View.{val_of};
 use fwd_base::{Bytes, Memory};
 use fwd_event::{Event, Events, can_write, read_events, whole_prefix, write_event};
 use fwd_frames::{Frames, Line, Lines};
-use fwd_json::{json_text, map_text, pairs_of_json};
+use fwd_json::{Floats, json_text, map_text, pairs_of_json};
 use fwd_msgpack::{decode, encode};
 use fwd_test_rows::put_bytes;
 use fwd_value::{Pairs, Value};
@@ -60,41 +60,61 @@ pub fn put_value(alloc: Global, out: &mut String, bytes: &[u8]) -> Result<(), Me
     }
 }
 
-fn text_of(alloc: Global, value: &Value) -> Result<Bytes, Memory> {
+fn text_of(alloc: Global, floats: Floats, value: &Value) -> Result<Bytes, Memory> {
     let mut text = Bytes::new(alloc);
-    json_text(alloc, value, &mut text)?;
+    json_text(alloc, value, floats, &mut text)?;
     Ok(text)
 }
 
-fn put_value_text(alloc: Global, out: &mut String, value: &Value) -> Result<(), Memory> {
-    let text = text_of(alloc, value)?;
+fn put_value_text(
+    alloc: Global,
+    out: &mut String,
+    floats: Floats,
+    value: &Value,
+) -> Result<(), Memory> {
+    let text = text_of(alloc, floats, value)?;
     put_bytes(out, text.as_slice())
 }
 
 /// Appends the first value as JSON.
-pub fn put_json(alloc: Global, out: &mut String, bytes: &[u8]) -> Result<(), Memory> {
+pub fn put_json(
+    alloc: Global,
+    out: &mut String,
+    floats: Floats,
+    bytes: &[u8],
+) -> Result<(), Memory> {
     match decode(alloc, bytes) {
-        Ok((value, _)) => put_value_text(alloc, out, &value),
+        Ok((value, _)) => put_value_text(alloc, out, floats, &value),
         Err(error) => put_error(out, &error),
     }
 }
 
-fn text_of_pairs(alloc: Global, pairs: &Pairs) -> Result<Bytes, Memory> {
+fn text_of_pairs(alloc: Global, floats: Floats, pairs: &Pairs) -> Result<Bytes, Memory> {
     let mut text = Bytes::new(alloc);
-    map_text(alloc, pairs, &mut text)?;
+    map_text(alloc, pairs, floats, &mut text)?;
     Ok(text)
 }
 
 /// Appends pairs as JSON.
-pub fn put_pairs(alloc: Global, out: &mut String, pairs: &Pairs) -> Result<(), Memory> {
-    let text = text_of_pairs(alloc, pairs)?;
+pub fn put_pairs(
+    alloc: Global,
+    out: &mut String,
+    floats: Floats,
+    pairs: &Pairs,
+) -> Result<(), Memory> {
+    let text = text_of_pairs(alloc, floats, pairs)?;
     put_bytes(out, text.as_slice())
 }
 
 /// Appends the pairs of a line of JSON, or why it has none.
-pub fn put_object(alloc: Global, out: &mut String, line: &[u8]) -> Result<(), Memory> {
-    match pairs_of_json(alloc, line) {
-        Ok(pairs) => put_pairs(alloc, out, &pairs),
+pub fn put_object(
+    alloc: Global,
+    out: &mut String,
+    floats: Floats,
+    line: &[u8],
+) -> Result<(), Memory> {
+    match pairs_of_json(alloc, line, floats) {
+        Ok(pairs) => put_pairs(alloc, out, floats, &pairs),
         Err(error) => put_error(out, &error),
     }
 }

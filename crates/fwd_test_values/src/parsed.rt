@@ -3,7 +3,7 @@
 use crate::encoded::{put_error, put_pairs};
 use fwd_base::{Bytes, Memory, Pattern, PatternErr};
 use fwd_event::Event;
-use fwd_parser::{FieldType, FieldTypes, Parser, Shape, TimeRule, TypeKind, time_of};
+use fwd_parser::{FieldType, FieldTypes, Floats, Parser, Shape, TimeRule, TypeKind, time_of};
 use fwd_test_rows::argument;
 use std::alloc::Global;
 
@@ -15,6 +15,7 @@ fn kind(word: &str) -> TypeKind {
         "integer" => TypeKind::Integer,
         "hex" => TypeKind::Hex,
         "bool" => TypeKind::Bool,
+        "float" => TypeKind::Float,
         _ => TypeKind::Text,
     }
 }
@@ -70,17 +71,18 @@ fn time(alloc: Global, key: &[u8], format: &[u8], keep: &[u8]) -> Result<Option<
     Ok(Some(time_rule(alloc, key, format, keep == b"keep".as_slice())?))
 }
 
-fn parser(alloc: Global, row: &[Bytes]) -> Result<Parser, PatternErr> {
+fn parser(alloc: Global, floats: Floats, row: &[Bytes]) -> Result<Parser, PatternErr> {
     let shape = shape(alloc, argument(row, 1), argument(row, 2), argument(row, 3))?;
     Ok(Parser {
         shape,
         time: time(alloc, argument(row, 4), argument(row, 5), argument(row, 6))?,
+        floats,
     })
 }
 
-fn put_event(alloc: Global, out: &mut String, event: &Event) -> Result<(), Memory> {
+fn put_event(alloc: Global, out: &mut String, floats: Floats, event: &Event) -> Result<(), Memory> {
     write!(out, "{} {} ", event.sec, event.nsec)?;
-    put_pairs(alloc, out, &event.body)
+    put_pairs(alloc, out, floats, &event.body)
 }
 
 fn put_read(
@@ -91,13 +93,18 @@ fn put_read(
     now: u64,
 ) -> Result<(), Memory> {
     let event = parser.parse(alloc, line, now)?;
-    put_event(alloc, out, &event)
+    put_event(alloc, out, parser.floats, &event)
 }
 
 /// `parse|FORMAT|TYPES|EMPTY|KEY|TIME|KEEP|LINE`: the event of a line. FORMAT is `none`, `json` or a pattern;
 /// EMPTY and KEEP are `keep` or empty.
-pub fn put_parsed(alloc: Global, out: &mut String, row: &[Bytes]) -> Result<(), Memory> {
-    match parser(alloc, row) {
+pub fn put_parsed(
+    alloc: Global,
+    out: &mut String,
+    floats: Floats,
+    row: &[Bytes],
+) -> Result<(), Memory> {
+    match parser(alloc, floats, row) {
         Ok(parser) => put_read(alloc, out, &parser, argument(row, 7), NOW),
         Err(error) => put_error(out, &error),
     }
@@ -108,6 +115,7 @@ pub fn put_clock(alloc: Global, out: &mut String, reading: &[u8]) -> Result<(), 
     let parser = Parser {
         shape: Shape::Plain,
         time: None,
+        floats: Floats::Tagged,
     };
     let now = fwd_base::number(reading).unwrap_or(0);
     put_read(alloc, out, &parser, b"", now)

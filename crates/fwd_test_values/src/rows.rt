@@ -5,17 +5,24 @@ use crate::encoded::{put_events, put_json, put_lines, put_object, put_prefix, pu
 use crate::parsed::{put_clock, put_parsed, put_time};
 use crate::patterns::{put_captures, put_size};
 use fwd_base::{Bytes, Memory};
+use fwd_json::Floats;
 use fwd_route::matches as takes;
 use fwd_test_rows::{argument, arguments, put_word};
 use std::alloc::Global;
 
-fn put_of_bytes(alloc: Global, out: &mut String, word: &str, bytes: &[u8]) -> Result<(), Memory> {
+fn put_of_bytes(
+    alloc: Global,
+    out: &mut String,
+    word: &str,
+    floats: Floats,
+    bytes: &[u8],
+) -> Result<(), Memory> {
     match word {
         "value" => put_value(alloc, out, bytes),
-        "json" => put_json(alloc, out, bytes),
+        "json" => put_json(alloc, out, floats, bytes),
         "events" => put_events(alloc, out, bytes),
         "prefix" => put_prefix(alloc, out, bytes),
-        "object" => put_object(alloc, out, bytes),
+        "object" => put_object(alloc, out, floats, bytes),
         "clock" => put_clock(alloc, out, bytes),
         _ => put_size(out, bytes),
     }
@@ -39,6 +46,7 @@ fn put_of_body(
     alloc: Global,
     out: &mut String,
     word: &str,
+    floats: Floats,
     arguments: &[Bytes],
 ) -> Result<(), Memory> {
     match word {
@@ -46,8 +54,16 @@ fn put_of_body(
         "if" => put_modified_if(alloc, out, arguments),
         "nest" => put_gathered(alloc, out, arguments),
         "lift" => put_lifted(alloc, out, arguments),
-        "grep" => put_kept(alloc, out, arguments),
-        _ => put_parsed(alloc, out, arguments),
+        "grep" => put_kept(alloc, out, floats, arguments),
+        _ => put_parsed(alloc, out, floats, arguments),
+    }
+}
+
+/// The operation of a row. Behind it may stand that floats are numbers in JSON.
+fn operation(word: &str) -> (&str, Floats) {
+    match word.split_once(' ') {
+        Some((word, "floats")) => (word, Floats::Numbers),
+        Some(_) | None => (word, Floats::Tagged),
     }
 }
 
@@ -58,16 +74,16 @@ fn put_answer(
     row: &str,
     arguments: &[Bytes],
 ) -> Result<(), Memory> {
-    let word = str::from_utf8(argument(arguments, 0)).unwrap_or("");
+    let (word, floats) = operation(str::from_utf8(argument(arguments, 0)).unwrap_or(""));
     let first = argument(arguments, 1);
     let second = argument(arguments, 2);
     match word {
         "value" | "json" | "events" | "prefix" | "object" | "clock" | "size" => {
-            put_of_bytes(alloc, out, word, first)
+            put_of_bytes(alloc, out, word, floats, first)
         }
         "glob" | "pattern" | "time" => put_of_two(alloc, out, word, first, second),
         "modify" | "if" | "nest" | "lift" | "grep" | "parse" => {
-            put_of_body(alloc, out, word, arguments)
+            put_of_body(alloc, out, word, floats, arguments)
         }
         "lines" => put_lines(alloc, out, arguments.get(1..).unwrap_or(&[])),
         _ => Ok(out.push_str(row)?),

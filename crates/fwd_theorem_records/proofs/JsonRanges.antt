@@ -1,10 +1,10 @@
--- The record of a line of JSON is in range: its numbers are integers of at most 64 bits.
+-- The record of a line of JSON is in range: its numbers are integers of at most 64 bits, or floats of 64.
 use Rattle.std.proofs.Common.{ℕ, zero, suc, ◌<◌, ◌≤◌, ◌^◌, pos, neg_ℤ, Bool, true, false, not, ◌&&◌, List, drop, Option, Some, None, IfSome, IfOk, Result, Ok, Err, option_map, option_and_then, Ordering, Less, Equal, Greater, arith}
-use Rattle.std.specs.Prelude.{if◌then◌else◌, nat_lt, nat_le, slice_index, ◌==◌}
+use Rattle.std.specs.Prelude.{if◌then◌else◌, nat_lt, nat_le, slice_index, ◌==◌, to_bits}
 use Rattle.std.specs.Ordering.{match_ordering, nat_cmp}
 use Rattle.std.specs.Cmp.Lexicographic.{slice_cmp}
 use Rattle.std.specs.Str.{is_utf8}
-use Rattle.std.specs.Float.{binary64, float_is_finite}
+use Rattle.std.specs.Float.{Float, binary64, float_is_finite}
 use Rattle.std.proofs.lemmas.Bool.{ltb-true, leb-true, and_parts}
 use Rattle.fast_float.specs.Text.{Parts, scan, minus, digits_of, nearest, with_sign}
 use Rattle.json.specs.Json as json
@@ -13,9 +13,12 @@ use Rattle.serde_json.specs.Data.{Num, unsigned, negative, float, Data, null, bo
 use Rattle.serde_json.specs.Read.{is_integer, float_of, number_from, number_of, of_json, of_items, of_members, max_depth, read}
 use Rattle.fwd_value.specs.Limits.{IsWhole, IsInRange, AreInRange, EntriesAreInRange}
 use Rattle.fwd_value.specs.Keys.{Record}
+use Rattle.fwd_json.specs.declared.floats.Floats.{Floats}
+use Rattle.fwd_json.specs.declared.floats.Floats.TheVariants.{Tagged, Numbers}
 use Rattle.fwd_json.specs.declared.reading.JsonErr.{JsonErr}
-use Rattle.fwd_json.specs.LinePairs.{number_value, value_of, values_of, entries_in, pairs_of, members_whole, pairs_or, object_pairs, pairs_read, pairs_in}
+use Rattle.fwd_json.specs.LinePairs.{number_value, value_of, values_of, entries_in, pairs_of, are_readable, pairs_or, object_pairs, pairs_read, pairs_in}
 use Rattle.fwd_theorem_records.proofs.Options.{if_mapped, if_then, if_either, if_tested, Any, any_of}
+use Rattle.fwd_theorem_records.proofs.FloatRanges.{bits_below, nearest_fits}
 use Rattle.fwd_theorem_records.proofs.RecordRanges.{IsRanged}
 
 -- the negative of a number up to 2^63
@@ -28,7 +31,7 @@ negative_fits (suc n) h = omega (arith, h)
 abbrev NumFits : Num → Type 0
 NumFits (unsigned n) = n < 2 ^ 64
 NumFits (negative z) = IsWhole z
-NumFits (float x) = Unit {0}
+NumFits (float x) = to_bits binary64 x < 2 ^ 64
 
 abbrev mutual
   DataFits : Data → Type 0
@@ -48,7 +51,7 @@ abbrev mutual
   MembersFit (member k d ms) = DataFits d × MembersFit ms
 
 float_fits : (sign : Bool) (p : Parts) → IfSome (float_of sign p) NumFits
-float_fits sign p = if_tested NumFits (float_is_finite (nearest binary64 sign p)) (float (nearest binary64 sign p)) None (λ is. tt) tt
+float_fits sign p = if_tested NumFits (float_is_finite (nearest binary64 sign p)) (float (nearest binary64 sign p)) None (λ is. bits_below (nearest binary64 sign p) (nearest_fits sign p)) tt
 
 from_fits : (sign : Bool) (p : Parts) → IfSome (number_from sign p) NumFits
 from_fits false p =
@@ -99,60 +102,65 @@ read_fits line = parsed_fits (option_and_then (λ p. json.if_last p.0 p.1) (json
 
 -- ---- its value
 
-number_ranged : (n : Num) → NumFits n → IsInRange (number_value n)
-number_ranged (unsigned n) h = h
-number_ranged (negative z) h = h
-number_ranged (float x) h = tt
-
-mutual
-  value_ranged : (d : Data) → DataFits d → IsInRange (value_of d)
-  value_ranged null h = tt
-  value_ranged (boolean b) h = tt
-  value_ranged (number n) h = number_ranged n h
-  value_ranged (string s) h = tt
-  value_ranged (array ds) h = values_ranged ds h
-  value_ranged (object ms) h = entries_ranged ms h
-
-  values_ranged : (ds : Items) → ItemsFit ds → AreInRange (values_of ds)
-  values_ranged no_items h = tt
-  values_ranged (item d ds) h = (value_ranged d h.0, values_ranged ds h.1)
-
-  entries_ranged : (ms : Members) → MembersFit ms → EntriesAreInRange (entries_in ms)
-  entries_ranged no_members h = tt
-  entries_ranged (member k d ms) h = (tt, value_ranged d h.0, entries_ranged ms h.1)
-
-pairs_ranged : (ms : Members) → MembersFit ms → IsRanged (pairs_of ms)
-pairs_ranged no_members h = tt
-pairs_ranged (member k d ms) h = (tt, value_ranged d h.0, pairs_ranged ms h.1)
+float_ranged : (floats : Floats) (x : Float) → NumFits (float x) → IsInRange (number_value floats (float x))
+float_ranged Tagged x h = tt
+float_ranged Numbers x h = h
 
 abbrev pub AreRanged : Result Record JsonErr → Type 0
 AreRanged r = IfOk r IsRanged
 
-unless : (b : Bool) (e : JsonErr) (r : Result Record JsonErr) → AreRanged r → AreRanged (if b then Err e else r)
-unless true e r h = tt
-unless false e r h = h
+module _ (floats : Floats) where
+  number_ranged : (n : Num) → NumFits n → IsInRange (number_value floats n)
+  number_ranged (unsigned n) h = h
+  number_ranged (negative z) h = h
+  number_ranged (float x) h = float_ranged floats x h
 
-shallow_ranged : (ms : Members) (e : JsonErr) → MembersFit ms → AreRanged (if nat_lt 63 (depth (object ms)) then Err e else Ok (pairs_of ms))
-shallow_ranged ms e h = unless (nat_lt 63 (depth (object ms))) e (Ok (pairs_of ms)) (pairs_ranged ms h)
+  mutual
+    value_ranged : (d : Data) → DataFits d → IsInRange (value_of floats d)
+    value_ranged null h = tt
+    value_ranged (boolean b) h = tt
+    value_ranged (number n) h = number_ranged n h
+    value_ranged (string s) h = tt
+    value_ranged (array ds) h = values_ranged ds h
+    value_ranged (object ms) h = entries_ranged ms h
 
-members_ranged : (ms : Members) → MembersFit ms → AreRanged (pairs_or ms)
-members_ranged ms h = unless (not (members_whole ms)) _ _ (shallow_ranged ms _ h)
+    values_ranged : (ds : Items) → ItemsFit ds → AreInRange (values_of floats ds)
+    values_ranged no_items h = tt
+    values_ranged (item d ds) h = (value_ranged d h.0, values_ranged ds h.1)
 
-object_ranged : (d : Data) → DataFits d → AreRanged (object_pairs d)
-object_ranged null h = tt
-object_ranged (boolean b) h = tt
-object_ranged (number n) h = tt
-object_ranged (string s) h = tt
-object_ranged (array ds) h = tt
-object_ranged (object ms) h = members_ranged ms h
+    entries_ranged : (ms : Members) → MembersFit ms → EntriesAreInRange (entries_in floats ms)
+    entries_ranged no_members h = tt
+    entries_ranged (member k d ms) h = (tt, value_ranged d h.0, entries_ranged ms h.1)
 
-read_ranged : (o : Option Data) → IfSome o DataFits → AreRanged (pairs_read o)
-read_ranged None h = tt
-read_ranged (Some d) h = object_ranged d h
+  pairs_ranged : (ms : Members) → MembersFit ms → IsRanged (pairs_of floats ms)
+  pairs_ranged no_members h = tt
+  pairs_ranged (member k d ms) h = (tt, value_ranged d h.0, pairs_ranged ms h.1)
 
-line_ranged : (t : Bool) (o : Option Data) (e : JsonErr) → IfSome o DataFits → AreRanged (if t then pairs_read o else Err e)
-line_ranged true o e h = read_ranged o h
-line_ranged false o e h = tt
+  unless : (b : Bool) (e : JsonErr) (r : Result Record JsonErr) → AreRanged r → AreRanged (if b then Err e else r)
+  unless true e r h = tt
+  unless false e r h = h
 
-pub json_ranged : (line : List ℕ) → AreRanged (pairs_in line)
-json_ranged line = line_ranged (is_utf8 line) (read line) _ (read_fits line)
+  shallow_ranged : (ms : Members) (e : JsonErr) → MembersFit ms → AreRanged (if nat_lt 63 (depth (object ms)) then Err e else Ok (pairs_of floats ms))
+  shallow_ranged ms e h = unless (nat_lt 63 (depth (object ms))) e (Ok (pairs_of floats ms)) (pairs_ranged ms h)
+
+  members_ranged : (ms : Members) → MembersFit ms → AreRanged (pairs_or floats ms)
+  members_ranged ms h = unless (not (are_readable floats ms)) _ _ (shallow_ranged ms _ h)
+
+  object_ranged : (d : Data) → DataFits d → AreRanged (object_pairs floats d)
+  object_ranged null h = tt
+  object_ranged (boolean b) h = tt
+  object_ranged (number n) h = tt
+  object_ranged (string s) h = tt
+  object_ranged (array ds) h = tt
+  object_ranged (object ms) h = members_ranged ms h
+
+  read_ranged : (o : Option Data) → IfSome o DataFits → AreRanged (pairs_read floats o)
+  read_ranged None h = tt
+  read_ranged (Some d) h = object_ranged d h
+
+  line_ranged : (t : Bool) (o : Option Data) (e : JsonErr) → IfSome o DataFits → AreRanged (if t then pairs_read floats o else Err e)
+  line_ranged true o e h = read_ranged o h
+  line_ranged false o e h = tt
+
+  pub json_ranged : (line : List ℕ) → AreRanged (pairs_in floats line)
+  json_ranged line = line_ranged (is_utf8 line) (read line) _ (read_fits line)

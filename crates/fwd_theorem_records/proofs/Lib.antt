@@ -2,6 +2,7 @@ pub mod Options
 pub mod RecordRanges
 pub mod ReshapeRanges
 pub mod FilterRanges
+pub mod FloatRanges
 pub mod JsonRanges
 pub mod TimeRanges
 pub mod LineRanges

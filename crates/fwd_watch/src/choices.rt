@@ -16,6 +16,7 @@ const NAMES: &[&str] = &[
     "storage.metrics",
     "scheduler.base",
     "scheduler.cap",
+    "json.floats",
     "Parsers_File",
     "Plugins_File",
     "Daemon",

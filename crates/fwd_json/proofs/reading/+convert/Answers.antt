@@ -10,10 +10,10 @@ use Rattle.fwd_json.proofs.reading.+convert.Goals as goal
 pub items_values-returns : goal.items_values-returns
 items_values-returns t c =
     let all = take_all c.loop-item.item-index c.deref-item-items.result.now c.loop-item-test.false ∙ c.deref-item-items.ensures.value in
-    ap vals_of (c.loop-item.invariant ∙ ap (map (λ v. value_of (view v))) all) ∙ vals_of-map c.args.items.now.items
+    ap vals_of (c.loop-item.invariant ∙ ap (map (λ v. value_of c.args.floats (view v))) all) ∙ vals_of-map c.args.floats c.args.items.now.items
 
 pub value-returns-in_ok-members_pairs-in-Object : goal.value-returns-in_ok-members_pairs-in-Object
 value-returns-in_ok-members_pairs-in-Object t c =
     ap (λ es. mapping (entries_of es)) c.in_ok-members_pairs-in-Object.ensures
-    ∙ ap mapping (entries_of-pairs_of (members_view c.in-Object.members.entries))
-    ∙ sym (ap (λ v. value_of (view v)) c.in-Object.is ∙ ap value_of (view-Object c.in-Object.members))
+    ∙ ap mapping (entries_of-pairs_of c.args.floats (members_view c.in-Object.members.entries))
+    ∙ sym (ap (λ v. value_of c.args.floats (view v)) c.in-Object.is ∙ ap (value_of c.args.floats) (view-Object c.in-Object.members))

@@ -11,9 +11,9 @@ write_more_values-write_value-requires t c =
 
 pub write_more_values-loop-value-preserved : goal.write_more_values-loop-value-preserved
 write_more_values-loop-value-preserved t c =
-    let so_far = more_values (vals_of (map val_of (take c.loop-value.value-index c.args.values.now))) in
-    let text = json (val_of c.value-item.result) in
-    let more = values_more c.args.values.now c.loop-value.value-index c.value-item.result c.loop-value-test.true c.value-item.is in
+    let so_far = more_values c.args.floats (vals_of (map val_of (take c.loop-value.value-index c.args.values.now))) in
+    let text = json c.args.floats (val_of c.value-item.result) in
+    let more = values_more c.args.floats c.args.values.now c.loop-value.value-index c.value-item.result c.loop-value-test.true c.value-item.is in
     c.in_ok-write_value.ensures ∙ ap (λ (o : List ℕ). o ++ text) (c.in_ok-push.ensures.ok ∙ ap (λ (o : List ℕ). o ++ 44 ∷ []) c.loop-value.invariant) ∙ append_assoc (c.args.out.now ++ so_far) (44 ∷ []) text ∙ append_assoc c.args.out.now so_far (44 ∷ text) ∙ ap (λ (o : List ℕ). c.args.out.now ++ o) (sym more)
 
 pub write_more_pairs-write_pair-requires : goal.write_more_pairs-write_pair-requires
@@ -22,7 +22,7 @@ write_more_pairs-write_pair-requires t c =
 
 pub write_more_pairs-loop-pair-preserved : goal.write_more_pairs-loop-pair-preserved
 write_more_pairs-loop-pair-preserved t c =
-    let so_far = more_pairs (entries_of (map pair_of (take c.loop-pair.pair-index c.args.pairs.now))) in
-    let text = pair_text (pair_of c.pair-item.result) in
-    let more = pairs_more c.args.pairs.now c.loop-pair.pair-index c.pair-item.result c.loop-pair-test.true c.pair-item.is in
+    let so_far = more_pairs c.args.floats (entries_of (map pair_of (take c.loop-pair.pair-index c.args.pairs.now))) in
+    let text = pair_text c.args.floats (pair_of c.pair-item.result) in
+    let more = pairs_more c.args.floats c.args.pairs.now c.loop-pair.pair-index c.pair-item.result c.loop-pair-test.true c.pair-item.is in
     c.in_ok-write_pair.ensures ∙ ap (λ (o : List ℕ). o ++ text) (c.in_ok-push.ensures.ok ∙ ap (λ (o : List ℕ). o ++ 44 ∷ []) c.loop-pair.invariant) ∙ append_assoc (c.args.out.now ++ so_far) (44 ∷ []) text ∙ append_assoc c.args.out.now so_far (44 ∷ text) ∙ ap (λ (o : List ℕ). c.args.out.now ++ o) (sym more)

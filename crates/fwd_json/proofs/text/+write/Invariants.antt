@@ -27,7 +27,7 @@ abbrev pub decreases-write_more_pairs : goal.decreases-write_more_pairs
 decreases-write_more_pairs l = 4 * entry_weights (entries_of (map pair_of l.pairs.now)) + 1
 
 abbrev pub invariant-write_more_values-loop-value : goal.invariant-write_more_values-loop-value
-invariant-write_more_values-loop-value l = l.out ≡ l.fn.out ++ more_values (vals_of (map val_of (take l.value-index l.values)))
+invariant-write_more_values-loop-value l = l.out ≡ l.fn.out ++ more_values l.floats (vals_of (map val_of (take l.value-index l.values)))
 
 abbrev pub invariant-write_more_pairs-loop-pair : goal.invariant-write_more_pairs-loop-pair
-invariant-write_more_pairs-loop-pair l = l.out ≡ l.fn.out ++ more_pairs (entries_of (map pair_of (take l.pair-index l.pairs)))
+invariant-write_more_pairs-loop-pair l = l.out ≡ l.fn.out ++ more_pairs l.floats (entries_of (map pair_of (take l.pair-index l.pairs)))

@@ -12,8 +12,8 @@ returns-in_ok-extend_from_slice-in-Some-2-clause-given c =
     let head = c.in-Some in
     let tag = c.args.tag.now in
     let found = rw c.in-Some-2.is at c.in_ok-rest.ensures.given in
-    event_written head.sec head.nsec head.count c.args.bytes.now head.pairs.now c.in-Some-2.rest.now (λ (ps : List (Val × Val)). json (mapping (entries_of ps))) (tag_text tag head.sec head.nsec) (codes "]\n") c.args.out.now
-    c.write_tag.new.out c.write_map.new.out c.extend_from_slice.new.self (tagged_line tag) (λ ps. refl) head.ensures c.in_ok-write_tag.ensures found c.in_ok-extend_from_slice-in-Some-2.ensures.ok
+    event_written head.sec head.nsec head.count c.args.bytes.now head.pairs.now c.in-Some-2.rest.now (λ (ps : List (Val × Val)). json c.args.floats (mapping (entries_of ps))) (tag_text tag head.sec head.nsec) (codes "]\n") c.args.out.now
+    c.write_tag.new.out c.write_map.new.out c.extend_from_slice.new.self (tagged_line c.args.floats tag) (λ ps. refl) head.ensures c.in_ok-write_tag.ensures found c.in_ok-extend_from_slice-in-Some-2.ensures.ok
 
 pub returns-in-None-clause-kept : goal.returns-in-None-clause-kept
 returns-in-None-clause-kept c =

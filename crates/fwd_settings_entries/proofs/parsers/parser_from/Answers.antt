@@ -1,5 +1,6 @@
 use Rattle.std.proofs.Common.{◌≡◌, List, Option, Result, Ok, Err, ap, subst, ◌∙◌}
 use Rattle.std.specs.Result.{IsErrAnd}
+use Rattle.fwd_parser.specs.Floats.{Tagged}
 use Rattle.fwd_parser.specs.declared.parser.Parser.{Parser}
 use Rattle.fwd_parser.specs.declared.parser.Shape.{Shape}
 use Rattle.fwd_parser.specs.declared.parser.TimeRule.{TimeRule}
@@ -29,9 +30,9 @@ module _ (place : Place) (properties : List Property) where
         (shape_refused (shape_by place properties (format_at key.Format properties)) s
         (subst (λ (f : Option LineFormat). ReturnsResult (known (shape_by place properties f)) (Err s)) of_said gives))
 
-    made : (shape : Shape) (time : Option TimeRule) → time ≡ time_of properties → ◌≡◌ {A = Checked Shape} (Ok shape) (shape_by place properties format) → ◌≡◌ {A = Checked Parser} (Ok (record { shape = shape; time = time })) (parser_from place properties)
+    made : (shape : Shape) (time : Option TimeRule) → time ≡ time_of properties → ◌≡◌ {A = Checked Shape} (Ok shape) (shape_by place properties format) → ◌≡◌ {A = Checked Parser} (Ok (record { shape = shape; time = time; floats = Tagged })) (parser_from place properties)
     made shape time timed is =
-        ap (λ (t : Option TimeRule). Ok (record { shape = shape; time = t })) timed
+        ap (λ (t : Option TimeRule). Ok (record { shape = shape; time = t; floats = Tagged })) timed
         ∙ ap (with_time properties) (is ∙ ap (shape_by place properties) of_said)
 
 pub returns-in_err-shape : goal.returns-in_err-shape
