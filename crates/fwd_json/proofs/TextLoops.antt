@@ -1,5 +1,8 @@
 -- Writing texts one after another, as a loop does.
-use Rattle.std.proofs.Common.{◌≡◌, ℕ, zero, suc, ◌+◌, ◌-◌, ◌<◌, ◌≤◌, List, [], ◌∷◌, ◌++◌, map, length, take, drop, get_or, refl, sym, ap, ◌∙◌, append_assoc, add-one, arith}
+use Rattle.std.proofs.Common.{◌≡◌, ◌==◌, ℕ, zero, suc, ◌+◌, ◌-◌, ◌<◌, ◌≤◌, List, [], ◌∷◌, ◌++◌, map, length, take, drop, get_or, refl, sym, ap, ◌∙◌, append_assoc, add-one, add-zero, arith, true, ne_eqb, le-ltb}
+use Rattle.std.proofs.lemmas.Bool.{or_parts, not-true, ltb-false}
+use Rattle.json.specs.Run.{is_stop, is_plain}
+use Rattle.json.specs.Written.{PlainBetween}
 use Rattle.std.proofs.lemmas.List.{append-nil, take-append-drop, take_all, take_more}
 use Rattle.fwd_value.specs.Val.{vals_of, entries_of}
 use Rattle.fwd_value.specs.View.{val_of, pair_of}
@@ -21,6 +24,32 @@ pub plain_more : (bytes : List ℕ) (i : ℕ) → i < length bytes → escapes (
     → escapes (take (i + 1) bytes) ≡ take (i + 1) bytes
 plain_more bytes i lt so_far plain =
     escapes_more bytes i lt ∙ ap (λ (t : List ℕ). t ++ escaped (get_or bytes i 0)) so_far ∙ ap (λ (t : List ℕ). take i bytes ++ t) plain ∙ sym (take_more bytes i 0 lt)
+
+-- a byte that is no quote, no backslash and no control character
+escaped_plain : (c : ℕ) → is_plain c ≡ true → escaped c ≡ c ∷ []
+unfolding escaped
+escaped_plain c plain =
+    let parts = or_parts _ _ (not-true (is_stop c) plain) in
+    let marks = or_parts (c == 34) _ parts.0 in
+    let above : 32 ≤ c = ltb-false c 32 parts.1 in
+    rw (
+      marks.0,
+      marks.1,
+      ne_eqb c 8 (λ e. omega arith),
+      ne_eqb c 9 (λ e. omega arith),
+      ne_eqb c 10 (λ e. omega arith),
+      ne_eqb c 12 (λ e. omega arith),
+      ne_eqb c 13 (λ e. omega arith),
+      le-ltb c 32 above,
+    )
+
+-- n more such bytes after bytes that need no escape
+pub plain_wide : (bytes : List ℕ) (i n : ℕ) → i + n ≤ length bytes → escapes (take i bytes) ≡ take i bytes → PlainBetween bytes i (i + n)
+    → escapes (take (i + n) bytes) ≡ take (i + n) bytes
+plain_wide bytes i zero room so_far plain = rw add-zero so_far
+plain_wide bytes i (suc n) room so_far plain =
+    let next : i + suc n ≡ (i + n) + 1 = omega arith in
+    rw next (plain_more bytes (i + n) (omega arith) (plain_wide bytes i n (omega arith) so_far (λ k p q. plain k p (omega arith))) (escaped_plain (get_or bytes (i + n) 0) (plain (i + n) (omega arith) (omega arith))))
 
 escapes-append : (a b : List ℕ) → escapes (a ++ b) ≡ escapes a ++ escapes b
 escapes-append [] b = refl

@@ -1,3 +1,5 @@
 pub mod LinePairs
 pub mod Text
 pub mod FloatLaws
+pub mod PutPair
+pub mod WholeVal

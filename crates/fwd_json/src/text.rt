@@ -1,8 +1,10 @@
 //! JSON text of values. `json_text` builds it in a separate buffer and appends it in one copy, so that a
 //! failed allocation leaves no partial text.
 
-ghost use Rattle.std.specs.Prelude.{◌≡◌, ◌↔◌, ◌<◌, ◌≤◌, ◌^◌, ℕ, List, [], ◌∷◌, ◌++◌, true, codes, length, map, take, IsTrue, OnOk, OnErr};
+ghost use Rattle.std.specs.Prelude.{◌≡◌, ◌↔◌, ◌<◌, ◌≤◌, ◌^◌, ℕ, List, [], ◌∷◌, ◌++◌, true, codes, length, map, take, ◌+◌, IsTrue, OnOk, OnErr};
+ghost use Rattle.std.specs.Bool.{OnTrue};
 ghost use Rattle.std.specs.Fmt.{signed_decimal};
+ghost use Rattle.json.specs.Written.{PlainBetween};
 ghost use Rattle.hex.specs.Hex.{encode_lower};
 ghost use Rattle.fwd_value.specs.Val.{vals_of, entries_of, mapping, text};
 ghost use Rattle.fwd_value.specs.View.{val_of, pair_of};
@@ -14,6 +16,7 @@ use fwd_float::{text32, text64};
 use fwd_value::{Pairs, Value};
 use itoa::{Buffer, Integer};
 use std::alloc::Global;
+use std::simd::prelude::*;
 
 /// Appends two hex digits for each byte.
 fn put_hex(alloc: Global, out: &mut Bytes, bytes: &[u8]) -> Result<(), Memory>
@@ -70,13 +73,31 @@ fn is_plain(byte: u8) -> bool
     byte >= 0x20 && byte != b'"' && byte != b'\\'
 }
 
+/// The number of bytes that are looked at in one step.
+const LANES: usize = 16;
+
+/// Returns whether none of the 16 bytes from an index on needs an escape.
+fn are_plain(bytes: &[u8], at: usize) -> bool
+    requires { at + 16 ≤ length bytes.now }
+    ensures { OnTrue result (PlainBetween bytes.now at (at + 16)) }
+{
+    let lanes = u8x16::from_slice(&bytes[at..]);
+    (lanes.simd_eq(u8x16::splat(b'"'))
+        | lanes.simd_eq(u8x16::splat(b'\\'))
+        | lanes.simd_lt(u8x16::splat(0x20))).to_bitmask()
+        == 0
+}
+
 /// Returns the number of leading bytes that need no escape.
 fn plain_run(bytes: &[u8]) -> usize
     ensures plain { escapes (take result bytes.now) ≡ take result bytes.now }
     ensures within { result ≤ length bytes.now }
 {
     let mut run = 0;
-    while run < bytes.len() && is_plain(bytes[run]) {
+    'lanes: while bytes.len() - run >= LANES && are_plain(bytes, run) {
+        run += LANES;
+    }
+    'bytes: while run < bytes.len() && is_plain(bytes[run]) {
         run += 1;
     }
     run
