@@ -1,3 +1,5 @@
 pub mod Numbers
 pub mod Groups
 pub mod FormatSteps
+pub mod PlainEvents
+pub mod LentFields

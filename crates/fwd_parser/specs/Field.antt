@@ -1,5 +1,5 @@
 -- The typed fields that a pattern's named groups become.
-use Rattle.std.specs.Prelude.{ℕ, ℤ, pos, neg_ℤ, ◌+◌, ◌^◌, ◌==◌, ◌&&◌, not, nat_le, Bool, true, false, List, [], ◌∷◌, length, map, filter, fold, Option, Some, None, option_map, option_and_then, unwrap_or, codes, if◌then◌else◌, to_bits}
+use Rattle.std.specs.Prelude.{ℕ, ℤ, pos, neg_ℤ, ◌^◌, ◌==◌, ◌&&◌, not, nat_le, Bool, true, false, List, [], ◌∷◌, length, map, filter, fold, Option, Some, None, option_map, option_and_then, unwrap_or, codes, if◌then◌else◌, to_bits}
 use Rattle.std.specs.Float.{Float, binary64, float_is_finite}
 use Rattle.std.specs.Str.{byte, bytes_eq}
 use Rattle.fast_float.specs.Parse.{parse_float}

@@ -14,7 +14,7 @@ use std::alloc::Global;
 
 /// Returns the moment of a clock reading in milliseconds.
 #[tactic(auto, unfolding(crate::specs::LineEvent::clock_moment))]
-fn clock_moment(clock: u64) -> (u32, u32)
+pub fn clock_moment(clock: u64) -> (u32, u32)
     ensures { result ≡ clock_moment clock }
 {
     let ms = clock.min(LATEST_TIME);
@@ -23,7 +23,7 @@ fn clock_moment(clock: u64) -> (u32, u32)
 
 /// Returns the moment of a text, if it is from 1970 up to the second 4294967295.
 #[tactic(auto, unfolding(crate::specs::LineEvent::moment_in))]
-fn moment_in(format: &[u8], text: &[u8]) -> Option<(u32, u32)>
+pub fn moment_in(format: &[u8], text: &[u8]) -> Option<(u32, u32)>
     ensures { result ≡ moment_in format.now text.now }
 {
     let (seconds, nanos) = time_of(format, text)?;
@@ -60,7 +60,7 @@ fn take_out(body: &mut Pairs, key: &Bytes)
     }
 }
 
-fn at(alloc: Global, moment: (u32, u32), body: Pairs) -> Event
+pub fn at(alloc: Global, moment: (u32, u32), body: Pairs) -> Event
     ensures { result ≡ at moment body }
 {
     let (sec, nsec) = moment;

@@ -88,7 +88,7 @@ fn float_in(floats: Floats, text: &[u8]) -> Option<u64>
 
 /// Parses the bytes of a field as a type.
 #[tactic(auto, unfolding(crate::specs::Field::read_as))]
-fn read_as(floats: Floats, kind: TypeKind, text: &[u8]) -> Option<Value>
+pub fn read_as(floats: Floats, kind: TypeKind, text: &[u8]) -> Option<Value>
     ensures { option_map val_of result ≡ read_as floats kind text.now }
 {
     match kind {
@@ -114,7 +114,7 @@ fn value_of(alloc: Global, floats: Floats, kind: TypeKind, bytes: &[u8]) -> Resu
 /// Returns the type of a key. If a key is given twice, the last type counts; a key that isn't given has
 /// text.
 #[tactic(auto, unfolding(crate::specs::Field::kind_of))]
-fn kind_of(types: &FieldTypes, key: &[u8]) -> TypeKind
+pub fn kind_of(types: &FieldTypes, key: &[u8]) -> TypeKind
     ensures { result ≡ kind_of types.now key.now }
 {
     let mut kind = TypeKind::Text;
@@ -147,6 +147,7 @@ pub fn fields_of(
     ensures { IfOk result (λ body. body ≡ fields_of floats types.now skip_empty (map captured groups.now)) }
 {
     let mut body = Pairs::new(alloc);
+    body.reserve(groups.len())?;
     for group in groups {
         push_field(alloc, &mut body, floats, types, skip_empty, group)?;
     }

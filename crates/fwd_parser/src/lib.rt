@@ -11,8 +11,10 @@
 mod calendar;
 mod digits;
 mod directives;
+mod encoding;
 mod event_time;
 mod fields;
+mod lent_fields;
 mod parser;
 mod reader;
 mod shapes;

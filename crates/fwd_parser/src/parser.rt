@@ -69,8 +69,19 @@ pub struct TimeRule {
 }
 
 impl Parser {
-    ghost use Rattle.std.specs.Prelude.{◌≡◌, IfOk};
+    ghost use Rattle.std.specs.Prelude.{◌≡◌, IfOk, IsTrue, None};
     ghost use Rattle.fwd_parser.specs.LineEvent.{parsed};
+    ghost use Rattle.fwd_parser.specs.declared.parser.Shape.TheVariants as shape;
+
+    /// Returns whether each line is kept whole, with the time of the clock.
+    pub(crate) fn keeps_lines(&self) -> bool
+        ensures { IsTrue result → (self.now.shape ≡ shape.Plain) × (self.now.time ≡ None) }
+    {
+        match self.shape {
+            Shape::Plain => self.time.is_none(),
+            Shape::Json | Shape::Groups { .. } => false,
+        }
+    }
 
     /// Returns a reader for many lines.
     pub fn reader(&self, alloc: Global) -> Result<LineReader<'_>, Memory>

@@ -1,10 +1,13 @@
 //! A reader of many lines.
 
 use crate::Parser;
+use crate::encoding::{write_if_possible, write_plain};
 use crate::event_time::timed_event;
-use crate::shapes::{body_of, search_of};
+use crate::lent_fields::write_lent;
+use crate::shapes::{body_of, json_reader_of, search_of};
 use fwd_base::{Bytes, Memory, Search};
 use fwd_event::Event;
+use fwd_json::JsonReader;
 use std::alloc::Global;
 use std::marker::Model;
 
@@ -13,6 +16,7 @@ use std::marker::Model;
 pub struct LineReader<'p> {
     parser: &'p Parser,
     search: Option<Search<'p>>,
+    json: Option<JsonReader>,
 }
 
 impl<'p> Model for LineReader<'p> {
@@ -30,14 +34,21 @@ impl<'p> Model for LineReader<'p> {
 }
 
 impl<'p> LineReader<'p> {
-    ghost use Rattle.std.specs.Prelude.{◌≡◌, IfOk};
+    ghost use Rattle.std.specs.Prelude.{◌≡◌, ◌↔◌, ◌++◌, IsTrue, IfOk, OnErr, if◌then◌else◌};
+    ghost use Rattle.fwd_event.specs.Event.{event_val, EventFits};
+    ghost use Rattle.fwd_msgpack.specs.Canonical.{canonical};
     ghost use Rattle.fwd_parser.specs.LineEvent.{parsed};
 
     pub(crate) fn new(alloc: Global, parser: &'p Parser) -> Result<Self, Memory>
         ensures { IfOk result (λ reader. reader ≡ parser.now) }
     {
         let search = search_of(alloc, &parser.shape)?;
-        Ok(LineReader { parser, search })
+        let json = json_reader_of(alloc, &parser.shape)?;
+        Ok(LineReader {
+            parser,
+            search,
+            json,
+        })
     }
 
     /// Returns the event of a line. `now` is the greatest reading of the clock so far, in milliseconds
@@ -57,13 +68,42 @@ impl<'p> LineReader<'p> {
         ensures event { IfOk result (λ event. event ≡ parsed self.old line now) }
         ensures same { self.new ≡ self.old }
     {
-        let body = body_of(
-            alloc,
-            &self.parser.shape,
-            self.parser.floats,
-            &mut self.search,
-            line,
-        )?;
+        let body = body_of(alloc, self.parser, &mut self.search, &mut self.json, line)?;
         Ok(timed_event(alloc, &self.parser.time, now, body))
+    }
+
+    /// Appends the canonical encoding of the event of a line, which `read` would return, and returns whether the
+    /// event can be encoded: each length in it must be below 2^32, and its record nested at most 63 deep. If
+    /// not, or after `Err`, the bytes are unchanged. A line that is kept
+    /// whole is copied once, and so are most groups.
+    pub fn write(
+        &mut self,
+        alloc: Global,
+        line: Bytes,
+        now: u64,
+        out: &mut Bytes,
+    ) -> Result<bool, Memory>
+        ensures fits { IfOk result (λ written. IsTrue written ↔ EventFits (parsed self.old line now)) }
+        ensures bytes { IfOk result (λ written. out.new
+            ≡ (if written then out.old ++ canonical (event_val (parsed self.old line now)) else out.old)) }
+        ensures err { OnErr result (out.new ≡ out.old) }
+        ensures same { self.new ≡ self.old }
+    {
+        if self.parser.keeps_lines() {
+            return write_plain(line, now, out);
+        }
+        let written = write_lent(
+            alloc,
+            self.parser,
+            &mut self.search,
+            line.as_slice(),
+            now,
+            out,
+        )?;
+        if let Some(written) = written {
+            return Ok(written);
+        }
+        let event = self.take(alloc, line, now)?;
+        write_if_possible(&event, out)
     }
 }

@@ -1,6 +1,7 @@
 //! The record of a line.
 
-ghost use Rattle.std.specs.Prelude.{◌≡◌, IfOk};
+ghost use Rattle.std.specs.Prelude.{◌≡◌, ◌≢◌, IfOk, IfErr, Ok, Err};
+ghost use Rattle.fwd_json.specs.LinePairs.{pairs_in};
 ghost use Rattle.fwd_base.specs.Pattern.{SearchesFor, SearchesAs};
 ghost use Rattle.fwd_base.specs.declared.pattern.Pattern.{Pattern};
 ghost use Rattle.fwd_parser.specs.LineEvent.{plain, body_of};
@@ -8,17 +9,17 @@ ghost use Rattle.fwd_parser.specs.LineReader.{IsReady};
 ghost use Rattle.fwd_parser.specs.declared.parser.Shape.TheVariants as shape;
 
 use crate::fields::fields_of;
-use crate::parser::{FieldTypes, Shape};
+use crate::parser::{FieldTypes, Parser, Shape};
 use fwd_base::{Bytes, Memory, Search};
 use fwd_event::{Pairs, Value};
-use fwd_json::{Floats, JsonErr, pairs_of_json};
+use fwd_json::{Floats, JsonErr, JsonReader, pairs_of_json};
 use std::alloc::Global;
 
 /// The capacity of the record of a whole line: its own pair, and some that filters add.
 const PAIRS: usize = 4;
 
 /// Returns the record of a whole line, under `log`.
-fn plain(alloc: Global, line: Bytes) -> Result<Pairs, Memory>
+pub fn plain(alloc: Global, line: Bytes) -> Result<Pairs, Memory>
     ensures { IfOk result (λ body. body ≡ plain line) }
 {
     let mut body = Vec::with_capacity(alloc, PAIRS)?;
@@ -27,11 +28,32 @@ fn plain(alloc: Global, line: Bytes) -> Result<Pairs, Memory>
     Ok(Pairs::from_vec(body))
 }
 
+/// Returns the pairs of a line that is a JSON object, or why it is rejected.
+fn pairs_by(
+    alloc: Global,
+    reader: &mut Option<JsonReader>,
+    floats: Floats,
+    line: &[u8],
+) -> Result<Pairs, JsonErr>
+    ensures pairs { IfOk result (λ pairs. pairs_in floats line.now ≡ Ok pairs) }
+    ensures refused { IfErr result (λ e. e ≢ JsonErr.Memory → pairs_in floats line.now ≡ Err e) }
+{
+    match reader {
+        Some(reader) => reader.read(alloc, line, floats),
+        None => pairs_of_json(alloc, line, floats),
+    }
+}
+
 #[tactic(auto, unfolding(crate::specs::LineEvent::body_of))]
-fn json(alloc: Global, floats: Floats, line: Bytes) -> Result<Pairs, Memory>
+fn json(
+    alloc: Global,
+    reader: &mut Option<JsonReader>,
+    floats: Floats,
+    line: Bytes,
+) -> Result<Pairs, Memory>
     ensures { IfOk result (λ body. body ≡ body_of floats shape.Json line) }
 {
-    match pairs_of_json(alloc, line.as_slice(), floats) {
+    match pairs_by(alloc, reader, floats, line.as_slice()) {
         Ok(pairs) => Ok(pairs),
         Err(JsonErr::Memory) => Err(Memory),
         Err(_) => plain(alloc, line),
@@ -68,23 +90,32 @@ pub fn search_of(alloc: Global, shape: &Shape) -> Result<Option<Search<'_>>, Mem
     }
 }
 
+/// Returns the reader of JSON lines, if the shape has a use for one.
+pub fn json_reader_of(alloc: Global, shape: &Shape) -> Result<Option<JsonReader>, Memory> {
+    match shape {
+        Shape::Json => Ok(Some(JsonReader::new(alloc)?)),
+        Shape::Plain | Shape::Groups { .. } => Ok(None),
+    }
+}
+
 /// Returns the record of a line. A line that isn't a JSON object within the limits, or that the pattern
 /// doesn't match, is moved under `log`, not copied.
 #[tactic(auto, unfolding(crate::specs::LineEvent::body_of))]
 pub fn body_of(
     alloc: Global,
-    shape: &Shape,
-    floats: Floats,
+    parser: &Parser,
     search: &mut Option<Search<'_>>,
+    json_reader: &mut Option<JsonReader>,
     line: Bytes,
 ) -> Result<Pairs, Memory>
-    requires { IsReady shape.now search.old }
-    ensures body { IfOk result (λ body. body ≡ body_of floats shape.now line) }
-    ensures ready { IsReady shape.now search.new }
+    requires { IsReady parser.now.shape search.old }
+    ensures body { IfOk result (λ body. body ≡ body_of parser.now.floats parser.now.shape line) }
+    ensures ready { IsReady parser.now.shape search.new }
 {
-    match shape {
+    let floats = parser.floats;
+    match &parser.shape {
         Shape::Plain => plain(alloc, line),
-        Shape::Json => json(alloc, floats, line),
+        Shape::Json => json(alloc, json_reader, floats, line),
         Shape::Groups {
             types,
             skip_empty,

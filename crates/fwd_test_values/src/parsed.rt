@@ -2,7 +2,7 @@
 
 use crate::encoded::{put_error, put_pairs};
 use fwd_base::{Bytes, Memory, Pattern, PatternErr};
-use fwd_event::Event;
+use fwd_event::{Event, can_write, write_event};
 use fwd_parser::{FieldType, FieldTypes, Floats, Parser, Shape, TimeRule, TypeKind, time_of};
 use fwd_test_rows::argument;
 use std::alloc::Global;
@@ -85,6 +85,30 @@ fn put_event(alloc: Global, out: &mut String, floats: Floats, event: &Event) -> 
     put_pairs(alloc, out, floats, &event.body)
 }
 
+/// Returns the encoding of an event; nothing if it can't be encoded.
+fn encoding(alloc: Global, event: &Event) -> Result<Bytes, Memory> {
+    let mut bytes = Bytes::new(alloc);
+    if can_write(event) {
+        write_event(event, &mut bytes)?;
+    }
+    Ok(bytes)
+}
+
+/// Returns whether a reader writes the event of a line as its encoding.
+fn is_written_alike(
+    alloc: Global,
+    parser: &Parser,
+    line: &[u8],
+    now: u64,
+    event: &Event,
+) -> Result<bool, Memory> {
+    let mut bytes = Bytes::new(alloc);
+    let mut reader = parser.reader(alloc)?;
+    let written = reader.write(alloc, Bytes::from_slice(alloc, line)?, now, &mut bytes)?;
+    Ok(written == can_write(event) && bytes == encoding(alloc, event)?)
+}
+
+/// Appends the event of a line, and tells it if the reader writes another one.
 fn put_read(
     alloc: Global,
     out: &mut String,
@@ -93,6 +117,9 @@ fn put_read(
     now: u64,
 ) -> Result<(), Memory> {
     let event = parser.parse(alloc, line, now)?;
+    if !is_written_alike(alloc, parser, line, now, &event)? {
+        out.push_str("written otherwise ")?;
+    }
     put_event(alloc, out, parser.floats, &event)
 }
 

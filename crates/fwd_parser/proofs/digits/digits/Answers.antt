@@ -1,4 +1,4 @@
-use Rattle.std.proofs.Common.{◌≡◌, ◌∙◌, sym, arith}
+use Rattle.std.proofs.Common.{◌∙◌, sym, arith}
 use Rattle.fwd_parser.proofs.Numbers.{number_of_is, found_below}
 use Rattle.fwd_parser.proofs.digits.digits.Goals as goal
 

@@ -1,4 +1,4 @@
-use Rattle.std.proofs.Common.{◌≡◌, refl}
+use Rattle.std.proofs.Common.{refl}
 use Rattle.fwd_parser.proofs.FormatSteps.{read_format_byte}
 use Rattle.fwd_parser.proofs.time.step.Goals as goal
 
