@@ -1,3 +1,5 @@
 pub mod AttemptStates
 pub mod LinkEvents
 pub mod ContentReads
+pub mod FreeMasks
+pub mod FreePlaces

@@ -16,8 +16,7 @@ use Rattle.fwd_model.specs.Routes.{flight}
 use Rattle.fwd_model.specs.Payloads.{delivery, tag_of_chunk}
 use Rattle.fwd_model.specs.DeviceActions.{on_loop}
 use Rattle.fwd_model.specs.Notes.{note_then}
-use Rattle.fwd_model.specs.FlushActions.{starts_with, starts_each, walk, resumes, notes_calls}
-use Rattle.fwd_model.specs.Dispatch.{due_routes}
+use Rattle.fwd_model.specs.FlushActions.{starts_with, resumes, notes_calls}
 
 -- an attempt is taken out
 pub resumes_is : (s : AllSettings) (go : Delivery → Progress → Action Progress) (h : History) (on : Option Route) (r : Route) (p : Progress) (d : Delivery) → on ≡ Some r → flight h r ≡ Some p → d ≡ delivery s h r
@@ -39,10 +38,6 @@ represents_taken_out s old new h before after hears follows holds state shown = 
   store = rw holds shown.store;
   sound = shown.sound;
 }
-
-pub walk_is : (s : AllSettings) (h : History) (rs : List Route) → rs ≡ due_routes s h → walk s h ≡ starts_each s rs h
-unfolding walk
-walk_is s h rs are_due = ap (λ (l : List Route). starts_each s l h) (sym are_due)
 
 -- an attempt begins: what it delivers, to which output, and how
 pub begins_by : (s : AllSettings) (r : Route) (events : List Event) (h : History) (d : Delivery) (o : ℕ) (tag : List ℕ) (p : Progress)

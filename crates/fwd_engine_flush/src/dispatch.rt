@@ -6,6 +6,7 @@ ghost use Rattle.fwd_engine_state.specs.Views.{route_of};
 ghost use Rattle.fwd_engine_state.specs.RefinesAction.{with_both, RefinesAction};
 ghost use Rattle.fwd_engine_state.specs.LoopCounters.{NoEventTaken};
 
+use crate::free_places::free_outputs;
 use crate::outcome::record_progress;
 use crate::start::begin;
 use fwd_base::{LinkId, Memory};
@@ -43,8 +44,9 @@ fn start_if_allowed<L: Loop, D: Disk>(
     }
 }
 
-/// Starts the routes that are idle and due, each if it may still start when its turn comes. Routes of one
-/// chunk with equal due times follow one another and share their encoded text.
+/// Starts the routes that are idle and due, each if it may still start when its turn comes. Routes to an
+/// output without a free place start none, so they are left out. Routes of one chunk with equal due times
+/// follow one another and share their encoded text.
 pub fn walk<L: Loop, D: Disk>(
     run: &RunSettings,
     parts: &mut Parts,
@@ -57,7 +59,8 @@ pub fn walk<L: Loop, D: Disk>(
     ensures damaged { parts.old.state.damaged ≤ parts.new.state.damaged }
     ensures disk_later { D.faults disk.old ≤ D.faults disk.new }
 {
-    let routes = parts.state.due_routes()?;
+    let free = free_outputs(run, &parts.state);
+    let routes = parts.state.due_routes_to(free)?;
     let mut content = Content::new(parts.state.alloc());
     for route in &routes {
         start_if_allowed(run, parts, outside, disk, *route, &mut content)?;

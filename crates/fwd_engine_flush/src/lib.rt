@@ -7,6 +7,7 @@
 #![tactic(auto)]
 
 mod dispatch;
+mod free_places;
 mod outcome;
 mod start;
 

@@ -1,7 +1,7 @@
-ghost use Rattle.std.specs.Prelude.{◌≡◌, ◌<◌, ◌≤◌, [], ◌∷◌, ◌++◌, filter, nat_le, IfOk, OnOk};
-ghost use Rattle.fwd_retry.specs.declared.timer.Timer.{Timer};
+ghost use Rattle.std.specs.Prelude.{◌≡◌, ◌<◌, ◌≤◌, [], ◌∷◌, ◌++◌, filter, IfOk, OnOk};
 ghost use Rattle.fwd_retry.specs.Timer.{in_time};
 ghost use Rattle.fwd_table.specs.Outcomes.{due_after, is_tried_again};
+ghost use Rattle.fwd_table.specs.Routes.{is_due_to};
 ghost use Rattle.fwd_table.specs.Rows.{opened, on_chunk, grown, shut_at, started_to, resolved_to, owed_rows, tries_of, idle_timers_of};
 ghost use Rattle.fwd_engine_state.specs.FlushOutcome.{rows_answered};
 
@@ -132,14 +132,14 @@ impl Chunks {
         self.table.keep_owed(chunk);
     }
 
-    /// Returns the timers of the idle routes that are due at `now`, by due time, then chunk, then output.
-    /// The chunks stay as they are.
-    pub fn due(&mut self, now: u64) -> Result<Vec<Timer>, Memory>
+    /// Returns the timers of the idle routes to the outputs of a mask that are due at `now`, by due time,
+    /// then chunk, then output. The chunks stay as they are.
+    pub fn due_to(&mut self, now: u64, outputs: u64) -> Result<Vec<Timer>, Memory>
         ensures rows { self.new.rows ≡ self.old.rows }
         ensures top { self.new.top ≡ self.old.top }
-        ensures due { IfOk result (λ timers. timers.items ≡ in_time (filter (λ (t : Timer). nat_le t.due now) (idle_timers_of self.old.rows))) }
+        ensures due { IfOk result (λ timers. timers.items ≡ in_time (filter (is_due_to now outputs) (idle_timers_of self.old.rows))) }
     {
-        self.table.due(now)
+        self.table.due_to(now, outputs)
     }
 
     pub fn table(&self) -> &Table

@@ -1,4 +1,4 @@
-ghost use Rattle.std.specs.Prelude.{◌≡◌, ◌<◌, ◌≤◌, ◌+◌, ℕ, List, [], ◌∷◌, length, map, Bool, true, IfOk, OnOk};
+ghost use Rattle.std.specs.Prelude.{◌≡◌, ◌<◌, ◌≤◌, ◌+◌, ℕ, List, [], ◌∷◌, length, map, filter, Bool, true, IfOk, OnOk};
 ghost use Rattle.fwd_base.specs.Limits.{most_inputs};
 ghost use Rattle.fwd_outside.specs.declared.happening.Happening.TheVariants as happening;
 ghost use Rattle.fwd_settings.specs.declared.settings_types.AllSettings.{AllSettings};
@@ -16,7 +16,7 @@ ghost use Rattle.fwd_model.specs.Notes.{is_empty};
 ghost use Rattle.fwd_model.specs.Counters.{file_fate, Unrouted, LeftAsIs, tally_of};
 ghost use Rattle.fwd_table.specs.Outcomes.{may_retry, is_tried_again};
 ghost use Rattle.fwd_engine_state.specs.FlushOutcome.{outcome_after};
-ghost use Rattle.fwd_engine_state.specs.Views.{route_of};
+ghost use Rattle.fwd_engine_state.specs.Views.{is_to_one, route_of};
 ghost use Rattle.fwd_engine_state.specs.StateRepresents.{StateRepresentsIdle, StateAnswers, StateUnchanged, StateNotes, StateNotesWhere, StateNotesOutcome, IsFlightOf, IsClosedRoute, IsPending, IsTakenOut, IsMaskOf, IsLoaded, IsNew};
 
 use crate::capacity::{InFlightLimits, chunk_fits};
@@ -287,13 +287,13 @@ impl State {
         self.stopped
     }
 
-    /// Returns the routes that are idle and due, by due time, chunk and output.
-    pub fn due_routes(&mut self) -> Result<Vec<RouteId>, Memory>
+    /// Returns the routes to the outputs of a mask that are idle and due, by due time, chunk and output.
+    pub fn due_routes_to(&mut self, outputs: u64) -> Result<Vec<RouteId>, Memory>
         ensures keeps { StateUnchanged self.old self.new }
         ensures damaged { self.new.damaged ≡ self.old.damaged }
-        ensures routes { StateAnswers self.old (λ s h. IfOk result (λ routes. map route_of routes.items ≡ due_routes s h)) }
+        ensures routes { StateAnswers self.old (λ s h. IfOk result (λ routes. map route_of routes.items ≡ filter (is_to_one outputs) (due_routes s h))) }
     {
-        due_routes_of(self.alloc, &mut self.chunks, self.clock)
+        due_routes_of(self.alloc, &mut self.chunks, self.clock, outputs)
     }
 
     /// Whether a route is idle.

@@ -9,7 +9,7 @@ ghost use Rattle.fwd_retry.specs.Timer.{first, in_time, is_next, IsFirst};
 ghost use Rattle.fwd_table_rows.specs.declared.row.Row.{Row};
 ghost use Rattle.fwd_table.specs.Outcomes.{due_after, may_retry, is_tried_again, outcome_of};
 ghost use Rattle.fwd_table.specs.Outcomes.{resolved_outcome};
-ghost use Rattle.fwd_table_rows.specs.Routes.{flying_of, mask_of, IsMaskOf};
+ghost use Rattle.fwd_table_rows.specs.Routes.{flying_of, is_due_to, mask_of, IsMaskOf};
 ghost use Rattle.fwd_table_rows.specs.Changes.{row_with_change};
 ghost use Rattle.fwd_table_rows.specs.Usage.{size_of, flying_to, waiting_for, memory_of, files_up, found_up};
 ghost use Rattle.fwd_base.specs.Limits.{most_inputs};
@@ -38,7 +38,7 @@ use std::mem;
 /// The chunks that are open or pending, ordered by id, each with the outputs that it is pending for.
 /// Contracts see the rows, the slots that hold them, and how many more rows are reserved.
 ///
-/// Only `reserve` and `due` allocate. A row is found by its id or by binary search. Removing a row leaves
+/// Only `reserve`, `due` and `due_to` allocate. A row is found by its id or by binary search. Removing a row leaves
 /// its slot empty. Empty slots are removed once they outnumber the rows, so removing rows in any order
 /// takes linear time.
 #[derive(Debug, Drop)]
@@ -193,10 +193,29 @@ impl Table {
             ≡ in_time (filter (λ (t : Timer). nat_le t.due now) (idle_timers_of self.old.rows))) }
     {
         self.update_soonest(now);
-        if now < self.soonest {
+        if self.none_is_due(now) {
             return Ok(Vec::new(self.alloc));
         }
-        due_in(self.alloc, &self.places, now)
+        due_in(self.alloc, &self.places, now, u64::MAX)
+    }
+
+    /// Returns the timers of the idle routes to the outputs of a mask that are due at `now`, ordered by due
+    /// time, then chunk, then output. The rows stay the same. If the mask is empty, the call looks at no
+    /// row; if no route is due, most calls look at none. This allocates the list.
+    pub fn due_to(&mut self, now: u64, outputs: u64) -> Result<Vec<Timer>, Memory>
+        ensures rows { self.new.rows ≡ self.old.rows }
+        ensures spare { self.old.spare ≤ self.new.spare }
+        ensures due { IfOk result
+            (λ timers. timers.items ≡ in_time (filter (is_due_to now outputs) (idle_timers_of self.old.rows))) }
+    {
+        if outputs == 0 {
+            return Ok(Vec::new(self.alloc));
+        }
+        self.update_soonest(now);
+        if self.none_is_due(now) {
+            return Ok(Vec::new(self.alloc));
+        }
+        due_in(self.alloc, &self.places, now, outputs)
     }
 
     /// Records that a flush of a route starts, if the route is pending.
@@ -438,6 +457,14 @@ impl Table {
         if self.soonest <= now {
             self.soonest = soonest_due(&self.places);
         }
+    }
+
+    /// Returns whether it is known that no idle route is due at `now`.
+    fn none_is_due(&self, now: u64) -> bool
+        ensures { IsTrue result
+            → filter (λ (t : Timer). nat_le t.due now) (idle_timers_of self.now.rows) ≡ [] }
+    {
+        now < self.soonest
     }
 
     /// Changes the row of a chunk, if there is one.

@@ -4,6 +4,8 @@ pub mod MaskRoutes
 pub mod Bits
 pub mod Chunks
 pub mod ChunkRows
+pub mod DueMasks
+pub mod DueOrder
 pub mod DueTimes
 pub mod RowSums
 pub mod SlotChanges

@@ -1,5 +1,5 @@
 -- The routes of a chunk: the outputs that it is pending for, by rising number.
-use Rattle.std.specs.Prelude.{◌≡◌, ◌↔◌, ℕ, ◌+◌, ◌-◌, ◌^◌, ◌<◌, ◌≤◌, ◌==◌, min, Bool, true, false, not, List}
+use Rattle.std.specs.Prelude.{◌≡◌, ◌↔◌, ℕ, ◌+◌, ◌-◌, ◌^◌, ◌<◌, ◌≤◌, ◌==◌, ◌&&◌, nat_le, min, Bool, true, false, not, List}
 use Rattle.std.specs.Prelude.{[], ◌∷◌, map, filter, find, sum_by, Any, IsBitSet, if◌then◌else◌}
 use Rattle.std.specs.List.{range_with_len}
 use Rattle.std.specs.Int.{bit_at}
@@ -83,3 +83,11 @@ timer_of chunk r = record { due = r.due; chunk = chunk; output = r.output }
 -- the timers of the idle routes
 abbrev pub idle_timers : ChunkId → List Route → List Timer
 idle_timers chunk routes = map (timer_of chunk) (filter (λ r. not r.flying) routes)
+
+-- whether the output of a timer is in a mask
+abbrev pub is_in : ℕ → Timer → Bool
+is_in outputs timer = bit_at outputs timer.output.0 == 1
+
+-- whether a timer is due at a time, and its output is in a mask
+abbrev pub is_due_to : ℕ → ℕ → Timer → Bool
+is_due_to now outputs timer = nat_le timer.due now && is_in outputs timer

@@ -1,21 +1,18 @@
 //! Routes: the outputs that a chunk is pending for.
 
-ghost use Rattle.std.specs.Prelude.{◌≡◌, ◌==◌, ◌≤◌, [], All, false, fold, filter, find, length, map, nat_le};
+ghost use Rattle.std.specs.Prelude.{◌≡◌, ◌==◌, ◌≤◌, [], ◌++◌, All, false, fold, filter, find, length, map};
 ghost use Rattle.std.specs.Prelude.{not, OnOk, option_copied, option_map, vec_capacity, if◌then◌else◌};
-ghost use Rattle.std.specs.BTreeSet.{insert_key};
 ghost use Rattle.fwd_base.specs.Limits.{most_outputs};
-ghost use Rattle.fwd_retry.specs.Timer.{by_time, earlier as earlier_of, is_next};
-ghost use Rattle.fwd_retry.specs.declared.timer.Timer.{Timer};
+ghost use Rattle.fwd_retry.specs.Timer.{earlier as earlier_of, is_next};
 ghost use Rattle.fwd_table_rows.specs.Routes.{idle_at, due_at, is_to, on_output, without_output, timer_of};
 ghost use Rattle.fwd_table_rows.specs.Routes.{idle_timers, tries_to, routes_below, routes_to, mask_of};
-ghost use Rattle.fwd_table_rows.specs.Routes.{flying_of, IsMaskOf, RiseFrom};
+ghost use Rattle.fwd_table_rows.specs.Routes.{flying_of, is_due_to, IsMaskOf, RiseFrom};
 ghost use Rattle.fwd_table_rows.specs.Changes.{with_change, due_by};
 
 use fwd_base::limits::MOST_OUTPUTS;
 use fwd_base::{ChunkId, Memory, OutputId, is_set};
 use fwd_retry::{Timer, earlier};
 use std::alloc::Global;
-use std::collections::BTreeSet;
 use std::marker::Model;
 use std::mem;
 
@@ -323,24 +320,24 @@ impl Routes {
         self.soonest
     }
 
-    /// Adds the timers of the idle routes that are due at `now`.
+    /// Appends the timers of the idle routes to the outputs of a mask that are due at `now`.
     pub fn put_due(
         &self,
         chunk: ChunkId,
         now: u64,
-        timers: &mut BTreeSet<Timer>,
+        outputs: u64,
+        timers: &mut Vec<Timer>,
     ) -> Result<(), Memory>
         ensures { OnOk result
-            (timers.new.keys
-            ≡ fold (insert_key by_time) timers.old.keys
-            (filter (λ (t : Timer). nat_le t.due now) (idle_timers chunk self.now))) }
+            (timers.new.items
+            ≡ timers.old.items ++ filter (is_due_to now outputs) (idle_timers chunk self.now)) }
     {
         if now < self.soonest {
             return Ok(());
         }
         for route in &self.routes {
-            if !route.flying && route.due <= now {
-                timers.insert(route.timer(chunk))?;
+            if !route.flying && route.due <= now && is_set(outputs, route.output.0) {
+                timers.push(route.timer(chunk))?;
             }
         }
         Ok(())

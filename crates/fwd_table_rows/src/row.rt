@@ -1,11 +1,9 @@
 //! Rows: a chunk and its routes.
 
-ghost use Rattle.std.specs.Prelude.{◌≡◌, Some, fold, filter, nat_le, OnOk};
-ghost use Rattle.std.specs.BTreeSet.{insert_key};
-ghost use Rattle.fwd_retry.specs.declared.timer.Timer.{Timer};
-ghost use Rattle.fwd_retry.specs.Timer.{by_time, earlier as earlier_of, is_next};
+ghost use Rattle.std.specs.Prelude.{◌≡◌, ◌++◌, Some, fold, filter, OnOk};
+ghost use Rattle.fwd_retry.specs.Timer.{earlier as earlier_of, is_next};
 ghost use Rattle.fwd_table_rows.specs.Rows.{IsNotDueBefore, seen_of, timers_of_row, waits_for};
-ghost use Rattle.fwd_table_rows.specs.Routes.{flying_of, IsMaskOf};
+ghost use Rattle.fwd_table_rows.specs.Routes.{flying_of, is_due_to, IsMaskOf};
 ghost use Rattle.fwd_table_rows.specs.Changes.{row_with_change, row_due_by};
 ghost use Rattle.fwd_table_rows.specs.Sums.{IsValidRow};
 ghost use Rattle.fwd_table_rows.specs.Usage.{is_file};
@@ -14,7 +12,6 @@ use crate::route::{Change, Routes};
 use fwd_base::{Bytes, ChunkId, InputId, Memory, OutputId};
 use fwd_outside::Home;
 use fwd_retry::Timer;
-use std::collections::BTreeSet;
 
 /// A chunk, and the outputs that it is pending for.
 #[derive(Debug, Drop)]
@@ -142,16 +139,15 @@ impl Row {
         self.routes.soonest()
     }
 
-    /// Adds the timers of the row's idle routes that are due at `now`.
-    pub fn put_due(&self, now: u64, timers: &mut BTreeSet<Timer>) -> Result<(), Memory>
+    /// Appends the timers of the row's idle routes to the outputs of a mask that are due at `now`.
+    pub fn put_due(&self, now: u64, outputs: u64, timers: &mut Vec<Timer>) -> Result<(), Memory>
         ensures { OnOk result
-            (timers.new.keys
-            ≡ fold (insert_key by_time) timers.old.keys
-            (filter (λ (t : Timer). nat_le t.due now) (timers_of_row self.now))) }
+            (timers.new.items
+            ≡ timers.old.items ++ filter (is_due_to now outputs) (timers_of_row self.now)) }
     {
         if !self.shut {
             return Ok(());
         }
-        self.routes.put_due(self.chunk, now, timers)
+        self.routes.put_due(self.chunk, now, outputs, timers)
     }
 }

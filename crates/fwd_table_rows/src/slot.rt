@@ -1,18 +1,17 @@
 //! Slots of a table. Removing a row leaves its slot empty, so that no other row moves.
 
-ghost use Rattle.std.specs.Prelude.{◌≡◌, ℕ, [], ◌+◌, ◌<◌, ◌≤◌, ◌^◌, None, Some, get_or, length, map, filter};
-ghost use Rattle.std.specs.Prelude.{fold, is_some, nat_le, option_copied, option_map, vec_capacity, All};
+ghost use Rattle.std.specs.Prelude.{◌≡◌, ℕ, [], ◌++◌, ◌+◌, ◌<◌, ◌≤◌, ◌^◌, None, Some, get_or, length, map, filter};
+ghost use Rattle.std.specs.Prelude.{fold, is_some, option_copied, option_map, vec_capacity, All};
 ghost use Rattle.std.specs.Prelude.{IfOk, IfSome, IsTrue, OnOk};
-ghost use Rattle.std.specs.BTreeSet.{insert_key};
 ghost use Rattle.std.specs.List.{flat_map};
 ghost use Rattle.std.specs.Option.{option_map_or};
 ghost use Rattle.std.specs.VecDeque.{deque_capacity, deque_len};
 ghost use Rattle.fwd_base.specs.Limits.{most_outputs};
-ghost use Rattle.fwd_retry.specs.Timer.{by_time, earlier as earlier_of, first, in_time, is_next};
-ghost use Rattle.fwd_retry.specs.declared.timer.Timer.{Timer};
+ghost use Rattle.fwd_retry.specs.Timer.{earlier as earlier_of, first, in_time, is_next};
 ghost use Rattle.fwd_table_rows.specs.Changes.{row_with_change};
 ghost use Rattle.fwd_table_rows.specs.declared.slot.Slot.{Slot};
 ghost use Rattle.fwd_table_rows.specs.Slots.{HasOwnRow, IsPlaceOf, NumbersRise, is_owed_at, rows_in};
+ghost use Rattle.fwd_table_rows.specs.Routes.{is_due_to};
 ghost use Rattle.fwd_table_rows.specs.Slots.{timers_of_slot};
 ghost use Rattle.fwd_table_rows.specs.Rows.{IsNotDueBefore, on_chunk, owed_rows, row_at, without_chunk};
 ghost use Rattle.fwd_table_rows.specs.Sums.{AreSums, Counted, IsValidRow, part_of, total};
@@ -24,7 +23,7 @@ use fwd_base::limits::MOST_OUTPUTS;
 use fwd_base::{ChunkId, Memory};
 use fwd_retry::Timer;
 use std::alloc::Global;
-use std::collections::{BTreeSet, VecDeque};
+use std::collections::VecDeque;
 
 /// The slot of a chunk's row, which may have been removed.
 #[derive(Debug, Drop)]
@@ -122,15 +121,14 @@ impl Slot {
         }
     }
 
-    /// Adds the timers of the idle routes that are due at `now`.
-    fn put_due(&self, now: u64, timers: &mut BTreeSet<Timer>) -> Result<(), Memory>
+    /// Appends the timers of the idle routes to the outputs of a mask that are due at `now`.
+    fn put_due(&self, now: u64, outputs: u64, timers: &mut Vec<Timer>) -> Result<(), Memory>
         ensures { OnOk result
-            (timers.new.keys
-            ≡ fold (insert_key by_time) timers.old.keys
-            (filter (λ (t : Timer). nat_le t.due now) (timers_of_slot self.now))) }
+            (timers.new.items
+            ≡ timers.old.items ++ filter (is_due_to now outputs) (timers_of_slot self.now)) }
     {
         match &self.row {
-            Some(row) => row.put_due(now, timers),
+            Some(row) => row.put_due(now, outputs, timers),
             None => Ok(()),
         }
     }
@@ -367,29 +365,48 @@ pub fn soonest_due(places: &VecDeque<Slot>) -> u64
     soonest
 }
 
-/// Adds the timers of the idle routes that are due at `now` to a set.
-fn put_due_in(places: &VecDeque<Slot>, now: u64, timers: &mut BTreeSet<Timer>) -> Result<(), Memory>
+/// Appends the timers of the idle routes to the outputs of a mask that are due at `now`.
+fn put_due_in(
+    places: &VecDeque<Slot>,
+    now: u64,
+    outputs: u64,
+    timers: &mut Vec<Timer>,
+) -> Result<(), Memory>
     ensures { OnOk result
-        (timers.new.keys
-        ≡ fold (insert_key by_time) timers.old.keys
-        (filter (λ (t : Timer). nat_le t.due now) (flat_map timers_of_slot places.now.items))) }
+        (timers.new.items
+        ≡ timers.old.items
+        ++ filter (is_due_to now outputs) (flat_map timers_of_slot places.now.items)) }
 {
     for index in 0..places.len() {
-        places[index].put_due(now, timers)?;
+        places[index].put_due(now, outputs, timers)?;
     }
     Ok(())
 }
 
-/// Returns the timers of the idle routes that are due at `now`, ordered by due time, then chunk, then
-/// output.
-pub fn due_in(alloc: Global, places: &VecDeque<Slot>, now: u64) -> Result<Vec<Timer>, Memory>
+/// Puts timers in order, each once. This takes linear time if they are in order already.
+fn put_in_time(timers: &mut Vec<Timer>)
+    ensures { timers.new.items ≡ in_time timers.old.items }
+{
+    timers.sort_unstable();
+    timers.dedup();
+}
+
+/// Returns the timers of the idle routes to the outputs of a mask that are due at `now`, ordered by due
+/// time, then chunk, then output.
+pub fn due_in(
+    alloc: Global,
+    places: &VecDeque<Slot>,
+    now: u64,
+    outputs: u64,
+) -> Result<Vec<Timer>, Memory>
     ensures { IfOk result
         (λ timers. timers.items
-        ≡ in_time (filter (λ (t : Timer). nat_le t.due now) (flat_map timers_of_slot places.now.items))) }
+        ≡ in_time (filter (is_due_to now outputs) (flat_map timers_of_slot places.now.items))) }
 {
-    let mut timers = BTreeSet::new(alloc);
-    put_due_in(places, now, &mut timers)?;
-    Ok(timers.into_iter().collect(alloc)?)
+    let mut timers = Vec::new(alloc);
+    put_due_in(places, now, outputs, &mut timers)?;
+    put_in_time(&mut timers);
+    Ok(timers)
 }
 
 /// Computes the sums over all rows.

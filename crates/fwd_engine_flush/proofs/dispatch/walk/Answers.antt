@@ -7,7 +7,7 @@ use Rattle.fwd_engine_state.specs.Views.{route_of}
 use Rattle.fwd_engine_state.specs.declared.flush_attempts.RouteId.{RouteId}
 use Rattle.fwd_engine_state.specs.RefinesAction.{with_both}
 use Rattle.fwd_engine_state.proofs.CounterSteps.{as_many, no_event_first, no_event_composed}
-use Rattle.fwd_engine_flush.proofs.LinkEvents.{walk_is}
+use Rattle.fwd_engine_flush.proofs.FreePlaces.{walk_is}
 use Rattle.fwd_engine_flush.proofs.dispatch.walk.Goals as goal
 
 pub returns-in_err-routes-clause-acts : goal.returns-in_err-routes-clause-acts
@@ -24,7 +24,7 @@ loop-route-init g c = (
   as_many (g.D.Disk.faults c.args.disk.now),
   λ others h shows.
       let are_due = ap (map route_of) c.deref-route-items.ensures.value ∙ c.in_ok-routes.ensures.routes c.args.run.now h None shows.state in
-      (h, record { state = c.in_ok-routes.ensures.keeps c.args.run.now h None shows.state; input_streams = shows.input_streams; followed_files = shows.followed_files; store = shows.store; sound = shows.sound }, rw (walk_is c.args.run.now h _ are_due) (stays (with_both (g.L.Loop.call_log c.args.outside.now) (g.D.Disk.call_log c.args.disk.now) others) _)),
+      (h, record { state = c.in_ok-routes.ensures.keeps c.args.run.now h None shows.state; input_streams = shows.input_streams; followed_files = shows.followed_files; store = shows.store; sound = shows.sound }, rw (walk_is c.args.run.now c.free_outputs-free.result _ h (c.free_outputs-free.ensures h None shows.state) are_due) (stays (with_both (g.L.Loop.call_log c.args.outside.now) (g.D.Disk.call_log c.args.disk.now) others) _)),
   omega (arith, c.in_ok-routes.ensures.damaged),
 )
 
