@@ -207,19 +207,18 @@ module _ (held : FilesState) (now : FilesGiven) (calls : ℕ) (fails : List ℕ)
 
 -- after a recorded call, by the fields of the struct
 module _ (held old : FilesState) (view : held ≡ old) (now : FilesGiven) (calls : ℕ) (fails : List ℕ) (kept : IsKept held.given now held.notes calls fails) where
-  pub length_kept : (path path2 : List ℕ) (answer : Option ℕ) (new : List FilesNote) → answer ≡ option_map (λ (bytes : List ℕ). length bytes) (readable old path) → path2 ≡ path
-      → new ≡ held.notes ++ Length path2 answer ∷ [] → IsKept held.given now new (calls + 1) fails
-  length_kept path path2 answer new is same noted =
-      let here : answer ≡ option_map (λ (bytes : List ℕ). length bytes) (readable held path2) = is ∙ ap (λ (p : List ℕ). option_map (λ (bytes : List ℕ). length bytes) (readable old p)) (sym same)
-      ∙ ap (λ (h : FilesState). option_map (λ (bytes : List ℕ). length bytes) (readable h path2)) (sym view) in
-      subst (λ (notes : List FilesNote). IsKept held.given now notes (calls + 1) fails) (sym noted) (keeps_length held.given now held.notes calls fails kept path2 answer here)
+  pub length_kept : (path : List ℕ) (answer : Option ℕ) (new : List FilesNote) → answer ≡ option_map (λ (bytes : List ℕ). length bytes) (readable old path)
+      → new ≡ held.notes ++ Length path answer ∷ [] → IsKept held.given now new (calls + 1) fails
+  length_kept path answer new is noted =
+      let here : answer ≡ option_map (λ (bytes : List ℕ). length bytes) (readable held path) = is ∙ ap (λ (h : FilesState). option_map (λ (bytes : List ℕ). length bytes) (readable h path)) (sym view) in
+      subst (λ (notes : List FilesNote). IsKept held.given now notes (calls + 1) fails) (sym noted) (keeps_length held.given now held.notes calls fails kept path answer here)
 
-  pub read_kept : (path path2 : List ℕ) (at max : ℕ) (answer copy : Option (List ℕ)) (new : List FilesNote) → answer ≡ option_map (λ (bytes : List ℕ). take max (drop at bytes)) (readable old path) → path2 ≡ path
-      → copy ≡ answer → new ≡ held.notes ++ ReadAt path2 at max copy ∷ [] → IsKept held.given now new (calls + 1) fails
-  read_kept path path2 at max answer copy new is same clone_optional noted =
-      let here : copy ≡ option_map (λ (bytes : List ℕ). take max (drop at bytes)) (readable held path2) = clone_optional ∙ is ∙ ap (λ (p : List ℕ). option_map (λ (bytes : List ℕ). take max (drop at bytes)) (readable old p)) (sym same)
-      ∙ ap (λ (h : FilesState). option_map (λ (bytes : List ℕ). take max (drop at bytes)) (readable h path2)) (sym view) in
-      subst (λ (notes : List FilesNote). IsKept held.given now notes (calls + 1) fails) (sym noted) (keeps_read held.given now held.notes calls fails kept path2 at max copy here)
+  pub read_kept : (path : List ℕ) (at max : ℕ) (answer copy : Option (List ℕ)) (new : List FilesNote) → answer ≡ option_map (λ (bytes : List ℕ). take max (drop at bytes)) (readable old path)
+      → copy ≡ answer → new ≡ held.notes ++ ReadAt path at max copy ∷ [] → IsKept held.given now new (calls + 1) fails
+  read_kept path at max answer copy new is clone_optional noted =
+      let here : copy ≡ option_map (λ (bytes : List ℕ). take max (drop at bytes)) (readable held path) =
+      clone_optional ∙ is ∙ ap (λ (h : FilesState). option_map (λ (bytes : List ℕ). take max (drop at bytes)) (readable h path)) (sym view) in
+      subst (λ (notes : List FilesNote). IsKept held.given now notes (calls + 1) fails) (sym noted) (keeps_read held.given now held.notes calls fails kept path at max copy here)
 
 -- what the trace grows by
 module _ (held old : FilesState) (view : held ≡ old) (new : List FilesNote) where

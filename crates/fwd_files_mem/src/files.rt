@@ -1,8 +1,7 @@
 //! Followed files in memory.
 
-ghost use Rattle.std.specs.Prelude.{◌≡◌, ℕ, ◌+◌, ◌≤◌, List, [], ◌∷◌, ◌++◌, if◌then◌else◌, length, drop, position, take, unwrap_or, IsTrue, IfOk, OnOk, OnErr, IsErrOf, Some};
+ghost use Rattle.std.specs.Prelude.{◌≡◌, ℕ, ◌+◌, ◌≤◌, List, [], ◌∷◌, ◌++◌, if◌then◌else◌, length, drop, take, unwrap_or, IsTrue, IfOk, OnOk, OnErr, IsErrOf, Some};
 ghost use Rattle.std.specs.Option.{option_map, option_copied};
-ghost use Rattle.std.specs.Str.{bytes_eq};
 ghost use Rattle.fwd_outside.specs.Log.{LogGrew, log_of_call};
 ghost use Rattle.fwd_outside.specs.Cause.{HasCause};
 ghost use Rattle.fwd_outside.specs.declared.errors.FileErr.TheVariants.{Failed};
@@ -16,7 +15,7 @@ use crate::FileChange;
 use fwd_base::{Bytes, Memory, clone_optional};
 use fwd_outside::{FileErr, Files};
 use std::alloc::Global;
-use std::collections::BTreeSet;
+use std::collections::{BTreeMap, BTreeSet};
 use std::marker::Model;
 
 /// An entry of the record of files in memory: a call with its answer, or a setting.
@@ -51,8 +50,8 @@ pub enum FilesNote {
 #[derive(Debug, Drop)]
 pub struct MemFiles {
     alloc: Global,
-    given: Vec<(Bytes, Bytes)>,
-    current: Vec<(Bytes, Bytes)>,
+    given: BTreeMap<Bytes, Bytes>,
+    current: BTreeMap<Bytes, Bytes>,
     notes: Vec<FilesNote>,
     calls: u64,
     fails: BTreeSet<u64>,
@@ -64,11 +63,11 @@ impl Model for MemFiles {
 
     ghost Value = { FilesState };
 
-    ghost view = { λ m. record { given = m.given.items; notes = m.notes.items; faults = m.faults } };
+    ghost view = { λ m. record { given = m.given.entries; notes = m.notes.items; faults = m.faults } };
 
     ghost use Rattle.fwd_files_mem.specs.MemFiles.{IsKept};
 
-    ghost invariant = { λ m. IsKept m.given.items m.current.items m.notes.items m.calls m.fails.keys };
+    ghost invariant = { λ m. IsKept m.given.entries m.current.entries m.notes.items m.calls m.fails.keys };
 }
 
 impl MemFiles {
@@ -78,8 +77,8 @@ impl MemFiles {
     {
         MemFiles {
             alloc,
-            given: Vec::new(alloc),
-            current: Vec::new(alloc),
+            given: BTreeMap::new(alloc),
+            current: BTreeMap::new(alloc),
             notes: Vec::new(alloc),
             calls: 0,
             fails: BTreeSet::new(alloc),
@@ -110,9 +109,10 @@ impl MemFiles {
             path: Bytes::from_slice(self.alloc, path)?,
             bytes: Bytes::from_slice(self.alloc, bytes)?,
         };
+        let path = Bytes::from_slice(self.alloc, path)?;
         let bytes = Bytes::from_slice(self.alloc, bytes)?;
         self.notes.push(kept)?;
-        match put(self.alloc, &mut self.current, path, bytes) {
+        match put(&mut self.current, path, bytes) {
             Ok(()) => Ok(()),
             Err(memory) => {
                 self.notes.pop();
@@ -166,7 +166,7 @@ impl MemFiles {
     }
 
     /// Returns the bytes that the next call reads from; `None` if it fails.
-    fn readable(&self, path: &[u8]) -> Option<&[u8]>
+    fn readable(&self, path: &Bytes) -> Option<&[u8]>
         ensures { option_copied result ≡ readable self.now path.now }
     {
         if self.fails.contains(&(self.calls + 1)) {
@@ -186,8 +186,8 @@ impl Files for MemFiles {
         ensures call_log { LogGrew (told_of self.old) (told_of self.new) (log_of_call (files.Length path.now) (outcome result)) }
         ensures cause { HasCause self.old.faults self.new.faults (IsErrOf result Failed) }
     {
-        let answer = length_of(self.readable(path));
         let path = Bytes::from_slice(self.alloc, path)?;
+        let answer = length_of(self.readable(&path));
         self.notes.push(FilesNote::Length {
             path,
             length: answer,
@@ -208,8 +208,8 @@ impl Files for MemFiles {
         ensures cause { HasCause self.old.faults self.new.faults (IsErrOf result Failed) }
         ensures within { IfOk result (λ bytes. length bytes ≤ max) }
     {
-        let answer = part_of(alloc, self.readable(path), at, max)?;
         let path = Bytes::from_slice(self.alloc, path)?;
+        let answer = part_of(alloc, self.readable(&path), at, max)?;
         let bytes = clone_optional(self.alloc, &answer)?;
         self.notes.push(FilesNote::ReadAt {
             path,
@@ -229,29 +229,23 @@ impl Files for MemFiles {
 }
 
 /// Returns a copy of the files.
-fn copy_of(alloc: Global, files: &[(Bytes, Bytes)]) -> Result<Vec<(Bytes, Bytes)>, Memory>
-    ensures { IfOk result (λ copy. copy.items ≡ files.now) }
+fn copy_of(alloc: Global, files: &BTreeMap<Bytes, Bytes>) -> Result<BTreeMap<Bytes, Bytes>, Memory>
+    ensures { IfOk result (λ copy. SameFiles files.now.entries copy.entries) }
 {
-    let mut copy = Vec::with_capacity(alloc, files.len())?;
-    for (path, bytes) in files {
-        copy.push((path.try_clone(alloc)?, bytes.try_clone(alloc)?))?;
+    let mut copy = BTreeMap::new(alloc);
+    let mut rest = files.iter();
+    while let Some((path, bytes)) = rest.next_back() {
+        copy.insert(path.try_clone(alloc)?, bytes.try_clone(alloc)?)?;
     }
     Ok(copy)
 }
 
-/// Returns the index of a file.
-fn place_of(files: &[(Bytes, Bytes)], path: &[u8]) -> Option<usize>
-    ensures { result ≡ position (λ file. bytes_eq file.0 path.now) files.now }
-{
-    files.iter().position(|file| file.0.as_slice() == path)
-}
-
 /// Returns the bytes of a file; `None` if there is none.
-fn content<'a>(files: &'a [(Bytes, Bytes)], path: &[u8]) -> Option<&'a [u8]>
-    ensures { option_copied result ≡ found files.entry.now path.now }
+fn content<'a>(files: &'a BTreeMap<Bytes, Bytes>, path: &Bytes) -> Option<&'a [u8]>
+    ensures { option_copied result ≡ found files.entry.now.entries path.now }
 {
-    match place_of(files, path) {
-        Some(place) => Some(files[place].1.as_slice()),
+    match files.get(path) {
+        Some(bytes) => Some(bytes.as_slice()),
         None => None,
     }
 }
@@ -285,40 +279,27 @@ fn part_of(
 }
 
 /// Gives the file of a path these bytes.
-fn put(
-    alloc: Global,
-    files: &mut Vec<(Bytes, Bytes)>,
-    path: &[u8],
-    bytes: Bytes,
-) -> Result<(), Memory>
-    ensures ok { OnOk result (HasContent path.now (Some bytes) files.old.items files.new.items) }
-    ensures err { OnErr result (files.new.items ≡ files.old.items) }
+fn put(files: &mut BTreeMap<Bytes, Bytes>, path: Bytes, bytes: Bytes) -> Result<(), Memory>
+    ensures ok { OnOk result (HasContent path (Some bytes) files.old.entries files.new.entries) }
+    ensures err { OnErr result (files.new.entries ≡ files.old.entries) }
 {
-    match place_of(files, path) {
-        Some(place) => files[place].1 = bytes,
-        None => files.push((Bytes::from_slice(alloc, path)?, bytes))?,
-    }
+    files.insert(path, bytes)?;
     Ok(())
 }
 
 /// Makes the change.
 fn apply_change(
     alloc: Global,
-    files: &mut Vec<(Bytes, Bytes)>,
+    files: &mut BTreeMap<Bytes, Bytes>,
     change: &FileChange,
 ) -> Result<(), Memory>
-    ensures ok { OnOk result (HasContent (path_of change.now) (changed change.now (found files.old.items (path_of change.now))) files.old.items files.new.items) }
-    ensures err { OnErr result (files.new.items ≡ files.old.items) }
+    ensures ok { OnOk result (HasContent (path_of change.now) (changed change.now (found files.old.entries (path_of change.now))) files.old.entries files.new.entries) }
+    ensures err { OnErr result (files.new.entries ≡ files.old.entries) }
 {
     match change {
-        FileChange::Append { path, bytes } => append(
-            alloc,
-            files,
-            path.as_slice(),
-            bytes.as_slice(),
-        ),
+        FileChange::Append { path, bytes } => append(alloc, files, path, bytes.as_slice()),
         FileChange::Cut { path, length } => {
-            cut(files, path.as_slice(), *length);
+            cut(files, path, *length);
             Ok(())
         }
     }
@@ -327,28 +308,28 @@ fn apply_change(
 /// Appends the bytes to those of the file.
 fn append(
     alloc: Global,
-    files: &mut Vec<(Bytes, Bytes)>,
-    path: &[u8],
+    files: &mut BTreeMap<Bytes, Bytes>,
+    path: &Bytes,
     bytes: &[u8],
 ) -> Result<(), Memory>
-    ensures ok { OnOk result (HasContent path.now (Some (unwrap_or (found files.old.items path.now) [] ++ bytes.now)) files.old.items files.new.items) }
-    ensures err { OnErr result (files.new.items ≡ files.old.items) }
+    ensures ok { OnOk result (HasContent path.now (Some (unwrap_or (found files.old.entries path.now) [] ++ bytes.now)) files.old.entries files.new.entries) }
+    ensures err { OnErr result (files.new.entries ≡ files.old.entries) }
 {
-    match place_of(files, path) {
-        Some(place) => files[place].1.extend_from_slice(bytes)?,
-        None => files.push((
-            Bytes::from_slice(alloc, path)?,
-            Bytes::from_slice(alloc, bytes)?,
-        ))?,
+    match files.get_mut(path) {
+        Some(content) => content.extend_from_slice(bytes)?,
+        None => {
+            let bytes = Bytes::from_slice(alloc, bytes)?;
+            files.insert(path.try_clone(alloc)?, bytes)?;
+        }
     }
     Ok(())
 }
 
 /// Truncates the file of a path, if it is longer than `length`.
-fn cut(files: &mut Vec<(Bytes, Bytes)>, path: &[u8], length: u64)
-    ensures { HasContent path.now (option_map (take length) (found files.old.items path.now)) files.old.items files.new.items }
+fn cut(files: &mut BTreeMap<Bytes, Bytes>, path: &Bytes, length: u64)
+    ensures { HasContent path.now (option_map (take length) (found files.old.entries path.now)) files.old.entries files.new.entries }
 {
-    if let Some(place) = place_of(files, path) {
-        files[place].1.truncate(length as usize);
+    if let Some(content) = files.get_mut(path) {
+        content.truncate(length as usize);
     }
 }
