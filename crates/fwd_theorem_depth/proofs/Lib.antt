@@ -5,3 +5,12 @@ pub mod FilterDepth
 pub mod LineDepth
 pub mod MessageDepth
 pub mod EncodedLengths
+pub mod LineRanges
+pub mod JsonRanges
+pub mod FloatRanges
+pub mod TimeRanges
+pub mod RecordRanges
+pub mod FilterRanges
+pub mod ReshapeRanges
+pub mod MessageRanges
+pub mod Options

@@ -26,10 +26,10 @@ use Rattle.fwd_theorem_delivery.specs.BatchOutcomes.{completed_over, completed_b
 use Rattle.fwd_theorem_delivery.specs.Origins.{WasCompleted}
 use Rattle.fwd_theorem_crash.proofs.WritableBatches.{lines_writable, messages_writable}
 use Rattle.fwd_theorem_records.proofs.ReadPieces.{PiecesAreBytes}
-use Rattle.fwd_theorem_records.proofs.RecordRanges.{AllRanged}
-use Rattle.fwd_theorem_records.proofs.FilterRanges.{filtered_ranged}
-use Rattle.fwd_theorem_records.proofs.LineRanges.{parsed_ranged}
-use Rattle.fwd_theorem_records.proofs.MessageRanges.{bytes_both, EachRanged, messages_ranged}
+use Rattle.fwd_theorem_depth.proofs.RecordRanges.{AllRanged}
+use Rattle.fwd_theorem_depth.proofs.FilterRanges.{filtered_ranged}
+use Rattle.fwd_theorem_depth.proofs.LineRanges.{parsed_ranged}
+use Rattle.fwd_theorem_depth.proofs.MessageRanges.{bytes_both, EachRanged, messages_ranged}
 use Rattle.fwd_theorem_records.proofs.ReadBytes.{before_all, said_bytes}
 
 pub record IsFair (b : Batch) : Type 0 where

@@ -1,12 +1,3 @@
-pub mod Options
-pub mod RecordRanges
-pub mod ReshapeRanges
-pub mod FilterRanges
-pub mod FloatRanges
-pub mod JsonRanges
-pub mod TimeRanges
-pub mod LineRanges
-pub mod MessageRanges
 pub mod ReadPieces
 pub mod ReadBytes
 pub mod WaitedPieces

@@ -7,7 +7,7 @@ use Rattle.fwd_settings.specs.declared.settings_types.AllSettings.{AllSettings}
 use Rattle.fwd_model.specs.Fact.{Fact, History, Stream, Standard, Happened, Disconnected}
 use Rattle.fwd_model.specs.Streams.{is_joined, stream_of, same_stream, is_stream, is_of_conn, said_more, emptied_if, said}
 use Rattle.fwd_theorem_records.proofs.ReadPieces.{PiecesAreBytes}
-use Rattle.fwd_theorem_records.proofs.MessageRanges.{bytes_both}
+use Rattle.fwd_theorem_depth.proofs.MessageRanges.{bytes_both}
 
 before_event : (x : Happening) (h : History) → PiecesAreBytes (Happened x ∷ h) → PiecesAreBytes h
 before_event (happening.Piece input conn bytes) h are = are.1

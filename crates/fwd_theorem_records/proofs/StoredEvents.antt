@@ -22,10 +22,10 @@ use Rattle.fwd_theorem_trace.proofs.Traversal.{noted_since}
 use Rattle.fwd_theorem_trace.proofs.Run.{due_since}
 use Rattle.fwd_theorem_delivery.proofs.BatchOrder.{Always}
 use Rattle.fwd_theorem_delivery.proofs.FactPositions.{always_so_far, came_before}
-use Rattle.fwd_theorem_records.specs.Ranges.{NumbersFit}
+use Rattle.fwd_theorem_depth.specs.Ranges.{NumbersFit}
 use Rattle.fwd_theorem_records.specs.Records.{StoredAreWritable}
 use Rattle.fwd_theorem_records.proofs.ReadPieces.{PiecesAreBytes}
-use Rattle.fwd_theorem_records.proofs.RecordRanges.{AllRanged}
+use Rattle.fwd_theorem_depth.proofs.RecordRanges.{AllRanged}
 use Rattle.fwd_theorem_records.proofs.ReadBytes.{before_fact}
 use Rattle.fwd_theorem_records.proofs.CompletedBatches.{IsFair, was_fair}
 

@@ -28,13 +28,13 @@ use Rattle.fwd_parser.specs.declared.parser.Parser.{Parser}
 use Rattle.fwd_parser.specs.declared.parser.Shape.{Shape}
 use Rattle.fwd_parser.specs.declared.parser.Shape.TheVariants.{Plain, Json, Groups}
 use Rattle.fwd_parser.specs.declared.parser.TimeRule.{TimeRule}
-use Rattle.fwd_theorem_records.specs.Ranges.{NumbersFit}
-use Rattle.fwd_theorem_records.proofs.Options.{if_mapped, if_then, if_either, if_tested, Any, any_of}
-use Rattle.fwd_theorem_records.proofs.RecordRanges.{IsRanged, ranged-remove}
+use Rattle.fwd_theorem_depth.specs.Ranges.{NumbersFit}
+use Rattle.fwd_theorem_depth.proofs.Options.{if_mapped, if_then, if_either, if_tested, Any, any_of}
+use Rattle.fwd_theorem_depth.proofs.RecordRanges.{IsRanged, ranged-remove}
 use lib.Ieee.{fits}
-use Rattle.fwd_theorem_records.proofs.FloatRanges.{bits_below, parsed_fits}
-use Rattle.fwd_theorem_records.proofs.JsonRanges.{negative_fits, AreRanged, json_ranged}
-use Rattle.fwd_theorem_records.proofs.TimeRanges.{MomentFits, clock_fits, field_fits}
+use Rattle.fwd_theorem_depth.proofs.FloatRanges.{bits_below, parsed_fits}
+use Rattle.fwd_theorem_depth.proofs.JsonRanges.{negative_fits, AreRanged, json_ranged}
+use Rattle.fwd_theorem_depth.proofs.TimeRanges.{MomentFits, clock_fits, field_fits}
 
 or_plain : (r : Result Record JsonErr) (line : List ℕ) → AreRanged r → IsRanged (unwrap_or (result_ok r) (plain line))
 or_plain (Ok body) line h = h

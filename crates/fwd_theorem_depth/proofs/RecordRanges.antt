@@ -6,7 +6,7 @@ use Rattle.fwd_value.specs.Val.{Val, entries_of}
 use Rattle.fwd_value.specs.Limits.{IsInRange, EntriesAreInRange}
 use Rattle.fwd_value.specs.Keys.{Record, has_key, key}
 use Rattle.fwd_event.specs.declared.event.Event.{Event}
-use Rattle.fwd_theorem_records.specs.Ranges.{NumbersFit}
+use Rattle.fwd_theorem_depth.specs.Ranges.{NumbersFit}
 
 -- all numbers in the record are in range
 abbrev pub IsRanged : Record → Type 0

@@ -17,9 +17,9 @@ use Rattle.fwd_json.specs.declared.floats.Floats.{Floats}
 use Rattle.fwd_json.specs.declared.floats.Floats.TheVariants.{Tagged, Numbers}
 use Rattle.fwd_json.specs.declared.reading.JsonErr.{JsonErr}
 use Rattle.fwd_json.specs.LinePairs.{number_value, value_of, values_of, entries_in, pairs_of, are_readable, pairs_or, object_pairs, pairs_read, pairs_in}
-use Rattle.fwd_theorem_records.proofs.Options.{if_mapped, if_then, if_either, if_tested, Any, any_of}
-use Rattle.fwd_theorem_records.proofs.FloatRanges.{bits_below, nearest_fits}
-use Rattle.fwd_theorem_records.proofs.RecordRanges.{IsRanged}
+use Rattle.fwd_theorem_depth.proofs.Options.{if_mapped, if_then, if_either, if_tested, Any, any_of}
+use Rattle.fwd_theorem_depth.proofs.FloatRanges.{bits_below, nearest_fits}
+use Rattle.fwd_theorem_depth.proofs.RecordRanges.{IsRanged}
 
 -- the negative of a number up to 2^63
 pub negative_fits : (n : ℕ) → n ≤ 2 ^ 63 → IsWhole (neg_ℤ (pos n))

@@ -10,9 +10,9 @@ use Rattle.fwd_reshape.specs.Moves.{nested, lifted}
 use Rattle.fwd_filters.specs.declared.filter_step.FilterKind.{FilterKind}
 use Rattle.fwd_filters.specs.declared.filter_step.FilterKind.TheVariants.{Grep, Modify, Nest, Lift}
 use Rattle.fwd_filters.specs.Step.{step_of, through}
-use Rattle.fwd_theorem_records.specs.Ranges.{NumbersFit}
-use Rattle.fwd_theorem_records.proofs.RecordRanges.{IsRanged, AllRanged}
-use Rattle.fwd_theorem_records.proofs.ReshapeRanges.{ranged-modified, ranged-nested, ranged-lifted}
+use Rattle.fwd_theorem_depth.specs.Ranges.{NumbersFit}
+use Rattle.fwd_theorem_depth.proofs.RecordRanges.{IsRanged, AllRanged}
+use Rattle.fwd_theorem_depth.proofs.ReshapeRanges.{ranged-modified, ranged-nested, ranged-lifted}
 
 -- all but the record is unchanged
 with_body : (e : Event) (body : Record) → NumbersFit e → IsRanged body → NumbersFit (record e { body = body })

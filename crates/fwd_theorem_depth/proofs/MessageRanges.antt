@@ -23,8 +23,8 @@ use Rattle.fwd_wire.specs.Decode.{messages_in}
 use Rattle.fwd_wire.proofs.Packed.{fronted}
 use Rattle.fwd_wire.proofs.Computed.{streams_exactly}
 use Rattle.fwd_theorem_depth.specs.Shallow.{events_of_content}
-use Rattle.fwd_theorem_records.specs.Ranges.{NumbersFit}
-use Rattle.fwd_theorem_records.proofs.RecordRanges.{IsRanged, AllRanged}
+use Rattle.fwd_theorem_depth.specs.Ranges.{NumbersFit}
+use Rattle.fwd_theorem_depth.proofs.RecordRanges.{IsRanged, AllRanged}
 
 -- ---- bytes
 

@@ -14,7 +14,7 @@ use Rattle.fwd_reshape.specs.declared.rules.Change.TheVariants.{Set, Add, Remove
 use Rattle.fwd_reshape.specs.declared.rules.ModifyRules.{ModifyRules}
 use Rattle.fwd_reshape.specs.declared.rules.NestRule.{NestRule}
 use Rattle.fwd_reshape.specs.declared.rules.LiftRule.{LiftRule}
-use Rattle.fwd_theorem_records.proofs.RecordRanges.{IsRanged, PairIsRanged, ranged-append, ranged-filter, ranged-key}
+use Rattle.fwd_theorem_depth.proofs.RecordRanges.{IsRanged, PairIsRanged, ranged-append, ranged-filter, ranged-key}
 
 -- either of two records
 either : (b : Bool) (xs ys : Record) → IsRanged xs → IsRanged ys → IsRanged (if b then xs else ys)

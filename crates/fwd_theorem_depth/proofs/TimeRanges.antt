@@ -14,7 +14,7 @@ use Rattle.fwd_parser.specs.LineEvent.{Moment, clock_moment, as_moment, moment_i
 use Rattle.fwd_parser.specs.declared.directives.Fields.{Fields}
 use Rattle.fwd_parser.specs.declared.parser.TimeRule.{TimeRule}
 use Rattle.fwd_parser.proofs.Numbers.{digits_most, number_below, in_billionths}
-use Rattle.fwd_theorem_records.proofs.Options.{if_mapped, if_then, if_either, if_tested, Any, any_of}
+use Rattle.fwd_theorem_depth.proofs.Options.{if_mapped, if_then, if_either, if_tested, Any, any_of}
 
 abbrev pub MomentFits : Moment → Type 0
 MomentFits moment = (moment.0 < 2 ^ 32) × (moment.1 < 2 ^ 32)

@@ -10,7 +10,7 @@ ghost use Rattle.fwd_filters.specs.FilterFunction.{filtered};
 ghost use Rattle.fwd_wire.specs.Message.{MessageContent};
 ghost use Rattle.fwd_wire.specs.Answer.{IsAnswer, message};
 ghost use Rattle.fwd_theorem_depth.specs.Shallow.{events_of_content};
-ghost use Rattle.fwd_theorem_records.specs.Ranges.{NumbersFit};
+ghost use Rattle.fwd_theorem_depth.specs.Ranges.{NumbersFit};
 
 /// The numbers of the event of each line are in range, for any parser and clock.
 pub fn parsed_numbers_fit()

@@ -6,7 +6,7 @@ use Rattle.std.specs.Float.Numeral.{Parts, minus, has_digits, scan_numeral, near
 use lib.Ieee.{Float, nan, inf, binary64, fits, to_bits}
 use lib.Ieee.Bits.{to_bits-lt}
 use lib.Ieee.Fits.{round-fits, nan-fits, inf-fits}
-use Rattle.fwd_theorem_records.proofs.Options.{if_mapped, if_then, if_either, if_tested}
+use Rattle.fwd_theorem_depth.proofs.Options.{if_mapped, if_then, if_either, if_tested}
 
 pub bits_below : (x : Float) → T (fits binary64 x) → to_bits binary64 x < 2 ^ 64
 bits_below x is = to_bits-lt binary64 x is

@@ -1,5 +1,0 @@
-use Rattle.fwd_theorem_records.proofs.LineRanges.{parsed_ranged}
-use Rattle.fwd_theorem_records.proofs.ranges.parsed_numbers_fit.Goals as goal
-
-pub returns : goal.returns
-returns c = parsed_ranged
