@@ -1,5 +1,5 @@
 -- Encodings of events, one after another.
-use Rattle.std.proofs.Common.{◌≡◌, ℕ, ◌+◌, ◌≤◌, ◌<◌, Bool, true, false, inl, inr, List, [], ◌∷◌, ◌++◌, length, take, get_or, Some, None, refl, sym, ◌∙◌, ap, subst, arith}
+use Rattle.std.proofs.Common.{◌≡◌, ℕ, ◌+◌, ◌≤◌, ◌<◌, Bool, true, false, inl, inr, List, [], ◌∷◌, ◌++◌, length, take, get_or, Option, Some, None, IfSome, refl, sym, ◌∙◌, ap, subst, arith}
 use Rattle.std.specs.Prelude.{nat_le, if◌then◌else◌}
 use Rattle.std.proofs.lemmas.Bool.{cases_Bool}
 use Rattle.std.proofs.lemmas.Bool.Decides.{nat_tests}
@@ -12,6 +12,8 @@ use Rattle.fwd_event.specs.declared.event.Event.{Event}
 use Rattle.fwd_event.specs.Event.{AreEvents, event_val}
 use Rattle.fwd_event.proofs.EventLists.{are_more}
 use Rattle.fwd_model.specs.Chunks.{is_storable, encoded}
+use Rattle.fwd_engine_chunks.specs.BatchOutcome.{HoldsEvents, IsEncoded}
+use Rattle.fwd_engine_chunks.specs.declared.encoding.EncodedBatch.{EncodedBatch}
 
 -- the encoding of one event
 abbrev pub encoding_of_event : Event → List ℕ
@@ -70,3 +72,27 @@ unstorable_of events is = elim (cases_Bool (is_storable events)) [
   | inl may ↦ absurd (cc (rw may at is))
   | inr maynt ↦ maynt
 ]
+
+-- ---- encoded batches
+
+none_long : (bytes : Option (List ℕ)) (events : List Event) → bytes ≡ (if is_storable events then Some (encoded events) else None) → IfSome bytes (λ b. length b ≤ largest_batch)
+none_long None events is = tt
+none_long (Some b) events is =
+    let may = storable_of events b is in
+    subst (λ (l : List ℕ). length l ≤ largest_batch) (sym may.1) (le_true _ _ may.0)
+
+-- bytes that are there are few enough to be stored
+pub short_bytes : (events : List Event) (batch : EncodedBatch) → HoldsEvents events batch → IfSome batch.bytes (λ b. length b ≤ largest_batch)
+short_bytes events batch holds = none_long batch.bytes events holds.bytes.encoding
+
+-- bytes that are there encode the events
+pub encodes : (events : List Event) (batch : EncodedBatch) (bytes : List ℕ) → HoldsEvents events batch → batch.bytes ≡ Some bytes → (is_storable events ≡ true) × IsEncoded events bytes
+encodes events batch bytes holds is =
+    let may = storable_of events bytes (sym is ∙ holds.bytes.encoding) in (
+      may.0,
+      record {
+        encoding = may.1;
+        short = subst (λ (l : List ℕ). length l ≤ largest_batch) (sym may.1) (le_true _ _ may.0);
+        are = subst (λ (o : Option (List ℕ)). IfSome o (λ b. AreEvents events b)) is holds.bytes.are;
+      },
+    )

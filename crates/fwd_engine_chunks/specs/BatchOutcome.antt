@@ -1,5 +1,5 @@
 -- Intermediate states between the store call that takes a batch and the facts about it.
-use Rattle.std.specs.Prelude.{◌≡◌, ℕ, ◌≤◌, ◌<◌, List, ◌∷◌, length, Bool, true, false, Option, Some, None, Result}
+use Rattle.std.specs.Prelude.{◌≡◌, ℕ, ◌≤◌, ◌<◌, List, ◌∷◌, length, Bool, true, false, Option, Some, None, IfSome, Result, if◌then◌else◌}
 use Rattle.fwd_base.specs.Limits.{largest_batch}
 use Rattle.fwd_base.specs.declared.ids.ChunkId.{ChunkId}
 use Rattle.fwd_event.specs.declared.event.Event.{Event}
@@ -8,7 +8,7 @@ use Rattle.fwd_outside.specs.Program.{bind}
 use Rattle.fwd_settings.specs.declared.settings_types.AllSettings.{AllSettings}
 use Rattle.fwd_store.specs.declared.answer.Accepted.{Accepted as Answer}
 use Rattle.fwd_model.specs.Fact.{History, Batch, Placement, NewChunk, AppendedTo, Offered, Accepted, ChunkClosed}
-use Rattle.fwd_model.specs.Chunks.{next, is_closed, size, encoded}
+use Rattle.fwd_model.specs.Chunks.{next, is_closed, is_storable, size, encoded}
 use Rattle.fwd_model.specs.Trace.{Action}
 use Rattle.fwd_model.specs.CallLogs.{CallLogs}
 use Rattle.fwd_model.specs.Refines.{Refines}
@@ -22,12 +22,23 @@ use Rattle.fwd_engine_state.specs.StoreRepresents.{StoreRepresents}
 use Rattle.fwd_engine_state.specs.HistoryInvariant.{IsSound}
 use Rattle.fwd_engine_state.specs.PartsRepresent.{PartsRepresentIdle}
 use Rattle.fwd_engine_state.specs.declared.parts.Parts.{Parts}
+use Rattle.fwd_engine_chunks.specs.declared.encoding.EncodedBatch.{EncodedBatch}
 
 -- the bytes encode the events of a batch, and are few enough to be stored
 pub record IsEncoded (events : List Event) (bytes : List ℕ) : Type 0 where
   pub encoding : bytes ≡ encoded events
   pub short : length bytes ≤ largest_batch
   pub are : AreEvents events bytes
+
+-- the encodings of events, which are there if they may be stored
+pub record IsEncodingOf (events : List Event) (bytes : Option (List ℕ)) : Type 0 where
+  pub encoding : bytes ≡ (if is_storable events then Some (encoded events) else None)
+  pub are : IfSome bytes (λ b. AreEvents events b)
+
+-- an encoded batch has these events
+pub record HoldsEvents (events : List Event) (batch : EncodedBatch) : Type 0 where
+  pub count : batch.count ≡ length events
+  pub bytes : IsEncodingOf events batch.bytes
 
 -- a batch was accepted or refused as the action says, and the parts represent the history after it
 abbrev pub AcceptsAs : {E : Type 0} → AllSettings → Parts → CallLogs → CallLogs → Action Acceptance

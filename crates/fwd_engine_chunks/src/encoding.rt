@@ -1,4 +1,5 @@
 ghost use Rattle.std.specs.Prelude.{◌≡◌, true, IfOk, IfSome, Some, None, if◌then◌else◌};
+ghost use Rattle.fwd_engine_chunks.specs.BatchOutcome.{HoldsEvents};
 ghost use Rattle.fwd_event.specs.Event.{AreEvents};
 ghost use Rattle.fwd_theorem_depth.specs.Shallow.{are_shallow};
 ghost use Rattle.fwd_model.specs.Chunks.{is_storable, encoded};
@@ -9,9 +10,30 @@ use fwd_event::{Events, can_write, write_event};
 use fwd_theorem_depth::lemma_encoded_length_decides;
 use std::alloc::Global;
 
+/// A batch of events in their encoding.
+#[derive(Debug, Drop)]
+pub struct EncodedBatch {
+    /// How many events the batch has.
+    pub count: usize,
+    /// The encodings of the events, one after another, or `None` if they are too large to be stored.
+    pub bytes: Option<Bytes>,
+}
+
+/// Encodes the events of a batch.
+pub fn encode(alloc: Global, events: &Events) -> Result<EncodedBatch, Memory>
+    requires shallow { are_shallow events.now ≡ true }
+    ensures { IfOk result (HoldsEvents events.now) }
+{
+    let bytes = encoding(alloc, events)?;
+    Ok(EncodedBatch {
+        count: events.len(),
+        bytes,
+    })
+}
+
 /// Returns the encodings of the events of a batch, one after another, or `None` if they are too large to be
 /// stored.
-pub fn encoding(alloc: Global, events: &Events) -> Result<Option<Bytes>, Memory>
+fn encoding(alloc: Global, events: &Events) -> Result<Option<Bytes>, Memory>
     requires shallow { are_shallow events.now ≡ true }
     ensures encoded { IfOk result (λ bytes. bytes ≡ (if is_storable events.now then Some (encoded events.now) else None)) }
     ensures are { IfOk result (λ bytes. IfSome bytes (λ b. AreEvents events.now b)) }

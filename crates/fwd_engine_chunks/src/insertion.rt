@@ -1,5 +1,6 @@
-ghost use Rattle.std.specs.Prelude.{◌≡◌, ◌≤◌, ◌<◌, ◌∷◌, false, length, Option, None, Some, IsSome};
-ghost use Rattle.fwd_base.specs.Limits.{longest_tag};
+ghost use Rattle.std.specs.Prelude.{◌≡◌, ◌≤◌, ◌<◌, ◌∷◌, false, length, List, Option, None, Some, IsSome};
+ghost use Rattle.fwd_base.specs.Limits.{largest_batch, longest_tag};
+ghost use Rattle.fwd_event.specs.declared.event.Event.{Event};
 ghost use Rattle.fwd_outside.specs.declared.home.Home.TheVariants as home_of;
 ghost use Rattle.fwd_model.specs.Fact.{History, Route, Batch, Accepted as Taken};
 ghost use Rattle.fwd_model.specs.Settings.{outputs_for, home_at};
@@ -19,7 +20,6 @@ use fwd_base::limits::FULL_CHUNK;
 use fwd_base::{ChunkId, InputId, Memory};
 use fwd_engine_settings::{RunSettings, lemma_output_names_fit};
 use fwd_engine_state::{Parts, Place, State};
-use fwd_event::Events;
 use fwd_outside::{Disk, Home};
 use fwd_store::{Accepted, Store, StoreRefusal};
 
@@ -50,12 +50,12 @@ fn note(
     input: InputId,
     place: Place,
     routes: u64,
-    events: &Events,
+    count: usize,
     accepted: Accepted,
 )
     requires room { 1 ≤ state.old.chunks.spare }
     requires routes { IsMaskOf (outputs_for run.now place.tag) routes }
-    ensures { (b : Batch) (h : History) (out : Option Route) → b.input ≡ input.0 → b.tag ≡ place.tag → b.events ≡ events.now
+    ensures { (b : Batch) (h : History) (out : Option Route) → b.input ≡ input.0 → b.tag ≡ place.tag → length b.events ≡ count
         → StateRepresents run.now state.old h out → SizesMatch run.now h b accepted.chunk.0 accepted.size accepted.fresh
         → StateRepresents run.now state.new (Taken b (place_of accepted) ∷ h) out }
 {
@@ -67,11 +67,11 @@ fn note(
             input,
             home,
             accepted.size,
-            events.len(),
+            count,
             routes,
         );
     } else {
-        state.grow_chunk(accepted.chunk, input, events.len(), accepted.size);
+        state.grow_chunk(accepted.chunk, input, count, accepted.size);
     }
 }
 
@@ -83,25 +83,17 @@ fn take<D: Disk>(
     input: InputId,
     place: Place,
     routes: u64,
-    events: &Events,
+    count: usize,
     accepted: Accepted,
 ) -> Result<bool, Memory>
     requires room { 1 ≤ parts.old.state.chunks.spare }
     requires routes { IsMaskOf (outputs_for run.now place.tag) routes }
-    ensures acts { (others : CallLogs) (h : History) (b : Batch) → b.input ≡ input.0 → b.tag ≡ place.tag → b.events ≡ events.now
+    ensures acts { (others : CallLogs) (h : History) (b : Batch) → b.input ≡ input.0 → b.tag ≡ place.tag → length b.events ≡ count
         → StoreIsAhead run.now parts.old h (behind b h accepted) → StoreHasTaken run.now h b accepted
         → AcceptsAs run.now parts.new (with_disk (D.call_log disk.old) others) (with_disk (D.call_log disk.new) others) (goes_on run.now b h accepted) result }
     ensures later { D.faults disk.old ≤ D.faults disk.new }
 {
-    note(
-        run,
-        &mut parts.state,
-        input,
-        place,
-        routes,
-        events,
-        accepted,
-    );
+    note(run, &mut parts.state, input, place, routes, count, accepted);
     close_if_full(run, parts, disk, accepted.chunk, accepted.size)?;
     Ok(true)
 }
@@ -139,7 +131,7 @@ fn home_for(run: &RunSettings, store: &Store, input: InputId) -> Home
 }
 
 /// Puts a batch into the open chunk of its input and tag, or into a new one. `routes` is the mask of the outputs
-/// whose glob matches the tag, and `bytes` are the encodings of the events. Refuses the batch if the open chunk
+/// whose glob matches the tag, and `bytes` are the encodings of the `count` events of the batch. Refuses the batch if the open chunk
 /// has no room, if no chunk number is left, or if the disk failed.
 pub fn store<D: Disk>(
     run: &RunSettings,
@@ -148,14 +140,15 @@ pub fn store<D: Disk>(
     input: InputId,
     tag: &[u8],
     routes: u64,
-    events: &Events,
+    count: usize,
     bytes: &[u8],
 ) -> Result<bool, Memory>
     requires tag { length tag.now ≤ longest_tag }
     requires routes { IsMaskOf (outputs_for run.now tag.now) routes }
-    requires encoded { IsEncoded events.now bytes.now }
-    ensures acts { RefinesAccepting run.now (with_disk (D.call_log disk.old)) (with_disk (D.call_log disk.new)) parts.old parts.new
-        (λ h. stores run.now (record { input = input.0; tag = tag.now; events = events.now }) (open_chunk h input.0 tag.now) h) result }
+    requires short { length bytes.now ≤ largest_batch }
+    ensures acts { (events : List Event) → IsEncoded events bytes.now → length events ≡ count
+        → RefinesAccepting run.now (with_disk (D.call_log disk.old)) (with_disk (D.call_log disk.new)) parts.old parts.new
+        (λ h. stores run.now (record { input = input.0; tag = tag.now; events = events }) (open_chunk h input.0 tag.now) h) result }
     ensures later { D.faults disk.old ≤ D.faults disk.new }
 {
     lemma_output_names_fit();
@@ -180,7 +173,7 @@ pub fn store<D: Disk>(
         bytes,
         &names,
     ) {
-        Ok(accepted) => take(run, parts, disk, input, place, routes, events, accepted),
+        Ok(accepted) => take(run, parts, disk, input, place, routes, count, accepted),
         Err(StoreRefusal::DiskFailed { sealed }) => refuse_after_fault(
             run, parts, disk, input, sealed,
         ),

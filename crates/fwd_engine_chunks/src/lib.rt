@@ -18,7 +18,8 @@ mod eviction;
 mod insertion;
 mod resolution;
 
-pub use acceptance::accept;
+pub use acceptance::{accept, accept_encoded};
 pub use closing::{close, close_all};
+pub use encoding::{EncodedBatch, encode};
 pub use fwd_engine_settings::RunSettings;
 pub use resolution::settle;

@@ -5,3 +5,4 @@ pub mod Replies
 pub mod MessageSequence
 pub mod PauseMask
 pub mod FilePolls
+pub mod LineEncodings

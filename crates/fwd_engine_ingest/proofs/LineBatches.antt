@@ -1,11 +1,12 @@
 -- Batches of lines, accepted without an acknowledgement.
-use Rattle.std.proofs.Common.{◌≡◌, ℕ, Bool, true, List, [], ◌∷◌, Option, Some, None, IfOk, Result, Ok, Err, refl, ◌∙◌, ap, subst}
+use Rattle.std.proofs.Common.{◌≡◌, ℕ, Bool, true, List, [], ◌∷◌, Option, Some, None, IfOk, Result, Ok, Err, refl, sym, ◌∙◌, ap, subst}
 use Rattle.fwd_event.specs.declared.event.Event.{Event}
 use Rattle.fwd_frames.specs.declared.line.Line.{Line}
 use Rattle.fwd_filters.specs.declared.filter_step.FilterStep.{FilterStep}
-use Rattle.fwd_filters.specs.FilterRelation.{IsFiltered}
+use Rattle.fwd_filters.specs.FilterRelation.{AreMatching, IsFiltered}
 use Rattle.fwd_filters.specs.FilterFunction.{matching, filtered}
 use Rattle.fwd_filters.proofs.FilterFunction.{filtered_are}
+use Rattle.fwd_filters.proofs.Matches.{filtered-none}
 use Rattle.fwd_settings.specs.declared.settings_types.AllSettings.{AllSettings}
 use Rattle.fwd_settings.specs.declared.settings_types.InputSet.{InputSet}
 use Rattle.fwd_theorem_depth.specs.Shallow.{are_shallow}
@@ -24,6 +25,8 @@ use Rattle.fwd_model.proofs.Actions.{begun_bind}
 use Rattle.fwd_model.proofs.Refinement.{completes_bind, completes_idle}
 use Rattle.fwd_engine_state.specs.PartsRepresent.{PartsRepresentIdle}
 use Rattle.fwd_engine_state.specs.declared.parts.Parts.{Parts}
+use Rattle.fwd_engine_chunks.specs.BatchOutcome.{HoldsEvents}
+use Rattle.fwd_engine_chunks.specs.declared.encoding.EncodedBatch.{EncodedBatch}
 
 -- ---- events
 
@@ -49,6 +52,14 @@ pub batch_shallow : {E : Type 0} (steps : List FilterStep) (tag : List ℕ) (inp
     → IfOk r (λ left. left ≡ filtered steps tag (events_of input now lines)) → IfOk r (λ left. are_shallow left ≡ true)
 batch_shallow steps tag input now lines (Ok left) is = ap are_shallow is ∙ shallow_left steps tag (events_of input now lines) (read_shallow input now lines)
 batch_shallow steps tag input now lines (Err e) is = tt
+
+-- the events of a batch that is encoded
+pub held_is : {E : Type 0} (events want : List Event) (r : Result EncodedBatch E) → IfOk r (HoldsEvents events) → events ≡ want → IfOk r (HoldsEvents want)
+held_is events want r holds same = subst (λ (es : List Event). IfOk r (HoldsEvents es)) same holds
+
+-- no filter's glob matches the tag
+pub unfiltered : (steps : List FilterStep) (tag : List ℕ) (events : List Event) → AreMatching tag steps [] → events ≡ filtered steps tag events
+unfiltered steps tag events none = (filtered_are steps tag events events).0 ([], none, sym (filtered-none events))
 
 -- ---- batches
 

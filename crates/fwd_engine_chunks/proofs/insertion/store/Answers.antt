@@ -39,40 +39,40 @@ take-requires-clause-routes g c =
     subst (λ (t : List ℕ). IsMaskOf (outputs_for c.args.run.now t) c.args.routes) (sym c.in_ok-place.ensures.place) c.requires.routes
 
 pub returns-then-not-has_room-clause-acts : goal.returns-then-not-has_room-clause-acts
-returns-then-not-has_room-clause-acts g c others h shows =
+returns-then-not-has_room-clause-acts g c events is_encoded counted others h shows =
     let room = has_room_left c.args.run.now h c.args.parts.now.store c.args.input.0 c.args.tag.now shows.store shows.sound in
     absurd (cc (sym (c.has_room.ensures ∙ room) ∙ c.if-not-has_room.true))
 
 pub returns-in_err-names-clause-acts : goal.returns-in_err-names-clause-acts
-returns-in_err-names-clause-acts g c others h shows = refines_err (RepresentsBatch c.args.run.now _) _ c.from_residual.result c.from_residual.ensures.0 (_, stays _ _)
+returns-in_err-names-clause-acts g c events is_encoded counted others h shows = refines_err (RepresentsBatch c.args.run.now _) _ c.from_residual.result c.from_residual.ensures.0 (_, stays _ _)
 
 pub returns-in_err-place-clause-acts : goal.returns-in_err-place-clause-acts
-returns-in_err-place-clause-acts g c others h shows = refines_err (RepresentsBatch c.args.run.now _) _ c.from_residual-in_err-place.result c.from_residual-in_err-place.ensures.0 (_, stays _ _)
+returns-in_err-place-clause-acts g c events is_encoded counted others h shows = refines_err (RepresentsBatch c.args.run.now _) _ c.from_residual-in_err-place.result c.from_residual-in_err-place.ensures.0 (_, stays _ _)
 
 pub returns-in-Ok-clause-acts : goal.returns-in-Ok-clause-acts
-returns-in-Ok-clause-acts g c others h shows =
+returns-in-Ok-clause-acts g c events is_encoded counted others h shows =
     let s = c.args.run.now in
-    let b : Batch = record { input = c.args.input.0; tag = c.args.tag.now; events = c.args.events.now } in
+    let b : Batch = record { input = c.args.input.0; tag = c.args.tag.now; events = events } in
     let a = c.in-Ok.accepted in
     let given : IsGiven s h b c.reserve.new.self c.args.parts.now.store c.stream.result.now c.home_for-home.result c.args.bytes.now c.in_ok-names.names = record {
       stands = c.in_ok-place.ensures.keeps s h None shows.state;
       held = shows.store;
       sound = shows.sound;
       store_sound = c.is_sound.ensures;
-      handed = record { in_folder = c.stream.ensures; at_home = c.home_for-home.ensures.home h shows.store; encoding = c.requires.encoded.encoding; names = named c.args.run.now c.args.tag.now c.args.routes c.in_ok-names.names c.requires.routes c.in_ok-names.ensures };
-      is_encoded = c.requires.encoded;
-      number = some_left _ _ _ c.accept.ensures.no_number c.requires.encoded.short (taken_isnt c.accept.result a c.in-Ok.is);
+      handed = record { in_folder = c.stream.ensures; at_home = c.home_for-home.ensures.home h shows.store; encoding = is_encoded.encoding; names = named c.args.run.now c.args.tag.now c.args.routes c.in_ok-names.names c.requires.routes c.in_ok-names.ensures };
+      is_encoded = is_encoded;
+      number = some_left _ _ _ c.accept.ensures.no_number is_encoded.short (taken_isnt c.accept.result a c.in-Ok.is);
     } in
     let taken = took s h b c.reserve.new.self c.args.parts.now.store c.accept.new.self c.stream.result.now c.home_for-home.result c.args.bytes.now c.in_ok-names.names others _ _ a given c.in-Ok.ensures.calls c.in-Ok.ensures.ok in
     refines_after (RepresentsBatch s c.take.new.parts) _ _ (goes_on s b h a) c.take.result taken.leads
-    (c.take.ensures.acts others h b refl (sym c.in_ok-place.ensures.place) refl
+    (c.take.ensures.acts others h b refl (sym c.in_ok-place.ensures.place) counted
     (record { state = given.stands; input_streams = shows.input_streams; followed_files = shows.followed_files; store = taken.holds; sound = shows.sound })
     taken.has)
 
 pub returns-in-Err-DiskFailed-clause-acts : goal.returns-in-Err-DiskFailed-clause-acts
-returns-in-Err-DiskFailed-clause-acts g c others h shows =
+returns-in-Err-DiskFailed-clause-acts g c events is_encoded counted others h shows =
     let s = c.args.run.now in
-    let b : Batch = record { input = c.args.input.0; tag = c.args.tag.now; events = c.args.events.now } in
+    let b : Batch = record { input = c.args.input.0; tag = c.args.tag.now; events = events } in
     let closed = c.in-Err-DiskFailed.sealed in
     let is = c.in-Err-DiskFailed.field-0-is in
     let given : IsGiven s h b c.reserve.new.self c.args.parts.now.store c.stream.result.now c.home_for-home.result c.args.bytes.now c.in_ok-names.names = record {
@@ -80,9 +80,9 @@ returns-in-Err-DiskFailed-clause-acts g c others h shows =
       held = shows.store;
       sound = shows.sound;
       store_sound = c.is_sound.ensures;
-      handed = record { in_folder = c.stream.ensures; at_home = c.home_for-home.ensures.home h shows.store; encoding = c.requires.encoded.encoding; names = named c.args.run.now c.args.tag.now c.args.routes c.in_ok-names.names c.requires.routes c.in_ok-names.ensures };
-      is_encoded = c.requires.encoded;
-      number = some_left _ _ _ c.accept.ensures.no_number c.requires.encoded.short (refused_isnt c.accept.result c.in-Err-DiskFailed.field-0 (refusal.DiskFailed closed) c.in-Err-DiskFailed.is is (λ e. absurd (cc e)));
+      handed = record { in_folder = c.stream.ensures; at_home = c.home_for-home.ensures.home h shows.store; encoding = is_encoded.encoding; names = named c.args.run.now c.args.tag.now c.args.routes c.in_ok-names.names c.requires.routes c.in_ok-names.ensures };
+      is_encoded = is_encoded;
+      number = some_left _ _ _ c.accept.ensures.no_number is_encoded.short (refused_isnt c.accept.result c.in-Err-DiskFailed.field-0 (refusal.DiskFailed closed) c.in-Err-DiskFailed.is is (λ e. absurd (cc e)));
     } in
     let calls = rw is at c.in-Err-DiskFailed.ensures.calls in
     let gave = rw is at c.in-Err-DiskFailed.ensures.err in
@@ -93,9 +93,9 @@ returns-in-Err-DiskFailed-clause-acts g c others h shows =
     fails.opened)
 
 pub returns-in-Err-NoNumber-clause-acts : goal.returns-in-Err-NoNumber-clause-acts
-returns-in-Err-NoNumber-clause-acts g c others h shows =
+returns-in-Err-NoNumber-clause-acts g c events is_encoded counted others h shows =
     let s = c.args.run.now in
-    let b : Batch = record { input = c.args.input.0; tag = c.args.tag.now; events = c.args.events.now } in
+    let b : Batch = record { input = c.args.input.0; tag = c.args.tag.now; events = events } in
     let is = c.in-Err-NoNumber.field-0-is in
     let none : has_no_number c.args.parts.now.store b.input b.tag ≡ true = (c.accept.ensures.no_number.0 (refused_so c.accept.result c.in-Err-NoNumber.field-0 refusal.NoNumber c.in-Err-NoNumber.is is)).1 in
     let same = rw is at c.in-Err-NoNumber.ensures.err in
@@ -107,18 +107,18 @@ returns-in-Err-NoNumber-clause-acts g c others h shows =
     (completes_idle (RepresentsBatch s _ false) _ (record { history = Refused b NoNumber ∷ h; taken = false }) (refl, shown))))
 
 pub returns-clause-acts : goal.returns-clause-acts
-returns-clause-acts g c others h shows =
+returns-clause-acts g c events is_encoded counted others h shows =
     let s = c.args.run.now in
-    let b : Batch = record { input = c.args.input.0; tag = c.args.tag.now; events = c.args.events.now } in
+    let b : Batch = record { input = c.args.input.0; tag = c.args.tag.now; events = events } in
     let is = c.in-Err-Memory.field-0-is in
     let given : IsGiven s h b c.reserve.new.self c.args.parts.now.store c.stream.result.now c.home_for-home.result c.args.bytes.now c.in_ok-names.names = record {
       stands = c.in_ok-place.ensures.keeps s h None shows.state;
       held = shows.store;
       sound = shows.sound;
       store_sound = c.is_sound.ensures;
-      handed = record { in_folder = c.stream.ensures; at_home = c.home_for-home.ensures.home h shows.store; encoding = c.requires.encoded.encoding; names = named c.args.run.now c.args.tag.now c.args.routes c.in_ok-names.names c.requires.routes c.in_ok-names.ensures };
-      is_encoded = c.requires.encoded;
-      number = some_left _ _ _ c.accept.ensures.no_number c.requires.encoded.short (refused_isnt c.accept.result c.in-Err-Memory.field-0 refusal.Memory c.in-Err-Memory.is is (λ e. absurd (cc e)));
+      handed = record { in_folder = c.stream.ensures; at_home = c.home_for-home.ensures.home h shows.store; encoding = is_encoded.encoding; names = named c.args.run.now c.args.tag.now c.args.routes c.in_ok-names.names c.requires.routes c.in_ok-names.ensures };
+      is_encoded = is_encoded;
+      number = some_left _ _ _ c.accept.ensures.no_number is_encoded.short (refused_isnt c.accept.result c.in-Err-Memory.field-0 refusal.Memory c.in-Err-Memory.is is (λ e. absurd (cc e)));
     } in
     let calls = rw is at c.in-Err-Memory.ensures.calls in
     only_began s h b c.reserve.new.self c.args.parts.now.store c.stream.result.now c.home_for-home.result c.args.bytes.now c.in_ok-names.names others _ _ given (calls.0, calls.1)

@@ -1,0 +1,17 @@
+use Rattle.std.proofs.Common.{◌≡◌, ◌+◌, ◌∙◌, sym, ap, [], ◌∷◌, ◌++◌, take}
+use Rattle.std.proofs.lemmas.List.{take_more}
+use Rattle.fwd_route.specs.Glob.{Glob}
+use Rattle.fwd_filters.specs.declared.filter_step.FilterStep.{FilterStep}
+use Rattle.fwd_filters.proofs.Matches.{matching-kept}
+use Rattle.fwd_engine_ingest.proofs.batches.are_idle.Goals as goal
+
+pub loop-step-preserved : goal.loop-step-preserved
+loop-step-preserved c =
+    let steps = c.args.filters.now in
+    let tag = c.args.tag.now in
+    let i = c.loop-step.step-index in
+    let step = c.step-item.result in
+    let more : take (i + 1) steps ≡ take i steps ++ step ∷ [] =
+    take_more steps i step c.loop-step-test.true ∙ ap (λ (s : FilterStep). take i steps ++ s ∷ []) (sym c.step-item.is) in
+    let miss : Glob step.glob tag → ⊥ = λ hit. let yes = c.matches.ensures.1 (rw c.as_slice.ensures hit) in absurd cc in
+    rw more (matching-kept tag step miss (take i steps) [] c.loop-step.invariant)
