@@ -1,4 +1,4 @@
-//! Streams split into lines, and lines parsed to events, by a pattern and as JSON.
+//! Streams split into lines, and lines parsed to encoded events, by a pattern and as JSON.
 
 use fwd_event::{Bytes, Memory};
 use fwd_frames::{Frames, Lines};
@@ -82,13 +82,19 @@ fn count_lines(alloc: Global, stream: &[u8]) -> Result<u64, Memory> {
     Ok(count)
 }
 
-/// Returns how many of the lines a parser reads with their own time.
+/// Returns whether the seconds of an encoded event aren't 0.
+fn has_time(event: &[u8]) -> bool {
+    event.len() > 7 && event[4..8].iter().any(|byte| *byte != 0)
+}
+
+/// Returns how many of the lines a parser writes as events with their own time.
 fn count_timed_lines(alloc: Global, parser: &Parser, lines: Lines) -> Result<u64, Memory> {
     let mut reader = parser.reader(alloc)?;
+    let mut bytes = Bytes::new(alloc);
     let mut count: u64 = 0;
     for line in lines.into_vec() {
-        let event = reader.take(alloc, line.bytes, 0)?;
-        if event.sec > 0 {
+        let start = bytes.len();
+        if reader.write(alloc, line.bytes, 0, &mut bytes)? && has_time(&bytes.as_slice()[start..]) {
             count = count.saturating_add(1);
         }
     }
