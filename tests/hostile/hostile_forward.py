@@ -155,39 +155,65 @@ def list_of(count, member):
     return b"\xdd" + count.to_bytes(4, "big") + member * count
 
 
-@forward(
-    "a message of 16,777,216 bytes: as received, decoded, and as a payload",
-    256,
-    known="a message is decoded as a whole, at 30 to 60 bytes of memory for each byte; each flush decodes it again",
-    shows="of memory|good line",
-)
-def small_values_in_a_large_message(trial):
-    """Whole messages of 16 MB, of values of one byte and of such inside sixty lists."""
+def send_small_values(trial, message_of):
+    """Sends whole messages of 16 MB, of values of one byte and of such inside sixty lists."""
     deep = b"\x91" * 58 + b"\xc0"
     for record in (list_of(16 * MEGABYTE, b"\xc0"), list_of(16 * MEGABYTE // len(deep), deep)):
         with trial.connect() as link:
-            trial.send(link, message(b"\x81\xa3bad" + record, b"\x81\xa5chunk\xa4last"))
+            trial.send(link, message_of(b"\x81\xa3bad" + record, b"\x81\xa5chunk\xa4last"))
             link.settimeout(60)
             answer = link.recv(64)
             trial.tell(f"a message of {len(record):,} bytes: {'acknowledged' if answer else 'refused'}, {trial.meter.peak() // MEGABYTE:,} MB at most so far")
     until(lambda: content(trial.program.path("out")).count(b'"bad"') == 2, "both events come out", 60)
 
 
-UNFINISHED = 40
+@forward(
+    "a message of 16,777,216 bytes: as received, as it is stored, and as a payload of five bytes for each value",
+    256,
+)
+def small_values_in_a_large_message(trial):
+    """Messages with a list of entries."""
+    send_small_values(trial, lambda record, option: b"\x93" + TAG + b"\x91\x92\x00" + record + option)
 
 
 @forward(
-    "up to 16,777,216 bytes of a message for each connection; the descriptor limit bounds the connections",
-    64,
-    known="nothing bounds the unfinished messages of all connections together: Mem_Buf_Limit counts only chunks",
-    shows="of memory",
+    "a message of 16,777,216 bytes: as received, decoded, and as a payload",
+    256,
+    known="a message of one event is decoded as a whole, at 30 to 60 bytes of memory for each byte",
+    shows="of memory|good line",
+)
+def small_values_in_a_message_of_one_event(trial):
+    """Messages of a time and a record."""
+    send_small_values(trial, message)
+
+
+UNFINISHED = 40
+
+# so many of them have at most 64 MB together
+KEPT = 4
+
+TOO_LARGE = b"all unfinished messages together have more than 64 MB"
+
+
+@forward(
+    "64 MB of unfinished messages of all connections, in buffers that double, and what one tick reads; beyond that the connection with the largest is dropped",
+    160,
 )
 def unfinished_messages(trial):
     """Forty peers send all but the end of a message of 16 MB."""
+    links = []
     for _ in range(UNFINISHED):
         link = trial.keep(trial.connect())
-        trial.send(link, b"\x93" + TAG + b"\x00\x81\xa3bad\xc6" + (16 * MEGABYTE).to_bytes(4, "big") + bytes(16 * MEGABYTE - 1))
+        links.append(link)
+        try:
+            trial.send(link, b"\x93" + TAG + b"\x00\x81\xa3bad\xc6" + (16 * MEGABYTE).to_bytes(4, "big") + bytes(16 * MEGABYTE - 1))
+        except OSError:  # it was dropped meanwhile
+            pass
     trial.rest()
+    dropped = sum(is_dropped(link, 0.1) for link in links)
+    trial.tell(f"{dropped} of {UNFINISHED} connections are dropped")
+    trial.hopes(dropped == UNFINISHED - KEPT, f"{UNFINISHED - dropped} connections with an unfinished message are kept")
+    trial.hopes(TOO_LARGE in trial.program.stderr(), "the log doesn't say why connections are dropped")
 
 
 NEW_TAGS = 50_000
@@ -216,6 +242,7 @@ CASES = (
     a_text_without_end,
     a_list_without_end,
     small_values_in_a_large_message,
+    small_values_in_a_message_of_one_event,
     unfinished_messages,
     a_new_tag_with_each_message,
 )

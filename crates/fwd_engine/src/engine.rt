@@ -1,11 +1,11 @@
-ghost use Rattle.std.specs.Prelude.{◌≡◌, ◌≤◌, true, length, OnOk, Err};
+ghost use Rattle.std.specs.Prelude.{◌≡◌, ◌≤◌, ◌-◌, ◌^◌, min, true, length, OnOk, Err};
 ghost use Rattle.fwd_outside.specs.Cause.{HasCause};
 ghost use Rattle.fwd_outside.specs.Loop.{WaitFails, counts_after_wait};
 ghost use Rattle.fwd_outside.specs.DiskStates.{Files as DiskFiles};
 ghost use Rattle.fwd_backlog.specs.Recovered.{AreDurable};
 ghost use Rattle.fwd_settings.specs.Requirements.{MeetsRequirements};
 ghost use Rattle.fwd_settings.specs.declared.settings_types.AllSettings.{AllSettings};
-ghost use Rattle.fwd_model.specs.Fact.{History};
+ghost use Rattle.fwd_model.specs.Fact.{History, MessageStream};
 ghost use Rattle.fwd_model.specs.CallLogs.{CallLogs};
 ghost use Rattle.fwd_model.specs.Clock.{stopped, tick_count};
 ghost use Rattle.fwd_model.specs.Limits.{paused};
@@ -13,6 +13,8 @@ ghost use Rattle.fwd_model.specs.Routes.{rows_of};
 ghost use Rattle.fwd_model.specs.Counters.{tally_of};
 ghost use Rattle.fwd_model.specs.FollowedFiles.{settled_at};
 ghost use Rattle.fwd_model.specs.Settings.{paths_at};
+ghost use Rattle.fwd_model.specs.Streams.{input_of, said};
+ghost use Rattle.fwd_engine_state.specs.ReaderStates.{ending, all_unfinished, droppable_bytes, IsLargest};
 ghost use Rattle.fwd_engine_state.specs.FilesRepresent.{resumed_history};
 ghost use Rattle.fwd_theorem_trace.specs.Allowed.{EventAllowed};
 ghost use Rattle.fwd_theorem_crash.specs.CrashPoint.{CrashPoint};
@@ -28,7 +30,7 @@ use fwd_base::limits::LONGEST_WAIT;
 use fwd_base::{InputId, Memory, Names};
 use fwd_engine_flush::RunSettings;
 use fwd_engine_recovery::{LoadErr, load, strangers_of};
-use fwd_engine_state::Parts;
+use fwd_engine_state::{Parts, Unfinished};
 use fwd_outside::{Disk, Files, Happening, Loop};
 use fwd_settings::AllSettings;
 use fwd_table::{Table, Tally};
@@ -248,6 +250,15 @@ impl Engine {
         ensures { result ≡ self.now.parts.state.damaged }
     {
         self.parts.state.damaged_reads()
+    }
+
+    /// Returns how many bytes the unfinished messages of all connections have together, and which connection
+    /// has the longest one, among those whose input isn't paused.
+    pub fn unfinished(&self) -> Unfinished
+        ensures bytes { result.bytes ≡ min (all_unfinished self.now.parts.input_streams.wires) (2 ^ 64 - 1) }
+        ensures largest { EngineAnswers self.now (λ s h. IsLargest (droppable_bytes (paused s h) (input_of s h) (λ conn. ending (said s h (MessageStream conn)))) result.largest) }
+    {
+        self.parts.input_streams.unfinished(self.paused())
     }
 
     /// Returns the names in recovered chunk files that stand for no output, at most 16, of an engine that has just

@@ -1,8 +1,9 @@
-ghost use Rattle.std.specs.Prelude.{◌≡◌, true, IfOk, IfSome, Some, None, if◌then◌else◌};
-ghost use Rattle.fwd_engine_chunks.specs.BatchOutcome.{HoldsEvents};
+ghost use Rattle.std.specs.Prelude.{◌≡◌, List, true, length, IfOk};
+ghost use Rattle.fwd_engine_chunks.specs.BatchOutcome.{HoldsEvents, IsEncodingOf};
+ghost use Rattle.fwd_event.specs.declared.event.Event.{Event};
 ghost use Rattle.fwd_event.specs.Event.{AreEvents};
 ghost use Rattle.fwd_theorem_depth.specs.Shallow.{are_shallow};
-ghost use Rattle.fwd_model.specs.Chunks.{is_storable, encoded};
+ghost use Rattle.fwd_model.specs.Chunks.{encoded};
 
 use fwd_base::limits::LARGEST_BATCH;
 use fwd_base::{Bytes, Memory};
@@ -17,6 +18,20 @@ pub struct EncodedBatch {
     pub count: usize,
     /// The encodings of the events, one after another, or `None` if they are too large to be stored.
     pub bytes: Option<Bytes>,
+}
+
+impl EncodedBatch {
+    /// Returns the batch of events that are encoded already: `bytes` are the encodings of `count` events, one after
+    /// another.
+    pub fn of_encodings(count: usize, bytes: Bytes) -> EncodedBatch
+        ensures { (events : List Event) → length events ≡ count → bytes ≡ encoded events → AreEvents events bytes → HoldsEvents events result }
+    {
+        let are_storable = bytes.len() as u64 <= LARGEST_BATCH;
+        EncodedBatch {
+            count,
+            bytes: if are_storable { Some(bytes) } else { None },
+        }
+    }
 }
 
 /// Encodes the events of a batch.
@@ -35,8 +50,7 @@ pub fn encode(alloc: Global, events: &Events) -> Result<EncodedBatch, Memory>
 /// stored.
 fn encoding(alloc: Global, events: &Events) -> Result<Option<Bytes>, Memory>
     requires shallow { are_shallow events.now ≡ true }
-    ensures encoded { IfOk result (λ bytes. bytes ≡ (if is_storable events.now then Some (encoded events.now) else None)) }
-    ensures are { IfOk result (λ bytes. IfSome bytes (λ b. AreEvents events.now b)) }
+    ensures { IfOk result (IsEncodingOf events.now) }
 {
     lemma_encoded_length_decides();
     let mut bytes = Bytes::new(alloc);

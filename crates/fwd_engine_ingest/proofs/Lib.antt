@@ -2,6 +2,7 @@ pub mod StreamFactSteps
 pub mod LineBatches
 pub mod TagLengths
 pub mod Replies
+pub mod MessageBatches
 pub mod MessageSequence
 pub mod PauseMask
 pub mod FilePolls

@@ -57,6 +57,11 @@ batch_shallow steps tag input now lines (Err e) is = tt
 pub held_is : {E : Type 0} (events want : List Event) (r : Result EncodedBatch E) → IfOk r (HoldsEvents events) → events ≡ want → IfOk r (HoldsEvents want)
 held_is events want r holds same = subst (λ (es : List Event). IfOk r (HoldsEvents es)) same holds
 
+-- no lines have no events
+pub no_events : (steps : List FilterStep) (tag : List ℕ) (input : Option InputSet) (now : ℕ) → [] ≡ filtered steps tag (events_of input now [])
+no_events steps tag None now = refl
+no_events steps tag (Some set) now = refl
+
 -- no filter's glob matches the tag
 pub unfiltered : (steps : List FilterStep) (tag : List ℕ) (events : List Event) → AreMatching tag steps [] → events ≡ filtered steps tag events
 unfiltered steps tag events none = (filtered_are steps tag events events).0 ([], none, sym (filtered-none events))

@@ -1,16 +1,13 @@
 -- Messages, one by one.
 use Rattle.std.proofs.Common.{◌≡◌, ℕ, Bool, true, false, List, [], ◌∷◌, length, Option, Result, Ok, sym, subst, arith}
 use Rattle.fwd_outside.specs.Program.{bind}
-use Rattle.std.specs.Prelude.{unwrap_or, option_map}
-use Rattle.fwd_value.specs.View.{val_of}
-use Rattle.fwd_value.specs.declared.value.Value.{Value}
+use Rattle.std.specs.Prelude.{unwrap_or}
+use Rattle.fwd_value.specs.Val.{Val}
 use Rattle.fwd_event.specs.declared.event.Event.{Event}
 use Rattle.fwd_filters.specs.FilterFunction.{filtered}
-use Rattle.fwd_wire.specs.Message.{batch}
-use Rattle.fwd_wire.specs.declared.message.Message.{Message}
-use Rattle.fwd_wire.specs.declared.message.Message.TheVariants.{Batch}
-use Rattle.fwd_wire.specs.Representation.{content_of}
-use Rattle.fwd_in_forward.specs.Conn.{all_content}
+use Rattle.fwd_wire.specs.Message.{MessageContent, batch}
+use Rattle.fwd_in_forward.specs.Received.{all_received, received_content}
+use Rattle.fwd_in_forward.specs.declared.received.Received.{Received}
 use Rattle.fwd_settings.specs.declared.settings_types.AllSettings.{AllSettings}
 use Rattle.fwd_model.specs.Fact.{History, Batch as Taken}
 use Rattle.fwd_model.specs.Settings.{own_tag}
@@ -55,29 +52,35 @@ accepted_on s {a = a} {b = b} c first second h middle after taken conn asked nex
         went_after s c after (bind (accepts s second h) (acknowledges conn asked next)) (acknowledges conn asked next did.result) next r (leads_inside (acknowledges conn asked next) did.did)
         (subst (λ (t : Bool). ContinuedWith s b c after (acknowledges conn asked next (record { history = did.result.history; taken = t })) next r) (sym did.shows.0) (more did.result.history did.shows.1))
 
+-- what another content says that is the same
+pub same_content : {E : Type 0} (s : AllSettings) (a b : CallLogs) (after : Parts) (k conn : ℕ) (h : History) (next : History → Action History) (r : Result Bool E) (first second : MessageContent) → first ≡ second
+    → ContinuedWith s a b after (bind (accepts s (message_batch s k first) h) (acknowledges conn (reply_of first) next)) next r
+    → ContinuedWith s a b after (bind (accepts s (message_batch s k second) h) (acknowledges conn (reply_of second) next)) next r
+same_content s a b after k conn h next r first second same went =
+    subst (λ (m : MessageContent). ContinuedWith s a b after (bind (accepts s (message_batch s k m) h) (acknowledges conn (reply_of m) next)) next r) same went
+
 -- ---- the messages of one read
 
-pub next_message : (s : AllSettings) {a b : CallLogs} (k conn : ℕ) (breaks : Bool) (items rest : List Message) (m : Message) (from : Action History) (now : History) → items ≡ m ∷ rest
-    → Leads a b from (accepts_messages s k conn breaks (all_content items) now)
-    → Leads a b from (bind (accepts s (message_batch s k (content_of m)) now) (acknowledges conn (reply_of (content_of m)) (accepts_messages s k conn breaks (all_content rest))))
-next_message s {a = a} {b = b} k conn breaks items rest m from now is leads = subst (λ (ms : List Message). Leads a b from (accepts_messages s k conn breaks (all_content ms) now)) is leads
+pub next_message : (s : AllSettings) {a b : CallLogs} (k conn : ℕ) (breaks : Bool) (items rest : List Received) (m : Received) (from : Action History) (now : History) → items ≡ m ∷ rest
+    → Leads a b from (accepts_messages s k conn breaks (all_received items) now)
+    → Leads a b from (bind (accepts s (message_batch s k (received_content m)) now) (acknowledges conn (reply_of (received_content m)) (accepts_messages s k conn breaks (all_received rest))))
+next_message s {a = a} {b = b} k conn breaks items rest m from now is leads = subst (λ (ms : List Received). Leads a b from (accepts_messages s k conn breaks (all_received ms) now)) is leads
 
-none_left : (items : List Message) → length items ≡ 0 → items ≡ []
+none_left : (items : List Received) → length items ≡ 0 → items ≡ []
 none_left [] none = λ i. []
 none_left (m ∷ ms) none = absurd (omega (arith, none))
 
-pub no_more : (s : AllSettings) {a b : CallLogs} (k conn : ℕ) (breaks now_breaks : Bool) (items : List Message) (from : Action History) (now : History) → length items ≡ 0 → breaks ≡ now_breaks
-    → Leads a b from (accepts_messages s k conn breaks (all_content items) now) → Leads a b from (accepts_messages s k conn now_breaks [] now)
+pub no_more : (s : AllSettings) {a b : CallLogs} (k conn : ℕ) (breaks now_breaks : Bool) (items : List Received) (from : Action History) (now : History) → length items ≡ 0 → breaks ≡ now_breaks
+    → Leads a b from (accepts_messages s k conn breaks (all_received items) now) → Leads a b from (accepts_messages s k conn now_breaks [] now)
 no_more s {a = a} {b = b} k conn breaks now_breaks items from now none same leads =
-    subst (λ (x : Bool). Leads a b from (accepts_messages s k conn x [] now)) same (subst (λ (ms : List Message). Leads a b from (accepts_messages s k conn breaks (all_content ms) now)) (none_left items none) leads)
+    subst (λ (x : Bool). Leads a b from (accepts_messages s k conn x [] now)) same (subst (λ (ms : List Received). Leads a b from (accepts_messages s k conn breaks (all_received ms) now)) (none_left items none) leads)
 
 -- the calls for the batch of a message are those for the message
 pub batch_heard : {E : Type 0} (s : AllSettings) (a b : CallLogs) (after : Parts) (k conn : ℕ) (h : History) (next : History → Action History) (r : Result Bool E)
-    (m : Message) (tag own : List ℕ) (events : List Event) (chunk : Option Value) (asked : Option (List ℕ))
-    → m ≡ Batch tag events chunk → own ≡ unwrap_or (own_tag s k) tag → asked ≡ reply_of (batch tag events (option_map val_of chunk))
+    (tag own : List ℕ) (events : List Event) (chunk : Option Val) (asked : Option (List ℕ))
+    → own ≡ unwrap_or (own_tag s k) tag → asked ≡ reply_of (batch tag events chunk)
     → ContinuedWith s a b after (bind (accepts s (batch_with k own (filtered s.filters own events)) h) (acknowledges conn asked next)) next r
-    → ContinuedWith s a b after (bind (accepts s (message_batch s k (content_of m)) h) (acknowledges conn (reply_of (content_of m)) next)) next r
-batch_heard s a b after k conn h next r m tag own events chunk asked is of replies went =
-    subst (λ (x : Message). ContinuedWith s a b after (bind (accepts s (message_batch s k (content_of x)) h) (acknowledges conn (reply_of (content_of x)) next)) next r) (sym is)
-    (subst (λ (t : List ℕ). ContinuedWith s a b after (bind (accepts s (batch_with k t (filtered s.filters t events)) h) (acknowledges conn (reply_of (batch tag events (option_map val_of chunk))) next)) next r) of
-    (subst (λ (x : Option (List ℕ)). ContinuedWith s a b after (bind (accepts s (batch_with k own (filtered s.filters own events)) h) (acknowledges conn x next)) next r) replies went))
+    → ContinuedWith s a b after (bind (accepts s (message_batch s k (batch tag events chunk)) h) (acknowledges conn (reply_of (batch tag events chunk)) next)) next r
+batch_heard s a b after k conn h next r tag own events chunk asked of replies went =
+    subst (λ (t : List ℕ). ContinuedWith s a b after (bind (accepts s (batch_with k t (filtered s.filters t events)) h) (acknowledges conn (reply_of (batch tag events chunk)) next)) next r) of
+    (subst (λ (x : Option (List ℕ)). ContinuedWith s a b after (bind (accepts s (batch_with k own (filtered s.filters own events)) h) (acknowledges conn x next)) next r) replies went)

@@ -1,2 +1,3 @@
 pub mod EndOfInput
 pub mod Continuation
+pub mod MessageEvents

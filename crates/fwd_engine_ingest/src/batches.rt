@@ -1,9 +1,8 @@
-ghost use Rattle.std.specs.Prelude.{◌≡◌, ◌≤◌, ℕ, List, [], ◌∷◌, ◌++◌, length, map, true, unwrap_or, option_copied, Some, IfOk, IfSome, IsTrue};
+ghost use Rattle.std.specs.Prelude.{◌≡◌, ◌≤◌, ℕ, List, [], ◌∷◌, ◌++◌, length, map, true, unwrap_or, option_copied, Some, IfOk, IfSome};
 ghost use Rattle.fwd_base.specs.Limits.{longest_tag};
 ghost use Rattle.fwd_event.specs.declared.event.Event.{Event};
 ghost use Rattle.fwd_frames.specs.declared.line.Line.{Line};
 ghost use Rattle.fwd_parser.specs.LineEvent.{parsed};
-ghost use Rattle.fwd_filters.specs.FilterRelation.{AreMatching};
 ghost use Rattle.fwd_filters.specs.FilterFunction.{filtered};
 ghost use Rattle.fwd_theorem_depth.specs.Shallow.{are_shallow};
 ghost use Rattle.fwd_model.specs.Settings.{input_at, own_tag, tag_at};
@@ -17,11 +16,10 @@ use fwd_base::{Bytes, InputId, Memory};
 use fwd_engine_chunks::{EncodedBatch, RunSettings, accept_encoded, encode};
 use fwd_engine_state::Parts;
 use fwd_event::Events;
-use fwd_filters::{FilterStep, filter};
+use fwd_filters::{are_idle, filter};
 use fwd_frames::Lines;
 use fwd_outside::Disk;
 use fwd_parser::LineReader;
-use fwd_route::matches;
 use fwd_settings::InputSet;
 use fwd_theorem_depth::lemma_encoded_length_decides;
 use std::alloc::Global;
@@ -96,18 +94,6 @@ fn batch(
     filter(rt, alloc, run.filters(), tag_or(run, input, &[]), events)
 }
 
-/// Returns whether no filter's glob matches a tag.
-fn are_idle(filters: &[FilterStep], tag: &[u8]) -> bool
-    ensures { IsTrue result → AreMatching tag.now filters.now [] }
-{
-    for step in filters {
-        if matches(step.glob.as_slice(), tag) {
-            return false;
-        }
-    }
-    true
-}
-
 /// Appends the encoding of the event of a line to bytes. Returns `None` if there are none, or if they become
 /// too many to be stored.
 fn append_line(
@@ -177,6 +163,9 @@ fn encoded_batch(
 ) -> Result<EncodedBatch, Memory>
     ensures { IfOk result (HoldsEvents (filtered run.now.filters (tag_at run.now input.0) (events_of (input_at run.now input.0) now lines))) }
 {
+    if lines.is_empty() {
+        return Ok(EncodedBatch::of_encodings(0, Bytes::new(alloc)));
+    }
     if let Some(set) = run.input(input) {
         if are_idle(run.filters().as_slice(), tag_or(run, input, &[])) {
             return encode_lines(alloc, set, now, lines);

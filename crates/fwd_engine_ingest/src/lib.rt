@@ -8,6 +8,7 @@
 mod batches;
 mod followed_files;
 mod input_streams;
+mod message_events;
 mod messages;
 
 pub use followed_files::poll_inputs;

@@ -1,6 +1,6 @@
 //! Messages of peers, and their acknowledgements.
 
-ghost use Rattle.std.specs.Prelude.{◌≡◌, ◌≤◌, ℕ, Bool, true, Some, List, length, All, IfOk, IfSome, is_some, option_copied, option_map};
+ghost use Rattle.std.specs.Prelude.{◌≡◌, ◌≤◌, ℕ, Bool, Some, List, length, All, IfOk, IfSome, is_some, option_copied, option_map};
 ghost use Rattle.fwd_base.specs.Limits.{longest_tag};
 ghost use Rattle.fwd_outside.specs.Program.{bind};
 ghost use Rattle.fwd_outside.specs.declared.happening.Happening.TheVariants as happening;
@@ -10,9 +10,8 @@ ghost use Rattle.fwd_event.specs.declared.event.Event.{Event};
 ghost use Rattle.fwd_wire.specs.Message.{batch};
 ghost use Rattle.fwd_wire.specs.Fits.{ContentFits};
 ghost use Rattle.fwd_wire.specs.Representation.{content_of};
-ghost use Rattle.fwd_in_forward.specs.Conn.{all_content};
-ghost use Rattle.fwd_filters.specs.FilterFunction.{filtered};
-ghost use Rattle.fwd_theorem_depth.specs.Shallow.{are_shallow};
+ghost use Rattle.fwd_in_forward.specs.EncodedMessage.{encoded_content, HoldsEncodings};
+ghost use Rattle.fwd_in_forward.specs.Received.{all_received, received_content, KeepsEncodings};
 ghost use Rattle.fwd_settings.specs.declared.settings_types.AllSettings.{AllSettings};
 ghost use Rattle.fwd_model.specs.Fact.{MessageStream, Malformed};
 ghost use Rattle.fwd_model.specs.Notes.{note_then};
@@ -24,15 +23,16 @@ ghost use Rattle.fwd_model.specs.StepActions.{step};
 ghost use Rattle.fwd_engine_state.specs.RefinesAction.{with_both, RefinesAction, RefinesActionWhere};
 ghost use Rattle.fwd_engine_state.specs.LoopCounters.{NoEventTaken};
 ghost use Rattle.fwd_engine_ingest.specs.Continuation.{with_loop, RefinesContinuing, TagIsShort, TagsAreShort};
+ghost use Rattle.fwd_engine_ingest.specs.MessageEvents.{AreReadBack, message_events};
 
 use crate::batches::tag_or;
+use crate::message_events::{MessageEvents, batch_of};
 use fwd_base::limits::LONGEST_TAG;
 use fwd_base::{Bytes, ConnId, InputId, Memory};
-use fwd_engine_chunks::{RunSettings, accept};
+use fwd_engine_chunks::{RunSettings, accept_encoded};
 use fwd_engine_state::Parts;
-use fwd_event::{Events, Value};
-use fwd_filters::filter;
-use fwd_in_forward::Fed;
+use fwd_event::Value;
+use fwd_in_forward::{Arrivals, EncodedMessage, Received};
 use fwd_outside::{Disk, Loop, Replied};
 use fwd_wire::{Message, ack_bytes};
 use std::alloc::Global;
@@ -105,8 +105,9 @@ fn answer<L: Loop>(
     }
 }
 
-/// Filters and accepts the events of a message as one batch, and then answers the message. Returns whether
-/// the messages after it are handled.
+/// Filters and accepts the events of a message as one batch, under the input's tag or under that of the message,
+/// and then answers the message. `chunk` is what it asks to acknowledge. Returns whether the messages after it
+/// are handled.
 fn receive_batch<L: Loop, D: Disk>(
     rt: &(impl Threads + Sync),
     run: &RunSettings,
@@ -116,25 +117,32 @@ fn receive_batch<L: Loop, D: Disk>(
     input: InputId,
     conn: ConnId,
     tag: &[u8],
-    events: Events,
-    asked: Option<&Bytes>,
+    events: MessageEvents,
+    chunk: Option<&Value>,
 ) -> Result<bool, Memory>
-    requires short { length tag.now ≤ longest_tag }
-    requires shallow { are_shallow events ≡ true }
-    ensures acts { RefinesContinuing run.now (with_both (L.call_log outside.old) (D.call_log disk.old)) (with_both (L.call_log outside.new) (D.call_log disk.new)) parts.old parts.new
-        (λ h next. bind (accepts run.now (record { input = input.0; tag = tag.now; events = filtered run.now.filters tag.now events }) h) (acknowledges conn.0 (option_copied asked.entry) next)) result }
+    requires read_back { AreReadBack events }
+    requires fits { IfSome (option_map val_of (option_copied chunk)) (λ v. (nesting v ≤ 63) × LengthsFit v) }
+    ensures acts { length tag.now ≤ longest_tag → RefinesContinuing run.now (with_both (L.call_log outside.old) (D.call_log disk.old)) (with_both (L.call_log outside.new) (D.call_log disk.new)) parts.old parts.new
+        (λ h next. let content = batch tag.now (message_events events) (option_map val_of (option_copied chunk.entry)) in
+        bind (accepts run.now (message_batch run.now input.0 content) h) (acknowledges conn.0 (reply_of content) next)) result }
     ensures unheard { NoEventTaken (L.counts outside.old) (L.counts outside.new) }
     ensures later { L.faults outside.old ≤ L.faults outside.new }
     ensures disk_later { D.faults disk.old ≤ D.faults disk.new }
 {
-    let left = filter(rt, parts.state.alloc(), run.filters(), tag, events)?;
-    let taken = accept(run, parts, disk, input, tag, &left)?;
-    answer(parts, outside, conn, taken, asked)
+    let own = tag_or(run, input, tag);
+    if own.len() > LONGEST_TAG {
+        // Unreachable: the readers break a stream with a longer tag, so no message has one.
+        return Ok(false);
+    }
+    let alloc = parts.state.alloc();
+    let asked = ack_for(alloc, chunk)?;
+    let batch = batch_of(rt, run, alloc, own, events)?;
+    let taken = accept_encoded(run, parts, disk, input, own, &batch)?;
+    answer(parts, outside, conn, taken, asked.as_ref())
 }
 
-/// Handles a message: a batch under the input's tag, or under its own. Returns whether the messages after
-/// it are handled.
-fn receive_message<L: Loop, D: Disk>(
+/// Handles a message whose events are values. Returns whether the messages after it are handled.
+fn receive_decoded<L: Loop, D: Disk>(
     rt: &(impl Threads + Sync),
     run: &RunSettings,
     parts: &mut Parts,
@@ -153,25 +161,89 @@ fn receive_message<L: Loop, D: Disk>(
 {
     match message {
         Message::Nothing => Ok(true),
-        Message::Batch { tag, events, chunk } => {
-            let own = tag_or(run, input, tag.as_slice());
-            if own.len() > LONGEST_TAG {
-                // Unreachable: the readers break a stream with a longer tag, so no message has one.
-                return Ok(false);
-            }
-            let asked = ack_for(parts.state.alloc(), chunk.as_ref())?;
-            receive_batch(
-                rt,
-                run,
-                parts,
-                outside,
-                disk,
-                input,
-                conn,
-                own,
-                events,
-                asked.as_ref(),
-            )
+        Message::Batch { tag, events, chunk } => receive_batch(
+            rt,
+            run,
+            parts,
+            outside,
+            disk,
+            input,
+            conn,
+            tag.as_slice(),
+            MessageEvents::Values(events),
+            chunk.as_ref(),
+        ),
+    }
+}
+
+/// Handles a message whose events are encoded. Returns whether the messages after it are handled.
+fn receive_encoded<L: Loop, D: Disk>(
+    rt: &(impl Threads + Sync),
+    run: &RunSettings,
+    parts: &mut Parts,
+    outside: &mut L,
+    disk: &mut D,
+    input: InputId,
+    conn: ConnId,
+    message: EncodedMessage,
+) -> Result<bool, Memory>
+    requires fits { ContentFits (encoded_content message) }
+    requires stored { HoldsEncodings message }
+    ensures acts { TagIsShort (encoded_content message) → RefinesContinuing run.now (with_both (L.call_log outside.old) (D.call_log disk.old)) (with_both (L.call_log outside.new) (D.call_log disk.new)) parts.old parts.new
+        (λ h next. bind (accepts run.now (message_batch run.now input.0 (encoded_content message)) h) (acknowledges conn.0 (reply_of (encoded_content message)) next)) result }
+    ensures unheard { NoEventTaken (L.counts outside.old) (L.counts outside.new) }
+    ensures later { L.faults outside.old ≤ L.faults outside.new }
+    ensures disk_later { D.faults disk.old ≤ D.faults disk.new }
+{
+    let EncodedMessage {
+        tag,
+        count,
+        events,
+        chunk,
+    } = message;
+    let events = MessageEvents::Encoded {
+        count,
+        bytes: events,
+    };
+    receive_batch(
+        rt,
+        run,
+        parts,
+        outside,
+        disk,
+        input,
+        conn,
+        tag.as_slice(),
+        events,
+        chunk.as_ref(),
+    )
+}
+
+/// Handles a message: accepts its batch, if it has one. Returns whether the messages after it are handled.
+fn receive_message<L: Loop, D: Disk>(
+    rt: &(impl Threads + Sync),
+    run: &RunSettings,
+    parts: &mut Parts,
+    outside: &mut L,
+    disk: &mut D,
+    input: InputId,
+    conn: ConnId,
+    message: Received,
+) -> Result<bool, Memory>
+    requires fits { ContentFits (received_content message) }
+    requires encodings { KeepsEncodings message }
+    ensures acts { TagIsShort (received_content message) → RefinesContinuing run.now (with_both (L.call_log outside.old) (D.call_log disk.old)) (with_both (L.call_log outside.new) (D.call_log disk.new)) parts.old parts.new
+        (λ h next. bind (accepts run.now (message_batch run.now input.0 (received_content message)) h) (acknowledges conn.0 (reply_of (received_content message)) next)) result }
+    ensures unheard { NoEventTaken (L.counts outside.old) (L.counts outside.new) }
+    ensures later { L.faults outside.old ≤ L.faults outside.new }
+    ensures disk_later { D.faults disk.old ≤ D.faults disk.new }
+{
+    match message {
+        Received::Decoded(decoded) => {
+            receive_decoded(rt, run, parts, outside, disk, input, conn, decoded)
+        }
+        Received::Encoded(encoded) => {
+            receive_encoded(rt, run, parts, outside, disk, input, conn, encoded)
         }
     }
 }
@@ -200,16 +272,17 @@ fn receive_all<L: Loop, D: Disk>(
     disk: &mut D,
     input: InputId,
     conn: ConnId,
-    fed: Fed,
+    arrived: Arrivals,
 ) -> Result<(), Memory>
-    requires fits { All ContentFits (all_content fed.messages) }
-    ensures acts { TagsAreShort (all_content fed.messages) → RefinesAction run.now (with_both (L.call_log outside.old) (D.call_log disk.old)) (with_both (L.call_log outside.new) (D.call_log disk.new)) parts.old parts.new
-        (λ h. accepts_messages run.now input.0 conn.0 (is_some fed.fault) (all_content fed.messages) h) result }
+    requires fits { All ContentFits (all_received arrived.messages) }
+    requires encodings { All KeepsEncodings arrived.messages }
+    ensures acts { TagsAreShort (all_received arrived.messages) → RefinesAction run.now (with_both (L.call_log outside.old) (D.call_log disk.old)) (with_both (L.call_log outside.new) (D.call_log disk.new)) parts.old parts.new
+        (λ h. accepts_messages run.now input.0 conn.0 (is_some arrived.fault) (all_received arrived.messages) h) result }
     ensures unheard { NoEventTaken (L.counts outside.old) (L.counts outside.new) }
     ensures later { L.faults outside.old ≤ L.faults outside.new }
     ensures disk_later { D.faults disk.old ≤ D.faults disk.new }
 {
-    let Fed { messages, fault } = fed;
+    let Arrivals { messages, fault } = arrived;
     for message in messages.into_vec() {
         let goes_on = receive_message(rt, run, parts, outside, disk, input, conn, message)?;
         if !goes_on {
@@ -239,6 +312,6 @@ pub fn receive_messages<L: Loop, D: Disk>(
     ensures later { L.faults outside.old ≤ L.faults outside.new }
     ensures disk_later { D.faults disk.old ≤ D.faults disk.new }
 {
-    let fed = parts.input_streams.feed_peer_messages(conn, bytes)?;
-    receive_all(rt, run, parts, outside, disk, input, conn, fed)
+    let arrived = parts.input_streams.receive_peer_messages(conn, bytes)?;
+    receive_all(rt, run, parts, outside, disk, input, conn, arrived)
 }

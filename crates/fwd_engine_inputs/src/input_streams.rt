@@ -1,23 +1,24 @@
-ghost use Rattle.std.specs.Prelude.{◌≡◌, ℕ, [], All, Some, is_some, option_copied, IfOk, OnOk, OnErr};
+ghost use Rattle.std.specs.Prelude.{◌≡◌, ◌-◌, ◌^◌, min, ℕ, [], All, Some, is_some, option_copied, IfOk, OnOk, OnErr};
 ghost use Rattle.fwd_base.specs.declared.ids.ConnId.{ConnId};
 ghost use Rattle.fwd_base.specs.declared.ids.InputId.{InputId};
 ghost use Rattle.fwd_outside.specs.declared.happening.Happening.TheVariants as happening;
 ghost use Rattle.fwd_frames.specs.Lines.{last_line};
 ghost use Rattle.fwd_wire.specs.Fits.{ContentFits};
-ghost use Rattle.fwd_in_forward.specs.Conn.{all_content};
+ghost use Rattle.fwd_in_forward.specs.Received.{all_received, KeepsEncodings};
 ghost use Rattle.fwd_settings.specs.declared.settings_types.AllSettings.{AllSettings};
 ghost use Rattle.fwd_model.specs.Fact.{LineStream, MessageStream, Standard, Happened, Disconnected};
 ghost use Rattle.fwd_model.specs.Settings.{input_at, accepts_connections_at};
 ghost use Rattle.fwd_model.specs.Streams.{input_of, is_joined, stream_by, stream_of, said};
 ghost use Rattle.fwd_model.specs.Batches.{completed_lines};
 ghost use Rattle.fwd_model.specs.Messages.{completed_messages, becomes_malformed};
+ghost use Rattle.fwd_engine_inputs.specs.ReaderStates.{ending, all_unfinished, droppable_bytes, IsLargest};
 ghost use Rattle.fwd_engine_inputs.specs.StreamsRepresent.{StreamsRepresent, StreamsAnswer, StreamsNote, StreamsNoteWhere, StreamsUnchanged, stream_of_kind};
 
-use crate::message_readers::MessageReaders;
+use crate::message_readers::{MessageReaders, Unfinished};
 use crate::stream_kind::StreamKind;
 use fwd_base::{ConnId, InputId, Memory};
 use fwd_frames::{Connections, Lines, Readers};
-use fwd_in_forward::Fed;
+use fwd_in_forward::Arrivals;
 use fwd_settings::{InputKind, InputSet};
 use std::alloc::Global;
 
@@ -110,17 +111,28 @@ impl InputStreams {
         self.peers.feed(self.alloc, conn.0, bytes)
     }
 
-    /// Feeds bytes from a peer that sends messages, and returns the messages that end in them, and the
+    /// Takes bytes from a peer that sends messages, and returns the messages that end in them, and the
     /// fault that broke the stream after them, if there is one. After `Memory` all is unchanged.
-    pub fn feed_peer_messages(&mut self, conn: ConnId, bytes: &[u8]) -> Result<Fed, Memory>
+    pub fn receive_peer_messages(&mut self, conn: ConnId, bytes: &[u8]) -> Result<Arrivals, Memory>
         ensures notes { OnOk result ((input : InputId) → StreamsNoteWhere self.old self.new (λ s h. stream_of s h input.0 conn.0 ≡ Some (MessageStream conn.0)) (Happened (happening.Piece input conn bytes.now))) }
-        ensures messages { StreamsAnswer self.old (λ s h. IfOk result (λ fed. all_content fed.messages ≡ completed_messages (said s h (MessageStream conn.0)) bytes.now)) }
-        ensures fault { StreamsAnswer self.old (λ s h. IfOk result (λ fed. is_some fed.fault ≡ becomes_malformed (said s h (MessageStream conn.0)) bytes.now)) }
+        ensures messages { StreamsAnswer self.old (λ s h. IfOk result (λ arrived. all_received arrived.messages ≡ completed_messages (said s h (MessageStream conn.0)) bytes.now)) }
+        ensures fault { StreamsAnswer self.old (λ s h. IfOk result (λ arrived. is_some arrived.fault ≡ becomes_malformed (said s h (MessageStream conn.0)) bytes.now)) }
         // The messages can be encoded again.
-        ensures fits { IfOk result (λ fed. All ContentFits (all_content fed.messages)) }
+        ensures fits { IfOk result (λ arrived. All ContentFits (all_received arrived.messages)) }
+        // Events that came encoded are those that the messages say.
+        ensures encodings { IfOk result (λ arrived. All KeepsEncodings arrived.messages) }
         ensures err { OnErr result (StreamsUnchanged self.old self.new) }
     {
-        self.wires.feed(self.alloc, conn.0, bytes)
+        self.wires.receive(self.alloc, conn.0, bytes)
+    }
+
+    /// Returns how many bytes all unfinished messages have together, and which connection has the longest
+    /// one, among those whose input isn't in the mask of paused inputs.
+    pub fn unfinished(&self, paused: u64) -> Unfinished
+        ensures bytes { result.bytes ≡ min (all_unfinished self.now.wires) (2 ^ 64 - 1) }
+        ensures largest { StreamsAnswer self.now (λ s h. IsLargest (droppable_bytes paused (input_of s h) (λ conn. ending (said s h (MessageStream conn)))) result.largest) }
+    {
+        self.wires.unfinished(&self.connections, paused)
     }
 
     /// Feeds bytes of standard input, and returns the lines that end in them. After `Memory` all is

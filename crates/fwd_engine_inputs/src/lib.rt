@@ -17,5 +17,6 @@ mod stream_lemmas;
 pub use file_lemmas::lemma_other_facts_keep_files;
 pub use followed_files::FollowedFiles;
 pub use input_streams::InputStreams;
+pub use message_readers::Unfinished;
 pub use stream_kind::StreamKind;
 pub use stream_lemmas::{lemma_other_facts_keep_streams, lemma_unread_bytes_keep_streams};

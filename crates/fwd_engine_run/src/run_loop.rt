@@ -38,12 +38,15 @@ pub enum RunEnd {
 
 /// Returns what a watcher is shown of an engine.
 pub fn snapshot_of(engine: &Engine) -> Snapshot<'_> {
+    let unfinished = engine.unfinished();
     Snapshot {
         tally: engine.tally(),
         table: engine.table(),
         paused: engine.paused(),
         stopped: engine.stopped(),
         damaged: engine.damaged_reads(),
+        unfinished: unfinished.bytes,
+        largest_unfinished: unfinished.largest,
     }
 }
 

@@ -12,5 +12,6 @@ pub mod Evictions
 pub use Rattle.fwd_engine_inputs.specs.FilesRepresent
 pub use Rattle.fwd_engine_inputs.specs.StreamsRepresent
 pub use Rattle.fwd_engine_inputs.specs.FileRepresents
+pub use Rattle.fwd_engine_inputs.specs.ReaderStates
 pub use Rattle.fwd_engine_inputs.specs.FileFacts
 pub use Rattle.fwd_engine_inputs.specs.StreamFacts

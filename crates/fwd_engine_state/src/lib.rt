@@ -23,7 +23,7 @@ mod state;
 pub use capacity::InFlightLimits;
 pub use flush_attempts::{FlushAttempt, RouteId};
 pub use fwd_engine_inputs::{
-    StreamKind, lemma_other_facts_keep_files, lemma_other_facts_keep_streams,
+    StreamKind, Unfinished, lemma_other_facts_keep_files, lemma_other_facts_keep_streams,
 };
 pub use fwd_payload::Reader;
 pub use lemmas::{

@@ -1,5 +1,5 @@
 -- The filters whose glob matches, with one filter more; and events for which there are none.
-use Rattle.std.proofs.Common.{◌≡◌, ap, inl, inr, ℕ, List, [], ◌∷◌, ◌++◌, refl}
+use Rattle.std.proofs.Common.{◌≡◌, ap, inl, inr, ℕ, zero, suc, List, [], ◌∷◌, ◌++◌, take, refl}
 use Rattle.std.specs.List.{filter_map}
 use Rattle.fwd_route.specs.Glob.{Glob}
 use Rattle.fwd_event.specs.declared.event.Event.{Event}
@@ -18,6 +18,19 @@ module _ (tag : List ℕ) (step : FilterStep) where
   matching-kept miss [] kinds none = inr (miss, none)
   matching-kept miss (s ∷ steps) kinds (inl here) = inl (here.0, (here.1.0, here.1.1, matching-kept miss steps here.1.0 here.1.2))
   matching-kept miss (s ∷ steps) kinds (inr away) = inr (away.0, matching-kept miss steps kinds away.1)
+
+  pub last-misses : (steps : List FilterStep) → AreMatching tag (steps ++ step ∷ []) [] → Glob step.glob tag → ⊥
+  last-misses [] (inl here) hit = let clash = here.1.1 in absurd cc
+  last-misses [] (inr away) hit = away.0 hit
+  last-misses (s ∷ steps) (inl here) hit = let clash = here.1.1 in absurd cc
+  last-misses (s ∷ steps) (inr away) hit = last-misses steps away.1 hit
+
+-- if no glob matches, none of the first n does
+pub front-idle : (tag : List ℕ) (n : ℕ) (steps : List FilterStep) → AreMatching tag steps [] → AreMatching tag (take n steps) []
+front-idle tag zero steps idle = refl
+front-idle tag (suc n) [] idle = idle
+front-idle tag (suc n) (s ∷ steps) (inl here) = let clash = here.1.1 in absurd cc
+front-idle tag (suc n) (s ∷ steps) (inr away) = inr (away.0, front-idle tag n steps away.1)
 
 pub filtered-none : (events : List Event) → filter_map (through []) events ≡ events
 filtered-none [] = refl

@@ -1,6 +1,6 @@
 //! The filters of a configuration, one after another.
 
-ghost use Rattle.std.specs.Prelude.{◌≡◌, [], IfOk, IsTrue};
+ghost use Rattle.std.specs.Prelude.{◌≡◌, ◌↔◌, [], IfOk, IsTrue};
 ghost use Rattle.fwd_filters.specs.FilterRelation.{AreMatching, IsFiltered};
 ghost use Rattle.fwd_filters.specs.FilterFunction.{filtered};
 
@@ -69,9 +69,9 @@ fn filter_on_this_thread(
     filter_events(alloc, &mut ready, events, &Open)
 }
 
-/// Returns whether no filter's glob matches the tag.
-fn are_idle(steps: &[FilterStep], tag: &[u8]) -> bool
-    ensures { IsTrue result → AreMatching tag.now steps.now [] }
+/// Returns whether no filter's glob matches the tag: `filter` then returns the events as they are.
+pub fn are_idle(steps: &[FilterStep], tag: &[u8]) -> bool
+    ensures { IsTrue result ↔ AreMatching tag.now steps.now [] }
 {
     for step in steps {
         if matches(step.glob.as_slice(), tag) {

@@ -14,6 +14,6 @@ mod sieve;
 mod theorems;
 mod work;
 
-pub use chain::{filter, filter_gated};
+pub use chain::{are_idle, filter, filter_gated};
 pub use filter_step::{FilterKind, FilterStep, FilterSteps, steps_are_thread_safe};
 pub use theorems::filtered_are_computed;

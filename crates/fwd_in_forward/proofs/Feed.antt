@@ -1,48 +1,47 @@
 -- What one more buffer does to a stream.
-use Rattle.std.proofs.Common.{◌≡◌, ℕ, true, false, List, [], ◌++◌, length, take, IfOk, OnErr, is_some, Option, Some, None, Result, Ok, Err, refl, sym, ap, subst, ◌∙◌}
+use Rattle.std.proofs.Common.{◌≡◌, ℕ, true, false, List, [], ◌++◌, length, map, take, IfOk, OnErr, is_some, Option, Some, None, Result, Ok, Err, refl, sym, ap, subst, ◌∙◌}
 use Rattle.std.proofs.lemmas.List.{append-nil, take_at}
 use Rattle.fwd_wire.specs.declared.fault.ConnFault.{ConnFault}
-use Rattle.fwd_wire.specs.declared.message.Message.{Message}
 use Rattle.fwd_wire.specs.Message.{MessageContent}
 use Rattle.fwd_wire.specs.Answer.{IsAnswer, short}
 use Rattle.fwd_wire.specs.Stream.{Ending, waiting, broken, Breaks, Streams}
-use Rattle.fwd_in_forward.specs.Conn.{ending_of, all_content}
+use Rattle.fwd_in_forward.specs.Conn.{ending_of}
 use Rattle.fwd_in_forward.proofs.StreamGrowth.{joined, stays_broken}
 
 -- no messages after others
-none_more : (before : List MessageContent) (ms : List Message) → ms ≡ [] → before ++ all_content ms ≡ before
-none_more before ms e = ap (λ (x : List Message). before ++ all_content x) e ∙ append-nil before
+none_more : {M : Type 0} (content : M → MessageContent) (before : List MessageContent) (ms : List M) → ms ≡ [] → before ++ map content ms ≡ before
+none_more {M = M} content before ms e = ap (λ (x : List M). before ++ map content x) e ∙ append-nil before
 
 -- a stream that is broken
-pub broken_on : (rest : List ℕ) (fault : Option ConnFault) (e : Ending) (ms : List Message) (more : List ℕ)
+pub broken_on : {M : Type 0} (content : M → MessageContent) (rest : List ℕ) (fault : Option ConnFault) (e : Ending) (ms : List M) (more : List ℕ)
     → is_some fault ≡ true → ending_of rest fault ≡ e → ms ≡ []
-    → (stream : List ℕ) (before : List MessageContent) → Streams before e stream → Streams (before ++ all_content ms) e (stream ++ more)
-broken_on rest None e ms more some is none stream before h = absurd cc
-broken_on rest (Some fault) e ms more some is none stream before h =
+    → (stream : List ℕ) (before : List MessageContent) → Streams before e stream → Streams (before ++ map content ms) e (stream ++ more)
+broken_on content rest None e ms more some is none stream before h = absurd cc
+broken_on content rest (Some fault) e ms more some is none stream before h =
     let on = stays_broken before fault stream more (subst (λ (x : Ending). Streams before x stream) (sym is) h) in
     let same = subst (λ (x : Ending). Streams before x (stream ++ more)) is on in
-    subst (λ (x : List MessageContent). Streams x e (stream ++ more)) (sym (none_more before ms none)) same
+    subst (λ (x : List MessageContent). Streams x e (stream ++ more)) (sym (none_more content before ms none)) same
 
 -- a stream whose next message isn't whole yet
-pub waits_on : (rest more all : List ℕ) (fault : Option ConnFault) (e : Ending) (ms : List Message)
+pub waits_on : {M : Type 0} (content : M → MessageContent) (rest more all : List ℕ) (fault : Option ConnFault) (e : Ending) (ms : List M)
     → is_some fault ≡ false → ending_of rest fault ≡ e → all ≡ rest ++ more → IsAnswer all short → ms ≡ []
-    → (stream : List ℕ) (before : List MessageContent) → Streams before e stream → Streams (before ++ all_content ms) (ending_of all fault) (stream ++ more)
-waits_on rest more all (Some fault) e ms some is joins h none stream before s = absurd cc
-waits_on rest more all None e ms some is joins h none stream before s =
+    → (stream : List ℕ) (before : List MessageContent) → Streams before e stream → Streams (before ++ map content ms) (ending_of all fault) (stream ++ more)
+waits_on content rest more all (Some fault) e ms some is joins h none stream before s = absurd cc
+waits_on {M = M} content rest more all None e ms some is joins h none stream before s =
     let old = subst (λ (x : Ending). Streams before x stream) (sym is) s in
     let on = joined before [] (waiting all) rest stream more old (sym joins, subst (λ (x : List ℕ). IsAnswer x short) joins h) in
-    subst (λ (x : List Message). Streams (before ++ all_content x) (waiting all) (stream ++ more)) (sym none) on
+    subst (λ (x : List M). Streams (before ++ map content x) (waiting all) (stream ++ more)) (sym none) on
 
 -- the stream breaks in the buffer
-pub breaks_now : (rest more all : List ℕ) (fault : Option ConnFault) (why : ConnFault) (e new : Ending) (ms : List Message)
+pub breaks_now : {M : Type 0} (content : M → MessageContent) (rest more all : List ℕ) (fault : Option ConnFault) (why : ConnFault) (e new : Ending) (ms : List M)
     → is_some fault ≡ false → ending_of rest fault ≡ e → all ≡ rest ++ more → Breaks why all → new ≡ broken why → ms ≡ []
-    → (stream : List ℕ) (before : List MessageContent) → Streams before e stream → Streams (before ++ all_content ms) new (stream ++ more)
-breaks_now rest more all (Some fault) why e new ms some is joins h now none stream before s = absurd cc
-breaks_now rest more all None why e new ms some is joins h now none stream before s =
+    → (stream : List ℕ) (before : List MessageContent) → Streams before e stream → Streams (before ++ map content ms) new (stream ++ more)
+breaks_now content rest more all (Some fault) why e new ms some is joins h now none stream before s = absurd cc
+breaks_now {M = M} content rest more all None why e new ms some is joins h now none stream before s =
     let old = subst (λ (x : Ending). Streams before x stream) (sym is) s in
     let on = joined before [] (broken why) rest stream more old (subst (Breaks why) joins h) in
-    let same = subst (λ (x : List Message). Streams (before ++ all_content x) (broken why) (stream ++ more)) (sym none) on in
-    subst (λ (x : Ending). Streams (before ++ all_content ms) x (stream ++ more)) (sym now) same
+    let same = subst (λ (x : List M). Streams (before ++ map content x) (broken why) (stream ++ more)) (sym none) on in
+    subst (λ (x : Ending). Streams (before ++ map content ms) x (stream ++ more)) (sym now) same
 
 -- messages end in the buffer
 pub messages_end : {X E : Type 0} (said : X → List MessageContent) (r : Result X E) (rest more all : List ℕ) (fault : Option ConnFault) (e new : Ending)

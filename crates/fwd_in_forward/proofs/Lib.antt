@@ -4,3 +4,6 @@ pub mod Parts
 pub mod NextMessage
 pub mod ScanResult
 pub mod Feed
+pub mod Heads
+pub mod EncodedParts
+pub mod PartsRead

@@ -1,5 +1,5 @@
 -- What a connection keeps of its stream.
-use Rattle.std.specs.Prelude.{ℕ, ◌<◌, List, length, map, Option, Some, None}
+use Rattle.std.specs.Prelude.{ℕ, ◌<◌, Bool, true, false, List, [], length, map, Option, Some, None}
 use Rattle.fwd_base.specs.Limits.{longest_message}
 use Rattle.fwd_msgpack.specs.declared.scan.Scan.{Scan}
 use Rattle.fwd_msgpack.specs.ScanState.{IsFed}
@@ -20,6 +20,16 @@ ending_of rest (Some fault) = broken fault
 abbrev pub fault_of : Ending → Option ConnFault
 fault_of (waiting rest) = None
 fault_of (broken fault) = Some fault
+
+-- how many bytes there are of a message that isn't whole yet
+abbrev pub unfinished_bytes : Ending → ℕ
+unfinished_bytes (waiting rest) = length rest
+unfinished_bytes (broken fault) = 0
+
+-- whether nothing is kept, as at the beginning of a stream
+abbrev pub is_start : Ending → Bool
+is_start (waiting []) = true
+is_start _ = false
 
 -- the scan, if there is one, was fed the rest, and a message may be longer
 abbrev pub Scans : Option Scan → List ℕ → Type 0

@@ -1,2 +1,6 @@
 pub mod Conn
 pub mod NextMessage
+pub mod Headers
+pub mod EncodedParts
+pub mod EncodedMessage
+pub mod Received

@@ -6,24 +6,24 @@ use Rattle.fwd_wire.specs.declared.errors.WireErr.TheVariants as errors
 use Rattle.fwd_wire.specs.declared.fault.ConnFault.TheVariants as fault
 use Rattle.fwd_wire.specs.declared.message.Message.{Message as Held}
 use Rattle.fwd_wire.specs.Answer.{IsAnswer, message, short}
-use Rattle.fwd_wire.specs.Fits.{ContentFits}
-use Rattle.fwd_wire.specs.Representation.{content_of}
+use Rattle.fwd_wire.specs.Message.{MessageContent}
 use Rattle.fwd_wire.specs.Stream.{Breaks}
-use Rattle.fwd_in_forward.specs.declared.message_reader.NextMessage.{NextMessage}
-use Rattle.fwd_in_forward.specs.declared.message_reader.NextMessage.TheVariants.{Message, Short, Broken}
+use Rattle.fwd_in_forward.specs.declared.next_message.NextMessage.{NextMessage}
+use Rattle.fwd_in_forward.specs.declared.next_message.NextMessage.TheVariants.{Message, Short, Broken}
 
-abbrev pub NextIs : List ℕ → NextMessage → Type 0
-NextIs b (Message m n) = IsAnswer b (message (content_of m) n)
-NextIs b Short = IsAnswer b short
-NextIs b (Broken fault) = Breaks fault b
+-- what comes next in the bytes, by what a message says
+abbrev pub NextIs : {M : Type 0} → (M → MessageContent) → List ℕ → NextMessage M → Type 0
+NextIs content b (Message m n) = IsAnswer b (message (content m) n)
+NextIs content b Short = IsAnswer b short
+NextIs content b (Broken fault) = Breaks fault b
 
--- a message that can be encoded again
-abbrev pub NextFits : NextMessage → Type 0
-NextFits (Message m n) = ContentFits (content_of m)
-NextFits _ = Unit {0}
+-- the message, if one comes next, has this property
+abbrev pub NextMeets : {M : Type 0} → (M → Type 0) → NextMessage M → Type 0
+NextMeets P (Message m n) = P m
+NextMeets P _ = Unit {0}
 
 -- what comes next, by what was read
-abbrev pub TakenAs : Result (Held × ℕ) WireErr → Result NextMessage Memory → Type 0
+abbrev pub TakenAs : Result (Held × ℕ) WireErr → Result (NextMessage Held) Memory → Type 0
 TakenAs (Ok x) r = r ≡ Ok (Message x.0 x.1)
 TakenAs (Err errors.Short) r = r ≡ Ok Short
 TakenAs (Err (errors.NotAMessage at)) r = r ≡ Ok (Broken fault.NotAMessage)

@@ -1,27 +1,47 @@
 //! The state of one connection, and how a buffer changes it.
 
-ghost use Rattle.std.specs.Prelude.{◌≡◌, ◌≤◌, ◌<◌, ◌++◌, ℕ, List, [], length, take, Some, All, IfOk, OnErr};
+ghost use Rattle.std.specs.Prelude.{◌≡◌, ◌≤◌, ◌<◌, ◌++◌, ℕ, List, [], length, map, take, Some, All, IfOk, OnErr};
 ghost use Rattle.fwd_base.specs.Limits.{longest_message};
 ghost use Rattle.fwd_wire.specs.Message.{MessageContent};
 ghost use Rattle.fwd_wire.specs.Answer.{front};
 ghost use Rattle.fwd_wire.specs.Fits.{ContentFits};
 ghost use Rattle.fwd_wire.specs.Stream.{waiting, broken, Streams};
 ghost use Rattle.fwd_wire.specs.declared.fault.ConnFault.{ConnFault};
-ghost use Rattle.fwd_in_forward.specs.Conn.{Scans, KnownIs, ending_of, fault_of, all_content};
+ghost use Rattle.fwd_in_forward.specs.Conn.{Scans, KnownIs, ending_of, fault_of, all_content, unfinished_bytes, is_start};
+ghost use Rattle.fwd_in_forward.specs.Received.{all_received, KeepsEncodings};
 
-use crate::message_reader::{AllRead, Messages, all_messages};
+use crate::message_reader::{AllRead, all_messages};
+use crate::read_message::ReadMessage;
+use crate::received::Received;
 use fwd_base::limits::LONGEST_MESSAGE;
-use fwd_base::{Bytes, Memory};
+use fwd_base::{Bytes, Items, Memory};
 use fwd_msgpack::{Scan, Scanned};
-use fwd_wire::ConnFault;
+use fwd_wire::{ConnFault, Message};
 use std::alloc::Global;
 use std::marker::Model;
+
+/// Messages, in order.
+pub type Messages = Items<Message>;
 
 /// The messages that ended in a buffer, and the fault that broke the stream after them, if any.
 #[derive(Debug, Drop)]
 pub struct Fed {
     pub messages: Messages,
     pub fault: Option<ConnFault>,
+}
+
+/// The received messages that ended in a buffer, and the fault that broke the stream after them, if any.
+#[derive(Debug, Drop)]
+pub struct Arrivals {
+    pub messages: Items<Received>,
+    pub fault: Option<ConnFault>,
+}
+
+/// The same of messages in any form.
+#[derive(Drop)]
+struct Cut<M> {
+    messages: Items<M>,
+    fault: Option<ConnFault>,
 }
 
 /// A connection of a forward peer: the bytes after the last whole message, or what broke the stream. The
@@ -125,10 +145,30 @@ impl ForwardConn {
         }
     }
 
+    /// Returns how many bytes of a message are kept that isn't whole yet. A broken stream keeps none.
+    pub fn unfinished(&self) -> usize
+        ensures { result ≡ unfinished_bytes self.now }
+    {
+        match self.fault {
+            None => self.rest.len(),
+            Some(_) => 0,
+        }
+    }
+
+    /// Whether nothing is kept, as at the beginning of a stream.
+    pub fn is_at_start(&self) -> bool
+        ensures { result ≡ is_start self.now }
+    {
+        match self.fault {
+            None => self.rest.is_empty(),
+            Some(_) => false,
+        }
+    }
+
     /// Takes the next buffer of the stream, and returns the messages that end in it: with those returned
     /// before they are the messages of the whole stream so far. The fault is what breaks the stream after
     /// them; each later call returns it again, with no message. If an allocation fails, the connection is
-    /// unchanged.
+    /// unchanged. It is for callers that want the events as values; `receive` has the program's form.
     pub fn feed(&mut self, piece: &[u8]) -> Result<Fed, Memory>
         ensures messages { (stream : List ℕ) (before : List MessageContent) → Streams before self.old stream →
             IfOk result (λ fed. Streams (before ++ all_content fed.messages) self.new (stream ++ piece.now)) }
@@ -139,45 +179,80 @@ impl ForwardConn {
         ensures fits { IfOk result (λ fed. All ContentFits (all_content fed.messages)) }
         ensures err { OnErr result (self.new ≡ self.old) }
     {
+        let Cut { messages, fault } = self.cut::<Message>(piece)?;
+        Ok(Fed { messages, fault })
+    }
+
+    /// Takes the next buffer of the stream as `feed` does, and returns the same messages: the events of a
+    /// batch are encoded where its bytes allow it, which takes less time and memory than their values.
+    pub fn receive(&mut self, piece: &[u8]) -> Result<Arrivals, Memory>
+        ensures messages { (stream : List ℕ) (before : List MessageContent) → Streams before self.old stream →
+            IfOk result
+            (λ arrived. Streams (before ++ all_received arrived.messages) self.new (stream ++ piece.now)) }
+        ensures fault { IfOk result (λ arrived. arrived.fault ≡ fault_of self.new) }
+        ensures stays { (fault : ConnFault) → self.old ≡ broken fault → (self.new ≡ broken fault)
+            × IfOk result (λ arrived. arrived.messages ≡ []) }
+        // What the messages say can be encoded again.
+        ensures fits { IfOk result (λ arrived. All ContentFits (all_received arrived.messages)) }
+        // Encoded events are those that the messages say.
+        ensures encodings { IfOk result (λ arrived. All KeepsEncodings arrived.messages) }
+        ensures err { OnErr result (self.new ≡ self.old) }
+    {
+        let Cut { messages, fault } = self.cut::<Received>(piece)?;
+        Ok(Arrivals { messages, fault })
+    }
+
+    /// Takes the next buffer of the stream, and returns the messages that end in it, as `feed` does.
+    fn cut<M: ReadMessage>(&mut self, piece: &[u8]) -> Result<Cut<M>, Memory>
+        ensures messages { (stream : List ℕ) (before : List MessageContent) → Streams before self.old stream →
+            IfOk result (λ cut. Streams (before ++ map M.content cut.messages) self.new (stream ++ piece.now)) }
+        ensures fault { IfOk result (λ cut. cut.fault ≡ fault_of self.new) }
+        ensures stays { (fault : ConnFault) → self.old ≡ broken fault → (self.new ≡ broken fault)
+            × IfOk result (λ cut. cut.messages ≡ []) }
+        ensures fits { IfOk result (λ cut. All ContentFits (map M.content cut.messages)) }
+        ensures sound { IfOk result (λ cut. All M.IsSound cut.messages) }
+        ensures err { OnErr result (self.new ≡ self.old) }
+    {
         if self.fault.is_some() {
-            return Ok(Fed {
-                messages: Messages::new(self.alloc),
+            return Ok(Cut {
+                messages: Items::new(self.alloc),
                 fault: self.fault,
             });
         }
         let before = self.rest.len();
         self.rest.extend_from_slice(piece)?;
         match scan_result(&mut self.scan, self.rest.as_slice(), before) {
-            Known::Waits => Ok(Fed {
-                messages: Messages::new(self.alloc),
+            Known::Waits => Ok(Cut {
+                messages: Items::new(self.alloc),
                 fault: None,
             }),
-            Known::Breaks(fault) => Ok(self.break_stream(fault)),
+            Known::Breaks(fault) => {
+                self.break_stream(fault);
+                Ok(Cut {
+                    messages: Items::new(self.alloc),
+                    fault: Some(fault),
+                })
+            }
             Known::Open => self.remove_messages(before),
         }
     }
 
     /// Marks the stream as broken, and drops its bytes.
-    fn break_stream(&mut self, fault: ConnFault) -> Fed
-        ensures broken { self.new ≡ broken fault }
-        ensures messages { result.messages ≡ [] }
-        ensures fault { result.fault ≡ Some fault }
+    fn break_stream(&mut self, fault: ConnFault)
+        ensures { self.new ≡ broken fault }
     {
         self.rest = Bytes::new(self.alloc);
         self.fault = Some(fault);
         self.scan = None;
-        Fed {
-            messages: Messages::new(self.alloc),
-            fault: Some(fault),
-        }
     }
 
     /// Removes the whole messages from the rest. If an allocation fails, the rest has its earlier bytes.
-    fn remove_messages(&mut self, before: usize) -> Result<Fed, Memory>
+    fn remove_messages<M: ReadMessage>(&mut self, before: usize) -> Result<Cut<M>, Memory>
         ensures messages { (rest : List ℕ) → self.old ≡ waiting rest →
-            IfOk result (λ fed. Streams (all_content fed.messages) self.new rest) }
-        ensures fault { IfOk result (λ fed. fed.fault ≡ fault_of self.new) }
-        ensures fits { IfOk result (λ fed. All ContentFits (all_content fed.messages)) }
+            IfOk result (λ cut. Streams (map M.content cut.messages) self.new rest) }
+        ensures fault { IfOk result (λ cut. cut.fault ≡ fault_of self.new) }
+        ensures fits { IfOk result (λ cut. All ContentFits (map M.content cut.messages)) }
+        ensures sound { IfOk result (λ cut. All M.IsSound cut.messages) }
         ensures err { (rest : List ℕ) → self.old ≡ waiting rest →
             OnErr result (self.new ≡ waiting (take before rest)) }
     {
@@ -191,7 +266,7 @@ impl ForwardConn {
                 self.rest = rest;
                 self.fault = fault;
                 self.scan = scan;
-                Ok(Fed { messages, fault })
+                Ok(Cut { messages, fault })
             }
             Err(Memory) => {
                 self.rest.truncate(before);
@@ -204,10 +279,14 @@ impl ForwardConn {
 
 /// Returns the messages at the start of bytes, and a scan that was fed the bytes after them, if these begin
 /// a value.
-fn messages_and_scan(alloc: Global, bytes: &[u8]) -> Result<(AllRead, Option<Scan>), Memory>
+fn messages_and_scan<M: ReadMessage>(
+    alloc: Global,
+    bytes: &[u8],
+) -> Result<(AllRead<M>, Option<Scan>), Memory>
     ensures streams { IfOk result
-        (λ x. Streams (all_content x.0.messages) (ending_of x.0.rest x.0.fault) bytes.now) }
-    ensures fits { IfOk result (λ x. All ContentFits (all_content x.0.messages)) }
+        (λ x. Streams (map M.content x.0.messages) (ending_of x.0.rest x.0.fault) bytes.now) }
+    ensures fits { IfOk result (λ x. All ContentFits (map M.content x.0.messages)) }
+    ensures sound { IfOk result (λ x. All M.IsSound x.0.messages) }
     ensures scan { IfOk result (λ x. Scans x.1 x.0.rest) }
 {
     let read = all_messages(alloc, bytes)?;

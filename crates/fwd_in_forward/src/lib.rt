@@ -3,12 +3,22 @@
 //! A message of many megabytes may come in buffers of a few bytes: each byte is looked at once when it
 //! comes and once when the message is whole.
 //!
+//! `feed` returns events as values. `receive` returns the same messages, and copies the events of a batch
+//! from their bytes straight into the encoding that is stored, where it can.
+//!
 //! After a fault it returns no message and the same fault forever. If an allocation fails, it is unchanged.
 #![tactic(auto)]
 
 mod conn;
+mod encoded_message;
+mod encoded_parts;
+mod header;
 mod message_reader;
+mod next_message;
+mod read_message;
+mod received;
 
-pub use conn::{Fed, ForwardConn};
+pub use conn::{Arrivals, Fed, ForwardConn, Messages};
+pub use encoded_message::EncodedMessage;
 pub use fwd_wire::{Bytes, ConnFault, Event, Events, Memory, Message, Pairs, Value};
-pub use message_reader::Messages;
+pub use received::Received;

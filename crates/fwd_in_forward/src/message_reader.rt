@@ -1,68 +1,37 @@
 //! Reading of all messages at the start of bytes.
 
-ghost use Rattle.std.specs.Prelude.{◌≡◌, ◌<◌, length, Ok, All, IfOk};
+ghost use Rattle.std.specs.Prelude.{◌<◌, length, map, All, IfOk};
 ghost use Rattle.fwd_base.specs.Limits.{longest_message};
 ghost use Rattle.fwd_wire.specs.Fits.{ContentFits};
 ghost use Rattle.fwd_wire.specs.Stream.{Streams};
-ghost use Rattle.fwd_in_forward.specs.Conn.{ending_of, all_content};
-ghost use Rattle.fwd_in_forward.specs.NextMessage.{NextIs, NextFits, TakenAs};
+ghost use Rattle.fwd_in_forward.specs.Conn.{ending_of};
 
+use crate::next_message::NextMessage;
+use crate::read_message::ReadMessage;
 use fwd_base::{Bytes, Items, Memory};
-use fwd_wire::{ConnFault, Message, WireErr, read_message};
+use fwd_wire::ConnFault;
 use std::alloc::Global;
-
-/// Messages, in order.
-pub type Messages = Items<Message>;
 
 /// The messages of some bytes, the bytes after them, and what breaks these, if anything does.
 #[derive(Drop)]
-pub struct AllRead {
-    pub messages: Messages,
+pub struct AllRead<M> {
+    pub messages: Items<M>,
     pub rest: Bytes,
     pub fault: Option<ConnFault>,
 }
 
-/// What comes next: a message and its length, nothing whole yet, or what breaks the stream.
-#[derive(Drop)]
-enum NextMessage {
-    Message(Message, usize),
-    Short,
-    Broken(ConnFault),
-}
-
-/// Returns what comes next, by what was read.
-fn next_of(read: Result<(Message, u64), WireErr>) -> Result<NextMessage, Memory>
-    ensures { TakenAs read result }
-{
-    match read {
-        Ok((message, length)) => Ok(NextMessage::Message(message, length as usize)),
-        Err(WireErr::Short) => Ok(NextMessage::Short),
-        Err(WireErr::NotAMessage { .. }) => Ok(NextMessage::Broken(ConnFault::NotAMessage)),
-        Err(WireErr::Compressed) => Ok(NextMessage::Broken(ConnFault::Compressed)),
-        Err(WireErr::TooLong) => Ok(NextMessage::Broken(ConnFault::TooLong)),
-        Err(WireErr::Memory) => Err(Memory),
-    }
-}
-
-/// Returns what comes next in bytes.
-fn next_in(alloc: Global, bytes: &[u8]) -> Result<NextMessage, Memory>
-    ensures is { IfOk result (NextIs bytes.now) }
-    ensures fits { IfOk result NextFits }
-{
-    next_of(read_message(alloc, bytes))
-}
-
 /// Returns the messages at the start of bytes.
-pub fn all_messages(alloc: Global, bytes: &[u8]) -> Result<AllRead, Memory>
+pub fn all_messages<M: ReadMessage>(alloc: Global, bytes: &[u8]) -> Result<AllRead<M>, Memory>
     ensures streams { IfOk result
-        (λ read. Streams (all_content read.messages) (ending_of read.rest read.fault) bytes.now) }
-    ensures fits { IfOk result (λ read. All ContentFits (all_content read.messages)) }
+        (λ read. Streams (map M.content read.messages) (ending_of read.rest read.fault) bytes.now) }
+    ensures fits { IfOk result (λ read. All ContentFits (map M.content read.messages)) }
+    ensures sound { IfOk result (λ read. All M.IsSound read.messages) }
     ensures short { IfOk result (λ read. length read.rest < longest_message) }
 {
     let mut messages = Items::new(alloc);
     let mut rest = bytes;
     'reading: loop {
-        match next_in(alloc, rest)? {
+        match M::read_next(alloc, rest)? {
             NextMessage::Message(message, length) => {
                 messages.push(message)?;
                 let (_, behind) = rest.split_at(length);

@@ -5,7 +5,7 @@
 //! paused input (`MayOccur`). Errors that no answer reports are counted. A link breaks if its peer is silent
 //! for too long, sends for too long without taking anything, or sends too much without taking its payload.
 //! Standard output that isn't read makes its links wait. SIGINT and SIGTERM become an event of the loop if
-//! the process blocks them.
+//! the process blocks them. A connection that the journal asks to be dropped becomes a peer that has left.
 #![tactic(auto)]
 
 mod clock;

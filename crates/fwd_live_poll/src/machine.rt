@@ -294,12 +294,27 @@ impl<'a> Machine<'a> {
         Ok(None)
     }
 
+    /// Drops the connection that the journal asks for, and returns that its peer is gone. The next tick comes
+    /// at once, as another connection may have to be dropped then.
+    fn drop_asked(&mut self, paused: u64) -> Option<Happening>
+        ensures { IfSome result (MayOccur true paused) }
+    {
+        let conn = self.journal.take_conn_to_drop()?;
+        let gone = self.sources.drop_unfinished(conn, paused)?;
+        self.is_after_tick = false;
+        self.next_within = 0;
+        Some(gone)
+    }
+
     /// Waits for the next event of the loop. When a signal asks the program to stop, returns `Stop` in place
     /// of a tick, once; the next call returns the tick.
     pub fn wait(&mut self, alloc: Global, until: u64, paused: u64) -> Result<Happening, Memory>
         ensures { IfOk result (MayOccur true paused) }
     {
         self.sources.pause(paused)?;
+        if let Some(gone) = self.drop_asked(paused) {
+            return Ok(gone);
+        }
         self.sources.answer_pages()?;
         if self.stdout.take_freed() {
             self.sources.queue_stdout_links()?;

@@ -6,7 +6,7 @@ use crate::series::{AllSeries, Topic};
 use crate::source::{Names, Source};
 use crate::texts::Texts;
 use crate::{Level, limit, line_of, words_for};
-use fwd_base::{Bytes, Memory, OutputId};
+use fwd_base::{Bytes, ConnId, Memory, OutputId};
 use std::alloc::Global;
 use std::cell::{Cell, RefCell};
 use std::fmt::Display;
@@ -16,8 +16,9 @@ use std::time::{Duration, Instant, SystemTime, UNIX_EPOCH};
 /// The most series whose lines `finish` counts.
 const MOST_SERIES: u32 = 4_096;
 
-/// The log of a run, and the board on which its pages are asked for and put. What it has is in cells, so it
-/// is lent by shared references. A write that fails, or that comes during another one, is passed over.
+/// The log of a run, the board on which its pages are asked for and put, and the connection that the poll is
+/// asked to drop. What it has is in cells, so it is lent by shared references. A write that fails, or that comes
+/// during another one, is passed over.
 #[derive(Drop)]
 pub struct Journal {
     rt: HostRuntime,
@@ -37,6 +38,8 @@ pub struct Journal {
     pages: RefCell<Option<Pages>>,
     /// Where pages are to be served, if they are.
     server: RefCell<Option<Address>>,
+    /// The connection that is to be dropped, until the poll takes it.
+    to_drop: Cell<Option<ConnId>>,
 }
 
 fn millis_of(time: Duration) -> u64 {
@@ -63,6 +66,7 @@ impl Journal {
             asked: Cell::new(false),
             pages: RefCell::new(None),
             server: RefCell::new(None),
+            to_drop: Cell::new(None),
         }
     }
 
@@ -247,6 +251,16 @@ impl Journal {
     /// Returns the address at which pages are to be served, once.
     pub fn take_server(&self) -> Option<Address> {
         self.server.try_take().ok().flatten()
+    }
+
+    /// Asks the poll to drop a connection. A later request replaces one that wasn't taken.
+    pub fn ask_to_drop(&self, conn: ConnId) {
+        self.to_drop.set(Some(conn));
+    }
+
+    /// Returns the connection that is to be dropped, once.
+    pub fn take_conn_to_drop(&self) -> Option<ConnId> {
+        self.to_drop.replace(None)
     }
 
     /// Asks for pages. They come at the next reading of the clock.

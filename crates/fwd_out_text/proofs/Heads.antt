@@ -4,7 +4,7 @@ use Rattle.std.specs.Prelude.{IfSome}
 use Rattle.std.specs.Int.{w16, w32, from_be_bytes}
 use Rattle.std.proofs.lemmas.Bool.{lt-ltb, le-ltb}
 use Rattle.std.proofs.lemmas.List.{take_all, take-append-drop, length-take}
-use Rattle.fwd_value.specs.Val.{text, mapping}
+use Rattle.fwd_value.specs.Val.{text, list, mapping}
 use Rattle.fwd_msgpack.specs.declared.form.ByteWidth.TheVariants.{One, Two, Four}
 use Rattle.fwd_msgpack.specs.declared.form.Count.{Count}
 use Rattle.fwd_msgpack.specs.declared.form.Count.TheVariants.{Known, Sized}
@@ -12,7 +12,7 @@ use Rattle.fwd_msgpack.specs.declared.form.Form.{Form}
 use Rattle.fwd_msgpack.specs.declared.form.Form.TheVariants as form
 use Rattle.fwd_msgpack.specs.Table.{form_of}
 use Rattle.fwd_msgpack.specs.Encodings.{number, size, Counts, EncodesAfter}
-use Rattle.fwd_out_text.specs.Headers.{StartsWith, StartsWithLength, StartsWithText, StartsWithMap}
+use Rattle.fwd_out_text.specs.Headers.{StartsWith, StartsWithLength, StartsWithText, StartsWithList, StartsWithMap}
 
 -- a property of an optional value implies a weaker one
 pub if_some : {A : Type 0} (o : Option A) (P Q : A → Type 0) → ((x : A) → P x → Q x) → IfSome o P → IfSome o Q
@@ -72,6 +72,27 @@ text_of_two n b rest more is l = text_by (Sized Two) 218 n rest b more is refl l
 pub text_of_four : (n : ℕ) (b rest more : List ℕ) → b ≡ 219 ∷ more → StartsWithLength (Sized Four) n rest more → StartsWithText n rest b
 unfolding form_of
 text_of_four n b rest more is l = text_by (Sized Four) 219 n rest b more is refl l
+
+-- ---- lists
+
+form_list : (c : ℕ) → 144 ≤ c → c < 160 → form_of c ≡ form.Array (Known (c - 144))
+unfolding form_of
+form_list c low high = rw (le-ltb c 128 (omega arith), le-ltb c 144 low, lt-ltb c 160 high) refl
+
+list_by : (k : Count) (c n : ℕ) (rest b more : List ℕ) → b ≡ c ∷ more → form_of c ≡ form.Array k → StartsWithLength k n rest more → StartsWithList n rest b
+list_by k c n rest b more is f l =
+    (c ∷ l.0, is ∙ ap (λ (t : List ℕ). c ∷ t) l.1, λ vs s e p. subst (λ (g : Form). EncodesAfter (list vs) g (l.0 ++ s)) (sym f) (l.0, s, subst (λ (m : ℕ). Counts k m l.0) (sym e) l.2, refl, p))
+
+pub short_list : (b rest : List ℕ) (c : ℕ) → b ≡ c ∷ rest → 144 ≤ c → c < 160 → StartsWithList (c - 144) rest b
+short_list b rest c is low high = list_by (Known (c - 144)) c (c - 144) rest b rest is (form_list c low high) ([], refl, (refl, refl))
+
+pub list_of_two : (n : ℕ) (b rest more : List ℕ) → b ≡ 220 ∷ more → StartsWithLength (Sized Two) n rest more → StartsWithList n rest b
+unfolding form_of
+list_of_two n b rest more is l = list_by (Sized Two) 220 n rest b more is refl l
+
+pub list_of_four : (n : ℕ) (b rest more : List ℕ) → b ≡ 221 ∷ more → StartsWithLength (Sized Four) n rest more → StartsWithList n rest b
+unfolding form_of
+list_of_four n b rest more is l = list_by (Sized Four) 221 n rest b more is refl l
 
 -- ---- maps
 

@@ -1,23 +1,21 @@
 -- An event that is written directly from its encoding.
-use Rattle.std.proofs.Common.{◌≡◌, ℕ, ◌+◌, ◌-◌, ◌<◌, List, [], ◌∷◌, ◌++◌, length, take, refl, sym, ap, subst, ◌∙◌, append_assoc, arith}
+use Rattle.std.proofs.Common.{◌≡◌, ℕ, ◌+◌, ◌-◌, List, [], ◌∷◌, ◌++◌, length, take, refl, sym, ap, subst, ◌∙◌, append_assoc, arith}
 use Rattle.std.proofs.lemmas.List.{length-append, take_at}
 use Rattle.fwd_value.specs.Val.{Val, mapping, entries_of}
 use Rattle.fwd_msgpack.specs.Encodings.{Encodes}
 use Rattle.fwd_msgpack.specs.DecodeAnswers.{EncodesPrefix}
 use Rattle.fwd_msgpack.proofs.EncodeLoops.{how_many_entries_is}
-use Rattle.fwd_json.specs.declared.floats.Floats.{Floats}
-use Rattle.fwd_json.specs.Text.{pair_text, pairs_text, more_pairs}
 use Rattle.fwd_event.specs.declared.event.Event.{Event}
 use Rattle.fwd_event.proofs.PartwiseDecoding.{empty_encoded, event_encoded}
 use Rattle.fwd_out_text.specs.FirstEvent.{StartsWithEvent}
-use Rattle.fwd_out_text.specs.Headers.{StartsWithMap, StartsWithHeader, StartsWithPair, StartsWithPairs}
+use Rattle.fwd_out_text.specs.Headers.{deepest_member, StartsWithMap, StartsWithHeader, StartsWithPairs}
 
 -- a suffix of the bytes isn't longer than they are
 pub not_longer : (front rest b : List ℕ) → b ≡ front ++ rest → length b ≡ length front + length rest
 not_longer front rest b e = ap length e ∙ length-append front rest
 
 -- the map whose header and pairs were decoded
-map_encoded : (count : ℕ) (ps : List (Val × Val)) (body pairs rest : List ℕ) → StartsWithMap count pairs body → length ps ≡ count → StartsWithPairs ps rest pairs → EncodesPrefix (mapping (entries_of ps)) (length body - length rest) body
+map_encoded : (count : ℕ) (ps : List (Val × Val)) (body pairs rest : List ℕ) → StartsWithMap count pairs body → length ps ≡ count → StartsWithPairs deepest_member ps rest pairs → EncodesPrefix (mapping (entries_of ps)) (length body - length rest) body
 map_encoded count ps body pairs rest m many p =
     let front = m.0 ++ p.front in
     let parts : body ≡ front ++ rest = m.1 ∙ ap (λ (t : List ℕ). m.0 ++ t) p.parts ∙ sym (append_assoc m.0 p.front rest) in
@@ -28,7 +26,7 @@ map_encoded count ps body pairs rest m many p =
     (omega arith, subst (Encodes (mapping (entries_of ps))) (sym first) encoded, omega (arith, p.nested))
 
 -- the event whose parts were decoded
-event_begins : (sec nsec count : ℕ) (ps : List (Val × Val)) (b pairs rest : List ℕ) → StartsWithHeader sec nsec count pairs b → length ps ≡ count → StartsWithPairs ps rest pairs
+event_begins : (sec nsec count : ℕ) (ps : List (Val × Val)) (b pairs rest : List ℕ) → StartsWithHeader sec nsec count pairs b → length ps ≡ count → StartsWithPairs deepest_member ps rest pairs
     → StartsWithEvent (record { sec = sec; nsec = nsec; meta = []; body = ps }) (length b - length rest) b
 event_begins sec nsec count ps b pairs rest h many p =
     let body = h.0 in
@@ -43,29 +41,10 @@ event_begins sec nsec count ps b pairs rest h many p =
 -- the event was written, with some text before its record and some after it
 pub event_written : (sec nsec count : ℕ) (b pairs rest : List ℕ) (text : List (Val × Val) → List ℕ) (before behind old start middle new : List ℕ) (written : Event → List ℕ)
     → ((ps : List (Val × Val)) → written (record { sec = sec; nsec = nsec; meta = []; body = ps }) ≡ before ++ text ps ++ behind)
-    → StartsWithHeader sec nsec count pairs b → start ≡ old ++ before → ((ps : List (Val × Val)) × (length ps ≡ count) × StartsWithPairs ps rest pairs × (middle ≡ start ++ text ps)) → new ≡ middle ++ behind
+    → StartsWithHeader sec nsec count pairs b → start ≡ old ++ before → ((ps : List (Val × Val)) × (length ps ≡ count) × StartsWithPairs deepest_member ps rest pairs × (middle ≡ start ++ text ps)) → new ≡ middle ++ behind
     → (e : Event) × StartsWithEvent e (length b - length rest) b × (new ≡ old ++ written e)
 event_written sec nsec count b pairs rest text before behind old start middle new written is h one w two =
     let body = text w.0 in
     let said : new ≡ old ++ ((before ++ body) ++ behind) =
     two ∙ ap (λ (t : List ℕ). t ++ behind) (w.3 ∙ ap (λ (t : List ℕ). t ++ body) one ∙ append_assoc old before body) ∙ append_assoc old (before ++ body) behind in
     (record { sec = sec; nsec = nsec; meta = []; body = w.0 }, event_begins sec nsec count w.0 b pairs rest h w.1 w.2, said ∙ ap (λ (t : List ℕ). old ++ t) (sym (is w.0)))
-
--- ---- pairs with commas between
-
--- one pair and those after it
-pub members_written : (floats : Floats) (count : ℕ) (b behind rest old between new : List ℕ) → 0 < count → ((p : Val × Val) × StartsWithPair p behind b × (between ≡ old ++ pair_text floats p))
-    → ((ps : List (Val × Val)) × (length ps ≡ count - 1) × StartsWithPairs ps rest behind × (new ≡ between ++ more_pairs floats (entries_of ps)))
-    → (ps : List (Val × Val)) × (length ps ≡ count) × StartsWithPairs ps rest b × (new ≡ old ++ pairs_text floats (entries_of ps))
-members_written floats count b behind rest old between new some first w =
-    let p = first.0 in
-    let ps = w.0 in
-    let one = first.1 in
-    let read : StartsWithPairs (p ∷ ps) rest b = record {
-      front = one.key ++ (one.value ++ w.2.front);
-      parts = one.parts ∙ ap (λ (t : List ℕ). one.key ++ (one.value ++ t)) w.2.parts ∙ ap (λ (t : List ℕ). one.key ++ t) (sym (append_assoc one.value w.2.front rest)) ∙ sym (append_assoc one.key (one.value ++ w.2.front) rest);
-      encoded = (one.key, one.value, w.2.front, refl, one.key_encoded, one.value_encoded, w.2.encoded);
-      nested = omega (arith, one.key_nested, one.value_nested, w.2.nested);
-    } in
-    let rest_text = more_pairs floats (entries_of ps) in
-    (p ∷ ps, omega (arith, w.1), read, w.3 ∙ ap (λ (t : List ℕ). t ++ rest_text) first.2 ∙ append_assoc old (pair_text floats p) rest_text)

@@ -1,10 +1,10 @@
 -- Encoded values at the start of bytes, and the rest after them.
 use Rattle.std.specs.Prelude.{◌≡◌, ℕ, ◌-◌, ◌≤◌, List, ◌∷◌, ◌++◌, length, Some}
 use Rattle.fwd_base.specs.Limits.{deepest}
-use Rattle.fwd_value.specs.Val.{Val, text, mapping, Entries, entries_of}
-use Rattle.fwd_value.specs.Limits.{nesting, entry_count, entry_nestings}
+use Rattle.fwd_value.specs.Val.{Val, text, list, mapping, Vals, vals_of, Entries, entries_of}
+use Rattle.fwd_value.specs.Limits.{nesting, nestings, value_count, entry_count, entry_nestings}
 use Rattle.fwd_msgpack.specs.declared.form.Count.{Count}
-use Rattle.fwd_msgpack.specs.Encodings.{Counts, Encodes, EncodesEntries}
+use Rattle.fwd_msgpack.specs.Encodings.{Counts, Encodes, EncodesAll, EncodesEntries}
 use Rattle.fwd_event.specs.Event.{event_time}
 
 -- the bytes are an encoding of the value and then the rest
@@ -19,6 +19,12 @@ StartsWithLength k n rest b = (len : List ℕ) × (b ≡ len ++ rest) × Counts 
 abbrev pub StartsWithText : ℕ → List ℕ → List ℕ → Type 0
 StartsWithText n rest b =
     (head : List ℕ) × (b ≡ head ++ rest) × ((s : List ℕ) → length s ≡ n → Encodes (text s) (head ++ s))
+
+-- the bytes are the header of a list of n values and then the rest
+abbrev pub StartsWithList : ℕ → List ℕ → List ℕ → Type 0
+StartsWithList n rest b =
+    (head : List ℕ) × (b ≡ head ++ rest)
+    × ((vs : Vals) (s : List ℕ) → value_count vs ≡ n → EncodesAll vs s → Encodes (list vs) (head ++ s))
 
 -- the bytes are the header of a map of n pairs and then the rest
 abbrev pub StartsWithMap : ℕ → List ℕ → List ℕ → Type 0
@@ -43,19 +49,26 @@ StartsWithHeader sec nsec count rest b =
 abbrev pub deepest_member : ℕ
 deepest_member = deepest - 2
 
--- a pair that a record may have
-pub record StartsWithPair (p : Val × Val) (rest b : List ℕ) : Type 0 where
+-- values, one after another, each nested at most `depth` deep
+pub record StartsWithValues (depth : ℕ) (vs : List Val) (rest b : List ℕ) : Type 0 where
+  pub front : List ℕ
+  pub parts : b ≡ front ++ rest
+  pub encoded : EncodesAll (vals_of vs) front
+  pub nested : nestings (vals_of vs) ≤ depth
+
+-- a key and a value, each nested at most `depth` deep
+pub record StartsWithPair (depth : ℕ) (p : Val × Val) (rest b : List ℕ) : Type 0 where
   pub key : List ℕ
   pub value : List ℕ
   pub parts : b ≡ key ++ (value ++ rest)
   pub key_encoded : Encodes p.0 key
   pub value_encoded : Encodes p.1 value
-  pub key_nested : nesting p.0 ≤ deepest_member
-  pub value_nested : nesting p.1 ≤ deepest_member
+  pub key_nested : nesting p.0 ≤ depth
+  pub value_nested : nesting p.1 ≤ depth
 
--- pairs that a record may have, one after another
-pub record StartsWithPairs (pairs : List (Val × Val)) (rest b : List ℕ) : Type 0 where
+-- such pairs, one after another
+pub record StartsWithPairs (depth : ℕ) (pairs : List (Val × Val)) (rest b : List ℕ) : Type 0 where
   pub front : List ℕ
   pub parts : b ≡ front ++ rest
   pub encoded : EncodesEntries (entries_of pairs) front
-  pub nested : entry_nestings (entries_of pairs) ≤ deepest_member
+  pub nested : entry_nestings (entries_of pairs) ≤ depth

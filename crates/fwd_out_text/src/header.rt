@@ -4,7 +4,7 @@ ghost use Rattle.std.specs.Prelude.{IfSome};
 ghost use Rattle.fwd_value.specs.Val.{text};
 ghost use Rattle.fwd_msgpack.specs.declared.form.ByteWidth.TheVariants.{One, Two, Four};
 ghost use Rattle.fwd_msgpack.specs.declared.form.Count.TheVariants.{Sized};
-ghost use Rattle.fwd_out_text.specs.Headers.{StartsWith, StartsWithLength, StartsWithText, StartsWithMap, StartsWithTime, StartsWithHeader};
+ghost use Rattle.fwd_out_text.specs.Headers.{StartsWith, StartsWithLength, StartsWithText, StartsWithList, StartsWithMap, StartsWithTime, StartsWithHeader};
 
 /// Returns the text that the bytes start with, and the bytes after it; `None` if they don't start with a
 /// text.
@@ -34,9 +34,25 @@ fn text_head(bytes: &[u8]) -> Option<(usize, &[u8])>
     }
 }
 
+/// Returns the number of values of the list that the bytes start with, and the bytes after its header;
+/// `None` if they don't start with a list.
+pub fn list_head(bytes: &[u8]) -> Option<(usize, &[u8])>
+    ensures { IfSome result (λ x. StartsWithList x.0 x.1.now bytes.now) }
+{
+    let [first, rest @ ..] = bytes else {
+        return None;
+    };
+    match *first {
+        0x90..=0x9f => Some(((*first - 0x90) as usize, rest)),
+        0xdc => length_of_two_bytes(rest),
+        0xdd => length_of_four_bytes(rest),
+        _ => None,
+    }
+}
+
 /// Returns the number of pairs of the map that the bytes start with, and the bytes after its header; `None`
 /// if they don't start with a map.
-fn map_head(bytes: &[u8]) -> Option<(usize, &[u8])>
+pub fn map_head(bytes: &[u8]) -> Option<(usize, &[u8])>
     ensures { IfSome result (λ x. StartsWithMap x.0 x.1.now bytes.now) }
 {
     let [first, rest @ ..] = bytes else {

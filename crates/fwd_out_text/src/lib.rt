@@ -8,6 +8,7 @@
 #![tactic(auto)]
 
 mod content;
+mod encoded_value;
 mod header;
 mod payload;
 mod record_text;

@@ -17,8 +17,6 @@ use Rattle.fwd_value.proofs.FirstMatch.{none_found, found}
 use Rattle.fwd_value.specs.Val.{Val, entries_of}
 use Rattle.fwd_value.specs.Limits.{nesting, entry_nestings, LengthsFit, EntryLengthsFit, entry_count}
 use Rattle.fwd_msgpack.specs.Canonical.{canonical, canonical_entries, map_head}
-use Rattle.fwd_msgpack.specs.KeptFront.{KeepsFront}
-use Rattle.fwd_msgpack.proofs.KeptFront.{keeps_behind as also_behind}
 use Rattle.fwd_event.specs.declared.event.Event.{Event}
 use Rattle.fwd_event.specs.Event.{event_val, EventFits}
 use Rattle.fwd_event.proofs.EventEncodings.{event_bytes}
@@ -26,7 +24,8 @@ use Rattle.fwd_json.specs.declared.floats.Floats.{Floats}
 use Rattle.fwd_json.specs.declared.floats.Floats.TheVariants.{Tagged, Numbers}
 use Rattle.fwd_parser.specs.Field.{field_of, fields_of, is_kept_group, read_as, integer_of, hex_of, truth_of, float_of, typed, kind_of}
 use Rattle.fwd_parser.specs.LineEvent.{Moment, at, parsed, timed_event, plain, body_of, without, field_moment, moment_of_value}
-use Rattle.fwd_parser.specs.LentFields.{lent_field, lent_record, AreShort, groups_head}
+use Rattle.fwd_parser.specs.LentFields.{lent_field, lent_record, AreShort}
+use Rattle.fwd_parser.specs.EventHead.{event_head}
 use Rattle.fwd_parser.specs.declared.parser.FieldType.{FieldType}
 use Rattle.fwd_parser.specs.declared.parser.Parser.{Parser}
 use Rattle.fwd_parser.specs.declared.parser.Shape.{Shape}
@@ -34,9 +33,6 @@ use Rattle.fwd_parser.specs.declared.parser.TypeKind.{TypeKind}
 use Rattle.fwd_parser.specs.declared.parser.TimeRule.{TimeRule}
 use Rattle.fwd_parser.specs.declared.parser.Shape.TheVariants as shape
 use Rattle.fwd_parser.specs.declared.parser.TypeKind.TheVariants as kind
-
-pub keeps_behind : (old between new more : List ℕ) → between ≡ old ++ more → KeepsFront between new → KeepsFront old new
-keeps_behind = also_behind
 
 -- a value that a typed field has if it isn't a text
 record Plain (v : Val) : Type 0 where
@@ -96,7 +92,7 @@ module _ (floats : Floats) (types : List FieldType) where
   unfolding map_head
   head_of n few = let small : nat_lt n 16 ≡ true = grind (arith, nat_tests, few) in rw small refl
 
-  pub lent_bytes : (moment : Moment) (cs : List Capture) → length cs < 16 → canonical (event_val (at moment (lent_record floats types cs))) ≡ groups_head moment (length cs) ++ canonical_entries (entries_of (lent_record floats types cs))
+  pub lent_bytes : (moment : Moment) (cs : List Capture) → length cs < 16 → canonical (event_val (at moment (lent_record floats types cs))) ≡ event_head moment (length cs) ++ canonical_entries (entries_of (lent_record floats types cs))
   lent_bytes moment cs few =
       let body = lent_record floats types cs in
       let head : map_head (entry_count (entries_of body)) ≡ (128 + length cs) ∷ [] = ap map_head (count cs) ∙ head_of (length cs) few in

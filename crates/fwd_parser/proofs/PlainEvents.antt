@@ -1,5 +1,5 @@
 -- The encoding of the event of a line that is kept whole.
-use Rattle.std.proofs.Common.{◌≡◌, ◌<◌, ◌^◌, ℕ, List, ◌++◌, length, None, refl, append_assoc, arith}
+use Rattle.std.proofs.Common.{◌≡◌, ◌<◌, ◌^◌, ℕ, List, ◌++◌, length, codes, None, refl, append_assoc, arith}
 use Rattle.std.proofs.lemmas.List.{append-nil}
 use Rattle.fwd_value.specs.Val.{text}
 use Rattle.fwd_msgpack.specs.Canonical.{canonical, list_head, map_head, text_head, ext_head}
@@ -7,10 +7,10 @@ use Rattle.fwd_event.specs.Event.{event_val, EventFits}
 use Rattle.fwd_parser.specs.LineEvent.{Moment, at, body_of, clock_moment, parsed, plain, timed_event}
 use Rattle.fwd_parser.specs.declared.parser.Parser.{Parser}
 use Rattle.fwd_parser.specs.declared.parser.Shape.TheVariants as shape
-use Rattle.fwd_parser.specs.PlainHead.{plain_head}
+use Rattle.fwd_parser.specs.EventHead.{event_head}
 
 -- the bytes of an event of one text under `log`, without metadata
-pub plain_bytes : (moment : Moment) (line : List ℕ) → canonical (event_val (at moment (plain line))) ≡ plain_head moment ++ canonical (text line)
+pub plain_bytes : (moment : Moment) (line : List ℕ) → canonical (event_val (at moment (plain line))) ≡ event_head moment 1 ++ (canonical (text (codes "log")) ++ canonical (text line))
 unfolding list_head map_head text_head ext_head
 plain_bytes moment line = simp (append_assoc, append-nil)
 

@@ -1,13 +1,11 @@
 -- The record of groups that are lent from the pattern and the line.
-use Rattle.std.specs.Prelude.{ℕ, ◌+◌, ◌<◌, ◌^◌, List, [], ◌∷◌, ◌++◌, map, length}
-use Rattle.std.specs.Int.{w32, to_be_bytes}
+use Rattle.std.specs.Prelude.{◌<◌, ◌^◌, List, [], ◌∷◌, map, length}
 use Rattle.fwd_base.specs.Pattern.{captured}
 use Rattle.fwd_base.specs.declared.search.Capture.{Capture}
 use Rattle.fwd_value.specs.Val.{Val}
 use Rattle.fwd_value.specs.Keys.{Record}
 use Rattle.fwd_json.specs.declared.floats.Floats.{Floats}
 use Rattle.fwd_parser.specs.Field.{field_of}
-use Rattle.fwd_parser.specs.LineEvent.{Moment}
 use Rattle.fwd_parser.specs.declared.parser.FieldType.{FieldType}
 
 -- the field of a lent group
@@ -23,8 +21,3 @@ abbrev pub AreShort : List Capture → Type 0
 AreShort [] = Unit {0}
 AreShort (c ∷ cs) =
     (length c.name.now < 2 ^ 32) × (length c.bytes.now < 2 ^ 32) × AreShort cs
-
--- An EventTime and no metadata in a list, and the header of a map of n pairs, fewer than 16.
-abbrev pub groups_head : Moment → ℕ → List ℕ
-groups_head moment n =
-    146 ∷ 146 ∷ 215 ∷ 0 ∷ (to_be_bytes w32 moment.0 ++ (to_be_bytes w32 moment.1 ++ (128 ∷ (128 + n) ∷ [])))

@@ -4,5 +4,5 @@ pub mod Time
 pub mod Field
 pub mod LineEvent
 pub mod LineReader
-pub mod PlainHead
+pub mod EventHead
 pub mod LentFields

@@ -1,5 +1,5 @@
 -- What a reader of lines has besides its parser.
-use Rattle.std.specs.Prelude.{◌≡◌, Option, Some, None}
+use Rattle.std.specs.Prelude.{◌≡◌, Bool, true, false, Option, Some, None}
 use Rattle.fwd_base.specs.Pattern.{SearchesFor}
 use Rattle.fwd_base.specs.declared.search.Search.{Search}
 use Rattle.fwd_parser.specs.declared.parser.Shape.{Shape}
@@ -11,3 +11,9 @@ IsReady Plain search = search ≡ None
 IsReady Json search = search ≡ None
 IsReady (Groups pattern types skip_empty) None = ⊥
 IsReady (Groups pattern types skip_empty) (Some search) = SearchesFor pattern search
+
+-- lines are JSON objects, so a reader of JSON is kept from line to line
+abbrev pub is_json : Shape → Bool
+is_json Json = true
+is_json Plain = false
+is_json (Groups pattern types skip_empty) = false

@@ -1,70 +1,109 @@
 //! Encoding of the event of a line.
 
 ghost use Rattle.std.specs.Prelude.{◌≡◌, ◌↔◌, ◌<◌, ◌^◌, ◌++◌, length, IsTrue, IfOk, OnOk, OnErr, if◌then◌else◌};
+ghost use Rattle.fwd_value.specs.Val.{text};
 ghost use Rattle.fwd_event.specs.Event.{event_val, EventFits};
-ghost use Rattle.fwd_msgpack.specs.Canonical.{canonical};
+ghost use Rattle.fwd_msgpack.specs.Canonical.{canonical, text_head};
 ghost use Rattle.fwd_msgpack.specs.KeptFront.{KeepsFront};
 ghost use Rattle.fwd_parser.specs.LineEvent.{at, clock_moment, plain};
-ghost use Rattle.fwd_parser.specs.PlainHead.{plain_head};
+ghost use Rattle.fwd_parser.specs.EventHead.{event_head};
 
 use crate::event_time::clock_moment;
 use fwd_base::{Bytes, Memory};
-use fwd_event::{Event, Value, can_write, write_event};
-use fwd_msgpack::encode;
+use fwd_event::{Event, can_write, write_event};
 
-/// Appends the encoding of an event at a moment, up to a text under `log`.
-#[tactic(auto, using(fwd_event::proofs::EventParts::keeps_same))]
-fn put_head(moment: (u32, u32), out: &mut Bytes) -> Result<(), Memory>
-    ensures ok { OnOk result (out.new ≡ out.old ++ plain_head moment) }
+/// Appends bytes.
+#[inline(always)]
+#[tactic(auto, using(fwd_msgpack::proofs::KeptFront::keeps_same))]
+fn put(bytes: &[u8], out: &mut Bytes) -> Result<(), Memory>
+    ensures ok { OnOk result (out.new ≡ out.old ++ bytes.now) }
+    ensures err { OnErr result (KeepsFront out.old out.new) }
+{
+    out.extend_from_slice(bytes)
+}
+
+/// Appends the header of a text.
+#[tactic(auto, unfolding(fwd_msgpack::specs::Canonical::text_head))]
+fn put_text_head(n: usize, out: &mut Bytes) -> Result<(), Memory>
+    requires { n < 2 ^ 32 }
+    ensures ok { OnOk result (out.new ≡ out.old ++ text_head n) }
+    ensures err { OnErr result (KeepsFront out.old out.new) }
+{
+    if n < 32 {
+        return put([0xa0 + n as u8].as_slice(), out);
+    }
+    if n < 256 {
+        return put([0xd9, n as u8].as_slice(), out);
+    }
+    if n < 65_536 {
+        let [a, b] = (n as u16).to_be_bytes();
+        return put([0xda, a, b].as_slice(), out);
+    }
+    let [a, b, c, d] = (n as u32).to_be_bytes();
+    put([0xdb, a, b, c, d].as_slice(), out)
+}
+
+/// Appends a text.
+#[tactic(auto, using(fwd_msgpack::proofs::KeptFront::keeps_behind))]
+pub fn put_text(bytes: &[u8], out: &mut Bytes) -> Result<(), Memory>
+    requires { length bytes.now < 2 ^ 32 }
+    ensures ok { OnOk result (out.new ≡ out.old ++ canonical (text bytes.now)) }
+    ensures err { OnErr result (KeepsFront out.old out.new) }
+{
+    put_text_head(bytes.len(), out)?;
+    put(bytes, out)
+}
+
+/// Appends the encoding of an event at a moment, up to the pairs of its record.
+pub fn put_head(moment: (u32, u32), n: usize, out: &mut Bytes) -> Result<(), Memory>
+    requires { n < 16 }
+    ensures ok { OnOk result (out.new ≡ out.old ++ event_head moment n) }
     ensures err { OnErr result (KeepsFront out.old out.new) }
 {
     let (sec, nsec) = moment;
     let [a, b, c, d] = sec.to_be_bytes();
     let [e, f, g, h] = nsec.to_be_bytes();
-    let head = [
-        0x92, 0x92, 0xd7, 0x00, a, b, c, d, e, f, g, h, 0x80, 0x81, 0xa3, b'l', b'o', b'g',
-    ];
-    out.extend_from_slice(head.as_slice())
+    let pairs = 0x80 + n as u8;
+    let head = [0x92, 0x92, 0xd7, 0x00, a, b, c, d, e, f, g, h, 0x80, pairs];
+    put(head.as_slice(), out)
 }
 
-/// Appends the encoding of the event of a line that is kept whole.
-fn put_plain(moment: (u32, u32), line: Bytes, out: &mut Bytes) -> Result<(), Memory>
-    requires { length line < 2 ^ 32 }
-    ensures ok { OnOk result (out.new ≡ out.old ++ canonical (event_val (at moment (plain line)))) }
+/// Appends the encoding of the event of a short line that is kept whole.
+#[tactic(auto, using(fwd_msgpack::proofs::KeptFront::keeps_behind))]
+fn put_short(moment: (u32, u32), line: &[u8], out: &mut Bytes) -> Result<(), Memory>
+    requires { length line.now < 2 ^ 32 }
+    ensures ok { OnOk result (out.new ≡ out.old ++ canonical (event_val (at moment (plain line.now)))) }
     ensures err { OnErr result (KeepsFront out.old out.new) }
 {
-    put_head(moment, out)?;
-    encode(&Value::Text(line), out)
+    put_head(moment, 1, out)?;
+    put_text(b"log", out)?;
+    put_text(line, out)
 }
 
 /// Appends the encoding of the event of a line that is kept whole, at the clock's moment, and returns whether
-/// the event can be encoded. If not, or after `Err`, the bytes are unchanged.
+/// the event can be encoded. If not, the bytes are unchanged, and after `Err` the old ones are still there.
 #[tactic(auto, using(crate::proofs::PlainEvents::plain_fits, crate::proofs::PlainEvents::short_if_fits))]
-pub fn write_plain(line: Bytes, clock: u64, out: &mut Bytes) -> Result<bool, Memory>
-    ensures fits { IfOk result (λ written. IsTrue written ↔ EventFits (at (clock_moment clock) (plain line))) }
-    ensures bytes { IfOk result (λ written. out.new
-        ≡ (if written then out.old ++ canonical (event_val (at (clock_moment clock) (plain line))) else out.old)) }
-    ensures err { OnErr result (out.new ≡ out.old) }
+pub fn put_plain(line: &[u8], clock: u64, out: &mut Bytes) -> Result<bool, Memory>
+    ensures fits { IfOk result (λ put. IsTrue put ↔ EventFits (at (clock_moment clock) (plain line.now))) }
+    ensures bytes { IfOk result (λ put. out.new
+        ≡ (if put then out.old ++ canonical (event_val (at (clock_moment clock) (plain line.now))) else out.old)) }
+    ensures err { OnErr result (KeepsFront out.old out.new) }
 {
     if line.len() as u64 > u32::MAX as u64 {
         return Ok(false);
     }
-    let start = out.len();
-    let written = put_plain(clock_moment(clock), line, out);
-    if written.is_err() {
-        out.truncate(start);
-    }
-    written?;
+    put_short(clock_moment(clock), line, out)?;
     Ok(true)
 }
 
-/// Appends the encoding of an event, and returns whether the event can be encoded. If not, or after `Err`, the
-/// bytes are unchanged.
-pub fn write_if_possible(event: &Event, out: &mut Bytes) -> Result<bool, Memory>
-    ensures fits { IfOk result (λ written. IsTrue written ↔ EventFits event.now) }
-    ensures bytes { IfOk result (λ written. out.new
-        ≡ (if written then out.old ++ canonical (event_val event.now) else out.old)) }
-    ensures err { OnErr result (out.new ≡ out.old) }
+/// Appends the encoding of an event, and returns whether the event can be encoded. If not, the bytes are
+/// unchanged, and after `Err` the old ones are still there.
+#[tactic(auto, using(fwd_msgpack::proofs::KeptFront::keeps_same))]
+pub fn put_decoded(event: &Event, out: &mut Bytes) -> Result<bool, Memory>
+    ensures fits { IfOk result (λ put. IsTrue put ↔ EventFits event.now) }
+    ensures bytes { IfOk result (λ put. out.new
+        ≡ (if put then out.old ++ canonical (event_val event.now) else out.old)) }
+    ensures err { OnErr result (KeepsFront out.old out.new) }
 {
     if !can_write(event) {
         return Ok(false);

@@ -4,11 +4,10 @@ ghost use Rattle.std.specs.Prelude.{◌≡◌, ◌↔◌, ◌<◌, ◌^◌, ◌+
 ghost use Rattle.fwd_base.specs.Pattern.{captured, SearchesFor, SearchesAs};
 ghost use Rattle.fwd_base.specs.declared.pattern.Pattern.{Pattern};
 ghost use Rattle.fwd_base.specs.declared.search.Capture.{Capture};
-ghost use Rattle.fwd_value.specs.Val.{text};
 ghost use Rattle.fwd_value.specs.Val.{entries_of};
 ghost use Rattle.fwd_value.specs.Keys.{has_key};
 ghost use Rattle.fwd_event.specs.Event.{event_val, EventFits};
-ghost use Rattle.fwd_msgpack.specs.Canonical.{canonical, canonical_entries, text_head};
+ghost use Rattle.fwd_msgpack.specs.Canonical.{canonical, canonical_entries};
 ghost use Rattle.fwd_msgpack.specs.KeptFront.{KeepsFront};
 ghost use Rattle.fwd_json.specs.declared.floats.Floats.{Floats};
 ghost use Rattle.fwd_parser.specs.declared.parser.FieldType.{FieldType};
@@ -16,9 +15,9 @@ ghost use Rattle.fwd_parser.specs.declared.parser.Shape.TheVariants as shape;
 ghost use Rattle.fwd_parser.specs.Field.{typed, kind_of, is_kept_group};
 ghost use Rattle.fwd_parser.specs.LineEvent.{at, body_of, field_moment, moment_of_value, parsed, plain, timed_event, without};
 ghost use Rattle.fwd_parser.specs.LineReader.{IsReady};
-ghost use Rattle.fwd_parser.specs.LentFields.{lent_field, lent_record, AreShort, groups_head};
+ghost use Rattle.fwd_parser.specs.LentFields.{lent_field, lent_record, AreShort};
 
-use crate::encoding::write_if_possible;
+use crate::encoding::{put_decoded, put_head, put_text};
 use crate::event_time::{at, clock_moment, moment_in, timed_event};
 use crate::fields::{fields_of, kind_of, read_as};
 use crate::parser::{FieldTypes, Parser, Shape, TimeRule};
@@ -32,50 +31,8 @@ use std::alloc::Global;
 /// The number of fields from which on the event isn't written straight.
 const MANY: usize = 16;
 
-/// Appends bytes.
-#[inline(always)]
-#[tactic(auto, using(fwd_event::proofs::EventParts::keeps_same))]
-fn put(bytes: &[u8], out: &mut Bytes) -> Result<(), Memory>
-    ensures ok { OnOk result (out.new ≡ out.old ++ bytes.now) }
-    ensures err { OnErr result (KeepsFront out.old out.new) }
-{
-    out.extend_from_slice(bytes)
-}
-
-/// Appends the header of a text.
-#[tactic(auto, unfolding(fwd_msgpack::specs::Canonical::text_head))]
-fn put_text_head(n: usize, out: &mut Bytes) -> Result<(), Memory>
-    requires { n < 2 ^ 32 }
-    ensures ok { OnOk result (out.new ≡ out.old ++ text_head n) }
-    ensures err { OnErr result (KeepsFront out.old out.new) }
-{
-    if n < 32 {
-        return put([0xa0 + n as u8].as_slice(), out);
-    }
-    if n < 256 {
-        return put([0xd9, n as u8].as_slice(), out);
-    }
-    if n < 65_536 {
-        let [a, b] = (n as u16).to_be_bytes();
-        return put([0xda, a, b].as_slice(), out);
-    }
-    let [a, b, c, d] = (n as u32).to_be_bytes();
-    put([0xdb, a, b, c, d].as_slice(), out)
-}
-
-/// Appends a text.
-#[tactic(auto, using(crate::proofs::LentFields::keeps_behind))]
-fn put_text(bytes: &[u8], out: &mut Bytes) -> Result<(), Memory>
-    requires { length bytes.now < 2 ^ 32 }
-    ensures ok { OnOk result (out.new ≡ out.old ++ canonical (text bytes.now)) }
-    ensures err { OnErr result (KeepsFront out.old out.new) }
-{
-    put_text_head(bytes.len(), out)?;
-    put(bytes, out)
-}
-
 /// Appends the value of a field. Bytes that don't have the form of the type are text.
-#[tactic(auto, using(crate::proofs::LentFields::read_is_flat, crate::proofs::LentFields::read_fits, fwd_event::proofs::EventParts::keeps_same), unfolding(crate::specs::Field::typed))]
+#[tactic(auto, using(crate::proofs::LentFields::read_is_flat, crate::proofs::LentFields::read_fits, fwd_msgpack::proofs::KeptFront::keeps_same), unfolding(crate::specs::Field::typed))]
 fn put_value(
     floats: Floats,
     types: &FieldTypes,
@@ -94,7 +51,7 @@ fn put_value(
 }
 
 /// Appends the fields of groups.
-#[tactic(auto, using(crate::proofs::LentFields::keeps_behind))]
+#[tactic(auto, using(fwd_msgpack::proofs::KeptFront::keeps_behind))]
 fn put_fields(
     floats: Floats,
     types: &FieldTypes,
@@ -116,22 +73,8 @@ fn put_fields(
     }
 }
 
-/// Appends the encoding of an event at a moment, up to the pairs of its record.
-fn put_head(moment: (u32, u32), n: usize, out: &mut Bytes) -> Result<(), Memory>
-    requires { n < 16 }
-    ensures ok { OnOk result (out.new ≡ out.old ++ groups_head moment n) }
-    ensures err { OnErr result (KeepsFront out.old out.new) }
-{
-    let (sec, nsec) = moment;
-    let [a, b, c, d] = sec.to_be_bytes();
-    let [e, f, g, h] = nsec.to_be_bytes();
-    let pairs = 0x80 + n as u8;
-    let head = [0x92, 0x92, 0xd7, 0x00, a, b, c, d, e, f, g, h, 0x80, pairs];
-    put(head.as_slice(), out)
-}
-
 /// Appends the encoding of the event of groups.
-#[tactic(auto, using(crate::proofs::LentFields::keeps_behind))]
+#[tactic(auto, using(fwd_msgpack::proofs::KeptFront::keeps_behind))]
 fn put_event(
     floats: Floats,
     types: &FieldTypes,
@@ -257,28 +200,6 @@ fn fields_found<'p, 't>(
     Ok(Some(groups))
 }
 
-/// Appends the encoding of the event of few short groups. After `Err` the bytes are unchanged.
-fn write_few(
-    floats: Floats,
-    types: &FieldTypes,
-    moment: (u32, u32),
-    groups: &[Capture<'_, '_>],
-    out: &mut Bytes,
-) -> Result<(), Memory>
-    requires few { length groups.now < 16 }
-    requires short { AreShort groups.now }
-    ensures ok { OnOk result (out.new
-        ≡ out.old ++ canonical (event_val (at moment (lent_record floats types.now groups.now)))) }
-    ensures err { OnErr result (out.new ≡ out.old) }
-{
-    let start = out.len();
-    let written = put_event(floats, types, moment, groups, out);
-    if written.is_err() {
-        out.truncate(start);
-    }
-    written
-}
-
 /// Returns the event of groups.
 #[tactic(auto, using(crate::proofs::LentFields::all_fields))]
 fn event_of(
@@ -294,10 +215,10 @@ fn event_of(
     Ok(at(alloc, moment, body))
 }
 
-/// Appends the encoding of the event of groups, and returns whether the event can be encoded. If not, or after
-/// `Err`, the bytes are unchanged.
-#[tactic(auto, using(crate::proofs::LentFields::lent_fits))]
-fn write_fields(
+/// Appends the encoding of the event of groups, and returns whether the event can be encoded. If not, the bytes
+/// are unchanged, and after `Err` the old ones are still there.
+#[tactic(auto, using(crate::proofs::LentFields::lent_fits, fwd_msgpack::proofs::KeptFront::keeps_same))]
+fn put_any_event(
     alloc: Global,
     floats: Floats,
     types: &FieldTypes,
@@ -305,42 +226,45 @@ fn write_fields(
     groups: &[Capture<'_, '_>],
     out: &mut Bytes,
 ) -> Result<bool, Memory>
-    ensures fits { IfOk result (λ written. IsTrue written
+    ensures fits { IfOk result (λ put. IsTrue put
         ↔ EventFits (at moment (lent_record floats types.now groups.now))) }
-    ensures bytes { IfOk result (λ written. out.new ≡ (if written
+    ensures bytes { IfOk result (λ put. out.new ≡ (if put
         then out.old ++ canonical (event_val (at moment (lent_record floats types.now groups.now))) else out.old)) }
-    ensures err { OnErr result (out.new ≡ out.old) }
+    ensures err { OnErr result (KeepsFront out.old out.new) }
 {
     if groups.len() >= MANY || !are_short(groups) {
         let event = event_of(alloc, floats, types, moment, groups)?;
-        return write_if_possible(&event, out);
+        return put_decoded(&event, out);
     }
-    write_few(floats, types, moment, groups, out)?;
+    put_event(floats, types, moment, groups, out)?;
     Ok(true)
 }
 
-/// Appends the encoding of the event of a line that the pattern doesn't match, as `write_fields` does.
-fn write_unmatched(
+/// Appends the encoding of the event of a line that the pattern doesn't match, as `put_any_event` does.
+#[tactic(auto, using(fwd_msgpack::proofs::KeptFront::keeps_same))]
+fn put_unmatched(
     alloc: Global,
     time: &Option<TimeRule>,
     line: &[u8],
     clock: u64,
     out: &mut Bytes,
 ) -> Result<bool, Memory>
-    ensures fits { IfOk result (λ written. IsTrue written ↔ EventFits (timed_event time.now clock (plain line.now))) }
-    ensures bytes { IfOk result (λ written. out.new
-        ≡ (if written then out.old ++ canonical (event_val (timed_event time.now clock (plain line.now)))
+    ensures fits { IfOk result (λ put. IsTrue put ↔ EventFits (timed_event time.now clock (plain line.now))) }
+    ensures bytes { IfOk result (λ put. out.new
+        ≡ (if put then out.old ++ canonical (event_val (timed_event time.now clock (plain line.now)))
         else out.old)) }
-    ensures err { OnErr result (out.new ≡ out.old) }
+    ensures err { OnErr result (KeepsFront out.old out.new) }
 {
     let body = plain(alloc, Bytes::from_slice(alloc, line)?)?;
     let event = timed_event(alloc, time, clock, body);
-    write_if_possible(&event, out)
+    put_decoded(&event, out)
 }
 
 /// Appends the encoding of the event of a line by a pattern, and returns whether the event can be encoded, or
-/// `None` if the parser has another shape. If not, or after `Err`, the bytes are unchanged.
-pub fn write_lent(
+/// `None` if the parser has another shape. If not, the bytes are unchanged, and after `Err` the old ones are
+/// still there.
+#[tactic(auto, using(fwd_msgpack::proofs::KeptFront::keeps_same))]
+pub fn put_lent(
     alloc: Global,
     parser: &Parser,
     search: &mut Option<Search<'_>>,
@@ -350,11 +274,11 @@ pub fn write_lent(
 ) -> Result<Option<bool>, Memory>
     requires { IsReady parser.now.shape search.old }
     ensures ready { IsReady parser.now.shape search.new }
-    ensures fits { IfOk result (λ done. IfSome done (λ written.
-        IsTrue written ↔ EventFits (parsed parser.now line.now clock))) }
+    ensures fits { IfOk result (λ done. IfSome done (λ put.
+        IsTrue put ↔ EventFits (parsed parser.now line.now clock))) }
     ensures bytes { IfOk result (λ done. out.new ≡ (if unwrap_or done false
         then out.old ++ canonical (event_val (parsed parser.now line.now clock)) else out.old)) }
-    ensures err { OnErr result (out.new ≡ out.old) }
+    ensures err { OnErr result (KeepsFront out.old out.new) }
 {
     let Shape::Groups {
         types,
@@ -369,14 +293,14 @@ pub fn write_lent(
     };
     match fields_found(alloc, search, *skip_empty, line)? {
         None => {
-            let written = write_unmatched(alloc, &parser.time, line, clock, out)?;
-            Ok(Some(written))
+            let put = put_unmatched(alloc, &parser.time, line, clock, out)?;
+            Ok(Some(put))
         }
         Some(mut groups) => {
             let moment = timed(parser.floats, types, &parser.time, clock, &mut groups);
             let fields = groups.as_slice();
-            let written = write_fields(alloc, parser.floats, types, moment, fields, out)?;
-            Ok(Some(written))
+            let put = put_any_event(alloc, parser.floats, types, moment, fields, out)?;
+            Ok(Some(put))
         }
     }
 }

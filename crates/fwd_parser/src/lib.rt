@@ -3,7 +3,8 @@
 //! clock's.
 //!
 //! `Parser::parse`, and for many lines the reader that a parser makes, return the event that the definition
-//! gives for the parser, the line and the clock, or out of memory and no other error. `time_of` returns the
+//! gives for the parser, the line and the clock, or out of memory and no other error. `LineReader::write` appends
+//! the encoding of that event to bytes, without the event itself. `time_of` returns the
 //! moment of a text under a format. The calendar is that of `jiff`, JSON that of `serde_json`, floats in
 //! texts those of `fast_float`, patterns that of `regex`.
 #![tactic(auto)]

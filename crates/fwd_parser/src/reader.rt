@@ -1,9 +1,9 @@
 //! A reader of many lines.
 
 use crate::Parser;
-use crate::encoding::{write_if_possible, write_plain};
+use crate::encoding::{put_decoded, put_plain};
 use crate::event_time::timed_event;
-use crate::lent_fields::write_lent;
+use crate::lent_fields::put_lent;
 use crate::shapes::{body_of, json_reader_of, search_of};
 use fwd_base::{Bytes, Memory, Search};
 use fwd_event::Event;
@@ -37,6 +37,7 @@ impl<'p> LineReader<'p> {
     ghost use Rattle.std.specs.Prelude.{◌≡◌, ◌↔◌, ◌++◌, IsTrue, IfOk, OnErr, if◌then◌else◌};
     ghost use Rattle.fwd_event.specs.Event.{event_val, EventFits};
     ghost use Rattle.fwd_msgpack.specs.Canonical.{canonical};
+    ghost use Rattle.fwd_msgpack.specs.KeptFront.{KeepsFront};
     ghost use Rattle.fwd_parser.specs.LineEvent.{parsed};
 
     pub(crate) fn new(alloc: Global, parser: &'p Parser) -> Result<Self, Memory>
@@ -74,8 +75,8 @@ impl<'p> LineReader<'p> {
 
     /// Appends the canonical encoding of the event of a line, which `read` would return, and returns whether the
     /// event can be encoded: each length in it must be below 2^32, and its record nested at most 63 deep. If
-    /// not, or after `Err`, the bytes are unchanged. A line that is kept
-    /// whole is copied once, and so are most groups.
+    /// not, or after `Err`, the bytes are unchanged. A line that is kept whole is copied once, and so are most
+    /// groups.
     pub fn write(
         &mut self,
         alloc: Global,
@@ -89,21 +90,32 @@ impl<'p> LineReader<'p> {
         ensures err { OnErr result (out.new ≡ out.old) }
         ensures same { self.new ≡ self.old }
     {
-        if self.parser.keeps_lines() {
-            return write_plain(line, now, out);
+        let start = out.len();
+        let written = self.put(alloc, line, now, out);
+        if written.is_err() {
+            out.truncate(start);
         }
-        let written = write_lent(
-            alloc,
-            self.parser,
-            &mut self.search,
-            line.as_slice(),
-            now,
-            out,
-        )?;
-        if let Some(written) = written {
-            return Ok(written);
+        written
+    }
+
+    /// Does what `write` does, but after `Err` the bytes may end in a part of an event.
+    #[tactic(auto, using(fwd_msgpack::proofs::KeptFront::keeps_same))]
+    fn put(&mut self, alloc: Global, line: Bytes, now: u64, out: &mut Bytes) -> Result<bool, Memory>
+        ensures fits { IfOk result (λ put. IsTrue put ↔ EventFits (parsed self.old line now)) }
+        ensures bytes { IfOk result (λ put. out.new
+            ≡ (if put then out.old ++ canonical (event_val (parsed self.old line now)) else out.old)) }
+        ensures err { OnErr result (KeepsFront out.old out.new) }
+        ensures same { self.new ≡ self.old }
+    {
+        if self.parser.keeps_lines() {
+            return put_plain(line.as_slice(), now, out);
+        }
+        let text = line.as_slice();
+        let put = put_lent(alloc, self.parser, &mut self.search, text, now, out)?;
+        if let Some(put) = put {
+            return Ok(put);
         }
         let event = self.take(alloc, line, now)?;
-        write_if_possible(&event, out)
+        put_decoded(&event, out)
     }
 }

@@ -1,11 +1,11 @@
 //! The record of a line.
 
-ghost use Rattle.std.specs.Prelude.{◌≡◌, ◌≢◌, IfOk, IfErr, Ok, Err};
+ghost use Rattle.std.specs.Prelude.{◌≡◌, ◌≢◌, is_some, IfOk, IfErr, Ok, Err};
 ghost use Rattle.fwd_json.specs.LinePairs.{pairs_in};
 ghost use Rattle.fwd_base.specs.Pattern.{SearchesFor, SearchesAs};
 ghost use Rattle.fwd_base.specs.declared.pattern.Pattern.{Pattern};
 ghost use Rattle.fwd_parser.specs.LineEvent.{plain, body_of};
-ghost use Rattle.fwd_parser.specs.LineReader.{IsReady};
+ghost use Rattle.fwd_parser.specs.LineReader.{IsReady, is_json};
 ghost use Rattle.fwd_parser.specs.declared.parser.Shape.TheVariants as shape;
 
 use crate::fields::fields_of;
@@ -91,7 +91,9 @@ pub fn search_of(alloc: Global, shape: &Shape) -> Result<Option<Search<'_>>, Mem
 }
 
 /// Returns the reader of JSON lines, if the shape has a use for one.
-pub fn json_reader_of(alloc: Global, shape: &Shape) -> Result<Option<JsonReader>, Memory> {
+pub fn json_reader_of(alloc: Global, shape: &Shape) -> Result<Option<JsonReader>, Memory>
+    ensures { IfOk result (λ reader. is_some reader ≡ is_json shape.now) }
+{
     match shape {
         Shape::Json => Ok(Some(JsonReader::new(alloc)?)),
         Shape::Plain | Shape::Groups { .. } => Ok(None),

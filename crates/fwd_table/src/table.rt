@@ -173,8 +173,8 @@ impl Table {
     }
 
     /// Returns the first of the idle routes that are due at `now` and come after `after`, ordered by due
-    /// time, then chunk, then output. The engine takes all due routes at once; this is for callers that look
-    /// at one route at a time, as the log of a live run does.
+    /// time, then chunk, then output. The engine lists due routes by `due_to`; this is for callers that look at
+    /// one route at a time, as the log of a live run does.
     pub fn next_due(&self, now: u64, after: Option<Timer>) -> Option<Timer>
         ensures value { result ≡ first (filter (is_next now after) (idle_timers_of self.now.rows)) }
         ensures first { let due = filter (is_next now after) (idle_timers_of self.now.rows) in
@@ -184,7 +184,8 @@ impl Table {
     }
 
     /// Returns the timers of the idle routes that are due at `now`, ordered by due time, then chunk, then
-    /// output. The rows stay the same. If none is due, most calls look at no row. This allocates the list.
+    /// output. The rows stay the same. If none is due, most calls look at no row. This allocates the list. The
+    /// program asks `due_to`, for outputs with a free place: this is for callers that want the routes to all.
     pub fn due(&mut self, now: u64) -> Result<Vec<Timer>, Memory>
         ensures rows { self.new.rows ≡ self.old.rows }
         ensures spare { self.old.spare ≤ self.new.spare }

@@ -1,5 +1,6 @@
 -- The routes of a chunk: the outputs that it is pending for, by rising number.
-use Rattle.std.specs.Prelude.{◌≡◌, ◌↔◌, ℕ, ◌+◌, ◌-◌, ◌^◌, ◌<◌, ◌≤◌, ◌==◌, ◌&&◌, nat_le, min, Bool, true, false, not, List}
+use Rattle.std.specs.Prelude.{◌≡◌, ◌↔◌, ℕ, ◌+◌, ◌-◌, ◌^◌, ◌<◌, ◌≤◌, ◌==◌, ◌&&◌, nat_le, min}
+use Rattle.std.specs.Prelude.{Bool, true, false, not, List}
 use Rattle.std.specs.Prelude.{[], ◌∷◌, map, filter, find, sum_by, Any, IsBitSet, if◌then◌else◌}
 use Rattle.std.specs.List.{range_with_len}
 use Rattle.std.specs.Int.{bit_at}

@@ -1,6 +1,6 @@
 //! The watcher of a run: what it notes, and what the run shows it.
 
-use fwd_base::Names;
+use fwd_base::{ConnId, Names};
 use fwd_config::{ConfigKind, Place, Sections};
 use fwd_settings_schema::SettingKind;
 use fwd_table::{Table, Tally};
@@ -16,9 +16,13 @@ pub struct Snapshot<'a> {
     pub stopped: Option<u64>,
     /// How many reads for a flush found damaged content.
     pub damaged: u64,
+    /// How many bytes the unfinished messages of all connections have together.
+    pub unfinished: u64,
+    /// The connection with the largest of them, among those whose input isn't paused.
+    pub largest_unfinished: Option<ConnId>,
 }
 
-/// Watches how a run goes. What it does has no effect on the run, and no contract speaks of it.
+/// Watches how a run goes. What it does has no effect on the engine, and no contract speaks of it.
 pub trait Watch {
     /// Notes that the program refuses a file of the configuration, at this place.
     fn note_refused_file(&mut self, kind: ConfigKind, place: &Place);

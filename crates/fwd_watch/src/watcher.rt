@@ -17,6 +17,9 @@ use fwd_table::{InputTally, OutputTally, Table};
 use std::alloc::Global;
 use std::fmt::Display;
 
+/// The most bytes that the unfinished messages of all connections may have together.
+const MOST_UNFINISHED: u64 = 67_108_864;
+
 /// How many timers are looked at for the next try of an output.
 const MOST_TIMERS: u32 = 4;
 
@@ -324,6 +327,17 @@ impl<'j> Watcher<'j> {
         }
     }
 
+    /// Asks the poll to drop the connection with the largest unfinished message, if all of them together have
+    /// too many bytes.
+    fn limit_unfinished(&self, snapshot: Snapshot<'_>) {
+        if snapshot.unfinished <= MOST_UNFINISHED {
+            return;
+        }
+        if let Some(conn) = snapshot.largest_unfinished {
+            self.journal.ask_to_drop(conn);
+        }
+    }
+
     fn compare(&mut self, snapshot: Snapshot<'_>) -> Result<(), Memory> {
         self.compare_stop(snapshot);
         self.compare_damaged(snapshot.damaged);
@@ -490,6 +504,7 @@ impl<'j> Watch for Watcher<'j> {
     }
 
     fn note_clock(&mut self, snapshot: Snapshot<'_>) {
+        self.limit_unfinished(snapshot);
         let _ = self.compare(snapshot);
         self.pages.answer(self.journal, snapshot);
     }

@@ -322,6 +322,25 @@ impl<'a> Sources<'a> {
         }
     }
 
+    /// Drops a connection whose unfinished message is the largest of too many bytes, and returns that its peer
+    /// is gone. Returns `None` if its end was returned before, or if its input is paused or held back.
+    pub fn drop_unfinished(&mut self, id: ConnId, paused: u64) -> Option<Happening>
+        ensures { IfSome result (MayOccur true paused) }
+    {
+        let input = match self.conns.get(&id.0) {
+            Some(conn) if !conn.over => conn.input,
+            Some(_) | None => return None,
+        };
+        if self.is_holding || !is_heard(paused, input) {
+            return None;
+        }
+        let text =
+            "a peer is dropped: all unfinished messages together have more than 64 MB, and its own is the largest";
+        self.log_peer(Level::Warn, input, &text);
+        self.leave(id);
+        Some(Happening::Gone { input, conn: id })
+    }
+
     /// Notes that a peer sends no more. It may still read, so the connection stays until it has taken the
     /// replies.
     fn end_conn(&mut self, id: ConnId) {

@@ -11,7 +11,7 @@ use Rattle.fwd_filters.proofs.chain.filter_gated.Goals as goal
 
 pub returns-then-are_idle : goal.returns-then-are_idle
 returns-then-are_idle g c =
-    let none = c.are_idle.ensures c.if-are_idle.true in
+    let none = c.are_idle.ensures.0 c.if-are_idle.true in
     ([], subst (λ (l : List FilterStep). AreMatching c.args.tag.now l []) c.as_slice.ensures none, sym (filtered-none c.args.events))
 
 pub returns-then-len-lt-PARALLEL_EVENTS : goal.returns-then-len-lt-PARALLEL_EVENTS

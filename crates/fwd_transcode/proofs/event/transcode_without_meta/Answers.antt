@@ -1,0 +1,13 @@
+use Rattle.std.proofs.Common.{arith}
+use Rattle.fwd_msgpack.proofs.Ranges.{all_bytes}
+use Rattle.fwd_transcode.proofs.Values.{if_given}
+use Rattle.fwd_transcode.proofs.Events.{without_meta_done}
+use Rattle.fwd_transcode.proofs.event.transcode_without_meta.Goals as goal
+
+pub returns-clause-given : goal.returns-clause-given
+returns-clause-given c =
+    let time = c.in-Some in
+    let bytes = c.args.bytes.now in
+    let all = all_bytes bytes (λ i. omega (arith, c.type_inv.bytes i)) in
+    if_given c.transcode_record.result _ _ (λ rest h. without_meta_done c.args.depth time.sec time.nsec bytes time.last.now rest.now c.args.out.now c.put_time.new.out c.put_byte.new.out _ c.requires time.ensures.range.0 time.ensures.range.1 all
+    time.ensures.read c.in_ok-put_time.ensures.ok c.in_ok-put_byte.ensures.ok h) c.transcode_record.ensures.given
