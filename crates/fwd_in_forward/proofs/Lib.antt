@@ -4,6 +4,5 @@ pub mod Parts
 pub mod NextMessage
 pub mod ScanResult
 pub mod Feed
-pub mod Heads
 pub mod EncodedParts
 pub mod PartsRead

@@ -5,12 +5,11 @@ use Rattle.fwd_value.specs.Val.{Val, text, bin, list, Vals, no_vals, val}
 use Rattle.fwd_value.specs.Keys.{Record}
 use Rattle.fwd_value.specs.Limits.{nesting, nestings, value_count}
 use Rattle.fwd_msgpack.specs.Encodings.{EncodesAll}
+use Rattle.fwd_msgpack.specs.Heads.{StartsWith, StartsWithList}
 use Rattle.fwd_event.specs.declared.event.Event.{Event}
-use Rattle.fwd_event.specs.Event.{AreEvents}
+use Rattle.fwd_event.specs.Event.{Timestamp, time_of, event_of, AreEvents}
 use Rattle.fwd_event.specs.EventPrefix.{encodings, IsWritable}
-use Rattle.fwd_wire.specs.Message.{tag_of, option_of, events_of, is_plain, option_value, chunk_key}
-use Rattle.fwd_transcode.specs.Transcoded.{StartsWith}
-use Rattle.fwd_in_forward.specs.Headers.{StartsWithList}
+use Rattle.fwd_wire.specs.Message.{tag_of, option_of, in_front, events_of, is_plain, option_value, chunk_key}
 
 -- a value that carries these events in a message: a list of them, or the bytes of them
 abbrev pub CarriesEvents : Val → List Event → Type 0
@@ -18,6 +17,15 @@ CarriesEvents (list vs) es = events_of vs ≡ Some es
 CarriesEvents (text b) es = AreEvents es b
 CarriesEvents (bin b) es = AreEvents es b
 CarriesEvents _ es = ⊥
+
+-- the members carry these events in a message: a list of them or their bytes, or the time and the record of
+-- one
+abbrev pub CarryEvents : Vals → List Event → Type 0
+CarryEvents (val v no_vals) es = CarriesEvents v es
+CarryEvents (val time (val body no_vals)) es =
+    (moment : Timestamp) × (time_of time ≡ Some moment)
+    × (in_front (event_of (list (val time (val body no_vals)))) (Some []) ≡ Some es)
+CarryEvents _ es = ⊥
 
 -- the value is this option, and not nested too deep for a member of a message
 abbrev pub IsOption : Val → Record → Type 0
@@ -40,15 +48,21 @@ abbrev pub StartsWithHead : ℕ → List ℕ → List ℕ → List ℕ → Type 
 StartsWithHead members tag rest b =
     (behind : List ℕ) × StartsWithList (members + 2) behind b × StartsWithTag tag rest behind
 
--- the bytes are what carries these events in a message, and then the rest
-abbrev pub StartsWithEvents : List Event → List ℕ → List ℕ → Type 0
-StartsWithEvents es rest b =
-    (v : Val) × CarriesEvents v es × (nesting v ≤ deepest - 1) × StartsWith v rest b
+-- the bytes are so many members that carry these events in a message, and then the rest
+pub record StartsWithEvents (carriers : ℕ) (es : List Event) (rest b : List ℕ) : Type 0 where
+  pub values : Vals
+  pub count : value_count values ≡ carriers
+  pub carry : CarryEvents values es
+  pub nested : nestings values ≤ deepest - 1
+  pub front : List ℕ
+  pub parts : b ≡ front ++ rest
+  pub encoded : EncodesAll values front
 
--- the n events that a message carries at the start of the bytes were written in their stored encodings
-pub record CopiesEvents (n : ℕ) (rest b old new : List ℕ) : Type 0 where
+-- the n events that so many members at the start of the bytes carry in a message were written in their
+-- stored encodings
+pub record CopiesEvents (n carriers : ℕ) (rest b old new : List ℕ) : Type 0 where
   pub events : List Event
-  pub carried : StartsWithEvents events rest b
+  pub carried : StartsWithEvents carriers events rest b
   pub many : length events ≡ n
   pub writable : All IsWritable events
   pub written : new ≡ old ++ encodings events

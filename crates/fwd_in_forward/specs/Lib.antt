@@ -1,6 +1,5 @@
 pub mod Conn
 pub mod NextMessage
-pub mod Headers
 pub mod EncodedParts
 pub mod EncodedMessage
 pub mod Received

@@ -37,18 +37,18 @@ pub fn read_encoded(alloc: Global, bytes: &[u8]) -> Result<Option<(EncodedMessag
         return Ok(None);
     };
     let mut events = Bytes::new(alloc);
-    let Some((count, behind)) = copy_events(rest, &mut events)? else {
+    let Some(copied) = copy_events(members, rest, &mut events)? else {
         return Ok(None);
     };
-    let Some(ending) = read_acknowledgement(alloc, members, behind)? else {
+    let Some(ending) = read_acknowledgement(alloc, copied.members, copied.rest)? else {
         return Ok(None);
     };
     let Acknowledgement { chunk, length } = ending;
     let message = EncodedMessage {
         tag: Bytes::from_slice(alloc, tag)?,
-        count,
+        count: copied.count,
         events,
         chunk,
     };
-    Ok(Some((message, front.len() - behind.len() + length)))
+    Ok(Some((message, front.len() - copied.rest.len() + length)))
 }

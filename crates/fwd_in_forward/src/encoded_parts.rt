@@ -1,22 +1,28 @@
 //! The parts of a message, read where they are: its tag, its events and its option.
 
-ghost use Rattle.std.specs.Prelude.{◌≡◌, option_map, IfOk, IfSome};
-ghost use Rattle.fwd_value.specs.Keys.{Record, is_text};
+ghost use Rattle.std.specs.Prelude.{◌+◌, ◌-◌, option_map, IfOk, IfSome};
+ghost use Rattle.fwd_value.specs.Keys.{Record};
 ghost use Rattle.fwd_value.specs.View.{val_of};
-ghost use Rattle.fwd_wire.specs.Message.{is_tag, is_plain, option_value, chunk_key, text_word};
 ghost use Rattle.fwd_in_forward.specs.EncodedParts.{StartsWithTag, StartsWithHead, CopiesEvents, StartsWithOption, IsOption, AsksFor};
 
-use crate::header::{list_head, split_bytes};
-use fwd_base::limits::{DEEPEST, LONGEST_TAG};
-use fwd_base::{Bytes, Memory, is_utf8};
-use fwd_msgpack::{DecodeErr, decode};
-use fwd_transcode::{transcode_entries, transcode_packed};
-use fwd_value::{index_of, is_text, value_of};
-use fwd_wire::{Pairs, Value};
+use fwd_base::limits::DEEPEST;
+use fwd_base::{Bytes, Memory};
+use fwd_msgpack::{DecodeErr, decode, list_head, split_bytes};
+use fwd_transcode::{transcode_entries, transcode_packed, transcode_single};
+use fwd_wire::{Pairs, Value, chunk_of, is_plain, is_tag};
 use std::alloc::Global;
 
 /// How deep a member of an option may be nested: the message and the option are two levels.
 const MEMBER_DEPTH: u64 = DEEPEST as u64 - 2;
+
+/// Events of a message that were copied: their number, how many members the message has after them, and the
+/// bytes after them.
+#[derive(Drop)]
+pub struct CopiedEvents<'b> {
+    pub count: usize,
+    pub members: usize,
+    pub rest: &'b [u8],
+}
 
 /// The chunk that a message asks to acknowledge, and the length of its option in bytes.
 #[derive(Drop)]
@@ -44,41 +50,70 @@ fn split_tag(bytes: &[u8]) -> Option<(&[u8], &[u8])>
     if is_tag(tag) { Some((tag, rest)) } else { None }
 }
 
-/// Returns whether bytes may be a tag: a text of 1 to 1,024 bytes.
-fn is_tag(bytes: &[u8]) -> bool
-    ensures { result ≡ is_tag bytes.now }
-{
-    0 < bytes.len() && bytes.len() <= LONGEST_TAG && is_utf8(bytes)
-}
-
-/// Appends the stored encodings of the events that a message has at the start of the bytes. Returns how
-/// many they are, and the bytes after them.
+/// Appends the stored encodings of the events that the bytes start with, of a message that has `members`
+/// members after its first two; the bytes are those from the second one on. `None` unless the events can be
+/// copied; `out` may then end in some of them.
 pub fn copy_events<'b>(
+    members: usize,
     bytes: &'b [u8],
     out: &mut Bytes,
-) -> Result<Option<(usize, &'b [u8])>, Memory>
-    ensures { IfOk result
-        (λ found. IfSome found (λ x. CopiesEvents x.0 x.1.now bytes.now out.old out.new)) }
+) -> Result<Option<CopiedEvents<'b>>, Memory>
+    ensures { IfOk result (λ found. IfSome found (λ x.
+        CopiesEvents x.count (members + 1 - x.members) x.rest.now bytes.now out.old out.new)) }
 {
     match list_head(bytes) {
         Some((count, entries)) => match transcode_entries(count, entries, out)? {
-            Some(rest) => Ok(Some((count, rest))),
+            Some(rest) => Ok(Some(CopiedEvents {
+                count,
+                members,
+                rest,
+            })),
             None => Ok(None),
         },
-        None => copy_packed(bytes, out),
+        None => copy_unlisted(members, bytes, out),
     }
 }
 
-/// The same of events that are the content of a text or bin.
-fn copy_packed<'b>(bytes: &'b [u8], out: &mut Bytes) -> Result<Option<(usize, &'b [u8])>, Memory>
-    ensures { IfOk result
-        (λ found. IfSome found (λ x. CopiesEvents x.0 x.1.now bytes.now out.old out.new)) }
+/// The same of events that aren't in a list.
+fn copy_unlisted<'b>(
+    members: usize,
+    bytes: &'b [u8],
+    out: &mut Bytes,
+) -> Result<Option<CopiedEvents<'b>>, Memory>
+    ensures { IfOk result (λ found. IfSome found (λ x.
+        CopiesEvents x.count (members + 1 - x.members) x.rest.now bytes.now out.old out.new)) }
 {
-    let Some((content, rest)) = split_bytes(bytes) else {
+    match split_bytes(bytes) {
+        Some((content, rest)) => match transcode_packed(content, out)? {
+            Some(count) => Ok(Some(CopiedEvents {
+                count,
+                members,
+                rest,
+            })),
+            None => Ok(None),
+        },
+        None => copy_single(members, bytes, out),
+    }
+}
+
+/// The same of one event, whose time and record are members of the message.
+fn copy_single<'b>(
+    members: usize,
+    bytes: &'b [u8],
+    out: &mut Bytes,
+) -> Result<Option<CopiedEvents<'b>>, Memory>
+    ensures { IfOk result (λ found. IfSome found (λ x.
+        CopiesEvents x.count (members + 1 - x.members) x.rest.now bytes.now out.old out.new)) }
+{
+    let Some(members) = members.checked_sub(1) else {
         return Ok(None);
     };
-    match transcode_packed(content, out)? {
-        Some(count) => Ok(Some((count, rest))),
+    match transcode_single(bytes, out)? {
+        Some(rest) => Ok(Some(CopiedEvents {
+            count: 1,
+            members,
+            rest,
+        })),
         None => Ok(None),
     }
 }
@@ -158,38 +193,5 @@ fn option_of(alloc: Global, value: Value) -> Option<Pairs>
         | Value::Float64(_)
         | Value::Ext(_, _)
         | Value::List(_) => None,
-    }
-}
-
-/// Returns whether the option says that the entries aren't compressed.
-fn is_plain(alloc: Global, option: &Pairs) -> Result<bool, Memory>
-    ensures { IfOk result (λ plain. plain ≡ is_plain option.now) }
-{
-    let key = Bytes::from_slice(alloc, b"compressed")?;
-    match value_of(option, &key) {
-        Some(value) => is_word(alloc, value),
-        None => Ok(true),
-    }
-}
-
-/// Returns whether a value is the text `text`.
-fn is_word(alloc: Global, value: &Value) -> Result<bool, Memory>
-    ensures { IfOk result (λ is. is ≡ is_text text_word (val_of value.now)) }
-{
-    let word = Bytes::from_slice(alloc, b"text")?;
-    Ok(is_text(value, &word))
-}
-
-/// Returns the chunk that the option asks to acknowledge.
-fn chunk_of(alloc: Global, mut option: Pairs) -> Result<Option<Value>, Memory>
-    ensures { IfOk result (λ chunk. option_map val_of chunk ≡ option_value option chunk_key) }
-{
-    let key = Bytes::from_slice(alloc, b"chunk")?;
-    match index_of(&option, &key) {
-        Some(place) => {
-            let (_, chunk) = option.remove(place);
-            Ok(Some(chunk))
-        }
-        None => Ok(None),
     }
 }

@@ -4,7 +4,8 @@
 //! comes and once when the message is whole.
 //!
 //! `feed` returns events as values. `receive` returns the same messages, and copies the events of a batch
-//! from their bytes straight into the encoding that is stored, where it can.
+//! from their bytes straight into the encoding that is stored, where it can. A message whose events can't be
+//! copied so is read a second time, as `feed` reads it.
 //!
 //! After a fault it returns no message and the same fault forever. If an allocation fails, it is unchanged.
 #![tactic(auto)]
@@ -12,7 +13,6 @@
 mod conn;
 mod encoded_message;
 mod encoded_parts;
-mod header;
 mod message_reader;
 mod next_message;
 mod read_message;

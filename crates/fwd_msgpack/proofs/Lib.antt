@@ -13,3 +13,4 @@ pub mod Exclusive
 pub mod Skipping
 pub mod LevelCounts
 pub mod ScanAnswers
+pub mod Heads

@@ -7,3 +7,4 @@ pub mod KeptFront
 pub mod Levels
 pub mod Continuations
 pub mod ScanState
+pub mod Heads

@@ -1,6 +1,8 @@
+//! The encoder, and the canonical headers and numbers that it is made of.
+
 ghost use Rattle.std.specs.Prelude.{◌≡◌, ◌↔◌, ◌<◌, ◌≤◌, ◌-◌, ◌^◌, ℕ, ℤ, List, [], ◌∷◌, ◌++◌, length, map, IsTrue, OnOk, OnErr};
 ghost use Rattle.fwd_base.specs.Limits.{deepest};
-ghost use Rattle.fwd_value.specs.Val.{vals_of, entries_of, text, bin, ext, whole, mapping};
+ghost use Rattle.fwd_value.specs.Val.{vals_of, entries_of, truth, text, bin, float32, float64, ext, whole, mapping};
 ghost use Rattle.fwd_value.specs.View.{val_of, pair_of};
 ghost use Rattle.fwd_value.specs.Limits.{nesting, LengthsFit, AllLengthsFit, EntryLengthsFit, IsInRange, AreInRange, EntriesAreInRange};
 ghost use Rattle.fwd_msgpack.specs.Canonical.{number_bytes, minus_bytes, whole_bytes, text_head, bin_head, ext_head, list_head, map_head, canonical, canonical_all, canonical_entries};
@@ -23,15 +25,16 @@ fn put(out: &mut Bytes, first: u8, rest: &[u8]) -> Result<(), Memory>
 /// Appends one byte.
 #[inline(always)]
 #[tactic(auto, using(crate::proofs::KeptFront::keeps_same))]
-fn put_byte(out: &mut Bytes, byte: u8) -> Result<(), Memory>
+pub fn put_byte(out: &mut Bytes, byte: u8) -> Result<(), Memory>
     ensures ok { OnOk result (out.new ≡ out.old ++ byte ∷ []) }
     ensures err { OnErr result (KeepsFront out.old out.new) }
 {
     out.push(byte)
 }
 
+/// Appends a number from 0 on.
 #[tactic(auto, unfolding(crate::specs::Canonical::number_bytes))]
-fn put_number(out: &mut Bytes, n: u64) -> Result<(), Memory>
+pub fn put_number(out: &mut Bytes, n: u64) -> Result<(), Memory>
     ensures ok { OnOk result (out.new ≡ out.old ++ number_bytes n) }
     ensures err { OnErr result (KeepsFront out.old out.new) }
 {
@@ -72,6 +75,42 @@ fn put_negative(out: &mut Bytes, n: u64) -> Result<(), Memory>
     }
 }
 
+/// Appends a truth value.
+pub fn put_truth(out: &mut Bytes, value: bool) -> Result<(), Memory>
+    ensures ok { OnOk result (out.new ≡ out.old ++ canonical (truth value)) }
+    ensures err { OnErr result (KeepsFront out.old out.new) }
+{
+    put_byte(out, if value { 0xc3 } else { 0xc2 })
+}
+
+/// Appends a float of 32 bits, by its bits.
+pub fn put_float32(out: &mut Bytes, bits: u32) -> Result<(), Memory>
+    ensures ok { OnOk result (out.new ≡ out.old ++ canonical (float32 bits)) }
+    ensures err { OnErr result (KeepsFront out.old out.new) }
+{
+    put(out, 0xca, bits.to_be_bytes().as_slice())
+}
+
+/// Appends a float of 64 bits, by its bits.
+pub fn put_float64(out: &mut Bytes, bits: u64) -> Result<(), Memory>
+    ensures ok { OnOk result (out.new ≡ out.old ++ canonical (float64 bits)) }
+    ensures err { OnErr result (KeepsFront out.old out.new) }
+{
+    put(out, 0xcb, bits.to_be_bytes().as_slice())
+}
+
+/// Appends a whole number, in its shortest form.
+pub fn put_whole(out: &mut Bytes, n: i64) -> Result<(), Memory>
+    ensures ok { OnOk result (out.new ≡ out.old ++ whole_bytes n) }
+    ensures err { OnErr result (KeepsFront out.old out.new) }
+{
+    if n < 0 {
+        put_negative(out, (-1 - n) as u64)
+    } else {
+        put_number(out, n as u64)
+    }
+}
+
 fn put_below_zero(out: &mut Bytes, below: &Below) -> Result<(), Memory>
     ensures ok { OnOk result (out.new ≡ out.old ++ whole_bytes below.now) }
     ensures in_range { IsInRange (whole below.now) }
@@ -81,25 +120,30 @@ fn put_below_zero(out: &mut Bytes, below: &Below) -> Result<(), Memory>
     put_negative(out, (-1 - n) as u64)
 }
 
+/// Appends the header of a text of `n` bytes.
 #[tactic(auto, unfolding(crate::specs::Canonical::text_head))]
-fn put_text_head(out: &mut Bytes, n: usize) -> Result<(), Memory>
+pub fn put_text_head(out: &mut Bytes, n: usize) -> Result<(), Memory>
     requires { n < 2 ^ 32 }
     ensures ok { OnOk result (out.new ≡ out.old ++ text_head n) }
     ensures err { OnErr result (KeepsFront out.old out.new) }
 {
     if n < 32 {
-        put_byte(out, 0xa0 + n as u8)
-    } else if n < 256 {
-        put(out, 0xd9, [n as u8].as_slice())
-    } else if n < 65_536 {
-        put(out, 0xda, (n as u16).to_be_bytes().as_slice())
-    } else {
-        put(out, 0xdb, (n as u32).to_be_bytes().as_slice())
+        return put_byte(out, 0xa0 + n as u8);
     }
+    if n < 256 {
+        return put_bytes(out, [0xd9, n as u8].as_slice());
+    }
+    if n < 65_536 {
+        let [a, b] = (n as u16).to_be_bytes();
+        return put_bytes(out, [0xda, a, b].as_slice());
+    }
+    let [a, b, c, d] = (n as u32).to_be_bytes();
+    put_bytes(out, [0xdb, a, b, c, d].as_slice())
 }
 
+/// Appends the header of a bin of `n` bytes.
 #[tactic(auto, unfolding(crate::specs::Canonical::bin_head))]
-fn put_bin_head(out: &mut Bytes, n: usize) -> Result<(), Memory>
+pub fn put_bin_head(out: &mut Bytes, n: usize) -> Result<(), Memory>
     requires { n < 2 ^ 32 }
     ensures ok { OnOk result (out.new ≡ out.old ++ bin_head n) }
     ensures err { OnErr result (KeepsFront out.old out.new) }
@@ -113,8 +157,9 @@ fn put_bin_head(out: &mut Bytes, n: usize) -> Result<(), Memory>
     }
 }
 
+/// Appends the header of an extension of `n` bytes, up to its type.
 #[tactic(auto, unfolding(crate::specs::Canonical::ext_head))]
-fn put_ext_head(out: &mut Bytes, n: usize) -> Result<(), Memory>
+pub fn put_ext_head(out: &mut Bytes, n: usize) -> Result<(), Memory>
     requires { n < 2 ^ 32 }
     ensures ok { OnOk result (out.new ≡ out.old ++ ext_head n) }
     ensures err { OnErr result (KeepsFront out.old out.new) }
@@ -138,8 +183,9 @@ fn put_ext_head(out: &mut Bytes, n: usize) -> Result<(), Memory>
     }
 }
 
+/// Appends the header of a list of `n` values.
 #[tactic(auto, unfolding(crate::specs::Canonical::list_head))]
-fn put_list_head(out: &mut Bytes, n: usize) -> Result<(), Memory>
+pub fn put_list_head(out: &mut Bytes, n: usize) -> Result<(), Memory>
     requires { n < 2 ^ 32 }
     ensures ok { OnOk result (out.new ≡ out.old ++ list_head n) }
     ensures err { OnErr result (KeepsFront out.old out.new) }
@@ -153,8 +199,9 @@ fn put_list_head(out: &mut Bytes, n: usize) -> Result<(), Memory>
     }
 }
 
+/// Appends the header of a map of `n` pairs.
 #[tactic(auto, unfolding(crate::specs::Canonical::map_head))]
-fn put_map_head(out: &mut Bytes, n: usize) -> Result<(), Memory>
+pub fn put_map_head(out: &mut Bytes, n: usize) -> Result<(), Memory>
     requires { n < 2 ^ 32 }
     ensures ok { OnOk result (out.new ≡ out.old ++ map_head n) }
     ensures err { OnErr result (KeepsFront out.old out.new) }
@@ -168,8 +215,9 @@ fn put_map_head(out: &mut Bytes, n: usize) -> Result<(), Memory>
     }
 }
 
+/// Appends a text.
 #[tactic(auto, using(crate::proofs::KeptFront::keeps_behind))]
-fn put_text(out: &mut Bytes, bytes: &[u8]) -> Result<(), Memory>
+pub fn put_text(out: &mut Bytes, bytes: &[u8]) -> Result<(), Memory>
     requires { length bytes.now < 2 ^ 32 }
     ensures ok { OnOk result (out.new ≡ out.old ++ canonical (text bytes.now)) }
     ensures err { OnErr result (KeepsFront out.old out.new) }
@@ -202,7 +250,7 @@ fn put_ext(out: &mut Bytes, kind: i8, bytes: &[u8]) -> Result<(), Memory>
 /// Appends bytes.
 #[inline(always)]
 #[tactic(auto, using(crate::proofs::KeptFront::keeps_same))]
-fn put_bytes(out: &mut Bytes, bytes: &[u8]) -> Result<(), Memory>
+pub fn put_bytes(out: &mut Bytes, bytes: &[u8]) -> Result<(), Memory>
     ensures ok { OnOk result (out.new ≡ out.old ++ bytes.now) }
     ensures err { OnErr result (KeepsFront out.old out.new) }
 {
@@ -218,13 +266,13 @@ fn write_value(value: &Value, out: &mut Bytes) -> Result<(), Memory>
 {
     match value {
         Value::Nil => put_byte(out, 0xc0),
-        Value::Truth(truth) => put_byte(out, if *truth { 0xc3 } else { 0xc2 }),
+        Value::Truth(truth) => put_truth(out, *truth),
         Value::Uint(n) => put_number(out, *n),
         Value::Neg(below) => put_below_zero(out, below),
         Value::Text(bytes) => put_text(out, bytes.as_slice()),
         Value::Bin(bytes) => put_bin(out, bytes.as_slice()),
-        Value::Float32(bits) => put(out, 0xca, bits.to_be_bytes().as_slice()),
-        Value::Float64(bits) => put(out, 0xcb, bits.to_be_bytes().as_slice()),
+        Value::Float32(bits) => put_float32(out, *bits),
+        Value::Float64(bits) => put_float64(out, *bits),
         Value::Ext(kind, bytes) => put_ext(out, *kind, bytes.as_slice()),
         Value::List(values) => {
             put_list_head(out, values.len())?;

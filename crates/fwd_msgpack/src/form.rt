@@ -28,6 +28,7 @@ pub enum Form {
     PositiveFixint(u8),
     NegativeFixint(i8),
     Uint(ByteWidth),
+    /// In two's complement.
     Int(ByteWidth),
     Float32,
     Float64,
@@ -38,6 +39,7 @@ pub enum Form {
     Map(Count),
 }
 
+/// Returns the format that a first byte selects.
 #[inline(always)]
 #[tactic(auto, unfolding(crate::specs::Table::form_of))]
 pub fn form_of(first: u8) -> Form

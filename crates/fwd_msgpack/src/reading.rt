@@ -10,12 +10,15 @@ ghost use Rattle.fwd_msgpack.specs.Decoder.{DecodesAs, number_at, bytes_at, byte
 
 use crate::fault::{FormatErr, ReadErr};
 use crate::form::{ByteWidth, Count, Form, form_of};
+use crate::numbers::sign_extended;
 use fwd_base::Bytes;
 use fwd_value::{Below, Pairs, Value, Values};
 use std::alloc::{AllocError, Global};
 
+/// Returns the number of this width that the bytes start with.
+#[inline(always)]
 #[tactic(auto, unfolding(crate::specs::Decoder::number_at, crate::specs::Encodings::number, crate::specs::Encodings::size))]
-fn number_of(bytes: &[u8], w: ByteWidth) -> Result<(u64, &[u8]), ReadErr>
+pub fn number_of(bytes: &[u8], w: ByteWidth) -> Result<(u64, &[u8]), ReadErr>
     ensures read { DecodesAs (λ x. (x.0, x.1.now)) result (number_at w bytes.now) }
     ensures fits { IfOk result (λ x. IsWithin w x.0) }
 {
@@ -96,18 +99,6 @@ fn counted_of(alloc: Global, bytes: &[u8], k: Count) -> Result<(Bytes, &[u8]), R
 {
     let (n, rest) = count_of(bytes, k)?;
     bytes_of(alloc, rest, n)
-}
-
-fn sign_extended(n: u64, w: ByteWidth) -> i64
-    requires { IsWithin w n }
-    ensures { result ≡ cast_signed (width w) n }
-{
-    match w {
-        ByteWidth::One => (n as u8).cast_signed() as i64,
-        ByteWidth::Two => (n as u16).cast_signed() as i64,
-        ByteWidth::Four => (n as u32).cast_signed() as i64,
-        ByteWidth::Eight => n.cast_signed(),
-    }
 }
 
 pub fn whole(n: i64) -> Value

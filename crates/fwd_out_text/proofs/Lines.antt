@@ -4,11 +4,12 @@ use Rattle.std.proofs.lemmas.List.{length-append, take_at}
 use Rattle.fwd_value.specs.Val.{Val, mapping, entries_of}
 use Rattle.fwd_msgpack.specs.Encodings.{Encodes}
 use Rattle.fwd_msgpack.specs.DecodeAnswers.{EncodesPrefix}
+use Rattle.fwd_msgpack.specs.Heads.{StartsWithMap}
 use Rattle.fwd_msgpack.proofs.EncodeLoops.{how_many_entries_is}
 use Rattle.fwd_event.specs.declared.event.Event.{Event}
 use Rattle.fwd_event.proofs.PartwiseDecoding.{empty_encoded, event_encoded}
 use Rattle.fwd_out_text.specs.FirstEvent.{StartsWithEvent}
-use Rattle.fwd_out_text.specs.Headers.{deepest_member, StartsWithMap, StartsWithHeader, StartsWithPairs}
+use Rattle.fwd_out_text.specs.Headers.{deepest_member, StartsWithHeader, StartsWithPairs}
 
 -- a suffix of the bytes isn't longer than they are
 pub not_longer : (front rest b : List ℕ) → b ≡ front ++ rest → length b ≡ length front + length rest

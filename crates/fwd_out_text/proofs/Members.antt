@@ -5,10 +5,11 @@ use Rattle.std.proofs.lemmas.List.{append-nil, length-append}
 use Rattle.fwd_value.specs.Val.{Val, text, mapping, entries_of}
 use Rattle.fwd_value.specs.Limits.{nesting, entry_nestings}
 use Rattle.fwd_msgpack.specs.Encodings.{Encodes, EncodesEntries}
+use Rattle.fwd_msgpack.specs.Heads.{StartsWith, StartsWithMap}
 use Rattle.fwd_msgpack.proofs.EncodeLoops.{how_many_entries_is}
 use Rattle.fwd_json.specs.declared.floats.Floats.{Floats}
 use Rattle.fwd_json.specs.Text.{json, string, key_text, pair_text, pairs_text, more_pairs}
-use Rattle.fwd_out_text.specs.Headers.{StartsWith, StartsWithMap, StartsWithPair, StartsWithPairs}
+use Rattle.fwd_out_text.specs.Headers.{StartsWithPair, StartsWithPairs}
 
 -- a property of a result implies a weaker one
 pub if_ok : {A E : Type 0} (r : Result A E) (P Q : A → Type 0) → ((x : A) → P x → Q x) → IfOk r P → IfOk r Q

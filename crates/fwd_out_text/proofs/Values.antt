@@ -4,10 +4,11 @@ use Rattle.std.proofs.lemmas.List.{append-nil, length-append}
 use Rattle.fwd_value.specs.Val.{Val, list, vals_of}
 use Rattle.fwd_value.specs.Limits.{nesting, nestings}
 use Rattle.fwd_msgpack.specs.Encodings.{Encodes, EncodesAll}
+use Rattle.fwd_msgpack.specs.Heads.{StartsWith, StartsWithList}
 use Rattle.fwd_msgpack.proofs.EncodeLoops.{how_many_is}
 use Rattle.fwd_json.specs.declared.floats.Floats.{Floats}
 use Rattle.fwd_json.specs.Text.{json, values_text, more_values}
-use Rattle.fwd_out_text.specs.Headers.{StartsWith, StartsWithList, StartsWithValues}
+use Rattle.fwd_out_text.specs.Headers.{StartsWithValues}
 
 -- ---- one more value
 

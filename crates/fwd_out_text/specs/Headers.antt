@@ -1,37 +1,11 @@
--- Encoded values at the start of bytes, and the rest after them.
+-- Encoded events, values and pairs at the start of bytes, and the rest after them.
 use Rattle.std.specs.Prelude.{◌≡◌, ℕ, ◌-◌, ◌≤◌, List, ◌∷◌, ◌++◌, length, Some}
 use Rattle.fwd_base.specs.Limits.{deepest}
-use Rattle.fwd_value.specs.Val.{Val, text, list, mapping, Vals, vals_of, Entries, entries_of}
-use Rattle.fwd_value.specs.Limits.{nesting, nestings, value_count, entry_count, entry_nestings}
-use Rattle.fwd_msgpack.specs.declared.form.Count.{Count}
-use Rattle.fwd_msgpack.specs.Encodings.{Counts, Encodes, EncodesAll, EncodesEntries}
+use Rattle.fwd_value.specs.Val.{Val, vals_of, entries_of}
+use Rattle.fwd_value.specs.Limits.{nesting, nestings, entry_nestings}
+use Rattle.fwd_msgpack.specs.Encodings.{Encodes, EncodesAll, EncodesEntries}
+use Rattle.fwd_msgpack.specs.Heads.{StartsWithMap}
 use Rattle.fwd_event.specs.Event.{event_time}
-
--- the bytes are an encoding of the value and then the rest
-abbrev pub StartsWith : Val → List ℕ → List ℕ → Type 0
-StartsWith v rest b = (front : List ℕ) × (b ≡ front ++ rest) × Encodes v front
-
--- the bytes are the length n and then the rest
-abbrev pub StartsWithLength : Count → ℕ → List ℕ → List ℕ → Type 0
-StartsWithLength k n rest b = (len : List ℕ) × (b ≡ len ++ rest) × Counts k n len
-
--- the bytes are the header of a text of n bytes and then the rest
-abbrev pub StartsWithText : ℕ → List ℕ → List ℕ → Type 0
-StartsWithText n rest b =
-    (head : List ℕ) × (b ≡ head ++ rest) × ((s : List ℕ) → length s ≡ n → Encodes (text s) (head ++ s))
-
--- the bytes are the header of a list of n values and then the rest
-abbrev pub StartsWithList : ℕ → List ℕ → List ℕ → Type 0
-StartsWithList n rest b =
-    (head : List ℕ) × (b ≡ head ++ rest)
-    × ((vs : Vals) (s : List ℕ) → value_count vs ≡ n → EncodesAll vs s → Encodes (list vs) (head ++ s))
-
--- the bytes are the header of a map of n pairs and then the rest
-abbrev pub StartsWithMap : ℕ → List ℕ → List ℕ → Type 0
-StartsWithMap n rest b =
-    (head : List ℕ) × (b ≡ head ++ rest)
-    × ((es : Entries) (s : List ℕ) → entry_count es ≡ n → EncodesEntries es s
-    → Encodes (mapping es) (head ++ s))
 
 -- the bytes are the header of an event with this time and no metadata, in the encoding that this program
 -- writes, and then its record

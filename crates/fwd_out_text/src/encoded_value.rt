@@ -9,14 +9,14 @@
 ghost use Rattle.std.specs.Prelude.{◌≡◌, ◌≤◌, ◌++◌, List, length, IfOk, IfSome, OnOk};
 ghost use Rattle.fwd_value.specs.Val.{Val, list, vals_of, mapping, entries_of};
 ghost use Rattle.fwd_value.specs.Limits.{nesting};
+ghost use Rattle.fwd_msgpack.specs.Heads.{StartsWith};
 ghost use Rattle.fwd_msgpack.specs.KeptFront.{KeepsFront};
 ghost use Rattle.fwd_json.specs.Text.{json, values_text, more_values, pair_text, pairs_text, more_pairs};
-ghost use Rattle.fwd_out_text.specs.Headers.{StartsWith, StartsWithValues, StartsWithPair, StartsWithPairs};
+ghost use Rattle.fwd_out_text.specs.Headers.{StartsWithValues, StartsWithPair, StartsWithPairs};
 
-use crate::header::{list_head, map_head, split_text};
 use fwd_base::{Bytes, Memory};
 use fwd_json::{Floats, key_text, string_text, value_text};
-use fwd_msgpack::decode;
+use fwd_msgpack::{decode, list_head, map_head, split_text};
 use std::alloc::Global;
 
 /// Appends the value that the bytes start with.

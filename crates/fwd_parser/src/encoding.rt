@@ -1,9 +1,8 @@
 //! Encoding of the event of a line.
 
 ghost use Rattle.std.specs.Prelude.{◌≡◌, ◌↔◌, ◌<◌, ◌^◌, ◌++◌, length, IsTrue, IfOk, OnOk, OnErr, if◌then◌else◌};
-ghost use Rattle.fwd_value.specs.Val.{text};
 ghost use Rattle.fwd_event.specs.Event.{event_val, EventFits};
-ghost use Rattle.fwd_msgpack.specs.Canonical.{canonical, text_head};
+ghost use Rattle.fwd_msgpack.specs.Canonical.{canonical};
 ghost use Rattle.fwd_msgpack.specs.KeptFront.{KeepsFront};
 ghost use Rattle.fwd_parser.specs.LineEvent.{at, clock_moment, plain};
 ghost use Rattle.fwd_parser.specs.EventHead.{event_head};
@@ -11,48 +10,7 @@ ghost use Rattle.fwd_parser.specs.EventHead.{event_head};
 use crate::event_time::clock_moment;
 use fwd_base::{Bytes, Memory};
 use fwd_event::{Event, can_write, write_event};
-
-/// Appends bytes.
-#[inline(always)]
-#[tactic(auto, using(fwd_msgpack::proofs::KeptFront::keeps_same))]
-fn put(bytes: &[u8], out: &mut Bytes) -> Result<(), Memory>
-    ensures ok { OnOk result (out.new ≡ out.old ++ bytes.now) }
-    ensures err { OnErr result (KeepsFront out.old out.new) }
-{
-    out.extend_from_slice(bytes)
-}
-
-/// Appends the header of a text.
-#[tactic(auto, unfolding(fwd_msgpack::specs::Canonical::text_head))]
-fn put_text_head(n: usize, out: &mut Bytes) -> Result<(), Memory>
-    requires { n < 2 ^ 32 }
-    ensures ok { OnOk result (out.new ≡ out.old ++ text_head n) }
-    ensures err { OnErr result (KeepsFront out.old out.new) }
-{
-    if n < 32 {
-        return put([0xa0 + n as u8].as_slice(), out);
-    }
-    if n < 256 {
-        return put([0xd9, n as u8].as_slice(), out);
-    }
-    if n < 65_536 {
-        let [a, b] = (n as u16).to_be_bytes();
-        return put([0xda, a, b].as_slice(), out);
-    }
-    let [a, b, c, d] = (n as u32).to_be_bytes();
-    put([0xdb, a, b, c, d].as_slice(), out)
-}
-
-/// Appends a text.
-#[tactic(auto, using(fwd_msgpack::proofs::KeptFront::keeps_behind))]
-pub fn put_text(bytes: &[u8], out: &mut Bytes) -> Result<(), Memory>
-    requires { length bytes.now < 2 ^ 32 }
-    ensures ok { OnOk result (out.new ≡ out.old ++ canonical (text bytes.now)) }
-    ensures err { OnErr result (KeepsFront out.old out.new) }
-{
-    put_text_head(bytes.len(), out)?;
-    put(bytes, out)
-}
+use fwd_msgpack::{put_bytes, put_text};
 
 /// Appends the encoding of an event at a moment, up to the pairs of its record.
 pub fn put_head(moment: (u32, u32), n: usize, out: &mut Bytes) -> Result<(), Memory>
@@ -65,7 +23,7 @@ pub fn put_head(moment: (u32, u32), n: usize, out: &mut Bytes) -> Result<(), Mem
     let [e, f, g, h] = nsec.to_be_bytes();
     let pairs = 0x80 + n as u8;
     let head = [0x92, 0x92, 0xd7, 0x00, a, b, c, d, e, f, g, h, 0x80, pairs];
-    put(head.as_slice(), out)
+    put_bytes(out, head.as_slice())
 }
 
 /// Appends the encoding of the event of a short line that is kept whole.
@@ -76,8 +34,8 @@ fn put_short(moment: (u32, u32), line: &[u8], out: &mut Bytes) -> Result<(), Mem
     ensures err { OnErr result (KeepsFront out.old out.new) }
 {
     put_head(moment, 1, out)?;
-    put_text(b"log", out)?;
-    put_text(line, out)
+    put_text(out, b"log")?;
+    put_text(out, line)
 }
 
 /// Appends the encoding of the event of a line that is kept whole, at the clock's moment, and returns whether

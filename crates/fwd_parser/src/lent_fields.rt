@@ -17,7 +17,7 @@ ghost use Rattle.fwd_parser.specs.LineEvent.{at, body_of, field_moment, moment_o
 ghost use Rattle.fwd_parser.specs.LineReader.{IsReady};
 ghost use Rattle.fwd_parser.specs.LentFields.{lent_field, lent_record, AreShort};
 
-use crate::encoding::{put_decoded, put_head, put_text};
+use crate::encoding::{put_decoded, put_head};
 use crate::event_time::{at, clock_moment, moment_in, timed_event};
 use crate::fields::{fields_of, kind_of, read_as};
 use crate::parser::{FieldTypes, Parser, Shape, TimeRule};
@@ -25,7 +25,7 @@ use crate::shapes::plain;
 use fwd_base::{Bytes, Capture, Memory, Search};
 use fwd_event::Event;
 use fwd_json::Floats;
-use fwd_msgpack::encode;
+use fwd_msgpack::{encode, put_text};
 use std::alloc::Global;
 
 /// The number of fields from which on the event isn't written straight.
@@ -46,7 +46,7 @@ fn put_value(
 {
     match read_as(floats, kind_of(types, group.name), group.bytes) {
         Some(value) => encode(&value, out),
-        None => put_text(group.bytes, out),
+        None => put_text(out, group.bytes),
     }
 }
 
@@ -66,7 +66,7 @@ fn put_fields(
     match groups {
         [] => Ok(()),
         [first, rest @ ..] => {
-            put_text(first.name, out)?;
+            put_text(out, first.name)?;
             put_value(floats, types, first, out)?;
             put_fields(floats, types, rest, out)
         }

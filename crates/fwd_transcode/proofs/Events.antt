@@ -23,7 +23,7 @@ use Rattle.fwd_event.proofs.EventParts.{pairs_back}
 use Rattle.fwd_event.proofs.EventEncodings.{event_bytes}
 use Rattle.fwd_event.proofs.EventLists.{are_more}
 use Rattle.fwd_transcode.specs.Transcoded.{TranscodesMap}
-use Rattle.fwd_transcode.specs.Events.{StartsWithEventTime, StartsWithTime, TranscodesEvent, AreEventsOf, TranscodesEntries}
+use Rattle.fwd_transcode.specs.Events.{StartsWithEventTime, StartsWithTime, TranscodesEvent, TranscodesSingle, AreEventsOf, TranscodesEntries}
 
 -- ---- first bytes
 
@@ -165,26 +165,42 @@ with_meta_done d sec nsec b maps last rest old timed between new depth lt lu all
     } in
     (e, v, (146 ∷ (hf ++ n.front), parts, encoded), omega (arith, flat, m.nested, n.nested, depth.0), event, record { sec = lt; nsec = lu; meta = m.range; body = n.range; fits = fits }, event_written e old timed between new put m.written n.written)
 
-pub without_meta_done : (d sec nsec : ℕ) (b last rest old timed between new : List ℕ) → (2 < d) × (d ≤ 64) → sec < 2 ^ 32 → nsec < 2 ^ 32 → AllBytes b → StartsWithTime sec nsec last b → timed ≡ old ++ time_bytes sec nsec → between ≡ timed ++ 128 ∷ []
-    → TranscodesMap (value_at (d - 1) last) rest between new → TranscodesEvent d rest (146 ∷ b) old new
-unfolding form_of map_head
+pub without_meta_done : (d sec nsec : ℕ) (b last rest old timed between new : List ℕ) → (0 < d) × (d ≤ 64) → sec < 2 ^ 32 → nsec < 2 ^ 32 → AllBytes b → StartsWithTime sec nsec last b → timed ≡ old ++ time_bytes sec nsec → between ≡ timed ++ 128 ∷ []
+    → TranscodesMap (value_at (d - 1) last) rest between new → TranscodesSingle d rest b old new
+unfolding map_head
 without_meta_done d sec nsec b last rest old timed between new depth lt lu all (time, (tf, is, stamp), moment) put none two =
     let n = map_written (d - 1) last rest between new (bytes_back tf last (subst AllBytes is all)) two in
-    let body = mapping (entries_of n.pairs) in
     let e : Event = record { sec = sec; nsec = nsec; meta = []; body = n.pairs } in
-    let v = list (val time (val body no_vals)) in
-    let parts : 146 ∷ b ≡ (146 ∷ (tf ++ n.front)) ++ rest = ap (λ (t : List ℕ). 146 ∷ t) (is ∙ ap (λ (t : List ℕ). tf ++ t) n.parts ∙ sym (append_assoc tf n.front rest)) in
-    let encoded : Encodes v (146 ∷ (tf ++ n.front)) = ([], tf ++ n.front, (refl, refl), refl, (tf, n.front, refl, stamp, (n.front, [], sym (append-nil n.front), n.encoded, refl))) in
-    let flat : nesting time ≡ 0 = timed_flat time (sec, nsec) moment in
-    let event : event_of v ≡ Some e =
-    timed_alone time (sec, nsec) (entries_of n.pairs) moment ∙ ap (λ (o : Option Timestamp). event_at o no_entries (entries_of n.pairs)) moment ∙ (λ i. Some (record { sec = sec; nsec = nsec; meta = []; body = pairs_back n.pairs i })) in
     let fits : EventFits e = record {
       meta_nested = omega arith;
       body_nested = omega (arith, n.nested, depth.1);
       meta_lengths = (omega arith, tt);
       body_lengths = n.lengths;
     } in
-    (e, v, (146 ∷ (tf ++ n.front), parts, encoded), omega (arith, flat, n.nested, depth.0), event, record { sec = lt; nsec = lu; meta = tt; body = n.range; fits = fits }, event_written e old timed between new put none n.written)
+    record {
+      event = e;
+      time = time;
+      body = mapping (entries_of n.pairs);
+      front = tf ++ n.front;
+      parts = is ∙ ap (λ (t : List ℕ). tf ++ t) n.parts ∙ sym (append_assoc tf n.front rest);
+      encoded = (tf, n.front, refl, stamp, (n.front, [], sym (append-nil n.front), n.encoded, refl));
+      moment = moment;
+      nested = n.nested;
+      is = timed_alone time (sec, nsec) (entries_of n.pairs) moment ∙ ap (λ (o : Option Timestamp). event_at o no_entries (entries_of n.pairs)) moment
+          ∙ (λ i. Some (record { sec = sec; nsec = nsec; meta = []; body = pairs_back n.pairs i }));
+      writable = record { sec = lt; nsec = lu; meta = tt; body = n.range; fits = fits };
+      written = event_written e old timed between new put none n.written;
+    }
+
+-- a time and a record after the header of a list of both
+pub single_in_list : (d : ℕ) (b rest old new : List ℕ) → 0 < d → TranscodesSingle d rest b old new → TranscodesEvent d rest (146 ∷ b) old new
+unfolding form_of
+single_in_list d b rest old new lt x =
+    let e = x.event in
+    let flat : nesting x.time ≡ 0 = timed_flat x.time (e.sec, e.nsec) x.moment in
+    let v = list (val x.time (val x.body no_vals)) in
+    let encoded : Encodes v (146 ∷ x.front) = ([], x.front, (refl, refl), refl, x.encoded) in
+    (e, v, (146 ∷ x.front, ap (λ (t : List ℕ). 146 ∷ t) x.parts, encoded), omega (arith, flat, x.nested, lt), x.is, x.writable, x.written)
 
 pub event_at_front : (d : ℕ) (b c rest old new : List ℕ) → b ≡ c → TranscodesEvent d rest c old new → TranscodesEvent d rest b old new
 event_at_front d b c rest old new is (e, v, (front, parts, encoded), nested, event, writable, written) =

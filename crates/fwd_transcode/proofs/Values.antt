@@ -1,10 +1,10 @@
 -- What is decoded and written of one value.
 use Rattle.std.proofs.Common.{◌≡◌, ℕ, ◌+◌, ◌-◌, ◌<◌, ◌≤◌, ℤ, pos, Bool, List, [], ◌∷◌, ◌++◌, length, get_or, take, drop, Option, Some, None, Result, Ok, Err, refl, sym, ap, ◌∙◌, append_assoc, arith, inl, inr, FitsSigned}
 use Rattle.std.specs.Prelude.{IfOk, IfSome}
-use Rattle.std.specs.Int.{w8, w32, w64, to_be_bytes, cast_signed, cast_unsigned}
+use Rattle.std.specs.Int.{w8, w64, cast_signed, cast_unsigned}
 use Rattle.std.proofs.lemmas.List.{append-nil, length-append, length-take, take_all}
 use Rattle.std.proofs.lemmas.Bool.{cases_lt, lt-ltb, le-ltb}
-use Rattle.std.proofs.lemmas.Int.{of_z-to_z}
+use Rattle.std.proofs.lemmas.Int.{of_z-to_z, to_z-of_z}
 use Rattle.fwd_value.specs.Val.{Val, nil, truth, whole, text, bin, float32, float64, ext, list, mapping, vals_of, entries_of}
 use Rattle.fwd_msgpack.specs.declared.form.ByteWidth.{ByteWidth}
 use Rattle.fwd_msgpack.specs.declared.form.ByteWidth.TheVariants.{One, Two, Four, Eight}
@@ -48,11 +48,11 @@ pub int_done : (w : ByteWidth) (b rest : List ℕ) (n : ℕ) (old new : List ℕ
 unfolding after
 int_done w b rest n old new r e = λ deeper. (whole (cast_signed (width w) n), rw r refl, e)
 
-pub float32_done : (b rest : List ℕ) (n : ℕ) (old new : List ℕ) → number_at Four b ≡ Ok (n, rest) → new ≡ old ++ 202 ∷ to_be_bytes w32 n → TranscodesAfter form.Float32 b rest old new
+pub float32_done : (b rest : List ℕ) (n : ℕ) (old new : List ℕ) → number_at Four b ≡ Ok (n, rest) → new ≡ old ++ canonical (float32 n) → TranscodesAfter form.Float32 b rest old new
 unfolding after
 float32_done b rest n old new r e = λ deeper. (float32 n, rw r refl, e)
 
-pub float64_done : (b rest : List ℕ) (n : ℕ) (old new : List ℕ) → number_at Eight b ≡ Ok (n, rest) → new ≡ old ++ 203 ∷ to_be_bytes w64 n → TranscodesAfter form.Float64 b rest old new
+pub float64_done : (b rest : List ℕ) (n : ℕ) (old new : List ℕ) → number_at Eight b ≡ Ok (n, rest) → new ≡ old ++ canonical (float64 n) → TranscodesAfter form.Float64 b rest old new
 unfolding after
 float64_done b rest n old new r e = λ deeper. (float64 n, rw r refl, e)
 
@@ -68,9 +68,15 @@ pub positive_done : (n : ℕ) (b old new : List ℕ) → new ≡ old ++ number_b
 unfolding after
 positive_done n b old new e = λ deeper. (whole (pos n), refl, e)
 
-pub negative_done : (z : ℤ) (b old new : List ℕ) → new ≡ old ++ whole_bytes z → TranscodesAfter (form.NegativeFixint z) b b old new
+fits_more : (z : ℤ) → FitsSigned w8 z → FitsSigned w64 z
+fits_more z fits = omega (arith, fits)
+
+-- a number of 8 bits, which is widened to 64
+pub negative_done : (z : ℤ) (b old new : List ℕ) → FitsSigned w8 z → new ≡ old ++ whole_bytes (cast_signed w64 (cast_unsigned w64 (cast_signed w8 (cast_unsigned w8 z)))) → TranscodesAfter (form.NegativeFixint z) b b old new
 unfolding after
-negative_done z b old new e = λ deeper. (whole z, refl, e)
+negative_done z b old new fits e =
+    let same = ap (λ (y : ℤ). cast_signed w64 (cast_unsigned w64 y)) (to_z-of_z w8 z fits) ∙ to_z-of_z w64 z (fits_more z fits) in
+    λ deeper. (whole z, refl, e ∙ ap (λ (y : ℤ). old ++ whole_bytes y) same)
 
 -- a number of each width stands for a number of 64 bits
 pub cast_fits : (w : ByteWidth) (n : ℕ) → IsWithin w n → FitsSigned w64 (cast_signed (width w) n)

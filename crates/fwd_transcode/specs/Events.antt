@@ -1,14 +1,14 @@
 -- Events that were decoded, and whose stored encodings were written.
 use Rattle.std.specs.Prelude.{◌≡◌, ℕ, ◌-◌, ◌≤◌, List, [], ◌∷◌, ◌++◌, length, Some, All}
 use Rattle.fwd_base.specs.Limits.{deepest}
-use Rattle.fwd_value.specs.Val.{Val, Vals, no_vals, val, vals_of}
+use Rattle.fwd_value.specs.Val.{Val, Vals, list, no_vals, val, vals_of}
 use Rattle.fwd_value.specs.Limits.{nesting, nestings}
 use Rattle.fwd_msgpack.specs.Canonical.{canonical}
 use Rattle.fwd_msgpack.specs.Encodings.{EncodesAll}
 use Rattle.fwd_event.specs.declared.event.Event.{Event}
 use Rattle.fwd_event.specs.Event.{event_time, time_of, event_of, event_val, AreEvents}
 use Rattle.fwd_event.specs.EventPrefix.{encodings, IsWritable}
-use Rattle.fwd_transcode.specs.Transcoded.{StartsWith}
+use Rattle.fwd_msgpack.specs.Heads.{StartsWith}
 
 -- the bytes are the eight bytes of an EventTime and then the rest
 abbrev pub StartsWithEventTime : ℕ → ℕ → List ℕ → List ℕ → Type 0
@@ -25,6 +25,21 @@ abbrev pub TranscodesEvent : ℕ → List ℕ → List ℕ → List ℕ → List
 TranscodesEvent d rest b old new =
     (e : Event) × (v : Val) × StartsWith v rest b × (nesting v ≤ d) × (event_of v ≡ Some e) × IsWritable e
     × (new ≡ old ++ canonical (event_val e))
+
+-- the time and the record at the start of the bytes were written as their event, in its stored encoding; the
+-- record is nested at most so deep that a list of both is nested at most d deep
+pub record TranscodesSingle (d : ℕ) (rest b old new : List ℕ) : Type 0 where
+  pub event : Event
+  pub time : Val
+  pub body : Val
+  pub front : List ℕ
+  pub parts : b ≡ front ++ rest
+  pub encoded : EncodesAll (val time (val body no_vals)) front
+  pub moment : time_of time ≡ Some (event.sec, event.nsec)
+  pub nested : nesting body ≤ d - 1
+  pub is : event_of (list (val time (val body no_vals))) ≡ Some event
+  pub writable : IsWritable event
+  pub written : new ≡ old ++ canonical (event_val event)
 
 -- each of the values is the event at its place
 abbrev pub AreEventsOf : List Event → Vals → Type 0

@@ -2,13 +2,8 @@
 use Rattle.std.specs.Prelude.{◌≡◌, ℕ, List, ◌++◌, Option, Ok, length}
 use Rattle.fwd_value.specs.Val.{Val, mapping, vals_of, entries_of}
 use Rattle.fwd_msgpack.specs.declared.form.Form.{Form}
-use Rattle.fwd_msgpack.specs.Encodings.{Encodes}
 use Rattle.fwd_msgpack.specs.Canonical.{canonical, canonical_all, canonical_entries}
 use Rattle.fwd_msgpack.specs.Decoder.{Read, bytes_at, many_at, entries_at, after, value_at}
-
--- the bytes are an encoding of the value and then the rest
-abbrev pub StartsWith : Val → List ℕ → List ℕ → Type 0
-StartsWith v rest b = (front : List ℕ) × (b ≡ front ++ rest) × Encodes v front
 
 -- so many bytes were copied
 abbrev pub CopiesBytes : ℕ → List ℕ → List ℕ → List ℕ → List ℕ → Type 0

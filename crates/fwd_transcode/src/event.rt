@@ -4,14 +4,12 @@ ghost use Rattle.std.specs.Prelude.{◌≡◌, ◌≤◌, ◌<◌, ◌^◌, ◌+
 ghost use Rattle.std.specs.Int.{w32, to_be_bytes};
 ghost use Rattle.fwd_base.specs.Limits.{deepest};
 ghost use Rattle.fwd_msgpack.specs.KeptFront.{KeepsFront};
-ghost use Rattle.fwd_transcode.specs.Events.{StartsWithEventTime, StartsWithTime, TranscodesEvent, TranscodesEntries, TranscodesEvents};
+ghost use Rattle.fwd_transcode.specs.Events.{StartsWithEventTime, StartsWithTime, TranscodesEvent, TranscodesSingle, TranscodesEntries, TranscodesEvents};
 
-use crate::form::{Form, form_of};
-use crate::head::{put_byte, put_bytes};
-use crate::number::number_at;
 use crate::value::transcode_record;
 use fwd_base::limits::DEEPEST;
 use fwd_base::{Bytes, Memory};
+use fwd_msgpack::{Form, form_of, number_at, put_byte, put_bytes};
 
 /// The deepest nesting of an entry, which stands in two lists of its message.
 const ENTRY_DEPTH: u32 = DEEPEST - 2;
@@ -137,15 +135,15 @@ fn transcode_with_meta<'b>(
     transcode_record(last, depth - 1, out)
 }
 
-/// Copies the event of a time and a record, given by the bytes after the header of its list.
+/// Copies the event of a time and a record, given by the bytes of both.
 fn transcode_without_meta<'b>(
     bytes: &'b [u8],
     depth: u32,
     out: &mut Bytes,
 ) -> Result<Option<&'b [u8]>, Memory>
-    requires { (2 < depth) × (depth ≤ deepest) }
+    requires { (0 < depth) × (depth ≤ deepest) }
     ensures given { IfOk result (λ found. IfSome found (λ rest.
-        TranscodesEvent depth rest.now (146 ∷ bytes.now) out.old out.new)) }
+        TranscodesSingle depth rest.now bytes.now out.old out.new)) }
     ensures kept { KeepsFront out.old out.new }
 {
     let Some((sec, nsec, last)) = split_time(bytes) else {
@@ -190,20 +188,24 @@ fn transcode_nested<'b>(
     transcode_parts(parts, depth, out)
 }
 
-/// Appends the stored encoding of the event that the bytes start with, and returns the bytes after it.
-/// Returns `None` if they start with no event, or with one that is nested more than 64 deep or whose two lists
-/// have headers of more than one byte; `out` may then end in an unfinished event.
-pub fn transcode_event<'b>(bytes: &'b [u8], out: &mut Bytes) -> Result<Option<&'b [u8]>, Memory>
+/// Appends the stored encoding of the event of the time and the record that the bytes start with, one after
+/// the other, and returns the bytes after them. Both are members of a message, so the record is nested at most
+/// 63 deep. Returns `None` if the bytes start with no time and record, if the record is nested deeper, or if
+/// the time is neither an EventTime with the header 0xd7 or 0xc7 0x08, nor a whole number of at most 32 bits in
+/// an unsigned form; `out` may then end in an unfinished event.
+pub fn transcode_single<'b>(bytes: &'b [u8], out: &mut Bytes) -> Result<Option<&'b [u8]>, Memory>
     ensures given { IfOk result (λ found. IfSome found (λ rest.
-        TranscodesEvent deepest rest.now bytes.now out.old out.new)) }
+        TranscodesSingle deepest rest.now bytes.now out.old out.new)) }
     ensures kept { KeepsFront out.old out.new }
 {
-    transcode_nested(bytes, DEEPEST, out)
+    transcode_without_meta(bytes, DEEPEST, out)
 }
 
 /// Appends the stored encodings of the `count` events that the bytes start with, and returns the bytes after
-/// them. The events are entries of a message, so each is nested at most 62 deep. Returns `None` where
-/// `transcode_event` does; `out` may then end in some of the events.
+/// them. The events are entries of a message, so each is nested at most 62 deep. Returns `None` if the bytes
+/// start with fewer events, if one of them is nested deeper, if the header of one of an event's two lists isn't
+/// the byte 0x92, or if a time is neither an EventTime with the header 0xd7 or 0xc7 0x08, nor a whole number of
+/// at most 32 bits in an unsigned form; `out` may then end in some of the events and in an unfinished one.
 pub fn transcode_entries<'b>(
     count: usize,
     bytes: &'b [u8],
@@ -224,7 +226,10 @@ pub fn transcode_entries<'b>(
 }
 
 /// Appends the stored encodings of the events that the bytes are, one after another, and returns their number.
-/// Returns `None` where `transcode_event` does; `out` may then end in some of the events.
+/// Returns `None` if the bytes aren't events, if one of them is nested more than 64 deep, if the header of one
+/// of an event's two lists isn't the byte 0x92, or if a time is neither an EventTime with the header 0xd7 or
+/// 0xc7 0x08, nor a whole number of at most 32 bits in an unsigned form; `out` may then end in some of the
+/// events and in an unfinished one.
 pub fn transcode_packed(bytes: &[u8], out: &mut Bytes) -> Result<Option<usize>, Memory>
     ensures given { IfOk result (λ found. IfSome found (λ count.
         TranscodesEvents count bytes.now out.old out.new)) }
@@ -233,7 +238,7 @@ pub fn transcode_packed(bytes: &[u8], out: &mut Bytes) -> Result<Option<usize>, 
     let mut rest = bytes;
     let mut count = 0;
     while !rest.is_empty() {
-        let Some(behind) = transcode_event(rest, out)? else {
+        let Some(behind) = transcode_nested(rest, DEEPEST, out)? else {
             return Ok(None);
         };
         rest = behind;

@@ -4,9 +4,6 @@
 #![tactic(auto)]
 
 mod event;
-mod form;
-mod head;
-mod number;
 mod value;
 
-pub use event::{transcode_entries, transcode_event, transcode_packed};
+pub use event::{transcode_entries, transcode_packed, transcode_single};

@@ -7,16 +7,14 @@ ghost use Rattle.fwd_msgpack.specs.Encodings.{IsWithin, width as number_width};
 ghost use Rattle.fwd_msgpack.specs.KeptFront.{KeepsFront};
 ghost use Rattle.fwd_msgpack.specs.Decoder.{after, inner, value_at};
 ghost use Rattle.fwd_msgpack.specs.declared.form.Form.TheVariants as form;
-ghost use Rattle.fwd_transcode.specs.Forms.{byte_width, length_form, format};
 ghost use Rattle.fwd_transcode.specs.Transcoded.{CopiesBytes, Transcodes, TranscodesAfter, TranscodesMap, TranscodesAll, TranscodesPair, TranscodesPairs};
 
-use crate::form::{ByteWidth, Count, Form, form_of};
-use crate::head::{
-    put, put_bin_head, put_byte, put_ext_head, put_list_head, put_map_head, put_number,
-    put_text_head, put_truth, put_whole,
-};
-use crate::number::{length_at, number_at, sign_extended};
 use fwd_base::{Bytes, Memory};
+use fwd_msgpack::{
+    ByteWidth, Count, Form, form_of, length_at, number_at, put_bin_head, put_byte, put_ext_head,
+    put_float32, put_float64, put_list_head, put_map_head, put_number, put_text_head, put_truth,
+    put_whole, sign_extended,
+};
 
 /// Copies the first `n` bytes, and returns the bytes after them.
 #[inline(always)]
@@ -39,7 +37,7 @@ fn transcode_uint<'b>(
     out: &mut Bytes,
 ) -> Result<Option<&'b [u8]>, Memory>
     ensures given { IfOk result (λ found. IfSome found (λ rest.
-        TranscodesAfter (form.Uint (byte_width width)) bytes.now rest.now out.old out.new)) }
+        TranscodesAfter (form.Uint width) bytes.now rest.now out.old out.new)) }
     ensures kept { KeepsFront out.old out.new }
 {
     let Some((n, rest)) = number_at(bytes, width) else {
@@ -51,8 +49,8 @@ fn transcode_uint<'b>(
 
 /// Appends the number that a number of this width stands for in two's complement.
 fn put_signed(out: &mut Bytes, n: u64, width: ByteWidth) -> Result<(), Memory>
-    requires { IsWithin (byte_width width) n }
-    ensures ok { OnOk result (out.new ≡ out.old ++ whole_bytes (cast_signed (number_width (byte_width width)) n)) }
+    requires { IsWithin width n }
+    ensures ok { OnOk result (out.new ≡ out.old ++ whole_bytes (cast_signed (number_width width) n)) }
     ensures err { OnErr result (KeepsFront out.old out.new) }
 {
     put_whole(out, sign_extended(n, width))
@@ -65,7 +63,7 @@ fn transcode_int<'b>(
     out: &mut Bytes,
 ) -> Result<Option<&'b [u8]>, Memory>
     ensures given { IfOk result (λ found. IfSome found (λ rest.
-        TranscodesAfter (form.Int (byte_width width)) bytes.now rest.now out.old out.new)) }
+        TranscodesAfter (form.Int width) bytes.now rest.now out.old out.new)) }
     ensures kept { KeepsFront out.old out.new }
 {
     let Some((n, rest)) = number_at(bytes, width) else {
@@ -84,7 +82,7 @@ fn transcode_float32<'b>(bytes: &'b [u8], out: &mut Bytes) -> Result<Option<&'b 
     let Some((bits, rest)) = number_at(bytes, ByteWidth::Four) else {
         return Ok(None);
     };
-    put(out, 0xca, (bits as u32).to_be_bytes().as_slice())?;
+    put_float32(out, bits as u32)?;
     Ok(Some(rest))
 }
 
@@ -97,7 +95,7 @@ fn transcode_float64<'b>(bytes: &'b [u8], out: &mut Bytes) -> Result<Option<&'b 
     let Some((bits, rest)) = number_at(bytes, ByteWidth::Eight) else {
         return Ok(None);
     };
-    put(out, 0xcb, bits.to_be_bytes().as_slice())?;
+    put_float64(out, bits)?;
     Ok(Some(rest))
 }
 
@@ -108,7 +106,7 @@ fn transcode_text<'b>(
     out: &mut Bytes,
 ) -> Result<Option<&'b [u8]>, Memory>
     ensures given { IfOk result (λ found. IfSome found (λ rest.
-        TranscodesAfter (form.Str (length_form count)) bytes.now rest.now out.old out.new)) }
+        TranscodesAfter (form.Str count) bytes.now rest.now out.old out.new)) }
     ensures kept { KeepsFront out.old out.new }
 {
     let Some((n, content)) = length_at(bytes, count) else {
@@ -125,7 +123,7 @@ fn transcode_bin<'b>(
     out: &mut Bytes,
 ) -> Result<Option<&'b [u8]>, Memory>
     ensures given { IfOk result (λ found. IfSome found (λ rest.
-        TranscodesAfter (form.Bin (length_form count)) bytes.now rest.now out.old out.new)) }
+        TranscodesAfter (form.Bin count) bytes.now rest.now out.old out.new)) }
     ensures kept { KeepsFront out.old out.new }
 {
     let Some((n, content)) = length_at(bytes, count) else {
@@ -142,7 +140,7 @@ fn transcode_ext<'b>(
     out: &mut Bytes,
 ) -> Result<Option<&'b [u8]>, Memory>
     ensures given { IfOk result (λ found. IfSome found (λ rest.
-        TranscodesAfter (form.Ext (length_form count)) bytes.now rest.now out.old out.new)) }
+        TranscodesAfter (form.Ext count) bytes.now rest.now out.old out.new)) }
     ensures kept { KeepsFront out.old out.new }
 {
     let Some((n, typed)) = length_at(bytes, count) else {
@@ -164,7 +162,7 @@ fn transcode_flat<'b>(
     out: &mut Bytes,
 ) -> Result<Option<&'b [u8]>, Memory>
     ensures given { IfOk result (λ found. IfSome found (λ rest.
-        TranscodesAfter (format form) bytes.now rest.now out.old out.new)) }
+        TranscodesAfter form bytes.now rest.now out.old out.new)) }
     ensures kept { KeepsFront out.old out.new }
 {
     match form {
@@ -181,8 +179,8 @@ fn transcode_flat<'b>(
             put_number(out, n as u64)?;
             Ok(Some(bytes))
         }
-        Form::NegativeFixint(byte) => {
-            put_signed(out, byte as u64, ByteWidth::One)?;
+        Form::NegativeFixint(n) => {
+            put_whole(out, n as i64)?;
             Ok(Some(bytes))
         }
         Form::Uint(width) => transcode_uint(bytes, width, out),
@@ -230,7 +228,7 @@ fn transcode_list<'b>(
     out: &mut Bytes,
 ) -> Result<Option<&'b [u8]>, Memory>
     ensures given { IfOk result (λ found. IfSome found (λ rest.
-        Transcodes (after (inner depth) (form.Array (length_form count)) bytes.now) rest.now out.old out.new)) }
+        Transcodes (after (inner depth) (form.Array count) bytes.now) rest.now out.old out.new)) }
     ensures kept { KeepsFront out.old out.new }
 {
     if depth == 0 {
@@ -252,7 +250,7 @@ fn transcode_map<'b>(
     out: &mut Bytes,
 ) -> Result<Option<&'b [u8]>, Memory>
     ensures given { IfOk result (λ found. IfSome found (λ rest.
-        TranscodesMap (after (inner depth) (form.Map (length_form count)) bytes.now) rest.now out.old out.new)) }
+        TranscodesMap (after (inner depth) (form.Map count) bytes.now) rest.now out.old out.new)) }
     ensures kept { KeepsFront out.old out.new }
 {
     if depth == 0 {

@@ -23,6 +23,7 @@ pub use errors::WireErr;
 pub use fault::ConnFault;
 pub use fwd_event::{Bytes, Event, Events, Memory, Pairs, Value};
 pub use message::Message;
+pub use parts::{chunk_of, is_plain, is_tag};
 pub use reader::read_message;
 pub use theorems::{answers_are_read, messages_fit, streams_are_read};
 pub use writer::write_forward;

@@ -41,7 +41,7 @@ fn events_in(alloc: Global, carried: Carried) -> Result<Option<Events>, Memory>
 }
 
 /// Returns whether bytes may be a tag: a text of 1 to 1,024 bytes.
-fn is_tag(bytes: &[u8]) -> bool
+pub fn is_tag(bytes: &[u8]) -> bool
     ensures { result ≡ is_tag bytes.now }
 {
     0 < bytes.len() && bytes.len() <= LONGEST_TAG && is_utf8(bytes)
@@ -72,8 +72,9 @@ fn tag_of(value: &Value) -> Option<&[u8]>
     }
 }
 
-/// Returns whether the option says that the entries aren't compressed.
-fn is_plain(alloc: Global, option: &Pairs) -> Result<bool, Memory>
+/// Returns whether the option of a message says that its entries aren't compressed: it has no `compressed`, or
+/// the text `text` there.
+pub fn is_plain(alloc: Global, option: &Pairs) -> Result<bool, Memory>
     ensures { IfOk result (λ plain. plain ≡ is_plain option.now) }
 {
     let key = Bytes::from_slice(alloc, b"compressed")?;
@@ -91,8 +92,8 @@ fn is_word(alloc: Global, value: &Value) -> Result<bool, Memory>
     Ok(is_text(value, &word))
 }
 
-/// Returns the chunk that the option asks to acknowledge.
-fn chunk_of(alloc: Global, mut option: Pairs) -> Result<Option<Value>, Memory>
+/// Returns the chunk that the option of a message asks to acknowledge, if it does.
+pub fn chunk_of(alloc: Global, mut option: Pairs) -> Result<Option<Value>, Memory>
     ensures { IfOk result (λ chunk. option_map val_of chunk ≡ option_value option chunk_key) }
 {
     let key = Bytes::from_slice(alloc, b"chunk")?;

@@ -2,8 +2,8 @@ use Rattle.std.proofs.Common.{◌∷◌, [], arith}
 use Rattle.fwd_value.specs.Val.{text, vals_of, entries_of}
 use Rattle.fwd_json.specs.Text.{key_text, string, more_values, more_pairs}
 use Rattle.fwd_msgpack.proofs.EncodeLoops.{on_ok}
+use Rattle.fwd_msgpack.proofs.Heads.{if_some}
 use Rattle.fwd_msgpack.proofs.KeptFront.{keeps_behind}
-use Rattle.fwd_out_text.proofs.Heads.{if_some}
 use Rattle.fwd_out_text.proofs.Members.{if_ok, pair_written, one_more, pairs_written, map_written}
 use Rattle.fwd_out_text.proofs.Values.{one_more as one_more_value, values_written, list_written}
 use Rattle.fwd_out_text.proofs.encoded_value.+write.Goals as goal

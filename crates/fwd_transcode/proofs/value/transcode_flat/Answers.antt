@@ -1,4 +1,4 @@
-use Rattle.std.specs.Int.{w8, cast_signed}
+use Rattle.std.proofs.Common.{FitsSigned, w8, rules}
 use Rattle.fwd_transcode.proofs.Values.{nil_done, truth_done, positive_done, negative_done}
 use Rattle.fwd_transcode.proofs.value.transcode_flat.Goals as goal
 
@@ -14,9 +14,10 @@ pub returns-in_ok-put_number-in-PositiveFixint-clause-given : goal.returns-in_ok
 returns-in_ok-put_number-in-PositiveFixint-clause-given c =
     rw c.in-PositiveFixint.is (positive_done c.in-PositiveFixint.n c.args.bytes.now c.args.out.now c.put_number.new.out c.in_ok-put_number-in-PositiveFixint.ensures.ok)
 
-pub returns-in_ok-put_signed-in-NegativeFixint-clause-given : goal.returns-in_ok-put_signed-in-NegativeFixint-clause-given
-returns-in_ok-put_signed-in-NegativeFixint-clause-given c =
-    rw c.in-NegativeFixint.is (negative_done (cast_signed w8 c.in-NegativeFixint.byte) c.args.bytes.now c.args.out.now c.put_signed.new.out c.in_ok-put_signed-in-NegativeFixint.ensures.ok)
+pub returns-in_ok-put_whole-in-NegativeFixint-clause-given : goal.returns-in_ok-put_whole-in-NegativeFixint-clause-given
+returns-in_ok-put_whole-in-NegativeFixint-clause-given c =
+    let fits : FitsSigned w8 c.in-NegativeFixint.n = search rules in
+    rw c.in-NegativeFixint.is (negative_done c.in-NegativeFixint.n c.args.bytes.now c.args.out.now c.put_whole.new.out fits c.in_ok-put_whole-in-NegativeFixint.ensures.ok)
 
 pub returns-in-Uint-clause-given : goal.returns-in-Uint-clause-given
 returns-in-Uint-clause-given c = rw c.in-Uint.is c.transcode_uint.ensures.given

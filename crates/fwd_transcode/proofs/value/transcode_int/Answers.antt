@@ -1,7 +1,6 @@
-use Rattle.fwd_transcode.specs.Forms.{byte_width}
 use Rattle.fwd_transcode.proofs.Values.{int_done}
 use Rattle.fwd_transcode.proofs.value.transcode_int.Goals as goal
 
 pub returns-clause-given : goal.returns-clause-given
 returns-clause-given c =
-    int_done (byte_width c.args.width) c.args.bytes.now c.in-Some.rest.now c.in-Some.n c.args.out.now c.put_signed.new.out c.in-Some.ensures.read c.in_ok-put_signed.ensures.ok
+    int_done c.args.width c.args.bytes.now c.in-Some.rest.now c.in-Some.n c.args.out.now c.put_signed.new.out c.in-Some.ensures.read c.in_ok-put_signed.ensures.ok

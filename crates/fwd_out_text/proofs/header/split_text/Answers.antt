@@ -1,6 +1,0 @@
-use Rattle.fwd_out_text.proofs.Heads.{text_leads}
-use Rattle.fwd_out_text.proofs.header.split_text.Goals as goal
-
-pub returns : goal.returns
-returns c =
-    text_leads c.in_ok-length.length c.args.bytes.now c.in_ok-length.rest.now c.split_at.result.0.now c.split_at.result.1.now c.in_ok-length.ensures c.if-length-rest.false c.split_at.ensures.front c.split_at.ensures.back
