@@ -177,10 +177,8 @@ def small_values_in_a_large_message(trial):
 
 
 @forward(
-    "a message of 16,777,216 bytes: as received, decoded, and as a payload",
+    "a message of 16,777,216 bytes: as received, as it is stored, and as a payload of five bytes for each value",
     256,
-    known="a message of one event is decoded as a whole, at 30 to 60 bytes of memory for each byte",
-    shows="of memory|good line",
 )
 def small_values_in_a_message_of_one_event(trial):
     """Messages of a time and a record."""
