@@ -187,10 +187,26 @@ def small_values_in_a_message_of_one_event(trial):
 
 UNFINISHED = 40
 
-# so many of them have at most 64 MB together
-KEPT = 4
+EXCEEDED = b"all unfinished messages together exceed forward.mem_limit"
 
-TOO_LARGE = b"all unfinished messages together have more than 64 MB"
+LIMIT_OF_A_MEGABYTE = MESSAGES_TO_FILE + "[SERVICE]\n    forward.mem_limit 1M\n"
+
+
+def leave_unfinished(trial, size, kept):
+    """Peers send all but the end of a message of this size. In the end so many of them are kept as the limit has room for."""
+    links = []
+    for _ in range(UNFINISHED):
+        link = trial.keep(trial.connect())
+        links.append(link)
+        try:
+            trial.send(link, b"\x93" + TAG + b"\x00\x81\xa3bad\xc6" + size.to_bytes(4, "big") + bytes(size - 1))
+        except OSError:  # it was dropped meanwhile
+            pass
+    trial.rest()
+    dropped = sum(is_dropped(link, 0.1) for link in links)
+    trial.tell(f"{dropped} of {UNFINISHED} connections are dropped")
+    trial.hopes(dropped == UNFINISHED - kept, f"{UNFINISHED - dropped} connections with an unfinished message are kept")
+    trial.hopes(EXCEEDED in trial.program.stderr(), "the log doesn't say why connections are dropped")
 
 
 @forward(
@@ -199,19 +215,18 @@ TOO_LARGE = b"all unfinished messages together have more than 64 MB"
 )
 def unfinished_messages(trial):
     """Forty peers send all but the end of a message of 16 MB."""
-    links = []
-    for _ in range(UNFINISHED):
-        link = trial.keep(trial.connect())
-        links.append(link)
-        try:
-            trial.send(link, b"\x93" + TAG + b"\x00\x81\xa3bad\xc6" + (16 * MEGABYTE).to_bytes(4, "big") + bytes(16 * MEGABYTE - 1))
-        except OSError:  # it was dropped meanwhile
-            pass
-    trial.rest()
-    dropped = sum(is_dropped(link, 0.1) for link in links)
-    trial.tell(f"{dropped} of {UNFINISHED} connections are dropped")
-    trial.hopes(dropped == UNFINISHED - KEPT, f"{UNFINISHED - dropped} connections with an unfinished message are kept")
-    trial.hopes(TOO_LARGE in trial.program.stderr(), "the log doesn't say why connections are dropped")
+    leave_unfinished(trial, 16 * MEGABYTE, 3)
+
+
+@case(
+    LIMIT_OF_A_MEGABYTE,
+    "forward.mem_limit 1M: a megabyte of unfinished messages of all connections, in buffers that double, and what one tick reads",
+    32,
+    good=GoodSender,
+)
+def unfinished_messages_with_a_small_limit(trial):
+    """Forty peers send all but the end of a message of 300,000 bytes."""
+    leave_unfinished(trial, 300_000, 3)
 
 
 NEW_TAGS = 50_000
@@ -242,5 +257,6 @@ CASES = (
     small_values_in_a_large_message,
     small_values_in_a_message_of_one_event,
     unfinished_messages,
+    unfinished_messages_with_a_small_limit,
     a_new_tag_with_each_message,
 )

@@ -203,12 +203,13 @@ def log_file_that_cannot_be_opened(room):
 
 
 def unread_values(room):
-    """A value of the log's keys that isn't of its kind counts as not given, and the log warns of it."""
+    """A value of the log settings that isn't of its kind counts as not given, and the log warns of it."""
     port, collector = free_port(), Collector(free_port())
-    with Program(room, "unread_values", configuration(port, collector.port, "Log_Level loud"), words=("-n", "2")) as program:
+    with Program(room, "unread_values", configuration(port, collector.port, "Log_Level loud\n    forward.mem_limit 64X"), words=("-n", "2")) as program:
         program.end()
         log = lines_of(program.stderr())
-    holds(told(log, "warn", "config", "main.conf:6: Log_Level loud counts as not given: one of off, error"), f"the value isn't told: {log}")
+    holds(told(log, "warn", "config", "main.conf:6: Log_Level loud counts as not given: one of off, error"), f"the level isn't told: {log}")
+    holds(told(log, "warn", "config", "main.conf:7: forward.mem_limit 64X counts as not given: a size"), f"the limit isn't told: {log}")
     holds(told(log, "info", "engine", "begins"), f"the level isn't info: {log}")
 
 

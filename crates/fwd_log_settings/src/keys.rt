@@ -1,15 +1,18 @@
-//! The settings of the log and of the pages.
+//! The settings of the log, the pages and unfinished messages.
 
 ghost use Rattle.std.specs.Prelude.{◌≡◌, IfOk};
 ghost use Rattle.fwd_log_settings.specs.Entry.{last_value};
-ghost use Rattle.fwd_log_settings.specs.LogSettings.{host_of, is_on, level_named, level_of, log_settings_of, port_at, server_of};
+ghost use Rattle.fwd_log_settings.specs.LogSettings.{host_of, is_on, level_named, level_of, log_settings_of, port_at, server_of, unfinished_limit_of};
 
 use crate::entry::last_value;
-use fwd_base::{Bytes, Memory};
+use fwd_base::{Bytes, Memory, parse_size};
 use fwd_config::{Section, Sections};
 use fwd_log::Level;
 use fwd_settings_values::{port, same_name, truth};
 use std::alloc::Global;
+
+/// The most bytes that the unfinished messages of all connections may have together if no limit is given.
+pub const UNFINISHED_LIMIT: u64 = 64_000_000;
 
 /// Where the pages are served.
 #[derive(Debug, Drop, PartialEq, Eq)]
@@ -18,7 +21,7 @@ pub struct PageServer {
     pub port: u16,
 }
 
-/// What a configuration says about the log and the pages.
+/// What a configuration says about the log, the pages and unfinished messages.
 #[derive(Debug, Drop, PartialEq, Eq)]
 pub struct LogSettings {
     /// The least important lines that are written; `None` if the log is off.
@@ -29,6 +32,8 @@ pub struct LogSettings {
     pub server: Option<PageServer>,
     /// Whether the page of health says that chunks were given up.
     pub checks_health: bool,
+    /// The most bytes that the unfinished forward messages of all connections may have together.
+    pub unfinished_limit: u64,
 }
 
 /// Returns the level of a word, case ignored; info for any other word.
@@ -78,6 +83,15 @@ fn port_at(sections: &[Section]) -> u16
     }
 }
 
+fn unfinished_limit_of(sections: &[Section]) -> u64
+    ensures { result ≡ unfinished_limit_of sections.now }
+{
+    match last_value(sections, b"forward.mem_limit") {
+        Some(text) => parse_size(text).unwrap_or(UNFINISHED_LIMIT),
+        None => UNFINISHED_LIMIT,
+    }
+}
+
 /// Returns a copy of the last value of a key.
 fn copy_at(alloc: Global, sections: &[Section], key: &[u8]) -> Result<Option<Bytes>, Memory>
     ensures { IfOk result (λ text. text ≡ last_value key.now sections.now) }
@@ -109,7 +123,8 @@ fn server_of(alloc: Global, sections: &[Section]) -> Result<Option<PageServer>, 
     }))
 }
 
-/// Returns what the SERVICE sections say about the log and the pages. The only error is out of memory.
+/// Returns what the SERVICE sections say about the log, the pages and unfinished messages. The only error is
+/// out of memory.
 pub fn log_settings(alloc: Global, sections: &Sections) -> Result<LogSettings, Memory>
     ensures { IfOk result (λ settings. settings ≡ log_settings_of sections.now) }
 {
@@ -119,5 +134,6 @@ pub fn log_settings(alloc: Global, sections: &Sections) -> Result<LogSettings, M
         file: copy_at(alloc, sections, b"log_file")?,
         server: server_of(alloc, sections)?,
         checks_health: is_on(sections, b"health_check"),
+        unfinished_limit: unfinished_limit_of(sections),
     })
 }

@@ -93,6 +93,7 @@ name_of key.HttpServer = codes "http_server"
 name_of key.HttpListen = codes "http_listen"
 name_of key.HttpPort = codes "http_port"
 name_of key.HealthCheck = codes "health_check"
+name_of key.ForwardMemLimit = codes "forward.mem_limit"
 name_of key.StorageMetrics = codes "storage.metrics"
 name_of key.PluginsFile = codes "plugins_file"
 name_of key.Tag = codes "tag"
@@ -178,6 +179,7 @@ table =
     (part.Service, key.HttpListen, kind.Plain plain.Ignored) ∷
     (part.Service, key.HttpPort, kind.Plain plain.Ignored) ∷
     (part.Service, key.HealthCheck, kind.Plain plain.Ignored) ∷
+    (part.Service, key.ForwardMemLimit, kind.Plain plain.Ignored) ∷
     (part.Service, key.StorageMetrics, kind.Plain plain.Ignored) ∷
     (part.Service, key.PluginsFile, kind.Plain plain.Ignored) ∷
     (part.Parser, key.Name, kind.Plain plain.Ignored) ∷

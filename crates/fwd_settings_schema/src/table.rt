@@ -131,6 +131,7 @@ const TABLE: &[Row] = &[
     (Part::Service, Key::HttpListen, IGNORED),
     (Part::Service, Key::HttpPort, IGNORED),
     (Part::Service, Key::HealthCheck, IGNORED),
+    (Part::Service, Key::ForwardMemLimit, IGNORED),
     (Part::Service, Key::StorageMetrics, IGNORED),
     (Part::Service, Key::PluginsFile, IGNORED),
     (Part::Parser, Key::Name, IGNORED),

@@ -24,6 +24,7 @@ const NAMES: &[&str] = &[
     "HTTP_Listen",
     "HTTP_Port",
     "Health_Check",
+    "forward.mem_limit",
     "Log_File",
     "Path",
     "Parser",

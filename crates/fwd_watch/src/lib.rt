@@ -6,8 +6,9 @@
 //! the clock, and at its end, and lends it what the engine shows anyway. So lines on the way cost nothing,
 //! and no contract speaks of a watcher: whatever it does, the run keeps what it promises.
 //!
-//! If the unfinished messages of all connections together have too many bytes, the watcher asks the poll, through
-//! the journal, to drop the connection with the largest one. To the engine that is a peer that has left.
+//! If the unfinished messages of all connections together exceed `forward.mem_limit`, the watcher asks the
+//! poll, through the journal, to drop the connection with the largest one. To the engine that is a peer that
+//! has left.
 #![tactic(auto)]
 
 mod changes;

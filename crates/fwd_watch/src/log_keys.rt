@@ -1,5 +1,6 @@
-//! Values of the log's keys that can't be read.
+//! Values of the log settings that can't be read.
 
+use fwd_base::parse_size;
 use fwd_config::{Entry, Section};
 use fwd_settings_schema::{port, same_name, truth};
 use std::alloc::{AllocError, Global};
@@ -16,13 +17,16 @@ fn is_level(value: &[u8]) -> bool {
     false
 }
 
-/// Returns what the value of a key of the log has to be, if it isn't.
+/// Returns what the value of a key of the log settings has to be, if it isn't.
 fn wanted_of(key: &[u8], value: &[u8]) -> Option<&'static str> {
     if same_name(key, b"log_level") && !is_level(value) {
         return Some("one of off, error, warn, info, debug, trace");
     }
     if same_name(key, b"http_port") && port(value).is_none() {
         return Some("a port from 1 to 65535");
+    }
+    if same_name(key, b"forward.mem_limit") && parse_size(value).is_err() {
+        return Some("a size, as 500000 or 5M");
     }
     let is_truth = same_name(key, b"http_server") || same_name(key, b"health_check");
     if is_truth && truth(value).is_none() {
@@ -54,7 +58,7 @@ fn push_unread(
     text.push_str(more.as_str())
 }
 
-/// Returns which values of the log's keys can't be read, and what they have to be; empty if all can.
+/// Returns which values of the log settings can't be read, and what they have to be; empty if all can.
 pub fn unread_text(alloc: Global, sections: &[Section]) -> Result<String, AllocError> {
     let mut text = String::new(alloc);
     for section in sections {

@@ -9,16 +9,13 @@ use crate::{Snapshot, Watch};
 use fwd_base::{Bytes, ChunkId, InputId, Memory, Names, OutputId, is_set};
 use fwd_config::{ConfigKind, Place, Section, Sections};
 use fwd_log::{Journal, Level, Source, SourceNames, Topic, words_for};
-use fwd_log_settings::{LogSettings, log_settings};
+use fwd_log_settings::{LogSettings, UNFINISHED_LIMIT, log_settings};
 use fwd_outside::Home;
 use fwd_retry::Timer;
 use fwd_settings_schema::SettingKind;
 use fwd_table::{InputTally, OutputTally, Table};
 use std::alloc::Global;
 use std::fmt::Display;
-
-/// The most bytes that the unfinished messages of all connections may have together.
-const MOST_UNFINISHED: u64 = 67_108_864;
 
 /// How many timers are looked at for the next try of an output.
 const MOST_TIMERS: u32 = 4;
@@ -34,6 +31,8 @@ pub struct Watcher<'j> {
     damaged: u64,
     /// The outputs of which a flush failed and none was delivered since: bit `i` is output `i`.
     failing: u64,
+    /// The most bytes that the unfinished messages of all connections may have together.
+    unfinished_limit: u64,
     pages: PageMaker,
 }
 
@@ -120,6 +119,7 @@ impl<'j> Watcher<'j> {
             is_stopped: false,
             damaged: 0,
             failing: 0,
+            unfinished_limit: UNFINISHED_LIMIT,
             pages: PageMaker::new(alloc),
         }
     }
@@ -330,7 +330,7 @@ impl<'j> Watcher<'j> {
     /// Asks the poll to drop the connection with the largest unfinished message, if all of them together have
     /// too many bytes.
     fn limit_unfinished(&self, snapshot: Snapshot<'_>) {
-        if snapshot.unfinished <= MOST_UNFINISHED {
+        if snapshot.unfinished <= self.unfinished_limit {
             return;
         }
         if let Some(conn) = snapshot.largest_unfinished {
@@ -416,7 +416,7 @@ impl<'j> Watcher<'j> {
         }
     }
 
-    /// Warns of values of the log's keys that can't be read, in one line.
+    /// Warns of values of the log settings that can't be read, in one line.
     fn log_unread(&self, sections: &[Section]) -> Result<(), Memory> {
         let text = unread_text(self.journal.alloc(), sections)?;
         if !text.is_empty() {
@@ -431,6 +431,7 @@ impl<'j> Watcher<'j> {
             file,
             server,
             checks_health,
+            unfinished_limit,
         } = settings;
         let file = match &file {
             Some(path) => Some(path.as_slice()),
@@ -438,6 +439,7 @@ impl<'j> Watcher<'j> {
         };
         self.journal.open(level, file);
         self.pages.check_health(checks_health);
+        self.unfinished_limit = unfinished_limit;
         if let Some(server) = server {
             self.journal.serve(server.host, server.port);
         }

@@ -335,7 +335,7 @@ impl<'a> Sources<'a> {
             return None;
         }
         let text =
-            "a peer is dropped: all unfinished messages together have more than 64 MB, and its own is the largest";
+            "a peer is dropped: all unfinished messages together exceed forward.mem_limit, and its own is the largest";
         self.log_peer(Level::Warn, input, &text);
         self.leave(id);
         Some(Happening::Gone { input, conn: id })
