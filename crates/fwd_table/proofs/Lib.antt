@@ -1,3 +1,5 @@
+pub mod DueIndex
+pub mod DueRange
 pub mod Usage
 pub use Rattle.fwd_table_rows.proofs.Chunks
 pub use Rattle.fwd_table_rows.proofs.DueOrder

@@ -1,3 +1,4 @@
+pub mod DueIndex
 pub mod Outcomes
 pub mod TableModel
 pub use Rattle.fwd_table_rows.specs.Routes

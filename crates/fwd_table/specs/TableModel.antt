@@ -4,9 +4,11 @@ use Rattle.fwd_base.specs.Limits.{most_outputs}
 use Rattle.fwd_table_rows.specs.declared.row.Row.{Row}
 use Rattle.fwd_table_rows.specs.declared.slot.Slot.{Slot}
 use Rattle.fwd_table_rows.specs.declared.sums.Sums.{Sums}
-use Rattle.fwd_table_rows.specs.Rows.{ChunksRise, IsNotDueBefore}
+use Rattle.fwd_table_rows.specs.Rows.{ChunksRise, idle_timers_of}
 use Rattle.fwd_table_rows.specs.Slots.{HasOwnRow, NumbersRise, rows_in}
 use Rattle.fwd_table_rows.specs.Sums.{AreSums, IsValidRow}
+use Rattle.fwd_table.specs.declared.due_index.DueIndex.{DueIndex}
+use Rattle.fwd_table.specs.DueIndex.{IsIndexIfAny}
 
 -- The model of a table: its rows, its slots (none for an empty one), and how many more rows are reserved.
 pub record TableModel : Type 0 where
@@ -18,16 +20,16 @@ pub record TableModel : Type 0 where
 abbrev pub spare_of : ℕ → ℕ → ℕ
 spare_of storage room = if nat_le most_outputs storage then min 1 room else 0
 
--- the invariant of a table: the rows rise and are sound, none of their idle routes is due before a time,
--- and their totals are known
-pub record TableInvariant (reading : ℕ) (sums : Sums) (rows : List Row) : Type 0 where
+-- the invariant of a table: the rows rise and are sound, the index has the timers of their idle routes if
+-- there is an index, and their totals are known
+pub record TableInvariant (index : Option DueIndex) (sums : Sums) (rows : List Row) : Type 0 where
   pub rise : ChunksRise rows
   pub sound : All IsValidRow rows
-  pub wait : All (IsNotDueBefore reading) rows
+  pub listed : IsIndexIfAny (idle_timers_of rows) index
   pub summed : AreSums sums rows
 
 -- the invariant of a table over its slots and rows
-pub record SlotsInvariant (reading : ℕ) (sums : Sums) (places : List Slot) : Type 0 where
+pub record SlotsInvariant (index : Option DueIndex) (sums : Sums) (places : List Slot) : Type 0 where
   pub numbers : NumbersRise places
   pub own : All HasOwnRow places
-  pub kept : TableInvariant reading sums (rows_in places)
+  pub kept : TableInvariant index sums (rows_in places)

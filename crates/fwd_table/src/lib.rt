@@ -2,6 +2,7 @@
 //! failed, and when it is due. Also the counters of the report.
 #![tactic(auto)]
 
+mod due_index;
 mod outcome;
 mod table;
 mod tally;

@@ -9,7 +9,7 @@ ghost use Rattle.fwd_retry.specs.Timer.{first, in_time, is_next, IsFirst};
 ghost use Rattle.fwd_table_rows.specs.declared.row.Row.{Row};
 ghost use Rattle.fwd_table.specs.Outcomes.{due_after, may_retry, is_tried_again, outcome_of};
 ghost use Rattle.fwd_table.specs.Outcomes.{resolved_outcome};
-ghost use Rattle.fwd_table_rows.specs.Routes.{flying_of, is_due_to, mask_of, IsMaskOf};
+ghost use Rattle.fwd_table_rows.specs.Routes.{flying_of, is_next_to, mask_of, IsMaskOf};
 ghost use Rattle.fwd_table_rows.specs.Changes.{row_with_change};
 ghost use Rattle.fwd_table_rows.specs.Usage.{size_of, flying_to, waiting_for, memory_of, files_up, found_up};
 ghost use Rattle.fwd_base.specs.Limits.{most_inputs};
@@ -19,16 +19,16 @@ ghost use Rattle.fwd_table_rows.specs.Rows.{tries_of, owes_nothing, idle_timers_
 ghost use Rattle.fwd_table_rows.specs.Rows.{on_chunk, without_chunk, grown, shut_at, started_to, stayed_to};
 ghost use Rattle.fwd_table_rows.specs.Rows.{answered_by, resolved_to};
 
+use crate::due_index::{DueIndex, insert_timers, remove_timers, take_index};
 use crate::outcome::{due_after, may_retry, resolved_outcome, spent_outcome};
 use crate::{Answer, Outcome, RowSeen};
-use fwd_base::limits::MOST_OUTPUTS;
 use fwd_base::{Bytes, ChunkId, InputId, Memory, OutputId, Retries};
 use fwd_outside::Home;
 use fwd_retry::Timer;
 use fwd_table_rows::{
     Change, Route, Routes, Row, RowChange, Slot, Sums, Way, change_row, clear_row, close_gaps,
     drop_first_gaps, drop_unowed_places, due_in, find_row, free_end, make_storage, next_in,
-    soonest_due, sums_of,
+    sums_of,
 };
 use std::alloc::Global;
 use std::collections::VecDeque;
@@ -38,16 +38,19 @@ use std::mem;
 /// The chunks that are open or pending, ordered by id, each with the outputs that it is pending for.
 /// Contracts see the rows, the slots that hold them, and how many more rows are reserved.
 ///
-/// Only `reserve`, `due` and `due_to` allocate. A row is found by its id or by binary search. Removing a row leaves
-/// its slot empty. Empty slots are removed once they outnumber the rows, so removing rows in any order
-/// takes linear time.
+/// A row is found by its id or by binary search. Removing a row leaves its slot empty. Empty slots are removed once
+/// they outnumber the rows, so removing rows in any order takes linear time.
+///
+/// An index orders the idle routes by output and due time. `shut`, `stayed` and `answered` allocate as routes come into
+/// it. If memory runs out there, that is no error: the table drops the index, and the next `next_due_to` builds it anew.
+/// Besides, only `reserve`, `due` and such a `next_due_to` allocate. They return an error if memory runs out.
 #[derive(Debug, Drop)]
 pub struct Table {
     places: VecDeque<Slot>,
     /// The list for the routes of the next row.
     storage: Vec<Route>,
-    /// A time in milliseconds before which no idle route is due.
-    soonest: u64,
+    /// The timers of the idle routes. `None` if memory ran out for it.
+    index: Option<DueIndex>,
     sums: Sums,
     alloc: Global,
 }
@@ -66,7 +69,7 @@ impl Model for Table {
       spare = spare_of (vec_capacity t.storage) (deque_capacity t.places - deque_len t.places);
     } };
 
-    ghost invariant = { λ t. SlotsInvariant t.soonest t.sums t.places.items };
+    ghost invariant = { λ t. SlotsInvariant t.index t.sums t.places.items };
 }
 
 impl Table {
@@ -77,7 +80,7 @@ impl Table {
         Table {
             places: VecDeque::new(alloc),
             storage: Vec::new(alloc),
-            soonest: u64::MAX,
+            index: Some(DueIndex::new(alloc)),
             sums: Sums::new(),
             alloc,
         }
@@ -173,8 +176,8 @@ impl Table {
     }
 
     /// Returns the first of the idle routes that are due at `now` and come after `after`, ordered by due
-    /// time, then chunk, then output. The engine lists due routes by `due_to`; this is for callers that look at
-    /// one route at a time, as the log of a live run does.
+    /// time, then chunk, then output. It looks at all rows. The engine asks `next_due_to`, for the outputs with a free
+    /// place; this is for callers that want the routes to all, as the log of a live run does.
     pub fn next_due(&self, now: u64, after: Option<Timer>) -> Option<Timer>
         ensures value { result ≡ first (filter (is_next now after) (idle_timers_of self.now.rows)) }
         ensures first { let due = filter (is_next now after) (idle_timers_of self.now.rows) in
@@ -184,8 +187,8 @@ impl Table {
     }
 
     /// Returns the timers of the idle routes that are due at `now`, ordered by due time, then chunk, then
-    /// output. The rows stay the same. If none is due, most calls look at no row. This allocates the list. The
-    /// program asks `due_to`, for outputs with a free place: this is for callers that want the routes to all.
+    /// output. The rows stay the same. It looks at all rows, and allocates the list. The program asks `next_due_to`,
+    /// for one route at a time: this is for callers that want them all.
     pub fn due(&mut self, now: u64) -> Result<Vec<Timer>, Memory>
         ensures rows { self.new.rows ≡ self.old.rows }
         ensures spare { self.old.spare ≤ self.new.spare }
@@ -193,30 +196,30 @@ impl Table {
             (λ timers. timers.items
             ≡ in_time (filter (λ (t : Timer). nat_le t.due now) (idle_timers_of self.old.rows))) }
     {
-        self.update_soonest(now);
-        if self.none_is_due(now) {
-            return Ok(Vec::new(self.alloc));
-        }
-        due_in(self.alloc, &self.places, now, u64::MAX)
+        due_in(self.alloc, &self.places, now)
     }
 
-    /// Returns the timers of the idle routes to the outputs of a mask that are due at `now`, ordered by due
-    /// time, then chunk, then output. The rows stay the same. If the mask is empty, the call looks at no
-    /// row; if no route is due, most calls look at none. This allocates the list.
-    pub fn due_to(&mut self, now: u64, outputs: u64) -> Result<Vec<Timer>, Memory>
+    /// Returns the first of the idle routes to the outputs of a mask that are due at `now` and come after `after`,
+    /// ordered by due time, then chunk, then output. The rows stay the same. It takes logarithmic time for each output of
+    /// the mask, unless memory ran out before: then it orders the routes anew. This allocates only in that case.
+    pub fn next_due_to(
+        &mut self,
+        now: u64,
+        outputs: u64,
+        after: Option<Timer>,
+    ) -> Result<Option<Timer>, Memory>
         ensures rows { self.new.rows ≡ self.old.rows }
         ensures spare { self.old.spare ≤ self.new.spare }
-        ensures due { IfOk result
-            (λ timers. timers.items ≡ in_time (filter (is_due_to now outputs) (idle_timers_of self.old.rows))) }
+        ensures next { let due = filter (is_next_to now outputs after) (idle_timers_of self.old.rows) in
+            IfOk result (λ next. MatchOption next (due ≡ []) (IsFirst due)) }
     {
         if outputs == 0 {
-            return Ok(Vec::new(self.alloc));
+            return Ok(None);
         }
-        self.update_soonest(now);
-        if self.none_is_due(now) {
-            return Ok(Vec::new(self.alloc));
-        }
-        due_in(self.alloc, &self.places, now, outputs)
+        let index = take_index(self.alloc, &mut self.index, &self.places)?;
+        let next = index.next(now, outputs, after);
+        self.index = Some(index);
+        Ok(next)
     }
 
     /// Records that a flush of a route starts, if the route is pending.
@@ -451,30 +454,15 @@ impl Table {
         }
     }
 
-    /// Recomputes `soonest` if an idle route may be due at `now`.
-    fn update_soonest(&mut self, now: u64)
-        ensures { self.new ≡ self.old }
-    {
-        if self.soonest <= now {
-            self.soonest = soonest_due(&self.places);
-        }
-    }
-
-    /// Returns whether it is known that no idle route is due at `now`.
-    fn none_is_due(&self, now: u64) -> bool
-        ensures { IsTrue result
-            → filter (λ (t : Timer). nat_le t.due now) (idle_timers_of self.now.rows) ≡ [] }
-    {
-        now < self.soonest
-    }
-
     /// Changes the row of a chunk, if there is one.
     fn change(&mut self, chunk: ChunkId, change: RowChange)
         ensures rows { self.new.rows ≡ on_chunk chunk (row_with_change change) self.old.rows }
         ensures spare { self.old.spare ≤ self.new.spare }
     {
-        self.soonest = self.soonest.min(change.due());
+        let scope = change.scope();
+        remove_timers(&mut self.index, &self.places, chunk, scope);
         change_row(&mut self.places, &mut self.sums, chunk, change);
+        insert_timers(&mut self.index, &self.places, chunk, scope);
     }
 
     fn tries_so_far(&self, chunk: ChunkId, output: OutputId) -> u64

@@ -1,6 +1,6 @@
 -- Timers in order: of the lists in order, one alone has given timers, each once.
-use Rattle.std.proofs.Common.{◌≡◌, ℕ, Bool, true, false, cond, List, [], ◌∷◌, fold, refl, sym, ◌∙◌, ap}
-use Rattle.std.specs.Prelude.{◌&&◌, ◌||◌, filter, nat_le}
+use Rattle.std.proofs.Common.{◌≡◌, Bool, true, false, cond, List, [], ◌∷◌, fold, refl, sym, ◌∙◌, ap}
+use Rattle.std.specs.Prelude.{◌&&◌, ◌||◌, filter}
 use Rattle.std.specs.declared.cmp.Ordering.{Ordering}
 use Rattle.std.specs.declared.cmp.Ordering.TheVariants.{Less, Equal, Greater}
 use Rattle.std.specs.Ordering.{nat_cmp, ordering_then, ordering_reverse, match_ordering, eq_by_cmp, is_eq}
@@ -15,7 +15,6 @@ use Rattle.std.proofs.lemmas.Map.Lookups.{btree_set_from_contains, exact_unsigne
 use Rattle.std.proofs.lemmas.Map.Views.{any-filter_same}
 use Rattle.fwd_retry.specs.declared.timer.Timer.{Timer}
 use Rattle.fwd_retry.specs.Timer.{by_time, in_time}
-use Rattle.fwd_table_rows.specs.Routes.{is_due_to, is_in}
 
 -- ---- the order of timers is total, and tells them apart
 
@@ -157,24 +156,3 @@ in_time-filter p ts =
 
     same : (z : Timer) → list_any (eq_by_cmp by_time z) (filter p (in_time ts)) ≡ list_any (eq_by_cmp by_time z) (filter p ts)
     same z = kept z (in_time ts) ∙ (ap (λ b. p z && b) (any_in_time z ts) ∙ sym (kept z ts))
-
--- ---- due timers to some outputs
-
-both_pass : (p q : Timer → Bool) (ts : List Timer) → filter (λ t. p t && q t) ts ≡ filter q (filter p ts)
-both_pass p q [] = refl
-both_pass p q (t ∷ ts) = by (p t) (both_pass p q ts)
-  where
-    by : (b : Bool) → filter (λ t. p t && q t) ts ≡ filter q (filter p ts) → cond (b && q t) (t ∷ filter (λ t. p t && q t) ts) (filter (λ t. p t && q t) ts) ≡ filter q (cond b (t ∷ filter p ts) (filter p ts))
-    by true rest = ap (λ us. cond (q t) (t ∷ us) us) rest
-    by false rest = rest
-
--- the due timers to the outputs of a mask are some of the due ones
-pub due_to-filter : (now outputs : ℕ) (ts : List Timer) → filter (is_due_to now outputs) ts ≡ filter (is_in outputs) (filter (λ (t : Timer). nat_le t.due now) ts)
-due_to-filter now outputs ts = both_pass (λ (t : Timer). nat_le t.due now) (is_in outputs) ts
-
-pub none_due_to : (now outputs : ℕ) (ts : List Timer) → filter (λ (t : Timer). nat_le t.due now) ts ≡ [] → filter (is_due_to now outputs) ts ≡ []
-none_due_to now outputs ts none = due_to-filter now outputs ts ∙ ap (filter (is_in outputs)) none
-
--- the same of both in order
-pub in_time-due_to : (now outputs : ℕ) (ts : List Timer) → filter (is_in outputs) (in_time (filter (λ (t : Timer). nat_le t.due now) ts)) ≡ in_time (filter (is_due_to now outputs) ts)
-in_time-due_to now outputs ts = in_time-filter (is_in outputs) (filter (λ (t : Timer). nat_le t.due now) ts) ∙ ap in_time (sym (due_to-filter now outputs ts))

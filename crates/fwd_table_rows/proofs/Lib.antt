@@ -4,9 +4,7 @@ pub mod MaskRoutes
 pub mod Bits
 pub mod Chunks
 pub mod ChunkRows
-pub mod DueMasks
 pub mod DueOrder
-pub mod DueTimes
 pub mod RowSums
 pub mod SlotChanges
 pub mod SlotRows

@@ -1,11 +1,14 @@
 -- Changes of routes and rows.
-use Rattle.std.specs.Prelude.{ℕ, ◌-◌, ◌^◌}
+use Rattle.std.specs.Prelude.{◌==◌, Bool, true, false}
+use Rattle.fwd_base.specs.declared.ids.OutputId.{OutputId}
 use Rattle.fwd_table_rows.specs.declared.route.Route.{Route}
 use Rattle.fwd_table_rows.specs.declared.route.Change.{Change}
 use Rattle.fwd_table_rows.specs.declared.route.Change.TheVariants.{Starts, Stays, Retries}
 use Rattle.fwd_table_rows.specs.declared.row.Row.{Row}
 use Rattle.fwd_table_rows.specs.declared.row.RowChange.{RowChange}
 use Rattle.fwd_table_rows.specs.declared.row.RowChange.TheVariants.{Grows, Shuts, Changes, Resolves}
+use Rattle.fwd_table_rows.specs.declared.row.Scope.{Scope}
+use Rattle.fwd_table_rows.specs.declared.row.Scope.TheVariants.{Nothing, To, All}
 use Rattle.fwd_table_rows.specs.Routes.{started, stayed, retried, on_output}
 use Rattle.fwd_table_rows.specs.Rows.{grown, shut_at, resolved_to}
 
@@ -23,15 +26,15 @@ row_with_change (Changes output change) row =
     record row { routes = on_output output (with_change change) row.routes }
 row_with_change (Resolves output) row = resolved_to output row
 
--- a time before which a change makes no route due
-abbrev pub due_by : Change → ℕ
-due_by Starts = 2 ^ 64 - 1
-due_by Stays = 0
-due_by (Retries due) = due
+-- the routes that may be idle or due at other times after a change than before it
+abbrev pub scope_of : RowChange → Scope
+scope_of (Grows size) = Nothing
+scope_of (Shuts now) = All
+scope_of (Changes output change) = To output
+scope_of (Resolves output) = To output
 
--- the same for a change of a row
-abbrev pub row_due_by : RowChange → ℕ
-row_due_by (Grows size) = 2 ^ 64 - 1
-row_due_by (Shuts now) = now
-row_due_by (Changes output change) = due_by change
-row_due_by (Resolves output) = 2 ^ 64 - 1
+-- whether the route to an output is in a scope
+abbrev pub is_in_scope : Scope → OutputId → Bool
+is_in_scope Nothing output = false
+is_in_scope (To own) output = output.0 == own.0
+is_in_scope All output = true

@@ -1,6 +1,6 @@
 -- The routes of a chunk: the outputs that it is pending for, by rising number.
-use Rattle.std.specs.Prelude.{◌≡◌, ◌↔◌, ℕ, ◌+◌, ◌-◌, ◌^◌, ◌<◌, ◌≤◌, ◌==◌, ◌&&◌, nat_le, min}
-use Rattle.std.specs.Prelude.{Bool, true, false, not, List}
+use Rattle.std.specs.Prelude.{◌≡◌, ◌↔◌, ℕ, ◌+◌, ◌-◌, ◌^◌, ◌<◌, ◌≤◌, ◌==◌, ◌&&◌, min}
+use Rattle.std.specs.Prelude.{Bool, true, false, not, List, Option}
 use Rattle.std.specs.Prelude.{[], ◌∷◌, map, filter, find, sum_by, Any, IsBitSet, if◌then◌else◌}
 use Rattle.std.specs.List.{range_with_len}
 use Rattle.std.specs.Int.{bit_at}
@@ -9,6 +9,7 @@ use Rattle.fwd_base.specs.Limits.{most_outputs}
 use Rattle.fwd_base.specs.declared.ids.ChunkId.{ChunkId}
 use Rattle.fwd_base.specs.declared.ids.OutputId.{OutputId}
 use Rattle.fwd_retry.specs.declared.timer.Timer.{Timer}
+use Rattle.fwd_retry.specs.Timer.{is_next}
 use Rattle.fwd_table_rows.specs.declared.route.Route.{Route}
 
 -- addition that saturates at 2^64 - 1
@@ -89,6 +90,6 @@ idle_timers chunk routes = map (timer_of chunk) (filter (λ r. not r.flying) rou
 abbrev pub is_in : ℕ → Timer → Bool
 is_in outputs timer = bit_at outputs timer.output.0 == 1
 
--- whether a timer is due at a time, and its output is in a mask
-abbrev pub is_due_to : ℕ → ℕ → Timer → Bool
-is_due_to now outputs timer = nat_le timer.due now && is_in outputs timer
+-- whether a timer is due at a time and comes after the given one, and its output is in a mask
+abbrev pub is_next_to : ℕ → ℕ → Option Timer → Timer → Bool
+is_next_to now outputs after timer = is_next now after timer && is_in outputs timer

@@ -1,6 +1,6 @@
 -- The rows of a table: chunks with their routes, by rising chunk id.
-use Rattle.std.specs.Prelude.{◌≡◌, ℕ, ◌<◌, ◌≤◌, ◌==◌, ◌&&◌, Bool, true, false, not, List, [], length, map}
-use Rattle.std.specs.Prelude.{filter, find, Option, is_some, option_to_list, IsSomeAnd, IsTrue, All, AllPairs}
+use Rattle.std.specs.Prelude.{◌≡◌, ℕ, ◌<◌, ◌==◌, ◌&&◌, Bool, true, false, not, List, [], length, map}
+use Rattle.std.specs.Prelude.{filter, find, Option, is_some, option_to_list, IsSomeAnd, IsTrue, AllPairs}
 use Rattle.std.specs.Prelude.{if◌then◌else◌}
 use Rattle.std.specs.List.{flat_map}
 use Rattle.std.specs.Option.{option_map_or}
@@ -100,11 +100,6 @@ seen_of row = record {
   flying = mask_of (flying_of row.routes);
   shut = row.shut;
 }
-
--- no idle route of a row is due before a time
-abbrev pub IsNotDueBefore : ℕ → Row → Type 0
-IsNotDueBefore reading row =
-    IsTrue row.shut → All (λ r. r.flying ≡ false → reading ≤ r.due) row.routes
 
 -- ---- changes of its rows
 

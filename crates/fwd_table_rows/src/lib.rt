@@ -8,9 +8,9 @@ mod slot;
 mod sums;
 
 pub use route::{Change, Route, Routes};
-pub use row::{Row, RowChange, RowSeen, is_file};
+pub use row::{Row, RowChange, RowSeen, Scope, is_file};
 pub use slot::{
     Slot, change_row, clear_row, close_gaps, drop_first_gaps, drop_unowed_places, due_in, find_row,
-    free_end, make_storage, next_in, soonest_due, sums_of,
+    free_end, make_storage, next_in, sums_of,
 };
 pub use sums::{ByOutput, Sums, Way};

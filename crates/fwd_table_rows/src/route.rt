@@ -1,13 +1,14 @@
 //! Routes: the outputs that a chunk is pending for.
 
-ghost use Rattle.std.specs.Prelude.{◌≡◌, ◌==◌, ◌≤◌, [], ◌++◌, All, false, fold, filter, find, length, map};
+ghost use Rattle.std.specs.Prelude.{◌≡◌, ◌==◌, ◌≤◌, [], ◌++◌, fold, filter, find, length, map, nat_le};
 ghost use Rattle.std.specs.Prelude.{not, OnOk, option_copied, option_map, vec_capacity, if◌then◌else◌};
 ghost use Rattle.fwd_base.specs.Limits.{most_outputs};
+ghost use Rattle.fwd_retry.specs.declared.timer.Timer.{Timer};
 ghost use Rattle.fwd_retry.specs.Timer.{earlier as earlier_of, is_next};
 ghost use Rattle.fwd_table_rows.specs.Routes.{idle_at, due_at, is_to, on_output, without_output, timer_of};
 ghost use Rattle.fwd_table_rows.specs.Routes.{idle_timers, tries_to, routes_below, routes_to, mask_of};
-ghost use Rattle.fwd_table_rows.specs.Routes.{flying_of, is_due_to, IsMaskOf, RiseFrom};
-ghost use Rattle.fwd_table_rows.specs.Changes.{with_change, due_by};
+ghost use Rattle.fwd_table_rows.specs.Routes.{flying_of, IsMaskOf, RiseFrom};
+ghost use Rattle.fwd_table_rows.specs.Changes.{with_change};
 
 use fwd_base::limits::MOST_OUTPUTS;
 use fwd_base::{ChunkId, Memory, OutputId, is_set};
@@ -34,19 +35,6 @@ pub enum Change {
     Starts,
     Stays,
     Retries { due: u64 },
-}
-
-impl Change {
-    /// Returns a time in milliseconds before which the change makes no route due.
-    pub fn due(self) -> u64
-        ensures { result ≡ due_by self }
-    {
-        match self {
-            Change::Starts => u64::MAX,
-            Change::Stays => 0,
-            Change::Retries { due } => due,
-        }
-    }
 }
 
 impl Route {
@@ -94,7 +82,8 @@ impl Route {
         }
     }
 
-    fn timer(self, chunk: ChunkId) -> Timer
+    /// Returns the timer of the route, which is one of a chunk.
+    pub fn timer(self, chunk: ChunkId) -> Timer
         ensures { result ≡ timer_of chunk self }
     {
         Timer {
@@ -141,29 +130,14 @@ fn change_routes(routes: &mut [Route], output: OutputId, change: Change)
     }
 }
 
-/// Returns the earliest due time of the idle routes, or a time before which none is due.
-fn soonest_of(routes: &[Route]) -> u64
-    ensures { All (λ r. r.flying ≡ false → result ≤ r.due) routes.now }
-{
-    let mut soonest = u64::MAX;
-    for route in routes {
-        if !route.flying {
-            soonest = soonest.min(route.due);
-        }
-    }
-    soonest
-}
-
 /// The routes of a chunk, ordered by output.
 #[derive(Debug, Drop)]
 pub struct Routes {
     routes: Vec<Route>,
-    /// A time in milliseconds before which no idle route is due.
-    soonest: u64,
 }
 
 impl Model for Routes {
-    ghost use Rattle.std.specs.Prelude.{◌≡◌, ◌≤◌, List, All, false};
+    ghost use Rattle.std.specs.Prelude.{List};
     ghost use Rattle.fwd_table_rows.specs.declared.route.Route.{Route};
     ghost use Rattle.fwd_table_rows.specs.Routes.{RiseFrom};
 
@@ -171,8 +145,7 @@ impl Model for Routes {
 
     ghost view = { λ r. r.routes.items };
 
-    ghost invariant = { λ r. RiseFrom 0 r.routes.items
-        × All (λ route. route.flying ≡ false → r.soonest ≤ route.due) r.routes.items };
+    ghost invariant = { λ r. RiseFrom 0 r.routes.items };
 }
 
 impl Routes {
@@ -185,11 +158,7 @@ impl Routes {
     {
         storage.clear();
         put_routes(&mut storage, owed, MOST_OUTPUTS as u32);
-        let soonest = soonest_of(&storage);
-        Routes {
-            routes: storage,
-            soonest,
-        }
+        Routes { routes: storage }
     }
 
     /// Moves the routes to a list of exactly their number, and returns the list that they had.
@@ -246,7 +215,6 @@ impl Routes {
         ensures { self.new ≡ map (due_at due) self.old }
     {
         begin_routes(&mut self.routes, due);
-        self.soonest = soonest_of(&self.routes);
     }
 
     /// Changes the route to an output, if it is pending.
@@ -254,7 +222,6 @@ impl Routes {
         ensures { self.new ≡ on_output output (with_change change) self.old }
     {
         change_routes(&mut self.routes, output, change);
-        self.soonest = soonest_of(&self.routes);
     }
 
     /// Removes the route to an output, if it is pending.
@@ -262,7 +229,6 @@ impl Routes {
         ensures { self.new ≡ without_output output self.old }
     {
         self.routes.retain(|route| route.output != output);
-        self.soonest = soonest_of(&self.routes);
     }
 
     /// Returns the mask of the outputs.
@@ -313,30 +279,14 @@ impl Routes {
         first
     }
 
-    /// Returns a time before which no idle route is due.
-    pub fn soonest(&self) -> u64
-        ensures { All (λ r. r.flying ≡ false → result ≤ r.due) self.now }
-    {
-        self.soonest
-    }
-
-    /// Appends the timers of the idle routes to the outputs of a mask that are due at `now`.
-    pub fn put_due(
-        &self,
-        chunk: ChunkId,
-        now: u64,
-        outputs: u64,
-        timers: &mut Vec<Timer>,
-    ) -> Result<(), Memory>
+    /// Appends the timers of the idle routes that are due at `now`.
+    pub fn put_due(&self, chunk: ChunkId, now: u64, timers: &mut Vec<Timer>) -> Result<(), Memory>
         ensures { OnOk result
             (timers.new.items
-            ≡ timers.old.items ++ filter (is_due_to now outputs) (idle_timers chunk self.now)) }
+            ≡ timers.old.items ++ filter (λ (t : Timer). nat_le t.due now) (idle_timers chunk self.now)) }
     {
-        if now < self.soonest {
-            return Ok(());
-        }
         for route in &self.routes {
-            if !route.flying && route.due <= now && is_set(outputs, route.output.0) {
+            if !route.flying && route.due <= now {
                 timers.push(route.timer(chunk))?;
             }
         }

@@ -1,10 +1,11 @@
 //! Rows: a chunk and its routes.
 
-ghost use Rattle.std.specs.Prelude.{◌≡◌, ◌++◌, Some, fold, filter, OnOk};
+ghost use Rattle.std.specs.Prelude.{◌≡◌, ◌++◌, Some, fold, filter, nat_le, OnOk};
+ghost use Rattle.fwd_retry.specs.declared.timer.Timer.{Timer};
 ghost use Rattle.fwd_retry.specs.Timer.{earlier as earlier_of, is_next};
-ghost use Rattle.fwd_table_rows.specs.Rows.{IsNotDueBefore, seen_of, timers_of_row, waits_for};
-ghost use Rattle.fwd_table_rows.specs.Routes.{flying_of, is_due_to, IsMaskOf};
-ghost use Rattle.fwd_table_rows.specs.Changes.{row_with_change, row_due_by};
+ghost use Rattle.fwd_table_rows.specs.Rows.{seen_of, timers_of_row, waits_for};
+ghost use Rattle.fwd_table_rows.specs.Routes.{flying_of, IsMaskOf};
+ghost use Rattle.fwd_table_rows.specs.Changes.{row_with_change, scope_of, is_in_scope};
 ghost use Rattle.fwd_table_rows.specs.Sums.{IsValidRow};
 ghost use Rattle.fwd_table_rows.specs.Usage.{is_file};
 
@@ -64,15 +65,37 @@ pub enum RowChange {
     Resolves { output: OutputId },
 }
 
-impl RowChange {
-    /// Returns a time in milliseconds before which the change makes no route due.
-    pub fn due(self) -> u64
-        ensures { result ≡ row_due_by self }
+/// Some of the routes of a row.
+#[derive(Clone, Copy, Debug, PartialEq, Eq)]
+pub enum Scope {
+    Nothing,
+    /// The route to an output.
+    To(OutputId),
+    All,
+}
+
+impl Scope {
+    /// Returns whether the route to an output is one of them.
+    pub fn has(self, output: OutputId) -> bool
+        ensures { result ≡ is_in_scope self output }
     {
         match self {
-            RowChange::Grows { .. } | RowChange::Resolves { .. } => u64::MAX,
-            RowChange::Shuts { now } => now,
-            RowChange::Changes { change, .. } => change.due(),
+            Scope::Nothing => false,
+            Scope::To(own) => output == own,
+            Scope::All => true,
+        }
+    }
+}
+
+impl RowChange {
+    /// Returns the routes that may be idle or due at other times after the change than before it.
+    pub fn scope(self) -> Scope
+        ensures { result ≡ scope_of self }
+    {
+        match self {
+            RowChange::Grows { .. } => Scope::Nothing,
+            RowChange::Shuts { .. } => Scope::All,
+            RowChange::Changes { output, .. } | RowChange::Resolves { output } => Scope::To(output),
         }
     }
 }
@@ -129,25 +152,15 @@ impl Row {
         }
     }
 
-    /// Returns a time before which no idle route of the row is due.
-    pub fn soonest(&self) -> u64
-        ensures { IsNotDueBefore result self.now }
-    {
-        if !self.shut {
-            return u64::MAX;
-        }
-        self.routes.soonest()
-    }
-
-    /// Appends the timers of the row's idle routes to the outputs of a mask that are due at `now`.
-    pub fn put_due(&self, now: u64, outputs: u64, timers: &mut Vec<Timer>) -> Result<(), Memory>
+    /// Appends the timers of the row's idle routes that are due at `now`.
+    pub fn put_due(&self, now: u64, timers: &mut Vec<Timer>) -> Result<(), Memory>
         ensures { OnOk result
             (timers.new.items
-            ≡ timers.old.items ++ filter (is_due_to now outputs) (timers_of_row self.now)) }
+            ≡ timers.old.items ++ filter (λ (t : Timer). nat_le t.due now) (timers_of_row self.now)) }
     {
         if !self.shut {
             return Ok(());
         }
-        self.routes.put_due(self.chunk, now, outputs, timers)
+        self.routes.put_due(self.chunk, now, timers)
     }
 }

@@ -1,19 +1,19 @@
 //! Slots of a table. Removing a row leaves its slot empty, so that no other row moves.
 
 ghost use Rattle.std.specs.Prelude.{◌≡◌, ℕ, [], ◌++◌, ◌+◌, ◌<◌, ◌≤◌, ◌^◌, None, Some, get_or, length, map, filter};
-ghost use Rattle.std.specs.Prelude.{fold, is_some, option_copied, option_map, vec_capacity, All};
+ghost use Rattle.std.specs.Prelude.{fold, is_some, nat_le, option_copied, option_map, vec_capacity, All};
 ghost use Rattle.std.specs.Prelude.{IfOk, IfSome, IsTrue, OnOk};
 ghost use Rattle.std.specs.List.{flat_map};
 ghost use Rattle.std.specs.Option.{option_map_or};
 ghost use Rattle.std.specs.VecDeque.{deque_capacity, deque_len};
 ghost use Rattle.fwd_base.specs.Limits.{most_outputs};
+ghost use Rattle.fwd_retry.specs.declared.timer.Timer.{Timer};
 ghost use Rattle.fwd_retry.specs.Timer.{earlier as earlier_of, first, in_time, is_next};
 ghost use Rattle.fwd_table_rows.specs.Changes.{row_with_change};
 ghost use Rattle.fwd_table_rows.specs.declared.slot.Slot.{Slot};
 ghost use Rattle.fwd_table_rows.specs.Slots.{HasOwnRow, IsPlaceOf, NumbersRise, is_owed_at, rows_in};
-ghost use Rattle.fwd_table_rows.specs.Routes.{is_due_to};
 ghost use Rattle.fwd_table_rows.specs.Slots.{timers_of_slot};
-ghost use Rattle.fwd_table_rows.specs.Rows.{IsNotDueBefore, on_chunk, owed_rows, row_at, without_chunk};
+ghost use Rattle.fwd_table_rows.specs.Rows.{on_chunk, owed_rows, row_at, without_chunk};
 ghost use Rattle.fwd_table_rows.specs.Sums.{AreSums, Counted, IsValidRow, part_of, total};
 
 use crate::route::Route;
@@ -111,24 +111,14 @@ impl Slot {
         }
     }
 
-    /// Returns a time before which no idle route of the slot is due.
-    fn soonest(&self) -> u64
-        ensures { IfSome self.now.row (IsNotDueBefore result) }
-    {
-        match &self.row {
-            Some(row) => row.soonest(),
-            None => u64::MAX,
-        }
-    }
-
-    /// Appends the timers of the idle routes to the outputs of a mask that are due at `now`.
-    fn put_due(&self, now: u64, outputs: u64, timers: &mut Vec<Timer>) -> Result<(), Memory>
+    /// Appends the timers of the idle routes that are due at `now`.
+    fn put_due(&self, now: u64, timers: &mut Vec<Timer>) -> Result<(), Memory>
         ensures { OnOk result
             (timers.new.items
-            ≡ timers.old.items ++ filter (is_due_to now outputs) (timers_of_slot self.now)) }
+            ≡ timers.old.items ++ filter (λ (t : Timer). nat_le t.due now) (timers_of_slot self.now)) }
     {
         match &self.row {
-            Some(row) => row.put_due(now, outputs, timers),
+            Some(row) => row.put_due(now, timers),
             None => Ok(()),
         }
     }
@@ -354,31 +344,15 @@ pub fn next_in(places: &VecDeque<Slot>, now: u64, after: Option<Timer>) -> Optio
     first
 }
 
-/// Returns a time before which no idle route is due.
-pub fn soonest_due(places: &VecDeque<Slot>) -> u64
-    ensures { All (λ place. IfSome place.row (IsNotDueBefore result)) places.now.items }
-{
-    let mut soonest = u64::MAX;
-    for index in 0..places.len() {
-        soonest = soonest.min(places[index].soonest());
-    }
-    soonest
-}
-
-/// Appends the timers of the idle routes to the outputs of a mask that are due at `now`.
-fn put_due_in(
-    places: &VecDeque<Slot>,
-    now: u64,
-    outputs: u64,
-    timers: &mut Vec<Timer>,
-) -> Result<(), Memory>
+/// Appends the timers of the idle routes that are due at `now`.
+fn put_due_in(places: &VecDeque<Slot>, now: u64, timers: &mut Vec<Timer>) -> Result<(), Memory>
     ensures { OnOk result
         (timers.new.items
         ≡ timers.old.items
-        ++ filter (is_due_to now outputs) (flat_map timers_of_slot places.now.items)) }
+        ++ filter (λ (t : Timer). nat_le t.due now) (flat_map timers_of_slot places.now.items)) }
 {
     for index in 0..places.len() {
-        places[index].put_due(now, outputs, timers)?;
+        places[index].put_due(now, timers)?;
     }
     Ok(())
 }
@@ -391,20 +365,14 @@ fn put_in_time(timers: &mut Vec<Timer>)
     timers.dedup();
 }
 
-/// Returns the timers of the idle routes to the outputs of a mask that are due at `now`, ordered by due
-/// time, then chunk, then output.
-pub fn due_in(
-    alloc: Global,
-    places: &VecDeque<Slot>,
-    now: u64,
-    outputs: u64,
-) -> Result<Vec<Timer>, Memory>
+/// Returns the timers of the idle routes that are due at `now`, ordered by due time, then chunk, then output.
+pub fn due_in(alloc: Global, places: &VecDeque<Slot>, now: u64) -> Result<Vec<Timer>, Memory>
     ensures { IfOk result
         (λ timers. timers.items
-        ≡ in_time (filter (is_due_to now outputs) (flat_map timers_of_slot places.now.items))) }
+        ≡ in_time (filter (λ (t : Timer). nat_le t.due now) (flat_map timers_of_slot places.now.items))) }
 {
     let mut timers = Vec::new(alloc);
-    put_due_in(places, now, outputs, &mut timers)?;
+    put_due_in(places, now, &mut timers)?;
     put_in_time(&mut timers);
     Ok(timers)
 }

@@ -5,8 +5,9 @@ use Rattle.std.proofs.lemmas.List.Elements.{All-filter}
 use Rattle.std.proofs.lemmas.List.Kept.{AllPairs-filter}
 use Rattle.fwd_table_rows.specs.declared.row.Row.{Row}
 use Rattle.fwd_table_rows.specs.Slots.{rows_in}
-use Rattle.fwd_table_rows.specs.Rows.{IsNotDueBefore, is_owed_row}
+use Rattle.fwd_table_rows.specs.Rows.{is_owed_row}
 use Rattle.fwd_table_rows.specs.Sums.{IsValidRow, Unowed, total}
+use Rattle.fwd_table.proofs.DueIndex.{owed_timers}
 use Rattle.fwd_table.proofs.Usage.{none_unowed}
 use Rattle.fwd_table.proofs.table.Table.sweep.Goals as goal
 
@@ -20,7 +21,7 @@ invariant_of-self c = record {
   kept = record {
     rise = rw c.drop_unowed_places.ensures.rows (AllPairs-filter (λ (row behind : Row). row.chunk.0 < behind.chunk.0) is_owed_row _ c.self.invariant.kept.rise);
     sound = rw c.drop_unowed_places.ensures.rows (All-filter is_owed_row IsValidRow _ c.self.invariant.kept.sound);
-    wait = rw c.drop_unowed_places.ensures.rows (All-filter is_owed_row (IsNotDueBefore c.self.inside.soonest) _ c.self.invariant.kept.wait);
+    listed = rw (c.drop_unowed_places.ensures.rows, owed_timers (rows_in c.self.inside.places.items)) c.self.invariant.kept.listed;
     summed = c.sums_of-self-inside.ensures;
   };
 }

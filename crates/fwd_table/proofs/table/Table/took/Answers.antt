@@ -1,14 +1,14 @@
-use Rattle.std.proofs.Common.{◌<◌, refl, arith}
+use Rattle.std.proofs.Common.{◌<◌, false, refl, arith}
 use Rattle.std.specs.Prelude.{All}
 use Rattle.std.proofs.lemmas.List.Quantifiers.{all_pairs_push}
 use Rattle.std.proofs.lemmas.List.Elements.{All-push}
 use Rattle.fwd_table_rows.specs.declared.slot.Slot.{Slot}
 use Rattle.fwd_table_rows.specs.declared.row.Row.{Row}
 use Rattle.fwd_table_rows.specs.Slots.{HasOwnRow, rows_in}
-use Rattle.fwd_table_rows.specs.Rows.{IsNotDueBefore}
 use Rattle.fwd_table_rows.specs.Sums.{IsValidRow}
 use Rattle.fwd_table_rows.proofs.SlotChanges.{few_standing, standing_push}
 use Rattle.fwd_table_rows.proofs.RowSums.{comes_in, opened_sound, sums_pushed}
+use Rattle.fwd_table.proofs.DueIndex.{pushed_timers}
 use Rattle.fwd_table.proofs.table.Table.took.Goals as goal
 
 pub free_end-requires-clause-above : goal.free_end-requires-clause-above
@@ -32,7 +32,7 @@ invariant_of-self c =
       kept = rw (standing_push places _ _, c.free_end.ensures.rows) (record {
         rise = all_pairs_push (λ (row behind : Row). row.chunk.0 < behind.chunk.0) (rows_in c.self.inside.places.items) _ c.self.invariant.kept.rise above;
         sound = All-push IsValidRow (rows_in c.self.inside.places.items) _ c.self.invariant.kept.sound (opened_sound c.args.chunk c.args.input c.args.home c.args.tag c.args.size c.args.owed c.to.result c.ranges.size.fits c.to.ensures.value);
-        wait = All-push (IsNotDueBefore c.self.inside.soonest) (rows_in c.self.inside.places.items) _ c.self.invariant.kept.wait (λ shut. absurd (cc shut));
+        listed = rw (pushed_timers (rows_in c.self.inside.places.items) (record { chunk = c.args.chunk; input = c.args.input; home = c.args.home; tag = c.args.tag; size = c.args.size; shut = false; routes = c.to.result }) refl) c.self.invariant.kept.listed;
         summed = λ counted key below. sums_pushed counted key (rows_in c.self.inside.places.items) _ _ _ (c.self.invariant.kept.summed counted key below) (c.shift.ensures counted key below);
       });
     })

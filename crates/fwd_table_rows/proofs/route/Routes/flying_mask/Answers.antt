@@ -10,12 +10,12 @@ use Rattle.fwd_table_rows.proofs.route.Routes.flying_mask.Goals.{then-route, els
 
 pub overflow_shl-mask : goal.overflow_shl-mask
 overflow_shl-mask c =
-    let rise : RiseFrom 0 c.deref-route-items.result.now = rw c.deref-route-items.ensures.value c.self.invariant.0 in
+    let rise : RiseFrom 0 c.deref-route-items.result.now = rw c.deref-route-items.ensures.value c.self.invariant in
     output_below 0 c.deref-route-items.result.now c.loop-route.route-index _ rise c.loop-route-test.true
 
 pub loop-route-preserved : goal.loop-route-preserved
 loop-route-preserved c =
-    let rise : RiseFrom 0 c.deref-route-items.result.now = rw c.deref-route-items.ensures.value c.self.invariant.0 in
+    let rise : RiseFrom 0 c.deref-route-items.result.now = rw c.deref-route-items.ensures.value c.self.invariant in
     elim c.if-route.branch [
       | then-route w ↦ rw w.mask-is (kept_more (λ (r : Route). r.flying) c.deref-route-items.result.now c.loop-route.route-index _ c.loop-route.mask rise c.loop-route-test.true w.if-route.true c.loop-route.invariant)
       | else-route w ↦ rw w.mask-is (left_more (λ (r : Route). r.flying) c.deref-route-items.result.now c.loop-route.route-index _ c.loop-route.mask c.loop-route-test.true w.if-route.false c.loop-route.invariant)
@@ -23,6 +23,6 @@ loop-route-preserved c =
 
 pub returns-clause-bits : goal.returns-clause-bits
 returns-clause-bits c =
-    let rise : RiseFrom 0 c.args.self.now = rw (← c.self.view_is) c.self.invariant.0 in
+    let rise : RiseFrom 0 c.args.self.now = rw (← c.self.view_is) c.self.invariant in
     let value : c.loop-route.mask ≡ mask_of (flying_of c.args.self.now) = grind (arith, common_steps) in
     subst (IsMaskOf (flying_of c.args.self.now)) (sym value) (mask_has_bits 0 _ (rise-filter (λ (r : Route). r.flying) 0 _ rise))
