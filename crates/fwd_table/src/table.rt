@@ -38,12 +38,13 @@ use std::mem;
 /// The chunks that are open or pending, ordered by id, each with the outputs that it is pending for.
 /// Contracts see the rows, the slots that hold them, and how many more rows are reserved.
 ///
-/// A row is found by its id or by binary search. Removing a row leaves its slot empty. Empty slots are removed once
-/// they outnumber the rows, so removing rows in any order takes linear time.
+/// A row is found by its id or by binary search. Removing a row leaves its slot empty. Empty slots are removed
+/// once they outnumber the rows, so removing rows in any order takes linear time.
 ///
-/// An index orders the idle routes by output and due time. `shut`, `stayed` and `answered` allocate as routes come into
-/// it. If memory runs out there, that is no error: the table drops the index, and the next `next_due_to` builds it anew.
-/// Besides, only `reserve`, `due` and such a `next_due_to` allocate. They return an error if memory runs out.
+/// An index orders the idle routes by output and due time. `shut`, `stayed` and `answered` allocate as routes
+/// come into it. If memory runs out there, that is no error: the table drops the index, and the next
+/// `next_due_to` builds it anew. Besides, only `reserve`, `due` and such a `next_due_to` allocate. They return
+/// an error if memory runs out.
 #[derive(Debug, Drop)]
 pub struct Table {
     places: VecDeque<Slot>,
@@ -199,9 +200,10 @@ impl Table {
         due_in(self.alloc, &self.places, now)
     }
 
-    /// Returns the first of the idle routes to the outputs of a mask that are due at `now` and come after `after`,
-    /// ordered by due time, then chunk, then output. The rows stay the same. It takes logarithmic time for each output of
-    /// the mask, unless memory ran out before: then it orders the routes anew. This allocates only in that case.
+    /// Returns the first of the idle routes to the outputs of a mask that are due at `now` and come after
+    /// `after`, ordered by due time, then chunk, then output. The rows stay the same. It takes logarithmic time
+    /// for each output of the mask, unless memory ran out before: then it orders the routes anew. This
+    /// allocates only in that case.
     pub fn next_due_to(
         &mut self,
         now: u64,
