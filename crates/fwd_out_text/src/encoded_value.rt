@@ -1,6 +1,6 @@
 //! Writes encoded values as JSON text. Texts are copied from the bytes, and the members of a list or map are
-//! written one by one, so no tree of values is built. A number or another value without members is decoded
-//! and written alone.
+//! written one by one, so no tree of values is built. A number from 0 on is written from its bytes, and any other
+//! value without members is decoded and written alone.
 //!
 //! Each function returns the bytes after what it wrote. It returns `None` if the bytes aren't encoded as its
 //! comment says, if a list or map is nested deeper than `depth`, or if a key of a map isn't a text; `out` may
@@ -14,13 +14,15 @@ ghost use Rattle.fwd_msgpack.specs.KeptFront.{KeepsFront};
 ghost use Rattle.fwd_json.specs.Text.{json, values_text, more_values, pair_text, pairs_text, more_pairs};
 ghost use Rattle.fwd_out_text.specs.Headers.{StartsWithValues, StartsWithPair, StartsWithPairs};
 
+use crate::header::{split_number, split_text};
 use fwd_base::{Bytes, Memory};
 use fwd_json::{Floats, key_text, string_text, value_text};
-use fwd_msgpack::{decode, list_head, map_head, split_text};
+use fwd_msgpack::{decode, list_head, map_head};
 use std::alloc::Global;
 
-/// Appends the value that the bytes start with.
+/// Appends the value that the bytes start with. A text or number is written where this is called.
 #[cycle(write)]
+#[inline(always)]
 fn write_value<'b>(
     alloc: Global,
     bytes: &'b [u8],
@@ -35,6 +37,26 @@ fn write_value<'b>(
         string_text(alloc, text, out)?;
         return Ok(Some(rest));
     }
+    if let Some((number, rest)) = split_number(bytes) {
+        out.push_decimal(number)?;
+        return Ok(Some(rest));
+    }
+    write_other_value(alloc, bytes, depth, floats, out)
+}
+
+/// Appends the value that the bytes start with, as `write_value` does. It is for lists, maps and values that are
+/// neither texts nor numbers from 0 on.
+#[cycle(write)]
+fn write_other_value<'b>(
+    alloc: Global,
+    bytes: &'b [u8],
+    depth: u32,
+    floats: Floats,
+    out: &mut Bytes,
+) -> Result<Option<&'b [u8]>, Memory>
+    ensures given { IfOk result (λ found. IfSome found (λ rest. (v : Val) × StartsWith v rest.now bytes.now × (nesting v ≤ depth) × (out.new ≡ out.old ++ json floats v))) }
+    ensures kept { OnOk result (KeepsFront out.old out.new) }
+{
     if let Some((count, values)) = list_head(bytes) {
         if depth == 0 {
             return Ok(None);
@@ -190,6 +212,7 @@ pub fn write_more_pairs<'b>(
 
 /// Appends the pair that the bytes start with.
 #[cycle(write)]
+#[inline(always)]
 fn write_pair<'b>(
     alloc: Global,
     bytes: &'b [u8],

@@ -28,6 +28,9 @@ fn write_moment(sec: u32, nsec: u32, out: &mut Bytes) -> Result<(), Memory>
 {
     let mut buffer = Buffer::new();
     out.extend_from_slice(buffer.format(sec).as_bytes())?;
+    if nsec == 0 {
+        return out.extend_from_slice(b".000000000");
+    }
     out.push(b'.')?;
     write_nanoseconds(out, nsec)
 }

@@ -20,7 +20,7 @@ ghost use Rattle.fwd_parser.specs.LentFields.{lent_field, lent_record, AreShort}
 use crate::encoding::{put_decoded, put_head};
 use crate::event_time::{at, clock_moment, moment_in, timed_event};
 use crate::fields::{fields_of, kind_of, read_as};
-use crate::parser::{FieldTypes, Parser, Shape, TimeRule};
+use crate::parser::{FieldTypes, Parser, Shape, TimeRule, TypeKind};
 use crate::shapes::plain;
 use fwd_base::{Bytes, Capture, Memory, Search};
 use fwd_event::Event;
@@ -32,7 +32,7 @@ use std::alloc::Global;
 const MANY: usize = 16;
 
 /// Appends the value of a field. Bytes that don't have the form of the type are text.
-#[tactic(auto, using(crate::proofs::LentFields::read_is_flat, crate::proofs::LentFields::read_fits, fwd_msgpack::proofs::KeptFront::keeps_same), unfolding(crate::specs::Field::typed))]
+#[tactic(auto, using(crate::proofs::LentFields::read_is_flat, crate::proofs::LentFields::read_fits, fwd_msgpack::proofs::KeptFront::keeps_same), unfolding(crate::specs::Field::typed, crate::specs::Field::read_as))]
 fn put_value(
     floats: Floats,
     types: &FieldTypes,
@@ -44,7 +44,11 @@ fn put_value(
         ≡ out.old ++ canonical (typed floats (kind_of types.now group.now.name.now) group.now.bytes.now)) }
     ensures err { OnErr result (KeepsFront out.old out.new) }
 {
-    match read_as(floats, kind_of(types, group.name), group.bytes) {
+    let kind = kind_of(types, group.name);
+    if let TypeKind::Text = kind {
+        return put_text(out, group.bytes);
+    }
+    match read_as(floats, kind, group.bytes) {
         Some(value) => encode(&value, out),
         None => put_text(out, group.bytes),
     }

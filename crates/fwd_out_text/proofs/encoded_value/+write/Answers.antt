@@ -8,14 +8,14 @@ use Rattle.fwd_out_text.proofs.Members.{if_ok, pair_written, one_more, pairs_wri
 use Rattle.fwd_out_text.proofs.Values.{one_more as one_more_value, values_written, list_written}
 use Rattle.fwd_out_text.proofs.encoded_value.+write.Goals as goal
 
-pub write_value-returns-in-Some-list_head-clause-given : goal.write_value-returns-in-Some-list_head-clause-given
-write_value-returns-in-Some-list_head-clause-given t c =
-    let head = c.in-Some-list_head in
+pub write_other_value-returns-in-Some-clause-given : goal.write_other_value-returns-in-Some-clause-given
+write_other_value-returns-in-Some-clause-given t c =
+    let head = c.in-Some in
     if_ok c.write_list.result _ _ (λ found given. if_some found _ _ (λ rest w.
     list_written c.args.floats c.args.depth head.count c.args.bytes.now head.values.now rest.now c.args.out.now _ (omega arith) head.ensures w) given) c.write_list.ensures.given
 
-pub write_value-returns-in-Some-map_head-clause-given : goal.write_value-returns-in-Some-map_head-clause-given
-write_value-returns-in-Some-map_head-clause-given t c =
+pub write_other_value-returns-in-Some-map_head-clause-given : goal.write_other_value-returns-in-Some-map_head-clause-given
+write_other_value-returns-in-Some-map_head-clause-given t c =
     let head = c.in-Some-map_head in
     if_ok c.write_map.result _ _ (λ found given. if_some found _ _ (λ rest w.
     map_written c.args.floats c.args.depth head.count c.args.bytes.now head.pairs.now rest.now c.args.out.now _ (omega arith) head.ensures w) given) c.write_map.ensures.given
