@@ -2,4 +2,6 @@ pub mod AttemptStates
 pub mod LinkEvents
 pub mod ContentReads
 pub mod FreeMasks
-pub mod FreePlaces
+pub mod Turns
+pub mod Waiting
+pub mod WalkOrder

@@ -44,9 +44,9 @@ fn start_if_allowed<L: Loop, D: Disk>(
     }
 }
 
-/// Starts the routes that are idle and due, each if it may still start when its turn comes. Routes to an
-/// output without a free place start none, so they are left out. Routes of one chunk with equal due times
-/// follow one another and share their encoded text.
+/// Starts the routes that are idle and due, by due time, then chunk, then output, each if it may still start
+/// when its turn comes. Routes to an output without a free place start none, so they are passed over. Routes
+/// of one chunk with equal due times follow one another and share their encoded text.
 pub fn walk<L: Loop, D: Disk>(
     run: &RunSettings,
     parts: &mut Parts,
@@ -59,13 +59,21 @@ pub fn walk<L: Loop, D: Disk>(
     ensures damaged { parts.old.state.damaged ≤ parts.new.state.damaged }
     ensures disk_later { D.faults disk.old ≤ D.faults disk.new }
 {
-    let free = free_outputs(run, &parts.state);
-    let routes = parts.state.due_routes_to(free)?;
+    run.lemma_settings_are_sound();
     let mut content = Content::new(parts.state.alloc());
-    for route in &routes {
-        start_if_allowed(run, parts, outside, disk, *route, &mut content)?;
+    let mut last = None;
+    'dispatch: loop {
+        let free = free_outputs(run, &parts.state);
+        let Some(timer) = parts.state.next_due_to(free, last)? else {
+            return Ok(());
+        };
+        let route = RouteId {
+            chunk: timer.chunk,
+            output: timer.output,
+        };
+        start_if_allowed(run, parts, outside, disk, route, &mut content)?;
+        last = Some(timer);
     }
-    Ok(())
 }
 
 /// Handles a connection that can take more bytes: its flush attempt continues.

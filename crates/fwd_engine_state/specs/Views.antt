@@ -1,6 +1,5 @@
 -- Contract views of the parts of a state.
-use Rattle.std.specs.Prelude.{ℕ, ◌==◌, Bool, Option, List}
-use Rattle.std.specs.Int.{bit_at}
+use Rattle.std.specs.Prelude.{ℕ, Option, List}
 use Rattle.std.specs.Ordering.{nat_cmp}
 use Rattle.std.specs.BTreeMap.{get}
 use Rattle.fwd_base.specs.declared.ids.ChunkId.{ChunkId}
@@ -30,7 +29,3 @@ attempt_over link flights = get nat_cmp flights.flights link
 
 abbrev pub route_of : RouteId → Route
 route_of r = route r.chunk.0 r.output.0
-
--- whether the output of a route is in a mask
-abbrev pub is_to_one : ℕ → Route → Bool
-is_to_one outputs r = bit_at outputs r.output == 1

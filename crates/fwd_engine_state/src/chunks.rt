@@ -1,7 +1,7 @@
-ghost use Rattle.std.specs.Prelude.{◌≡◌, ◌<◌, ◌≤◌, [], ◌∷◌, ◌++◌, filter, IfOk, OnOk};
-ghost use Rattle.fwd_retry.specs.Timer.{in_time};
+ghost use Rattle.std.specs.Prelude.{◌≡◌, ◌<◌, ◌≤◌, [], ◌∷◌, ◌++◌, filter, IfOk, MatchOption, OnOk};
+ghost use Rattle.fwd_retry.specs.Timer.{IsFirst};
 ghost use Rattle.fwd_table.specs.Outcomes.{due_after, is_tried_again};
-ghost use Rattle.fwd_table.specs.Routes.{is_due_to};
+ghost use Rattle.fwd_table.specs.Routes.{is_next_to};
 ghost use Rattle.fwd_table.specs.Rows.{opened, on_chunk, grown, shut_at, started_to, resolved_to, owed_rows, tries_of, idle_timers_of};
 ghost use Rattle.fwd_engine_state.specs.FlushOutcome.{rows_answered};
 
@@ -132,14 +132,20 @@ impl Chunks {
         self.table.keep_owed(chunk);
     }
 
-    /// Returns the timers of the idle routes to the outputs of a mask that are due at `now`, by due time,
-    /// then chunk, then output. The chunks stay as they are.
-    pub fn due_to(&mut self, now: u64, outputs: u64) -> Result<Vec<Timer>, Memory>
+    /// Returns the first of the idle routes to the outputs of a mask that are due at `now` and come after
+    /// `after`, by due time, then chunk, then output. The chunks stay as they are.
+    pub fn next_due_to(
+        &mut self,
+        now: u64,
+        outputs: u64,
+        after: Option<Timer>,
+    ) -> Result<Option<Timer>, Memory>
         ensures rows { self.new.rows ≡ self.old.rows }
         ensures top { self.new.top ≡ self.old.top }
-        ensures due { IfOk result (λ timers. timers.items ≡ in_time (filter (is_due_to now outputs) (idle_timers_of self.old.rows))) }
+        ensures next { let due = filter (is_next_to now outputs after) (idle_timers_of self.old.rows) in
+            IfOk result (λ next. MatchOption next (due ≡ []) (IsFirst due)) }
     {
-        self.table.due_to(now, outputs)
+        self.table.next_due_to(now, outputs, after)
     }
 
     pub fn table(&self) -> &Table

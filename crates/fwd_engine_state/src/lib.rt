@@ -13,7 +13,6 @@ mod capacity;
 mod chunks;
 mod count_changes;
 mod counts;
-mod due_list;
 mod flush_attempts;
 mod input_mask;
 mod lemmas;

@@ -1,4 +1,4 @@
-ghost use Rattle.std.specs.Prelude.{◌≡◌, ◌<◌, ◌≤◌, ◌+◌, ℕ, List, [], ◌∷◌, length, map, filter, Bool, true, IfOk, OnOk};
+ghost use Rattle.std.specs.Prelude.{◌≡◌, ◌<◌, ◌≤◌, ◌+◌, ℕ, List, [], ◌∷◌, length, map, filter, Bool, true, IfOk, IfSome, MatchOption, OnOk};
 ghost use Rattle.fwd_base.specs.Limits.{most_inputs};
 ghost use Rattle.fwd_outside.specs.declared.happening.Happening.TheVariants as happening;
 ghost use Rattle.fwd_settings.specs.declared.settings_types.AllSettings.{AllSettings};
@@ -10,25 +10,28 @@ ghost use Rattle.fwd_model.specs.Clock.{clock, tick_count, stopped, is_close_due
 ghost use Rattle.fwd_model.specs.RecoveredFile.{recovered_chunk};
 ghost use Rattle.fwd_model.specs.Chunks.{next, size as size_of, encoded};
 ghost use Rattle.fwd_model.specs.Routes.{tries, wait_for, is_idle, flights_to, owes, rows_of};
-ghost use Rattle.fwd_model.specs.Dispatch.{due_routes, has_place, fits, may_start};
+ghost use Rattle.fwd_model.specs.Dispatch.{has_place, fits, may_start};
 ghost use Rattle.fwd_model.specs.Limits.{paused};
 ghost use Rattle.fwd_model.specs.Notes.{is_empty};
 ghost use Rattle.fwd_model.specs.Counters.{file_fate, Unrouted, LeftAsIs, tally_of};
+ghost use Rattle.fwd_retry.specs.Timer.{is_after, IsFirst};
+ghost use Rattle.fwd_table.specs.Routes.{is_next_to};
+ghost use Rattle.fwd_table.specs.Rows.{idle_timers_of};
 ghost use Rattle.fwd_table.specs.Outcomes.{may_retry, is_tried_again};
 ghost use Rattle.fwd_engine_state.specs.FlushOutcome.{outcome_after};
-ghost use Rattle.fwd_engine_state.specs.Views.{is_to_one, route_of};
+ghost use Rattle.fwd_engine_state.specs.Views.{route_of};
 ghost use Rattle.fwd_engine_state.specs.StateRepresents.{StateRepresentsIdle, StateAnswers, StateUnchanged, StateNotes, StateNotesWhere, StateNotesOutcome, IsFlightOf, IsClosedRoute, IsPending, IsTakenOut, IsMaskOf, IsLoaded, IsNew};
 
 use crate::capacity::{InFlightLimits, chunk_fits};
 use crate::chunks::Chunks;
 use crate::counts::Counts;
-use crate::due_list::due_routes_of;
 use crate::flush_attempts::{FlushAttempt, FlushAttempts, RouteId};
 use crate::input_mask::first_inputs;
 use fwd_base::limits::LATEST_TIME;
 use fwd_base::{Bytes, ChunkId, InputId, LinkId, Memory, OutputId, Retries};
 use fwd_limits::{Loss, MemLimits, next_loss, paused};
 use fwd_outside::Home;
+use fwd_retry::Timer;
 use fwd_table::{Answer, Table, Tally};
 use std::alloc::Global;
 
@@ -287,13 +290,19 @@ impl State {
         self.stopped
     }
 
-    /// Returns the routes to the outputs of a mask that are idle and due, by due time, chunk and output.
-    pub fn due_routes_to(&mut self, outputs: u64) -> Result<Vec<RouteId>, Memory>
+    /// Returns the first of the idle routes to the outputs of a mask that are due and come after `after`, by
+    /// due time, chunk and output. The state represents what it did. The call fails only for want of memory.
+    pub fn next_due_to(
+        &mut self,
+        outputs: u64,
+        after: Option<Timer>,
+    ) -> Result<Option<Timer>, Memory>
         ensures keeps { StateUnchanged self.old self.new }
         ensures damaged { self.new.damaged ≡ self.old.damaged }
-        ensures routes { StateAnswers self.old (λ s h. IfOk result (λ routes. map route_of routes.items ≡ filter (is_to_one outputs) (due_routes s h))) }
+        ensures next { StateAnswers self.old (λ s h. let due = filter (is_next_to (clock h) outputs after) (idle_timers_of (rows_of s h)) in IfOk result (λ next. MatchOption next (due ≡ []) (IsFirst due))) }
+        ensures later { IfOk result (λ next. IfSome next (λ timer. is_after after timer ≡ true)) }
     {
-        due_routes_of(self.alloc, &mut self.chunks, self.clock, outputs)
+        self.chunks.next_due_to(self.clock, outputs, after)
     }
 
     /// Whether a route is idle.

@@ -7,3 +7,5 @@ pub mod Example
 pub mod ExampleOffsets
 pub mod Masks
 pub mod Outputs
+pub mod Members
+pub mod ClockBound

@@ -1,4 +1,4 @@
-pub mod Members
+pub use Rattle.fwd_model.proofs.Members
 pub mod Streams
 pub mod Failures
 pub mod Traversal

@@ -1,7 +1,8 @@
 use Rattle.std.proofs.Common.{◌+◌, ◌-◌, ◌^◌, ℕ, ◌∙◌, ap}
 use Rattle.std.specs.Prelude.{nat_le, min}
 use Rattle.fwd_model.specs.Clock.{clock}
-use Rattle.fwd_engine.proofs.GracePeriod.{clock_within, late_is}
+use Rattle.fwd_model.proofs.ClockBound.{clock_within}
+use Rattle.fwd_engine.proofs.GracePeriod.{late_is}
 use Rattle.fwd_engine.proofs.run_end.is_late.Goals as goal
 
 pub returns : goal.returns

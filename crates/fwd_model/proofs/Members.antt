@@ -1,9 +1,9 @@
 -- Members of lists, of filtered lists and of searches; negated tests.
-use Rattle.std.proofs.Common.{◌≡◌, ◌⊎◌, inl, inr, ⊎_elim, zero, suc, Bool, true, false, not, cond, List, [], ◌∷◌, Option, Some, refl, ◌∙◌, ap, subst, arith}
+use Rattle.std.proofs.Common.{◌≡◌, ◌⊎◌, inl, inr, ⊎_elim, zero, suc, Bool, true, false, not, cond, List, [], ◌∷◌, ◌++◌, Option, Some, refl, sym, ◌∙◌, ap, subst, arith}
 use Rattle.std.specs.Prelude.{Contains, filter, find, map}
 use Rattle.std.specs.List.{flat_map}
 use Rattle.std.proofs.lemmas.List.Concat.{flat_map-cons}
-use Rattle.std.proofs.lemmas.List.Elements.{Contains-append_right, Contains-append_cases, All-contains, All-contains_itself, All-filter, filter_passes}
+use Rattle.std.proofs.lemmas.List.Elements.{Contains-append_left, Contains-append_right, Contains-append_cases, All-contains, All-contains_itself, All-filter, filter_passes}
 
 pub here : {X : Type 0} (x : X) (xs : List X) → Contains (x ∷ xs) x
 here x xs = (0, omega arith, refl)
@@ -84,3 +84,20 @@ from_flat_map {X = X} {Y = Y} f (x ∷ xs) y has =
     by : Contains (f x) y ⊎ Contains (flat_map f xs) y → (Contains (flat_map f xs) y → (z : X) × Contains xs z × Contains (f z) y) → (z : X) × Contains (x ∷ xs) z × Contains (f z) y
     by (inl now) more = (x, here x xs, now)
     by (inr later) more = let found = more later in (found.0, deeper x xs found.0 found.1, found.2)
+
+pub in_map : {X Y : Type 0} (f : X → Y) (xs : List X) (x : X) → Contains xs x → Contains (map f xs) (f x)
+in_map f [] x has = absurd (omega (arith, has.1))
+in_map {X = X} {Y = Y} f (y ∷ xs) x has = by (either y xs x has) (in_map f xs x)
+  where
+    by : (y ≡ x) ⊎ Contains xs x → (Contains xs x → Contains (map f xs) (f x)) → Contains (map f (y ∷ xs)) (f x)
+    by (inl same) more = subst (λ (z : X). Contains (map f (y ∷ xs)) (f z)) same (here (f y) (map f xs))
+    by (inr later) more = deeper (f y) (map f xs) (f x) (more later)
+
+pub in_flat_map : {X Y : Type 0} (f : X → List Y) (xs : List X) (x : X) (y : Y) → Contains xs x → Contains (f x) y → Contains (flat_map f xs) y
+in_flat_map f [] x y has is = absurd (omega (arith, has.1))
+in_flat_map {X = X} {Y = Y} f (z ∷ xs) x y has is =
+    subst (λ (l : List Y). Contains l y) (sym (flat_map-cons f z xs)) (by (either z xs x has) (in_flat_map f xs x y))
+  where
+    by : (z ≡ x) ⊎ Contains xs x → (Contains xs x → Contains (f x) y → Contains (flat_map f xs) y) → Contains (f z ++ flat_map f xs) y
+    by (inl same) more = Contains-append_left (f z) (flat_map f xs) y (subst (λ (w : X). Contains (f w) y) (sym same) is)
+    by (inr later) more = Contains-append_right (f z) (flat_map f xs) y (more later is)
