@@ -1,14 +1,14 @@
 -- A walk that takes the first due route to an output with a free place, then the next one after it, and so on, is the
 -- walk of the reference model.
 use Rattle.std.proofs.Common.{◌≡◌, ◌⊎◌, inl, inr, ⊎_elim, ℕ, ◌<◌, ◌≤◌, Bool, true, false, cond, List, [], ◌∷◌, map, fold, Option, Some, None, nat_lt, refl, sym, ◌∙◌, ap, subst, arith}
-use Rattle.std.specs.Prelude.{◌==◌, ◌&&◌, ◌||◌, Contains, filter, nat_le, is_some, MatchOption}
+use Rattle.std.specs.Prelude.{◌==◌, ◌&&◌, ◌||◌, ◌+◌, ◌*◌, ◌-◌, ◌^◌, Contains, filter, nat_le, is_some, MatchOption}
 use Rattle.std.specs.Int.{bit_at}
 use Rattle.std.specs.List.{AllByRecursion, list_any}
 use Rattle.std.specs.List.Sorted.{IsStrictlySortedBy}
 use Rattle.std.specs.Ordering.{MatchOrdering, nat_cmp, ordering_then, eq_by_cmp, is_eq}
 use Rattle.std.specs.declared.cmp.Ordering.{Ordering}
 use Rattle.std.specs.declared.cmp.Ordering.TheVariants.{Less, Equal, Greater}
-use Rattle.std.proofs.lemmas.Bool.{cases_Bool, leb-true, le-leb, and_parts, eqb-true}
+use Rattle.std.proofs.lemmas.Bool.{cases_Bool, leb-true, le-leb, ltb-true, and_parts, eqb-true}
 use Rattle.std.proofs.lemmas.Bool.Decides.{nat_tests}
 use Rattle.std.proofs.lemmas.Cmp.{ranked, tied_itself}
 use Rattle.std.proofs.lemmas.Map.Keys.{sorted_head, sorted_tail}
@@ -76,6 +76,43 @@ through a b c first second = grind (arith, nat_tests, first, second)
 after_through : (after : Option Timer) (a b : Timer) → is_after after a ≡ true → is_before a b ≡ true → is_after after b ≡ true
 after_through None a b first second = refl
 after_through (Some before) a b first second = through before a b first second
+
+or_cases : (a b : Bool) → (a || b) ≡ true → (a ≡ true) ⊎ (b ≡ true)
+or_cases true b is = inl refl
+or_cases false b is = inr is
+
+preceding : (a b : Timer) → is_before a b ≡ true → Precedes a b
+preceding a b before = by (or_cases (nat_lt a.due b.due) _ before)
+  where
+    by_chunk : (nat_lt a.chunk.0 b.chunk.0 ≡ true) ⊎ ((a.chunk.0 == b.chunk.0 && nat_lt a.output.0 b.output.0) ≡ true) → (a.chunk.0 < b.chunk.0) ⊎ ((a.chunk.0 ≡ b.chunk.0) × (a.output.0 < b.output.0))
+    by_chunk (inl less) = inl (ltb-true a.chunk.0 b.chunk.0 less)
+    by_chunk (inr both) = let parts = and_parts (a.chunk.0 == b.chunk.0) (nat_lt a.output.0 b.output.0) both in inr (eqb-true a.chunk.0 b.chunk.0 parts.0, ltb-true a.output.0 b.output.0 parts.1)
+
+    by : (nat_lt a.due b.due ≡ true) ⊎ ((a.due == b.due && (nat_lt a.chunk.0 b.chunk.0 || (a.chunk.0 == b.chunk.0 && nat_lt a.output.0 b.output.0))) ≡ true) → Precedes a b
+    by (inl less) = inl (ltb-true a.due b.due less)
+    by (inr both) = let parts = and_parts (a.due == b.due) (nat_lt a.chunk.0 b.chunk.0 || (a.chunk.0 == b.chunk.0 && nat_lt a.output.0 b.output.0)) both in inr (eqb-true a.due b.due parts.0, by_chunk (or_cases (nat_lt a.chunk.0 b.chunk.0) _ parts.1))
+
+-- how many timers may come after one, if their numbers fit their types
+abbrev pub timers_behind : Option Timer → ℕ
+timers_behind None = 2 ^ 170
+timers_behind (Some t) = (2 ^ 64 - t.due) * 2 ^ 100 + ((2 ^ 64 - t.chunk.0) * 2 ^ 33 + (2 ^ 32 - t.output.0))
+
+pub fewer_behind : (after : Option Timer) (t : Timer) → (t.due < 2 ^ 64) × (t.chunk.0 < 2 ^ 64) × (t.output.0 < 2 ^ 32) → is_after after t ≡ true → timers_behind (Some t) < timers_behind after
+fewer_behind None t fits is = omega arith
+fewer_behind (Some a) t fits is = by (preceding a t is)
+  where
+    by : Precedes a t → timers_behind (Some t) < timers_behind (Some a)
+    by (inl due) = let bound = fits.0 in omega (arith, due, bound)
+    by (inr (due, inl chunk)) = let bound = fits.1 in omega (arith, due, chunk, bound)
+    by (inr (due, inr (chunk, output))) = let bound = fits.2 in omega (arith, due, chunk, output, bound)
+
+-- what the next timer is
+pub is_first : (next : Option Timer) (t : Timer) (ts : List Timer) → next ≡ Some t → MatchOption next (ts ≡ []) (IsFirst ts) → IsFirst ts t
+is_first next t ts is answer = subst (λ (o : Option Timer). MatchOption o (ts ≡ []) (IsFirst ts)) is answer
+
+pub is_none : (next : Option Timer) (ts : List Timer) → ((t : Timer) → next ≡ Some t → ⊥) → MatchOption next (ts ≡ []) (IsFirst ts) → ts ≡ []
+is_none None ts none answer = answer
+is_none (Some t) ts none answer = absurd (none t refl)
 
 -- timers of one route with one due time
 same_timers : (a b : Timer) → a.due ≡ b.due → same_route (route_of a) (route_of b) ≡ true → is_before a b ≡ false

@@ -1,6 +1,6 @@
 //! Starts due routes, and handles events of connections.
 
-ghost use Rattle.std.specs.Prelude.{◌≤◌};
+ghost use Rattle.std.specs.Prelude.{◌≤◌, ◌<◌, ◌^◌};
 ghost use Rattle.fwd_model.specs.FlushActions.{starts_if_allowed, walk, at_room, at_reply, at_break};
 ghost use Rattle.fwd_engine_state.specs.Views.{route_of};
 ghost use Rattle.fwd_engine_state.specs.RefinesAction.{with_both, RefinesAction};
@@ -14,6 +14,7 @@ use fwd_engine_chunks::RunSettings;
 use fwd_engine_state::{InFlightLimits, Parts, RouteId};
 use fwd_outside::{Disk, Loop};
 use fwd_payload::Content;
+use fwd_retry::Timer;
 
 /// Starts a flush of a route if it may start.
 fn start_if_allowed<L: Loop, D: Disk>(
@@ -44,6 +45,12 @@ fn start_if_allowed<L: Loop, D: Disk>(
     }
 }
 
+/// The numbers of a timer fit their types.
+fn lemma_numbers_fit(timer: Timer)
+    ensures { (timer.due < 2 ^ 64) × (timer.chunk.0 < 2 ^ 64) × (timer.output.0 < 2 ^ 32) }
+{
+}
+
 /// Starts the routes that are idle and due, by due time, then chunk, then output, each if it may still start
 /// when its turn comes. Routes to an output without a free place start none, so they are passed over. Routes
 /// of one chunk with equal due times follow one another and share their encoded text.
@@ -67,6 +74,7 @@ pub fn walk<L: Loop, D: Disk>(
         let Some(timer) = parts.state.next_due_to(free, last)? else {
             return Ok(());
         };
+        lemma_numbers_fit(timer);
         let route = RouteId {
             chunk: timer.chunk,
             output: timer.output,

@@ -1,12 +1,11 @@
-use Rattle.std.proofs.Common.{ℕ, ◌+◌, ◌*◌, ◌-◌, ◌^◌, ◌≤◌, Option, Some, None}
-use Rattle.fwd_retry.specs.declared.timer.Timer.{Timer}
+use Rattle.std.proofs.Common.{◌≤◌}
 use Rattle.fwd_model.specs.Fact.{History}
 use Rattle.fwd_model.specs.CallLogs.{CallLogs, Leads}
 use Rattle.fwd_model.specs.FlushActions.{walk}
 use Rattle.fwd_engine_state.specs.LoopCounters.{NoEventTaken}
 use Rattle.fwd_engine_state.specs.RefinesAction.{with_both}
 use Rattle.fwd_engine_state.specs.PartsRepresent.{PartsRepresentIdle}
-use Rattle.fwd_engine_flush.proofs.WalkOrder.{IsPast, left}
+use Rattle.fwd_engine_flush.proofs.WalkOrder.{IsPast, left, timers_behind}
 use Rattle.fwd_engine_flush.proofs.dispatch.walk.Given as goal
 
 -- the reference model has come to the last route, and the parts represent its history
@@ -19,11 +18,6 @@ invariant-dispatch g l = record {
   walked : (others : CallLogs) (h : History) → PartsRepresentIdle l.run l.fn.parts h → (now : History) × PartsRepresentIdle l.run l.parts now × IsPast l.run h l.last now
       × Leads (with_both (g.L.Loop.call_log l.fn.outside) (g.D.Disk.call_log l.fn.disk) others) (with_both (g.L.Loop.call_log l.outside) (g.D.Disk.call_log l.disk) others) (walk l.run h) (left l.run h l.last now);
 }
-
--- the timers that may come after one
-abbrev pub timers_behind : Option Timer → ℕ
-timers_behind None = 2 ^ 170
-timers_behind (Some t) = (2 ^ 64 - t.due) * 2 ^ 100 + (2 ^ 64 - t.chunk.0) * 2 ^ 33 + (2 ^ 32 - t.output.0)
 
 abbrev pub decreases-dispatch : goal.decreases-dispatch
 decreases-dispatch g l = timers_behind l.last
