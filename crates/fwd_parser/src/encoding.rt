@@ -73,7 +73,7 @@ pub fn put_plain(line: &[u8], clock: u64, out: &mut Bytes) -> Result<bool, Memor
 
 /// Returns whether a value is neither a list nor a map, and shorter than 2^32 bytes.
 fn is_flat(value: &Value) -> bool
-    ensures { IsTrue result → (nesting (val_of value.now) ≡ 0) × LengthsFit (val_of value.now) }
+    ensures { IsTrue result ↔ (nesting (val_of value.now) ≡ 0) × LengthsFit (val_of value.now) }
 {
     match value {
         Value::Text(bytes) => bytes.len() < 4_294_967_296,
@@ -91,7 +91,7 @@ fn is_flat(value: &Value) -> bool
 
 /// Returns whether each key and each value of pairs is flat.
 fn are_flat(pairs: &[(Value, Value)]) -> bool
-    ensures { IsTrue result → (entry_nestings (entries_of (map pair_of pairs.now)) ≡ 0)
+    ensures { IsTrue result ↔ (entry_nestings (entries_of (map pair_of pairs.now)) ≡ 0)
         × EntryLengthsFit (entries_of (map pair_of pairs.now)) }
 {
     match pairs {

@@ -6,4 +6,4 @@ pub returns-then-len-lt4294967296 : goal.returns-then-len-lt4294967296
 returns-then-len-lt4294967296 c = λ yes.
     let event = c.args.event.now in
     let few : length event.body < 2 ^ 32 = omega (arith, c.len.ensures) in
-    flat_fits event (c.is_empty.ensures.0 c.if-not-is_empty.false) few (rw c.as_slice.ensures at (c.are_flat.ensures yes))
+    flat_fits event (c.is_empty.ensures.0 c.if-not-is_empty.false) few (rw c.as_slice.ensures at (c.are_flat.ensures.0 yes))
