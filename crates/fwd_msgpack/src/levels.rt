@@ -40,12 +40,14 @@ impl Levels {
         })
     }
 
+    #[inline(always)]
     pub fn len(&self) -> usize
         ensures { result ≡ length self.now }
     {
         self.depth
     }
 
+    #[inline(always)]
     pub fn is_empty(&self) -> bool
         ensures { IsTrue result ↔ (self.now ≡ []) }
     {
@@ -53,6 +55,7 @@ impl Levels {
     }
 
     /// Counts the beginning of a value at the innermost level.
+    #[inline(always)]
     pub fn count_value(&mut self)
         requires { MissesOne self.old }
         ensures { self.new ≡ one_less self.old }
@@ -61,6 +64,7 @@ impl Levels {
     }
 
     /// Opens a list or map of `wanted` values.
+    #[inline(always)]
     pub fn push(&mut self, wanted: u64)
         requires { length self.old < 65 }
         ensures { self.new ≡ wanted ∷ self.old }
@@ -70,6 +74,7 @@ impl Levels {
     }
 
     /// Closes the innermost levels that are complete.
+    #[inline(always)]
     pub fn close(&mut self)
         ensures { self.new ≡ closed self.old }
     {

@@ -64,6 +64,7 @@ pub enum Step {
 
 /// Returns the width of a number, in bytes.
 #[tactic(auto, unfolding(crate::specs::Encodings::size))]
+#[inline(always)]
 fn bytes_of(w: ByteWidth) -> u8
     ensures { result ≡ size w }
 {
@@ -76,6 +77,7 @@ fn bytes_of(w: ByteWidth) -> u8
 }
 
 /// Returns what follows a first byte with this length. No length has eight bytes.
+#[inline(always)]
 fn continuation_of_count(k: Count, holds: Holds) -> Begun
     requires { IsShortCount k }
     ensures { result ≡ continuation_of_count k holds }
@@ -90,6 +92,7 @@ fn continuation_of_count(k: Count, holds: Holds) -> Begun
 }
 
 /// Returns what follows a first byte of this format.
+#[inline(always)]
 pub fn continuation_of(form: Form) -> Begun
     requires { IsTabled form }
     ensures { result ≡ continuation_of form }

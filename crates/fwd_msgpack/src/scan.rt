@@ -36,6 +36,7 @@ pub struct Scan {
 }
 
 /// Returns the answer after a step, if `at` bytes were taken in all.
+#[inline(always)]
 fn scan_answer(step: Step, at: u64) -> Scanned
     requires { HasTaken step at }
     ensures { result ≡ scan_answer step at }
@@ -49,6 +50,7 @@ fn scan_answer(step: Step, at: u64) -> Scanned
 }
 
 /// Returns the lesser of two lengths.
+#[inline(always)]
 fn lesser_length(left: u64, length: usize) -> usize
     ensures { result ≡ min left length }
 {
@@ -107,6 +109,7 @@ impl Scan {
     }
 
     /// Takes all bytes, or those up to the end of the scan. Returns the remaining ones.
+    #[inline(always)]
     fn take_all<'b>(&mut self, bytes: &'b [u8]) -> (Step, &'b [u8])
         requires { IsOpen self.old }
         ensures { TakesAll self.old self.new bytes.now result.1.now result.0 }
@@ -124,6 +127,7 @@ impl Scan {
     }
 
     /// Takes one or more bytes. Returns the remaining ones.
+    #[inline(always)]
     fn take<'b>(&mut self, bytes: &'b [u8]) -> (Step, &'b [u8])
         requires wanting { IsOpen self.old }
         requires some { 0 < length bytes.now }
@@ -147,6 +151,7 @@ impl Scan {
     }
 
     /// Takes the first byte of a value.
+    #[inline(always)]
     fn take_first(&mut self, byte: u8) -> Step
         requires { MissesOne self.old.levels }
         ensures same { (b : List ℕ) → outcome_after_step result self.new b
@@ -176,6 +181,7 @@ impl Scan {
     }
 
     /// Returns whether a list or map may be opened here: nesting may not exceed `DEEPEST`.
+    #[inline(always)]
     fn may_open(&self, holds: Holds) -> bool
         ensures { result ≡ may_open holds self.now.levels }
     {
@@ -209,6 +215,7 @@ impl Scan {
     }
 
     /// Begins the content that a complete length counts.
+    #[inline(always)]
     fn begin_content(&mut self, n: u32, holds: Holds) -> Step
         requires { IsTrue (may_open holds self.old.levels) }
         ensures same { (b : List ℕ) → outcome_after_step result self.new b
@@ -225,6 +232,7 @@ impl Scan {
     }
 
     /// Opens a list or map of `n` values.
+    #[inline(always)]
     fn nest(&mut self, n: u64) -> Step
         requires { length self.old.levels < 65 }
         ensures same { (b : List ℕ) → outcome_after_step result self.new b
@@ -237,6 +245,7 @@ impl Scan {
     }
 
     /// Skips the next `n` bytes, which end the value.
+    #[inline(always)]
     fn skip(&mut self, n: u64) -> Step
         ensures same { (b : List ℕ) → outcome_after_step result self.new b ≡ behind n self.old.levels b }
         ensures stays { StaysOpen result self.new }
@@ -250,6 +259,7 @@ impl Scan {
     }
 
     /// Ends a value, and each list and map that it completes.
+    #[inline(always)]
     fn end(&mut self) -> Step
         ensures same { (b : List ℕ) → outcome_after_step result self.new b ≡ skip_levels self.old.levels b }
         ensures stays { StaysOpen result self.new }
