@@ -1,7 +1,8 @@
 -- The counts of the open levels, from the innermost on.
-use Rattle.std.proofs.Common.{◌≡◌, ◌≢◌, ℕ, zero, suc, ◌+◌, ◌-◌, ◌≤◌, ◌<◌, List, ◌∷◌, length, get_or, set, refl, sym, ap, subst, ◌∙◌, arith}
+use Rattle.std.proofs.Common.{◌≡◌, ◌≢◌, ℕ, zero, suc, ◌+◌, ◌-◌, ◌≤◌, ◌<◌, List, [], ◌∷◌, length, get_or, set, refl, sym, ap, subst, ◌∙◌, arith}
 use Rattle.std.proofs.lemmas.List.{get_or-set_same, get_or-set_other}
 use Rattle.fwd_msgpack.specs.Levels.{innermost_counts, MissesOne, one_less, closed}
+use Rattle.fwd_msgpack.specs.SmallValues.{innermost, fewer}
 
 pub length_first : (counts : List ℕ) (n : ℕ) → length (innermost_counts counts n) ≡ n
 length_first counts zero = refl
@@ -60,3 +61,32 @@ closed_on counts (suc n) lt none =
     let here : get_or counts n 0 ≤ 0 = rw (← e) none in
     let is : get_or counts n 0 ≡ 0 = omega (arith, here) in
     rw (e, is) refl
+
+pub innermost_some : (counts : List ℕ) (n k : ℕ) → k < innermost (innermost_counts counts n) → (0 < n) × (k < get_or counts (n - 1) 0)
+innermost_some counts zero k lt = absurd (omega (arith, lt))
+innermost_some counts (suc n) k lt = let e : suc n - 1 ≡ n = omega arith in (omega arith, rw e lt)
+
+pub misses_some : (ns : List ℕ) → MissesOne ns → 0 < innermost ns
+misses_some [] w = absurd w
+misses_some (zero ∷ ns) w = absurd w
+misses_some (suc n ∷ ns) w = omega arith
+
+pub innermost_at : (counts : List ℕ) (n : ℕ) → 0 < n → innermost (innermost_counts counts n) ≡ get_or counts (n - 1) 0
+innermost_at counts zero lt = absurd (omega arith)
+innermost_at counts (suc n) lt = let e : n ≡ suc n - 1 = omega arith in ap (λ (i : ℕ). get_or counts i 0) e
+
+pub taken_many : (counts : List ℕ) (n k : ℕ) → n ≤ length counts → 0 < n → innermost_counts (set counts (n - 1) (get_or counts (n - 1) 0 - k)) n ≡ fewer k (innermost_counts counts n)
+taken_many counts zero k le lt = absurd (omega arith)
+taken_many counts (suc n) k le lt =
+    let e : n ≡ suc n - 1 = omega arith in
+    subst (λ (i : ℕ). innermost_counts (set counts i (get_or counts i 0 - k)) (suc n) ≡ fewer k (innermost_counts counts (suc n))) e
+      (let y = get_or counts n 0 - k in
+       rw (get_or-set_same counts n y 0 (omega arith)) (ap (λ (ns : List ℕ). y ∷ ns) (unseen counts n n y (omega arith))))
+
+some_missed : (k : ℕ) (ns : List ℕ) → 0 < k → MissesOne (k ∷ ns)
+some_missed zero ns lt = absurd (omega (arith, lt))
+some_missed (suc k) ns lt = tt
+
+pub fewer_missed : (ns : List ℕ) (k : ℕ) → k < innermost ns → MissesOne (fewer k ns)
+fewer_missed [] k lt = absurd (omega (arith, lt))
+fewer_missed (n ∷ ns) k lt = some_missed (n - k) ns (omega (arith, lt))

@@ -11,6 +11,7 @@ pub mod Ranges
 pub mod NoneShorter
 pub mod Exclusive
 pub mod Skipping
+pub mod SmallValues
 pub mod LevelCounts
 pub mod ScanAnswers
 pub mod Heads

@@ -7,4 +7,5 @@ pub mod KeptFront
 pub mod Levels
 pub mod Continuations
 pub mod ScanState
+pub mod SmallValues
 pub mod Heads

@@ -2,6 +2,7 @@
 
 ghost use Rattle.std.specs.Prelude.{◌≡◌, ◌<◌, [], ◌∷◌, length, IfOk, IsTrue, ◌↔◌};
 ghost use Rattle.fwd_msgpack.specs.Levels.{MissesOne, one_less, closed};
+ghost use Rattle.fwd_msgpack.specs.SmallValues.{innermost, fewer};
 
 use fwd_base::Memory;
 use fwd_base::limits::DEEPEST;
@@ -61,6 +62,24 @@ impl Levels {
         ensures { self.new ≡ one_less self.old }
     {
         self.counts[self.depth - 1] -= 1;
+    }
+
+    /// Returns the number of values that the innermost level misses.
+    #[inline(always)]
+    pub fn missing(&self) -> u64
+        requires { MissesOne self.now }
+        ensures { result ≡ innermost self.now }
+    {
+        self.counts[self.depth - 1]
+    }
+
+    /// Counts `n` values at the innermost level, which misses more.
+    #[inline(always)]
+    pub fn count_values(&mut self, n: u64)
+        requires { n < innermost self.old }
+        ensures { self.new ≡ fewer n self.old }
+    {
+        self.counts[self.depth - 1] -= n;
     }
 
     /// Opens a list or map of `wanted` values.

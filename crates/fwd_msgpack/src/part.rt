@@ -3,6 +3,7 @@
 ghost use Rattle.std.specs.Prelude.{◌≡◌};
 ghost use Rattle.fwd_msgpack.specs.Encodings.{size};
 ghost use Rattle.fwd_msgpack.specs.Continuations.{continuation_of_count, continuation_of, IsShortCount, IsTabled};
+ghost use Rattle.fwd_msgpack.specs.SmallValues.{is_small};
 
 use crate::form::{ByteWidth, Count, Form};
 
@@ -109,5 +110,17 @@ pub fn continuation_of(form: Form) -> Begun
         Form::Ext(k) => continuation_of_count(k, Holds::Typed),
         Form::Array(k) => continuation_of_count(k, Holds::Values),
         Form::Map(k) => continuation_of_count(k, Holds::Pairs),
+    }
+}
+
+/// Returns whether a value of this format is its first byte alone.
+#[inline(always)]
+pub fn is_small(form: Form) -> bool
+    ensures { result ≡ is_small form }
+{
+    match form {
+        Form::Nil | Form::Bool(_) | Form::PositiveFixint(_) | Form::NegativeFixint(_) => true,
+        Form::Unused | Form::Uint(_) | Form::Int(_) | Form::Float32 | Form::Float64 => false,
+        Form::Str(_) | Form::Bin(_) | Form::Ext(_) | Form::Array(_) | Form::Map(_) => false,
     }
 }

@@ -1,15 +1,16 @@
 //! The incremental scanner for a value that comes in several reads.
 
-ghost use Rattle.std.specs.Prelude.{◌≡◌, ◌↔◌, ◌≤◌, ◌<◌, ◌^◌, ◌+◌, ℕ, List, [], ◌∷◌, ◌++◌, min, length, IfOk, IsTrue};
+ghost use Rattle.std.specs.Prelude.{◌≡◌, ◌↔◌, ◌≤◌, ◌<◌, ◌^◌, ◌+◌, ℕ, List, [], ◌∷◌, ◌++◌, min, length, drop, IfOk, IsTrue};
 ghost use Rattle.fwd_value.specs.Val.{Val};
 ghost use Rattle.fwd_msgpack.specs.Levels.{MissesOne};
 ghost use Rattle.fwd_msgpack.specs.DecodeAnswers.{EncodesPrefix, IsProperPrefix, FailsAtForm, IsUnused, IsListOrMap};
-ghost use Rattle.fwd_msgpack.specs.ScanState.{skip_levels, behind, after_length, from_part, outcome_after_step, StaysOpen, IsOpen, IsFed, Takes, TakesAll, may_open, scan_answer, HasTaken, IsMore, IsWholeAt, IsUnusedAt, IsTooDeepAt};
+ghost use Rattle.fwd_msgpack.specs.ScanState.{skip_values, skip_levels, behind, after_length, from_part, outcome_after_step, StaysOpen, IsOpen, IsFed, Takes, TakesAll, may_open, scan_answer, HasTaken, IsMore, IsWholeAt, IsUnusedAt, IsTooDeepAt};
+ghost use Rattle.fwd_msgpack.specs.SmallValues.{Passes};
 ghost use Rattle.fwd_msgpack.specs.declared.part.Part.TheVariants as part;
 
 use crate::form::form_of;
 use crate::levels::{Levels, MOST_LEVELS};
-use crate::part::{Begun, Holds, Part, PartialLength, Step, continuation_of};
+use crate::part::{Begun, Holds, Part, PartialLength, Step, continuation_of, is_small};
 use fwd_base::Memory;
 use std::alloc::Global;
 
@@ -59,6 +60,24 @@ fn lesser_length(left: u64, length: usize) -> usize
     } else {
         length
     }
+}
+
+/// Returns the number of bytes at the front that are a value each, at most `most`.
+#[inline(always)]
+fn small_values(bytes: &[u8], most: usize) -> usize
+    requires { most ≤ length bytes.now }
+    ensures most { result ≤ most }
+    ensures same { (d k : ℕ) (more : List ℕ) → skip_values d (result + k) (bytes.now ++ more)
+        ≡ skip_values d k (drop result bytes.now ++ more) }
+{
+    let mut n = 0;
+    while n < most {
+        if !is_small(form_of(bytes[n])) {
+            return n;
+        }
+        n += 1;
+    }
+    n
 }
 
 impl Scan {
@@ -116,7 +135,8 @@ impl Scan {
     {
         let mut rest = bytes;
         while !rest.is_empty() {
-            let (step, behind) = self.take(rest);
+            let some = self.take_small(rest);
+            let (step, behind) = self.take(some);
             rest = behind;
             match step {
                 Step::On => (),
@@ -124,6 +144,26 @@ impl Scan {
             }
         }
         (Step::On, rest)
+    }
+
+    /// Takes the values of one byte at the front, but neither the last byte nor the last value of the innermost
+    /// level. Returns the remaining bytes.
+    #[inline(always)]
+    fn take_small<'b>(&mut self, bytes: &'b [u8]) -> &'b [u8]
+        requires wanting { IsOpen self.old }
+        requires some { 0 < length bytes.now }
+        ensures { Passes self.old self.new bytes.now result.now }
+    {
+        match self.part {
+            Part::First => {
+                let missing = self.levels.missing();
+                let n = small_values(bytes, lesser_length(missing - 1, bytes.len() - 1));
+                self.levels.count_values(n as u64);
+                let (_, rest) = bytes.split_at(n);
+                rest
+            }
+            Part::Skip(_) | Part::Length(_, _) => bytes,
+        }
     }
 
     /// Takes one or more bytes. Returns the remaining ones.
