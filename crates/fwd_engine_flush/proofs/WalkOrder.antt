@@ -221,9 +221,12 @@ module _ (s : AllSettings) (h : History) where
 -- ---- the walk
 
 module _ (s : AllSettings) (begin : History) where
-  -- the timers that are due as the walk begins, in order
+  -- the timers that are due as the walk begins, and these in order
+  abbrev pub due_timers : List Timer
+  due_timers = filter (λ (t : Timer). nat_le t.due (clock begin)) (idle_timers_of (rows_of s begin))
+
   abbrev pub due_first : List Timer
-  due_first = in_time (filter (λ (t : Timer). nat_le t.due (clock begin)) (idle_timers_of (rows_of s begin)))
+  due_first = in_time due_timers
 
   -- the walk has come to a timer, if to any: no other route has become due, and those after it are as they were
   abbrev pub IsPast : Option Timer → History → Type 0
@@ -300,7 +303,7 @@ module _ (s : AllSettings) (begin : History) where
       -- the next one has its turn
       pub next_turn : left after h ≡ bind (starts_if_allowed s (route_of t) h) (left (Some t))
       next_turn =
-          first_turn s h after t due_first (in_time_sorted _) has is_due.1
+          first_turn s h after t due_first (in_time_sorted due_timers) has is_due.1
           (λ u among is before. may_not u among is (λ (candidate : Contains candidates u). absurd (cc (sym before ∙ first.none_before u candidate))))
 
       -- and then the walk has come to it
