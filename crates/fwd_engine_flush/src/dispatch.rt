@@ -48,8 +48,7 @@ fn start_if_allowed<L: Loop, D: Disk>(
 /// The numbers of a timer fit their types.
 fn lemma_numbers_fit(timer: Timer)
     ensures { (timer.due < 2 ^ 64) × (timer.chunk.0 < 2 ^ 64) × (timer.output.0 < 2 ^ 32) }
-{
-}
+{}
 
 /// Starts the routes that are idle and due, by due time, then chunk, then output, each if it may still start
 /// when its turn comes. Routes to an output without a free place start none, so they are passed over. Routes

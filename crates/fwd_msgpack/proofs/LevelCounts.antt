@@ -80,8 +80,8 @@ taken_many counts zero k le lt = absurd (omega arith)
 taken_many counts (suc n) k le lt =
     let e : n ≡ suc n - 1 = omega arith in
     subst (λ (i : ℕ). innermost_counts (set counts i (get_or counts i 0 - k)) (suc n) ≡ fewer k (innermost_counts counts (suc n))) e
-      (let y = get_or counts n 0 - k in
-       rw (get_or-set_same counts n y 0 (omega arith)) (ap (λ (ns : List ℕ). y ∷ ns) (unseen counts n n y (omega arith))))
+    (let y = get_or counts n 0 - k in
+    rw (get_or-set_same counts n y 0 (omega arith)) (ap (λ (ns : List ℕ). y ∷ ns) (unseen counts n n y (omega arith))))
 
 some_missed : (k : ℕ) (ns : List ℕ) → 0 < k → MissesOne (k ∷ ns)
 some_missed zero ns lt = absurd (omega (arith, lt))

@@ -41,8 +41,8 @@ returns-in-First c =
       seen = refl;
       same = λ more.
           let passed : skip_levels less (rest ++ more) ≡ skip_levels ns (bytes ++ more) =
-              ap (λ (l : List ℕ). skip_levels l (rest ++ more)) c.count_values.ensures
-              ∙ ap (λ (x : List ℕ). skip_levels (fewer n ns) (x ++ more)) back
-              ∙ small_passed ns n (bytes ++ more) (drop n bytes ++ more) fits (λ d k. c.small_values-n.ensures.same d k more) in
+          ap (λ (l : List ℕ). skip_levels l (rest ++ more)) c.count_values.ensures
+          ∙ ap (λ (x : List ℕ). skip_levels (fewer n ns) (x ++ more)) back
+          ∙ small_passed ns n (bytes ++ more) (drop n bytes ++ more) fits (λ d k. c.small_values-n.ensures.same d k more) in
           subst (λ (p : Part). from_part p less (rest ++ more) ≡ from_part p ns (bytes ++ more)) (sym c.in-First.is) passed;
     }
