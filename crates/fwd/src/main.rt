@@ -62,8 +62,8 @@ fn is_listing(words: &[String]) -> bool {
 /// initial offsets in the databases, and what the loop will bring. Without a loop the status is `LoopFault`
 /// or `Memory`, whatever the words are. The file of a record is created when the record is written.
 ///
-/// The clause binds the words, the variables and the turns that the call gets, and the status that it returns. The
-/// devices are some.
+/// The clause binds the words, the variables and the turns that the call gets, and the status that it
+/// returns. The devices are some.
 fn run(
     rt: &HostRuntime,
     threads: &(impl Threads + Sync),

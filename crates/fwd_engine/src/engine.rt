@@ -1,3 +1,5 @@
+//! The engine: it loads the disk, takes one event of the loop after another, and answers with calls.
+
 ghost use Rattle.std.specs.Prelude.{◌≡◌, ◌≤◌, ◌-◌, ◌^◌, min, true, length, OnOk, Err};
 ghost use Rattle.fwd_outside.specs.Cause.{HasCause};
 ghost use Rattle.fwd_outside.specs.Loop.{WaitFails, counts_after_wait};
@@ -50,7 +52,7 @@ pub enum BeginErr {
 /// Why a step wasn't completed.
 #[derive(Clone, Copy, Debug, PartialEq, Eq, Error)]
 pub enum EngineStop {
-    #[error("the outside can't go on")]
+    #[error("the loop can't go on")]
     LoopFault,
     #[error("out of memory")]
     Memory,
@@ -261,8 +263,8 @@ impl Engine {
         self.parts.input_streams.unfinished(self.paused())
     }
 
-    /// Returns the names in recovered chunk files that stand for no output, at most 16, of an engine that has just
-    /// begun. They are for a watcher, and no clause speaks of them.
+    /// Returns the names in recovered chunk files that stand for no output, at most 16, of an engine that has
+    /// just begun. They are for a watcher, and no clause speaks of them.
     pub fn strangers(&self) -> Result<Names, Memory> {
         strangers_of(self.alloc(), &self.run, &self.parts)
     }

@@ -21,8 +21,8 @@ pub struct EncodedBatch {
 }
 
 impl EncodedBatch {
-    /// Returns the batch of events that are encoded already: `bytes` are the encodings of `count` events, one after
-    /// another.
+    /// Returns the batch of events that are encoded already: `bytes` are the encodings of `count` events, one
+    /// after another.
     pub fn of_encodings(count: usize, bytes: Bytes) -> EncodedBatch
         ensures { (events : List Event) → length events ≡ count → bytes ≡ encoded events → AreEvents events bytes → HoldsEvents events result }
     {

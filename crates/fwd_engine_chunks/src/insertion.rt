@@ -42,8 +42,8 @@ fn close_if_full<D: Disk>(
     }
 }
 
-/// Records in the state a batch that the store accepted. `routes` is the mask of the outputs whose glob matches
-/// its tag.
+/// Records in the state a batch that the store accepted. `routes` is the mask of the outputs whose glob
+/// matches its tag.
 fn note(
     run: &RunSettings,
     state: &mut State,
@@ -130,9 +130,9 @@ fn home_for(run: &RunSettings, store: &Store, input: InputId) -> Home
     if store.has_root() { home } else { Home::Ram }
 }
 
-/// Puts a batch into the open chunk of its input and tag, or into a new one. `routes` is the mask of the outputs
-/// whose glob matches the tag, and `bytes` are the encodings of the `count` events of the batch. Refuses the batch if the open chunk
-/// has no room, if no chunk number is left, or if the disk failed.
+/// Puts a batch into the open chunk of its input and tag, or into a new one. `routes` is the mask of the
+/// outputs whose glob matches the tag, and `bytes` are the encodings of the `count` events of the batch.
+/// Refuses the batch if the open chunk has no room, if no chunk number is left, or if the disk failed.
 pub fn store<D: Disk>(
     run: &RunSettings,
     parts: &mut Parts,

@@ -13,8 +13,8 @@ use fwd_engine_state::{
 };
 use fwd_outside::{Disk, DiskErr};
 
-/// Drops a closed chunk, and removes its file if it has one. A file that can't be removed stays. A chunk that the
-/// store doesn't hold is dropped already, in the reference model too.
+/// Drops a closed chunk, and removes its file if it has one. A file that can't be removed stays. A chunk that
+/// the store doesn't hold is dropped already, in the reference model too.
 fn drop_chunk<D: Disk>(parts: &mut Parts, disk: &mut D, chunk: ChunkId) -> Result<(), Memory>
     ensures acts { (s : AllSettings) → RefinesActionWhere s (with_disk (D.call_log disk.old)) (with_disk (D.call_log disk.new)) parts.old parts.new (λ h. is_closed h chunk.0 ≡ true) (λ h. drops s chunk.0 h) result }
     ensures later { D.faults disk.old ≤ D.faults disk.new }
@@ -36,8 +36,8 @@ fn drop_chunk<D: Disk>(parts: &mut Parts, disk: &mut D, chunk: ChunkId) -> Resul
     }
 }
 
-/// Marks a route done in the file of its chunk, if the file has a slot for it. A failed mark isn't retried. A chunk
-/// that the store doesn't hold has no file to mark, in the reference model too.
+/// Marks a route done in the file of its chunk, if the file has a slot for it. A failed mark isn't retried. A
+/// chunk that the store doesn't hold has no file to mark, in the reference model too.
 fn record<D: Disk>(
     run: &RunSettings,
     parts: &mut Parts,

@@ -123,8 +123,8 @@ fn start_flush<L: Loop, D: Disk>(
 }
 
 /// Reads the content of a chunk, and starts a flush of an idle route with it. If the content can't be read,
-/// or is damaged, that is counted, and the route stays idle. The count of damaged reads never falls. A route whose
-/// chunk the store doesn't hold stays idle, in the reference model too (`begins_as`).
+/// or is damaged, that is counted, and the route stays idle. The count of damaged reads never falls. A route
+/// whose chunk the store doesn't hold stays idle, in the reference model too (`begins_as`).
 pub fn begin<L: Loop, D: Disk>(
     run: &RunSettings,
     parts: &mut Parts,

@@ -34,7 +34,7 @@ none_after_none events e none =
     let large = leb-false _ _ (unstorable_of events none.encoding) in
     none_if_long (events ++ e ∷ []) (omega (arith, large, ap length (encoded_one events e), length-append (encoded events) (encoding_of_event e)))
 
--- one event more, and its encoding behind the others
+-- one event more, and its encoding after the others
 all_encoded : (events : List Event) (e : Event) (bytes new : List ℕ) → IsEncodingOf events (Some bytes) → new ≡ bytes ++ encoding_of_event e → encoded (events ++ e ∷ []) ≡ new
 all_encoded events e bytes new holds more =
     encoded_one events e ∙ ap (λ (l : List ℕ). l ++ encoding_of_event e) (sym (storable_of events bytes holds.encoding).1) ∙ sym more

@@ -120,8 +120,8 @@ fn append_line(
     Ok(Some(bytes))
 }
 
-/// Returns the encodings of the events of lines, one after another, or `None` if they are too many bytes to be
-/// stored.
+/// Returns the encodings of the events of lines, one after another, or `None` if they are too many bytes to
+/// be stored.
 fn encodings(
     alloc: Global,
     reader: &mut LineReader<'_>,

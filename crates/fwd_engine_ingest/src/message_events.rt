@@ -47,8 +47,8 @@ fn decode(alloc: Global, bytes: &[u8]) -> Result<Events, Memory>
     Ok(events)
 }
 
-/// Filters and encodes the events of a message. If no filter's glob matches the tag, encoded events stay as they
-/// are.
+/// Filters and encodes the events of a message. If no filter's glob matches the tag, encoded events stay as
+/// they are.
 pub fn batch_of(
     rt: &(impl Threads + Sync),
     run: &RunSettings,

@@ -105,9 +105,9 @@ fn answer<L: Loop>(
     }
 }
 
-/// Filters and accepts the events of a message as one batch, under the input's tag or under that of the message,
-/// and then answers the message. `chunk` is what it asks to acknowledge. Returns whether the messages after it
-/// are handled.
+/// Filters and accepts the events of a message as one batch, under the input's tag or under that of the
+/// message, and then answers the message. `chunk` is what it asks to acknowledge. Returns whether the
+/// messages after it are handled.
 fn receive_batch<L: Loop, D: Disk>(
     rt: &(impl Threads + Sync),
     run: &RunSettings,

@@ -63,7 +63,7 @@ impl InputStreams {
         Ok(())
     }
 
-    /// Whether a connection belongs to an input.
+    /// Returns whether a connection belongs to an input.
     fn is_joined(&self, input: InputId, conn: ConnId) -> bool
         ensures { StreamsAnswer self.now (λ s h. result ≡ is_joined s h input.0 conn.0) }
     {

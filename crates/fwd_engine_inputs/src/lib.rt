@@ -1,8 +1,8 @@
 //! What an engine keeps of its inputs: the connections, for each stream the rest after its last whole line or
 //! message, and the followed files by the indices of their paths.
 //!
-//! Each call that changes `InputStreams` or `FollowedFiles` stands for one fact of the history, and returns the
-//! lines and messages that the history gives.
+//! Each call that changes `InputStreams` or `FollowedFiles` stands for one fact of the history, and returns
+//! the lines and messages that the history gives.
 #![tactic(auto)]
 
 mod file_lemmas;

@@ -30,8 +30,8 @@ fn is_remaining(run: &RunSettings, routes: u64, done: &Names, output: usize) -> 
     is_set(routes, output as u32) && !is_among(done, run.output_name(OutputId(output as u32)))
 }
 
-/// Returns those outputs of the mask `routes` that aren't among these names, as a mask. Returns `None` if there
-/// are none.
+/// Returns those outputs of the mask `routes` that aren't among these names, as a mask. Returns `None` if
+/// there are none.
 fn remaining_outputs(run: &RunSettings, routes: u64, done: &Names) -> Option<u64>
     ensures { (tag : List ℕ) → routes_to routes ≡ map (λ output. idle_at 0 (record { 0 = output })) (outputs_for run.now tag)
         → MatchOption result (remaining_outputs run.now tag done.now ≡ [])

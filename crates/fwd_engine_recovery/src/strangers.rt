@@ -1,4 +1,5 @@
-//! Names in recovered chunk files that stand for no output. They are for a watcher, and no clause speaks of them.
+//! Names in recovered chunk files that stand for no output. They are for a watcher, and no clause speaks of
+//! them.
 
 use crate::pending_outputs::is_among;
 use fwd_base::limits::MOST_OUTPUTS;
@@ -36,8 +37,8 @@ fn add_strangers(
     Ok(())
 }
 
-/// Returns the names in recovered chunk files that stand for no output, at most 16, of parts that have just loaded
-/// these files. Recovered files have the first numbers.
+/// Returns the names in recovered chunk files that stand for no output, at most 16, of parts that have just
+/// loaded these files. Recovered files have the first numbers.
 pub fn strangers_of(alloc: Global, run: &RunSettings, parts: &Parts) -> Result<Names, Memory> {
     let tally = parts.state.tally();
     let files = tally

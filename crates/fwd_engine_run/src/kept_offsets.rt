@@ -214,8 +214,8 @@ impl KeptOffsets {
         }
     }
 
-    /// Puts the settled offset of each file, unless it is the one that is kept. A put that failed is made again
-    /// after the next turn.
+    /// Puts the settled offset of each file, unless it is the one that is kept. A put that failed is made
+    /// again after the next turn.
     pub fn put<K: Keeper>(&mut self, engine: &Engine, keeper: &mut K) -> Result<(), Memory>
         ensures puts { (others : CallLogs) (s : AllSettings) (h : History) (next : History → Action RunResult) → IsAt engine.now s h → Keeps s self.old h
             → PutsOutcome (with_keeper (K.call_log keeper.old) others) (with_keeper (K.call_log keeper.new) others) s h next (puts s (tracked s) next h) engine.now self.new result }

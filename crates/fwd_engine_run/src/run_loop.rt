@@ -89,12 +89,12 @@ pub fn finish<L: Loop, D: Disk, F: Files, K: Keeper>(
     }
 }
 
-/// Runs an engine that has begun: gets the kept offsets, starts the loop with its endpoints, and takes at most
-/// `most` turns, each of which waits for one event. If `ticks` is given, the run is stopped after that many
-/// ticks. After each turn the settled offsets are put. The calls are those of the reference model's run after
-/// its recovery. Returns `KeeperFailed` only if a failure of the keeper was counted, `LoopFailed` only if one of
-/// the loop was, and `TurnsSpent` only if the loop gave `most` events. The only error is `Memory`. The watcher is
-/// shown the engine after each tick.
+/// Runs an engine that has begun: gets the kept offsets, starts the loop with its endpoints, and takes at
+/// most `most` turns, each of which waits for one event. If `ticks` is given, the run is stopped after that
+/// many ticks. After each turn the settled offsets are put. The calls are those of the reference model's run
+/// after its recovery. Returns `KeeperFailed` only if a failure of the keeper was counted, `LoopFailed` only
+/// if one of the loop was, and `TurnsSpent` only if the loop gave `most` events. The only error is `Memory`.
+/// The watcher is shown the engine after each tick.
 pub fn run<L: Loop, D: Disk, F: Files, K: Keeper>(
     rt: &(impl Threads + Sync),
     engine: &mut Engine,

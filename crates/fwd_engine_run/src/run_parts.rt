@@ -72,13 +72,13 @@ fn start<L: Loop, D: Disk, F: Files, K: Keeper>(
     }
 }
 
-/// Runs an engine that has begun, to its end or to its last tick: gets the kept offsets, starts the loop with its
-/// endpoints, and takes at most `most` turns, each of which waits for one event. After each turn the settled
-/// offsets are put. It returns `AtLast` after the turn of the last of `ticks` ticks, if that number is given, and
-/// unless the run was stopped before. The calls are those of the reference model's run after its recovery, and
-/// also those of its run without a number of ticks. Returns `KeeperFailed` only if a failure of the keeper was
-/// counted, `LoopFailed` only if one of the loop was, and `TurnsSpent` only if the loop gave `most` events. The
-/// only error is `Memory`. The watcher is shown the engine after each tick.
+/// Runs an engine that has begun, to its end or to its last tick: gets the kept offsets, starts the loop with
+/// its endpoints, and takes at most `most` turns, each of which waits for one event. After each turn the
+/// settled offsets are put. It returns `AtLast` after the turn of the last of `ticks` ticks, if that number
+/// is given, and unless the run was stopped before. The calls are those of the reference model's run after
+/// its recovery, and also those of its run without a number of ticks. Returns `KeeperFailed` only if a
+/// failure of the keeper was counted, `LoopFailed` only if one of the loop was, and `TurnsSpent` only if the
+/// loop gave `most` events. The only error is `Memory`. The watcher is shown the engine after each tick.
 pub fn run_to_last<L: Loop, D: Disk, F: Files, K: Keeper>(
     rt: &(impl Threads + Sync),
     engine: &mut Engine,
@@ -129,10 +129,10 @@ pub fn stop<L: Loop, D: Disk, F: Files>(
     engine.step(rt, Happening::Stop, disk, files, outside)
 }
 
-/// Runs on after the stop, to the end: takes at most `most` turns, and no tick is the last. The calls are those
-/// of the reference model's run without a number of ticks, from there. Returns `LoopFailed` only if a failure of
-/// the loop was counted, and `TurnsSpent` only if the loop gave `most` events. The only error is `Memory`. The
-/// watcher is shown the engine after each tick.
+/// Runs on after the stop, to the end: takes at most `most` turns, and no tick is the last. The calls are
+/// those of the reference model's run without a number of ticks, from there. Returns `LoopFailed` only if a
+/// failure of the loop was counted, and `TurnsSpent` only if the loop gave `most` events. The only error is
+/// `Memory`. The watcher is shown the engine after each tick.
 pub fn run_on<L: Loop, D: Disk, F: Files, K: Keeper>(
     rt: &(impl Threads + Sync),
     engine: &mut Engine,

@@ -1,3 +1,5 @@
+//! The settings of a run, checked once, with what follows from them.
+
 ghost use Rattle.std.specs.Prelude.{◌≡◌, ◌≤◌, ◌==◌, length, map, option_copied, IfOk};
 ghost use Rattle.fwd_base.specs.Limits.{most_inputs};
 ghost use Rattle.fwd_route.specs.GlobTest.{globs};
@@ -151,8 +153,8 @@ impl RunSettings {
         &self.settings.filters
     }
 
-    /// Returns the mask of the outputs whose glob matches a tag: bit `i` is set for output `i`. It is 0 exactly
-    /// if no glob matches.
+    /// Returns the mask of the outputs whose glob matches a tag: bit `i` is set for output `i`. It is 0
+    /// exactly if no glob matches.
     pub fn routes_for(&self, tag: &[u8]) -> u64
         ensures routes { routes_to result ≡ map (λ output. idle_at 0 (record { 0 = output })) (outputs_for self.now tag.now) }
         ensures none { (result == 0) ≡ is_empty (outputs_for self.now tag.now) }
@@ -244,7 +246,8 @@ impl RunSettings {
         }
     }
 
-    /// Returns the names that stand in chunk files for the outputs of a mask, in the order of the configuration.
+    /// Returns the names that stand in chunk files for the outputs of a mask, in the order of the
+    /// configuration.
     pub fn names_of(&self, alloc: Global, routes: u64) -> Result<Names, Memory>
         ensures { IfOk result (λ names. names ≡ map (λ route. output_name self.now route.output.0) (routes_to routes)) }
     {

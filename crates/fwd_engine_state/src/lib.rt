@@ -1,12 +1,12 @@
-//! The state of an engine: pending chunks, flush attempts in flight, the clock and the counters, beside its inputs
-//! and its chunk store. `State` calls no device.
+//! The state of an engine: pending chunks, flush attempts in flight, the clock and the counters, beside its
+//! inputs and its chunk store. `State` calls no device.
 //!
 //! Each call that changes the state stands for one fact of the history. Each getter returns what the history
 //! gives, so that the crates above speak of histories alone.
 //!
-//! The definitions of this crate say what it means that a part represents a history, and that a call on an engine
-//! refines an action of the reference model: which calls it makes on the devices, and which history all parts
-//! represent after it. A fact that doesn't concern a part leaves it as it is.
+//! The definitions of this crate say what it means that a part represents a history, and that a call on an
+//! engine refines an action of the reference model: which calls it makes on the devices, and which history
+//! all parts represent after it. A fact that doesn't concern a part leaves it as it is.
 #![tactic(auto)]
 
 mod capacity;

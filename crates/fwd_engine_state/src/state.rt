@@ -1,3 +1,5 @@
+//! The state of an engine: its chunks, routes, connections in flight, clock and counters.
+
 ghost use Rattle.std.specs.Prelude.{◌≡◌, ◌<◌, ◌≤◌, ◌+◌, ℕ, List, [], ◌∷◌, length, map, filter, Bool, true, IfOk, IfSome, MatchOption, OnOk};
 ghost use Rattle.fwd_base.specs.Limits.{most_inputs};
 ghost use Rattle.fwd_outside.specs.declared.happening.Happening.TheVariants as happening;
@@ -57,7 +59,7 @@ pub struct State {
 }
 
 impl State {
-    /// The initial state of an engine with `inputs` inputs and `outputs` outputs.
+    /// Returns the initial state of an engine with `inputs` inputs and `outputs` outputs.
     pub fn new(alloc: Global, inputs: usize, outputs: usize) -> Result<State, Memory>
         ensures represents { IfOk result (λ state. (s : AllSettings) → length s.inputs ≡ inputs → length s.outputs ≡ outputs → StateRepresentsIdle s state []) }
         ensures damaged { IfOk result (λ state. state.damaged ≡ 0) }
@@ -276,7 +278,7 @@ impl State {
         self.clock
     }
 
-    /// The number of ticks so far.
+    /// Returns the number of ticks so far.
     pub fn ticks(&self) -> u64
         ensures { StateAnswers self.now (λ s h. result ≡ tick_count h) }
     {
@@ -291,7 +293,7 @@ impl State {
     }
 
     /// Returns the first of the idle routes to the outputs of a mask that are due and come after `after`, by
-    /// due time, chunk and output. The state represents what it did. The call fails only for want of memory.
+    /// due time, chunk and output. The state represents what it did. The only error is out of memory.
     pub fn next_due_to(
         &mut self,
         outputs: u64,
@@ -319,7 +321,7 @@ impl State {
         self.flights_to(route.output) < places
     }
 
-    /// Whether the chunk of a route fits within the limits on what is in flight.
+    /// Returns whether the chunk of a route fits within the limits on what is in flight.
     pub fn fits(&self, route: RouteId, limits: InFlightLimits) -> bool
         ensures { StateAnswers self.now (λ s h. s.service.max_up ≡ limits.max_up → s.service.backlog_limit ≡ limits.backlog_limit → result ≡ fits s h (route_of route)) }
     {
@@ -357,7 +359,7 @@ impl State {
         self.chunks.table().tries(route.chunk, route.output)
     }
 
-    /// How many chunks are in flight to an output.
+    /// Returns how many chunks are in flight to an output.
     pub fn flights_to(&self, output: OutputId) -> u64
         ensures { StateAnswers self.now (λ s h. result ≡ flights_to s h output.0) }
     {

@@ -29,8 +29,8 @@ struct Parcel {
     reader: Reader,
 }
 
-/// Decodes events; `None` if the bytes aren't a list of events. Events of 2^32 bytes or more answer out of
-/// memory.
+/// Decodes events; `None` if the bytes aren't a list of events. Events of 2^32 bytes or more would answer out
+/// of memory; no chunk is that long.
 fn events_of(alloc: Global, content: &[u8]) -> Result<Option<Events>, Memory>
     ensures { MadeOf content.now (λ events read. (read ≡ events) × All EventFits events × (length (encoded events) < 2 ^ 32)) result }
 {

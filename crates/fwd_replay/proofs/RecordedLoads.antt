@@ -102,7 +102,7 @@ module _ (name : ℕ) (faults number : ℕ) (d0 d1 : DiskLog) (c0 c1 : Counting)
       reports = run.reports;
     }
 
-    -- behind the first calls of a run nothing was asked of the disk
+    -- after the first calls of a run nothing was asked of the disk
     all_asked : (began : BeganRecorded a b s ticks turns) → LogGrew (log_of c0) (log_of c1) (disk_part (began.begins.below ++ map on_loop began.begins.begun))
     all_asked began =
         let es = began.begins.below ++ map on_loop began.begins.begun in
@@ -188,7 +188,7 @@ module _ (w w2 : CallLogs) (es : List TraceEntry) (grew : LogsGrew (on quiet w) 
   quiet_on l = record { loop = subst (λ (x : List LoopEntry). LogGrew l l x) (sym quiet_loop) (grew_none l); disk = grew.disk; files = grew.files; keeper = grew.keeper }
 
 module _ (s : AllSettings) (ticks : Option ℕ) (turns : ℕ) where
-  -- a run behind its recovery
+  -- a run after its recovery
   life_way : (es : List TraceEntry) (found : Option History) → Execution (recovers s) es (Return found) → Execution (life s (ends_of s) ticks turns) es (after_recovery s (ends_of s) ticks turns found)
   unfolding life
   life_way es found way = way_bind (recovers s) (Return found) es (after_recovery s (ends_of s) ticks turns) way

@@ -153,7 +153,7 @@ module _ (s : AllSettings) (ticks : Option ℕ) (turns : ℕ) (w w2 w3 : CallLog
           subst (λ (l : List LoopEntry). HasAnswered old new l) (sym (loop_append paused.entries es))
           (answered_both old mid new (loop_part paused.entries) (loop_part es) first_answered (answered_marked mid new (loop_part es) (later_grew es more)))
 
-      -- memory ran out behind the last tick
+      -- memory ran out after the last tick
       pub began_on : IsBegun (on (log_of marked) w2) (on (log_of new) w3) (steps_on s (run s None left) happening.Stop paused.now) → BeganOver (off w) (off w3) s ticks turns old new
       began_on began =
           let es = began.1.entries in
@@ -243,7 +243,7 @@ pub told_disk : {E : Type 0} (before now : ℕ) (finish : Finish) (text : List �
     → HasCause before now (ending_told (told_of r finish.stopped_after) ≡ ending.DiskFailed)
 told_disk before now finish text r is later = told_cause before now finish r ending.DiskFailed (disk_cause_live before now finish.end text r is later)
 
--- what came of a run that went on behind its last tick
+-- what came of a run that went on after its last tick
 module _ (s : AllSettings) (ticks : Option ℕ) (turns : ℕ) (w w2 w3 : CallLogs) (old mid marked new : Secure) (engine engine2 : Engine) (kept : KeptOffsets) (left : ℕ)
     (paused : PausesAtLast (on (log_of old) w) (on (log_of mid) w2) s (ends_of s) ticks turns [] engine kept left) (mark : marked ≡ with_mark mid) where
   pub finishes_over : (result : Result RunEnd Memory) → RunOutcome (on (log_of marked) w2) (on (log_of new) w3) s (steps_on s (run s None left) happening.Stop paused.now) engine2 result
@@ -275,7 +275,7 @@ ended_keeper before now end cause = record { later = cause.later; cause = λ fai
     same_end : whole end ≡ whole run_end.KeeperFailed → end ≡ run_end.KeeperFailed
     same_end is = cc is
 
--- behind the last tick no run ends because the keeper failed
+-- after the last tick no run ends because the keeper failed
 pub finished_keeper : (before at_last now : ℕ) (result : Result RunEnd Memory) (stopped : Option ℕ) → before ≤ at_last → at_last ≤ now → (result ≡ Ok run_end.KeeperFailed → ⊥)
     → HasCause before now (end_finished (finished result stopped) ≡ Ok run_end.KeeperFailed)
 finished_keeper before at_last now (Ok end) stopped first second never = record { later = later_both before at_last now first second; cause = λ failed. absurd (never failed) }

@@ -12,12 +12,12 @@
 //! (`IsReplayed`).
 //!
 //! `run_recorded` runs over devices as `run_live` does, and records the run: it returns the schedule with the
-//! one life that was recorded too. A run over settings that follow files, or over a disk with chunks, isn't
+//! one run that was recorded too. A run over settings that follow files, or over a disk with chunks, isn't
 //! recorded and doesn't start (`RanSo`).
 //!
-//! `generate` returns a generated load: a configuration, and a schedule in which one connection sends numbered
-//! lines. It writes the two texts exactly as their definitions say, line by line. Its only error is out of
-//! memory.
+//! `generate` returns a generated load: a configuration, and a schedule in which one connection sends
+//! numbered lines. It writes the two texts exactly as their definitions say, line by line. Its only error is
+//! out of memory.
 #![tactic(auto)]
 
 mod guarantee;

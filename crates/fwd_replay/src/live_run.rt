@@ -207,13 +207,13 @@ fn checked<L: Loop>(alloc: Global, secure: &SecureLoop<'_, L>, reported: Reporte
     }
 }
 
-/// Runs the engine over devices with the settings of a configuration, for at most the given number of
-/// events: it loads the disk, gets the kept offsets, and then takes the events of the loop. The keyed loop stands
-/// between: it shakes hands with the peers of inputs and outputs that have a key. If a number of clock
-/// ticks is given, the run is stopped after the last of them. The text is the report. The ending is `DiskFailed`,
+/// Runs the engine over devices with the settings of a configuration, for at most the given number of events:
+/// it loads the disk, gets the kept offsets, and then takes the events of the loop. The keyed loop stands
+/// between: it shakes hands with the peers of inputs and outputs that have a key. If a number of clock ticks
+/// is given, the run is stopped after the last of them. The text is the report. The ending is `DiskFailed`,
 /// `KeeperFailed` or `LoopFailed` only if a failure of the disk, the keeper or the loop was counted, and
-/// `TurnsSpent` only if the loop returned that many events, or half as many if there are keys. The watcher is told
-/// how the run goes, and has no effect on it.
+/// `TurnsSpent` only if the loop returned that many events, or half as many if there are keys. The watcher is
+/// told how the run goes, and has no effect on it.
 pub fn run_live<L: Loop, D: Disk, F: Files, K: Keeper>(
     rt: &(impl Threads + Sync),
     alloc: Global,

@@ -72,8 +72,9 @@ pub struct Told {
     pub stopped_after: Option<usize>,
 }
 
-/// A loop that keeps the events that it brings. The recorder below a keyed loop is a type parameter with this bound:
-/// of a `Recorder<'_, L>`, whose type names a lifetime, a proof knows nothing once the keyed loop has given it back.
+/// A loop that keeps the events that it brings. The recorder below a keyed loop is a type parameter with this
+/// bound: of a `Recorder<'_, L>`, whose type names a lifetime, a proof knows nothing once the keyed loop has
+/// given it back.
 trait KeepsEvents: Loop {
     /// Returns the number of events that were kept.
     fn events_kept(&self) -> usize
@@ -288,7 +289,7 @@ fn run_keyed<R: KeepsEvents, D: Disk, F: Files, K: Keeper>(
 }
 
 /// Returns the schedule of what was recorded.
-fn schedule_told<L: Loop, D: Disk>(
+fn recorded_schedule<L: Loop, D: Disk>(
     alloc: Global,
     recorder: &Recorder<'_, L>,
     disk: &CountedDisk<'_, D>,
@@ -303,7 +304,7 @@ fn schedule_told<L: Loop, D: Disk>(
 }
 
 /// Returns what came of a run that has a text or an ending: its schedule too, if it has a report.
-fn ran_told<L: Loop, D: Disk>(
+fn ran_with_text<L: Loop, D: Disk>(
     alloc: Global,
     recorder: &Recorder<'_, L>,
     disk: &CountedDisk<'_, D>,
@@ -313,7 +314,7 @@ fn ran_told<L: Loop, D: Disk>(
 {
     if is_reported(told.reported.ending) {
         Ran::Recorded {
-            schedule: schedule_told(alloc, recorder, disk, told.stopped_after),
+            schedule: recorded_schedule(alloc, recorder, disk, told.stopped_after),
             reported: told.reported,
         }
     } else {
@@ -331,7 +332,7 @@ fn ran_of<L: Loop, D: Disk>(
     ensures { ComesTo recorder.now disk.now.failed outcome result }
 {
     match unless_out(recorder.is_out_of_memory(), outcome) {
-        Ok(told) => ran_told(alloc, recorder, disk, told),
+        Ok(told) => ran_with_text(alloc, recorder, disk, told),
         Err(Memory) => Ran::Unrecorded(without_text(alloc, Ending::Memory)),
     }
 }
@@ -386,8 +387,8 @@ fn calls_to_load(stored: bool) -> u64
     if stored { 1 } else { 0 }
 }
 
-/// Runs an engine that has begun, with a counted disk around the disk. The count starts as if an empty disk had been
-/// loaded.
+/// Runs an engine that has begun, with a counted disk around the disk. The count starts as if an empty disk
+/// had been loaded.
 fn run_counted<L: Loop, D: Disk, F: Files, K: Keeper>(
     rt: &(impl Threads + Sync),
     alloc: Global,
@@ -462,7 +463,8 @@ fn is_plain(tailed: bool, nothing: bool) -> bool
     !tailed && nothing
 }
 
-/// Returns whether a run can be recorded: no input follows files, and the engine found no files when it loaded.
+/// Returns whether a run can be recorded: no input follows files, and the engine found no files when it
+/// loaded.
 fn is_recordable(tailed: bool, engine: &Engine) -> bool
     ensures { EngineAnswers engine.now (λ s h. IsLoading h → result ≡ (not tailed && is_empty h)) }
 {
@@ -544,9 +546,10 @@ fn run_with_keys<L: Loop, D: Disk, F: Files, K: Keeper>(
     )
 }
 
-/// Runs the engine over devices as `run_live` does, and records the run. The schedule has its one life: what the
-/// loop brought and answered, and which calls on the disk failed, counted as in a replay, whose disk is empty. A
-/// run over settings that follow files, or over a disk with chunks, isn't recorded and doesn't start.
+/// Runs the engine over devices as `run_live` does, and records the run. The schedule has its one run: what
+/// the loop brought and answered, and which calls on the disk failed, counted as in a replay, whose disk is
+/// empty. A run over settings that follow files, or over a disk with chunks, isn't recorded and doesn't
+/// start.
 pub fn run_recorded<L: Loop, D: Disk, F: Files, K: Keeper>(
     rt: &(impl Threads + Sync),
     alloc: Global,

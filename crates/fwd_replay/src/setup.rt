@@ -12,8 +12,8 @@ use fwd_outside::Ends;
 use fwd_settings::{AllSettings, ends};
 use std::alloc::Global;
 
-/// What a live run is made with beside its devices and its settings: names for its text, the endpoints of its loop, the
-/// offsets that it keeps, and how long it may go on.
+/// What a live run is made with beside its devices and its settings: names for its text, the endpoints of its
+/// loop, the offsets that it keeps, and how long it may go on.
 #[derive(Drop)]
 pub struct Setup {
     pub named: Named,

@@ -13,8 +13,8 @@ pub fn without_keys_both_traces_are_one()
     ensures { (keys : Keys) (k t : Handshakes) (above below : List TraceEntry) → has_keys keys ≡ false → IsSecured keys k above below t → below ≡ above }
 {}
 
-/// The engine's calls on the loop are answered from the calls on the devices, by the rules of the keyed loop. So
-/// the theorems on shared keys hold of each run.
+/// The engine's calls on the loop are answered from the calls on the devices, by the rules of the keyed loop.
+/// So the theorems on shared keys hold of each run.
 pub fn secured_calls_are_carried()
     ensures { (keys : Keys) (k t : Handshakes) (above below : List TraceEntry) → IsSecured keys k above below t
         → Carries keys k (loop_part below) (loop_part above) t }

@@ -112,7 +112,7 @@ fn header_fields(alloc: Global, properties: &[Property]) -> Result<HeaderFields,
     Ok(fields)
 }
 
-/// Returns what else an http output is told.
+/// Returns the further options of an http output.
 fn options_of(alloc: Global, properties: &[Property]) -> Result<HttpOptions, Memory>
     ensures { IfOk result (λ options. options ≡ options_of properties.now) }
 {

@@ -113,7 +113,7 @@ pub enum OutputKind {
     },
 }
 
-/// What else an http output is told.
+/// The further options of an http output.
 #[derive(Debug, Drop)]
 pub struct HttpOptions {
     /// The statuses that are retried besides those that always are.

@@ -18,7 +18,7 @@ fn plain_form(word: &str) -> Form {
     }
 }
 
-/// The form that a word names. Behind it may stand that floats are numbers.
+/// Returns the form that a word names. After the word, the row may say that floats are numbers.
 fn form(word: &[u8]) -> PayloadForm {
     let word = str::from_utf8(word).unwrap_or("");
     match word.split_once(' ') {

@@ -1,5 +1,5 @@
-//! Schedules with every answer written out: a run that plays one is recorded as that text, and a replay of it ends
-//! with the same report.
+//! Schedules with every answer written out: a run that plays one is recorded as that text, and a replay of it
+//! ends with the same report.
 
 use crate::stage::{Invocation, RECORD, REPLAY, STORED, Sinks, TCP, of_words, run};
 use fwd_base::Memory;
@@ -97,8 +97,8 @@ piece 0 1 x:96a450494e47a168c41000000000000000000000000000000000d980373465343934
 piece 0 1 x:93a174c41092c708000000000a0000000081a1610181a56368756e6ba27831
 ";
 
-/// Returns whether a run by these words, with a loop that plays `life`, ends with a status and is recorded as the
-/// schedule. The report of its replay is that of the run.
+/// Returns whether a run by these words, with a loop that plays `life`, ends with a status and is recorded as
+/// the schedule. The report of its replay is that of the run.
 fn is_kept(
     rt: &(impl Threads + Sync),
     alloc: Global,

@@ -141,8 +141,8 @@ fn run_schedule(
     run_life(rt, alloc, invocation, only_life(schedule)?, sinks)
 }
 
-/// Runs the program, with a loop and a disk that play `life`, the text of a schedule with one run. Returns the
-/// exit status.
+/// Runs the program, with a loop and a disk that play `life`, the text of a schedule with one run. Returns
+/// the exit status.
 pub fn run(
     rt: &(impl Threads + Sync),
     alloc: Global,

@@ -19,7 +19,7 @@ fn length_of(alloc: Global, disk: &mut MemDisk) -> Result<usize, DiskErr> {
     Ok(bytes.len())
 }
 
-/// The length of the file after a crash behind two calls, by a pick.
+/// Returns the length of the file after a crash that follows two calls, by a pick.
 fn length_in_image(alloc: Global, disk: &MemDisk, pick: u64) -> Result<usize, Fail> {
     let mut image = disk.image(alloc, 2, pick)?;
     Ok(length_of(alloc, &mut image)?)

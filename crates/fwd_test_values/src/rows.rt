@@ -59,7 +59,7 @@ fn put_of_body(
     }
 }
 
-/// The operation of a row. Behind it may stand that floats are numbers in JSON.
+/// Returns the operation of a row. After it, the row may say that floats are numbers in JSON.
 fn operation(word: &str) -> (&str, Floats) {
     match word.split_once(' ') {
         Some((word, "floats")) => (word, Floats::Numbers),

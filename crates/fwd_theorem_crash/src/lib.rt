@@ -1,4 +1,4 @@
-//! Crash consistency.
+//! Crash consistency of runs whose appends are fsynced.
 //!
 //! At any point of a run whose appends are fsynced, even inside a call on the disk, whatever a crash
 //! leaves of the disk has the file of each pending chunk, whole. The next run recovers it, pending for

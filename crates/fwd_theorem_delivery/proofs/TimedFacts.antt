@@ -71,7 +71,7 @@ owing s (ChunkClosed chunk ∷ h) = evicted_at s (ChunkClosed chunk ∷ h) chunk
 owing s (OnRoute r Evicted ∷ h) = rest_of (owing s h)
 owing s (fact ∷ h) = owing s h
 
--- no flush began just now, and no eviction is owed
+-- no flush began just now, and no eviction is due
 abbrev pub Calm : AllSettings → History → Type 0
 Calm s h = NoneBegun h × (owing s h ≡ [])
 
@@ -86,7 +86,7 @@ RouteTimed s r Failed h = Unit {0}
 RouteTimed s r Exhausted h = (may_retry (retries_at (output_at s r.output)) (tries h r) ≡ false) × (on_the_way h r ≡ true)
 RouteTimed s r Evicted h = IsOverLimit s h r × ((rest : List Route) × (owing s h ≡ r ∷ rest))
 
--- and a chunk closes while it is open, and no eviction is owed
+-- and a chunk closes while it is open, and no eviction is due
 abbrev pub FactTimed : AllSettings → Fact → History → Type 0
 FactTimed s (ChunkClosed chunk) h = (is_closed h chunk ≡ false) × (owing s h ≡ [])
 FactTimed s (OnRoute r outcome) h = RouteTimed s r outcome h
@@ -245,7 +245,7 @@ module _ (s : AllSettings) where
 
   -- ---- closing
 
-  -- so much is owed
+  -- so much is due
   abbrev Owes : (History → Type 0) → List Route → History → Type 0
   Owes K rs h = K h × (owing s h ≡ rs)
 

@@ -4,11 +4,11 @@
 //!
 //! A value may be nested 64 deep, so metadata 62 and a record 63. The theorems are
 //! `parsed_events_are_shallow`, `messages_are_shallow` and `filtered_events_stay_shallow`, for any parser,
-//! clock and filters, and `lemma_encoded_length_decides`: such events can each be encoded if their encodings have
-//! at most 16,777,216 bytes.
+//! clock and filters, and `lemma_encoded_length_decides`: such events can each be encoded if their encodings
+//! have at most 16,777,216 bytes.
 //!
-//! Numbers stay in range too: `parsed_numbers_fit`, `message_numbers_fit` and `filtered_numbers_fit` say that the
-//! numbers of such events are in the ranges that events in files have.
+//! Numbers stay in range too: `parsed_numbers_fit`, `message_numbers_fit` and `filtered_numbers_fit` say that
+//! the numbers of such events are in the ranges that events in files have.
 #![tactic(auto)]
 
 mod ranges;

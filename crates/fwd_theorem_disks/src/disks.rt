@@ -14,9 +14,10 @@ ghost use Rattle.fwd_theorem_crash.specs.CrashPoint.{CrashPoint, crash_point, Le
 ghost use Rattle.fwd_theorem_content.specs.KnownNames.{NamesAreKnown};
 ghost use Rattle.fwd_theorem_disks.specs.InMemory.{number_after_recovery, AnswersAsInMemory};
 
-/// After recovery found nothing, the disk answers the calls of the run as an empty disk in memory does of which the
-/// same calls fail, whether or not appends are fsynced. When the run began, each name had a file, or had none that a
-/// crash could bring back. The calls on the disk are fewer than 2^64 - 1, so each has its own number.
+/// After recovery found nothing, the disk answers the calls of the run as an empty disk in memory does of
+/// which the same calls fail, whether or not appends are fsynced. When the run began, each name had a file,
+/// or had none that a crash could bring back. The calls on the disk are fewer than 2^64 - 1, so each has its
+/// own number.
 pub fn disks_answer_as_in_memory()
     ensures { (s : AllSettings) (ends : InputEnds) (ticks : Option ℕ) (turns : ℕ) (start : Files) (recovery trace : List TraceEntry) (left : Action RunResult) (last : CrashPoint)
         → MeetsRequirements s → NamesAreKnown start

@@ -16,9 +16,9 @@ ghost use Rattle.fwd_theorem_forward.specs.Forward.{SendsMessage, AsksFor, IsBro
 use fwd_out_net::{none_is_fatal, right_is_the_ack};
 use fwd_wire::streams_are_read;
 
-/// A flush to a forward peer sends one message, with the chunk's tag and the events with which the flush began. If
-/// the output wants acknowledgements, the message has an id of the chunk and the output, and a reply is right exactly
-/// if it begins with the acknowledgement of this id. Else no reply is wanted.
+/// A flush to a forward peer sends one message, with the chunk's tag and the events with which the flush
+/// began. If the output wants acknowledgements, the message has an id of the chunk and the output, and a
+/// reply is right exactly if it begins with the acknowledgement of this id. Else no reply is wanted.
 pub fn forward_flushes_send_messages()
     ensures { (s : AllSettings) (h : History) (r : Route) (output : OutputSet) (host : List ℕ) (port : ℕ) (ack whole_time : Bool)
         → output_at s r.output ≡ Some output → output.kind ≡ output_kind.Forward host port ack whole_time

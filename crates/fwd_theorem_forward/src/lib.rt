@@ -1,4 +1,5 @@
-//! Forward peers: what flushes send them, which of their replies count, and which of their messages are answered.
+//! Forward peers: what flushes send them, which of their replies count, and which of their messages are
+//! answered.
 //!
 //! These theorems are on definitions of the reference model, and so on every run.
 #![tactic(auto)]

@@ -274,7 +274,7 @@ module _ (s : AllSettings) (output limit : ℕ) (limited : total_limit_at s outp
   fits_at [] due timed = inl (omega arith)
   fits_at (e ∷ past) due timed = call_fits e.call past due.0 due.1 timed (sound s (e ∷ past) due).rising (fits_at past due.1)
 
-  -- if no eviction is owed, all that is kept stays
+  -- if no eviction is due, all that is kept stays
   kept_fits : (h : History) → owing s h ≡ [] → Fits h → (kept_bytes s h output ≤ limit) ⊎ (kept_bytes s h output ≤ recovered_bytes s h output)
   kept_fits h none was =
       let all = sum_le (λ (c : ChunkInfo). size h c.number) (λ (c : ChunkInfo). size h c.number) (is_kept_for s h output) (stays h) (chunks_of h)

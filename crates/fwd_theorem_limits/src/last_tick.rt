@@ -11,8 +11,9 @@ ghost use Rattle.fwd_theorem_trace.specs.Past.{past_after};
 ghost use Rattle.fwd_theorem_trace.specs.Events.{events_only, waited_events};
 ghost use Rattle.fwd_theorem_limits.specs.LastTick.{with_last_stop};
 
-/// A run of a number of ticks logs the events that its waits returned, in order, and directly after the tick of
-/// that number `Stop`, unless it was stopped before. A run without such a number logs no `Stop` of its own.
+/// A run of a number of ticks logs the events that its waits returned, in order, and directly after the tick
+/// of that number `Stop`, unless it was stopped before. A run without such a number logs no `Stop` of its
+/// own.
 pub fn stop_follows_last_tick()
     ensures given { (s : AllSettings) (ends : Ends) (ticks turns : ℕ) (lived : RunResult) (entries : List TraceEntry)
         → ticks < 2 ^ 64 → Execution (life s ends (Some ticks) turns) entries (Return lived)

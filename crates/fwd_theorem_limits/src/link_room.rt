@@ -13,8 +13,8 @@ ghost use Rattle.fwd_model.specs.Payloads.{delivery};
 ghost use Rattle.fwd_model.specs.StepActions.{step};
 ghost use Rattle.fwd_theorem_limits.specs.Room.{IsWriting, HasRest};
 
-/// If a link has room again, the flush that writes on it pushes all that is left of its payload, before anything
-/// else.
+/// If a link has room again, the flush that writes on it pushes all that is left of its payload, before
+/// anything else.
 pub fn room_pushes_the_rest()
     ensures { (s : AllSettings) (h new : History) (r : Route) (link : LinkId) (progress : Progress) (entries : List TraceEntry)
         → IsWriting h r link progress → HasRest s h r progress → Execution (step s (Room link) h) entries (Return new)

@@ -32,8 +32,8 @@ pub fn runs_end_when_due()
         → IsDueToEnd s (history_after before []) → ⊥ }
 {}
 
-/// A `Get` of an offset that fails is the last call of its run, which ends for this reason. A run that ends for
-/// this reason made such a call last.
+/// A `Get` of an offset that fails is the last call of its run, which ends for this reason. A run that ends
+/// for this reason made such a call last.
 pub fn failed_gets_end_runs()
     ensures last { (s : AllSettings) (ends : Ends) (ticks : Option ℕ) (turns : ℕ) (before after : List TraceEntry) (left : Action RunResult) (db path : List ℕ)
         → Execution (life s ends ticks turns) (before ++ entry (OnKeeper (Get db path)) None ∷ after) left → after ≡ [] }

@@ -15,9 +15,9 @@ ghost use Rattle.fwd_model.specs.CloseActions.{closes_chunk};
 ghost use Rattle.fwd_model.specs.Run.{RunResult, life};
 ghost use Rattle.fwd_theorem_limits.specs.StorageLimits.{kept_bytes, recovered_bytes, HasNoRoom};
 
-/// Whenever a run closes a chunk that is kept in a file: an output that it matches, and that has a limit, keeps
-/// no more bytes of closed chunks in files than its limit. The exception: this chunk alone has no room beside
-/// what is in flight to the output. Then it is evicted.
+/// Whenever a run closes a chunk that is kept in a file: an output that it matches, and that has a limit,
+/// keeps no more bytes of closed chunks in files than its limit. The exception: this chunk alone has no room
+/// beside what is in flight to the output. Then it is evicted.
 pub fn closings_keep_limits()
     ensures { (s : AllSettings) (ends : Ends) (ticks : Option ℕ) (turns : ℕ) (before : List TraceEntry) (left : Action RunResult) (c : ChunkInfo) (entries : List TraceEntry) (new : History) (output : ℕ) (set : OutputSet) (limit : ℕ)
         → Execution (life s ends ticks turns) before left → Contains (open_chunks (history_after before [])) c → is_file (home_of s c.input) ≡ true
@@ -26,9 +26,9 @@ pub fn closings_keep_limits()
         → (kept_bytes s new output ≤ limit) ⊎ HasNoRoom s (history_after before []) new c output limit }
 {}
 
-/// At the end of a turn, the closed chunks in files that are pending for an output with a limit have at most as
-/// many bytes as the limit, or as the recovered chunks that match the output. Each end of a turn is the end of a
-/// run of that many turns.
+/// At the end of a turn, the closed chunks in files that are pending for an output with a limit have at most
+/// as many bytes as the limit, or as the recovered chunks that match the output. Each end of a turn is the
+/// end of a run of that many turns.
 pub fn kept_bytes_are_limited()
     ensures { (s : AllSettings) (ends : Ends) (ticks : Option ℕ) (turns : ℕ) (lived : RunResult) (entries : List TraceEntry) (output : ℕ) (set : OutputSet) (limit : ℕ)
         → Execution (life s ends ticks turns) entries (Return lived) → output_at s output ≡ Some set → set.total_limit ≡ Some limit

@@ -73,7 +73,7 @@ module _ (rename : ℕ → ℕ) (IsDialed : ℕ → Type 0) (HasFollowed : Type 
   abbrev pub SimulatesHistory : Action History → Action History → Type 0
   SimulatesHistory p q = Simulates rename IsDialed HasFollowed Corresponds p q
 
-  -- one act on histories and then another
+  -- one action on histories and then another
   then_on : (p q : Action History) (f g : History → Action History) → SimulatesHistory p q → ((at : History) → Dialed at → SimulatesHistory (f at) (g (renamed rename at))) → SimulatesHistory (bind p f) (bind q g)
   then_on p q f g first more = simulates_bind rename IsDialed HasFollowed Corresponds Corresponds f g p q first (λ at now is. rw is.0 (more at is.1))
 

@@ -70,7 +70,7 @@ same_number : (path : Option (List ℕ)) → number_after_recovery path ≡ firs
 same_number None = refl
 same_number (Some root) = refl
 
--- the law on disks
+-- what a disk answers
 abbrev pub DisksAnswer : Type 0
 DisksAnswer =
     (s : AllSettings) (ends : InputEnds) (ticks : Option ℕ) (turns : ℕ) (start : Files) (recovery trace : List TraceEntry) (left : Action RunResult) (last : CrashPoint)

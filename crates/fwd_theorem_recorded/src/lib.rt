@@ -1,7 +1,7 @@
 //! What was recorded of a run replays.
 //!
-//! A keyed loop doesn't depend on the numbers of links. A schedule determines its run, with each call and fact.
-//! So the replay of a recorded run is that run again, with links numbered by the order of their dials.
+//! A keyed loop doesn't depend on the numbers of links. A schedule determines its run, with each call and
+//! fact. So the replay of a recorded run is that run again, with links numbered by the order of their dials.
 #![tactic(auto)]
 
 mod links;

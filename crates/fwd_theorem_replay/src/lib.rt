@@ -1,9 +1,9 @@
 //! Theorems on the runs of a schedule.
 //!
 //! A schedule determines the text of its replay, unless memory runs out. A run with more turns than events
-//! never ends because its turns ran out (with shared keys: than twice the events). If appends are fsynced, no crash
-//! between two runs loses an acknowledged, pending chunk: the next run recovers each one that is kept in a file, whole
-//! and pending for the same outputs. Each flush sends the records of its chunk.
+//! never ends because its turns ran out (with shared keys: than twice the events). If appends are fsynced, no
+//! crash between two runs loses an acknowledged, pending chunk: the next run recovers each one that is kept
+//! in a file, whole and pending for the same outputs. Each flush sends the records of its chunk.
 #![tactic(auto)]
 
 mod crashes;

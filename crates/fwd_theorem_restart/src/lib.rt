@@ -1,5 +1,5 @@
-//! Runs that begin on a disk as a killed process left it: once they have loaded, they are safe again, and what they
-//! accept survives the next crash.
+//! Runs that begin on a disk as a killed process left it: once they have loaded, they are safe again, and
+//! what they accept survives the next crash.
 #![tactic(auto)]
 
 mod restarts;

@@ -20,10 +20,10 @@ use fwd_theorem_crash::{crash_points_are_safe, safe_chunks_are_recovered};
 use fwd_theorem_delivery::replies_are_due;
 use fwd_theorem_trace::pending_iff_unresolved;
 
-/// Once a run has loaded a disk as a killed process left it, each crash point is safe, however far the run has come:
-/// between two calls and inside a call on the disk, whatever a crash of the machine leaves has the file of each pending
-/// chunk, whole. Files of that disk may have had changes that weren't fsynced: loading fsyncs each chunk's file before it
-/// reads it. The run's appends are fsynced.
+/// Once a run has loaded a disk as a killed process left it, each crash point is safe, however far the run
+/// has come: between two calls and inside a call on the disk, whatever a crash of the machine leaves has the
+/// file of each pending chunk, whole. Files of that disk may have had changes that weren't fsynced: loading
+/// fsyncs each chunk's file before it reads it. The run's appends are fsynced.
 pub fn restarted_runs_are_safe()
     ensures { (s : AllSettings) (ends : InputEnds) (ticks : Option ℕ) (turns : ℕ) (first : Files) (loading entries : List TraceEntry) (found : History) (m : CrashPoint) (left : Action RunResult)
         → MeetsRequirements s → s.service.full ≡ true → IsLeftByKill first
@@ -33,9 +33,9 @@ pub fn restarted_runs_are_safe()
     crash_points_are_safe();
 }
 
-/// So what such a run accepts survives the next crash. At each crash point since it has loaded: each batch that it
-/// accepted from an input with chunks in files survives a crash of the machine, and the end of the process alone; and
-/// each message that it answered is one of these, has no events, or has no output.
+/// So what such a run accepts survives the next crash. At each crash point since it has loaded: each batch
+/// that it accepted from an input with chunks in files survives a crash of the machine, and the end of the
+/// process alone; and each message that it answered is one of these, has no events, or has no output.
 pub fn restarted_runs_keep_accepted_batches()
     ensures { (s : AllSettings) (ends : InputEnds) (ticks : Option ℕ) (turns : ℕ) (first : Files) (loading entries : List TraceEntry) (found : History) (m : CrashPoint) (left : Action RunResult)
         → MeetsRequirements s → s.service.full ≡ true → IsLeftByKill first

@@ -1,8 +1,8 @@
-//! How runs continue.
+//! How a run relates to runs of more turns, of other tick numbers and after other recoveries.
 //!
 //! A run of more turns begins as one of fewer turns. A run with a number of ticks is a run without one, in
-//! which the loop brings Stop after the last tick; once it is stopped it counts no ticks. A run that recovered
-//! nothing goes on as on an empty disk.
+//! which the loop brings Stop after the last tick; once it is stopped it counts no ticks. A run that
+//! recovered nothing goes on as on an empty disk.
 #![tactic(auto)]
 
 mod recovery;

@@ -15,7 +15,7 @@ use Rattle.fwd_in_forward.proofs.StreamGrowth.{joined, stays_broken}
 use Rattle.fwd_model.specs.Batches.{completed_lines}
 use Rattle.fwd_model.specs.Messages.{completed_messages}
 
--- a list that another one continues, and what is behind it
+-- a list that another one continues, and what comes after it
 continued : {X : Type 0} (xs all : List X) → (more : List X) × (all ≡ xs ++ more) → xs ++ drop (length xs) all ≡ all
 continued {X = X} xs all first = ap (λ (l : List X). xs ++ l) (sym (behind-append xs first.0 all (sym first.1))) ∙ sym first.1
 

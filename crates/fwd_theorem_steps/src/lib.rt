@@ -1,5 +1,5 @@
-//! What a run does at each event, step by step: what it reads, what its batches are, and when it polls, dispatches,
-//! marks and removes.
+//! What a run does at each event, step by step: what it reads, what its batches are, and when it polls,
+//! dispatches, marks and removes.
 #![tactic(auto)]
 
 mod batches;

@@ -15,9 +15,9 @@ ghost use Rattle.fwd_model.specs.Settings.{output_at};
 ghost use Rattle.fwd_model.specs.Payloads.{delivery};
 ghost use Rattle.fwd_theorem_steps.specs.Payloads.{IsRequest, form_of, texts_of};
 
-/// A flush to the standard output, a file or a tcp peer sends the texts of its events, in order, in the format of the
-/// output, and wants no reply. A flush to an http server sends a request that is read back as a POST with these texts
-/// as its body. It wants a reply, which is judged by its head.
+/// A flush to the standard output, a file or a tcp peer sends the texts of its events, in order, in the
+/// format of the output, and wants no reply. A flush to an http server sends a request that is read back as a
+/// POST with these texts as its body. It wants a reply, which is judged by its head.
 pub fn payloads_have_all_events()
     ensures texts { (s : AllSettings) (h : History) (r : Route) (output : OutputSet) (form : PayloadForm) → output_at s r.output ≡ Some output → form_of output.kind ≡ Some form
         → ((delivery s h r).payload ≡ texts_of h r form) × ((delivery s h r).wanted ≡ false) }

@@ -16,16 +16,16 @@ ghost use Rattle.fwd_model.specs.Batches.{completed_lines};
 ghost use Rattle.fwd_model.specs.Messages.{completed_messages};
 ghost use Rattle.fwd_theorem_steps.specs.Streams.{came_over, ends_connection, is_input_end, stream_to};
 
-/// The lines that a read completes are those of all bytes with it, after those of the bytes before it. The same
-/// holds of messages. So no line and no message is lost between two reads, and none comes twice.
+/// The lines that a read completes are those of all bytes with it, after those of the bytes before it. The
+/// same holds of messages. So no line and no message is lost between two reads, and none comes twice.
 pub fn reads_complete_the_rest()
     ensures lines { (before piece : List ℕ) → lines before ++ completed_lines before piece ≡ lines (before ++ piece) }
     ensures messages { (before piece : List ℕ)
         → (messages_in before).messages ++ completed_messages before piece ≡ (messages_in (before ++ piece)).messages }
 {}
 
-/// As long as a connection lasts, what is read from it is all bytes that came over it since it joined its input,
-/// in order. Nothing is kept of a connection that isn't joined to an input.
+/// As long as a connection lasts, what is read from it is all bytes that came over it since it joined its
+/// input, in order. Nothing is kept of a connection that isn't joined to an input.
 pub fn connections_hold_what_came()
     ensures joined { (s : AllSettings) (later before : History) (input : InputId) (conn : ConnId) (set : InputSet) (stream : Stream)
         → input_at s input.0 ≡ Some set → stream_to set.kind conn.0 ≡ Some stream → input_of s before conn.0 ≡ None

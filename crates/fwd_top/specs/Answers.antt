@@ -251,7 +251,7 @@ spent words turns result = spent_by result (is_run (command_of (map string_bytes
 abbrev pub half : ℕ → ℕ
 half n = (n + 1) / 2
 
--- The least number of events that the loop of a case returned, if so many turns were spent: as many, or with
+-- The least number of events that the loop of a case returned, if the limit on turns was so many: as many, or with
 -- a key half as many, since one event becomes at most two.
 abbrev pub least_heard : Case → ℕ → ℕ
 least_heard (Runs s ticks) turns = events_below s turns

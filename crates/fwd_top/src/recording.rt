@@ -17,9 +17,9 @@ use fwd_theorem_steps::broken_runs_keep_the_guarantee;
 use fwd_theorem_survival::accepted_batches_survive;
 
 /// What holds of a run holds of a recorded run: it keeps the delivery guarantee, each of its crash points is
-/// safe, what was accepted before a crash survives it, each offset that it puts has nothing lost before it, and
-/// each flush began with the records of its chunk. The text of its schedule is read back as this schedule, and each
-/// replay of it is this run again.
+/// safe, what was accepted before a crash survives it, each offset that it puts has nothing lost before it,
+/// and each flush began with the records of its chunk. The text of its schedule is read back as this
+/// schedule, and each replay of it is this run again.
 pub fn recorded_outcomes_hold()
     ensures { (turns : ℕ) (s : AllSettings) (ticks : Option ℕ) (old new : Platform) (ran : Ran) → MeetsRequirements s
         → RanSo s ticks turns (world old) (world new) old.endless ran → RecordedOutcome turns s ticks old new ran }

@@ -183,8 +183,9 @@ fn write_outcome<S: Sink, T: Sink>(alloc: Global, out: &mut S, tape: &mut T, wen
     }
 }
 
-/// Does all that `log_forwarder` does, and shows a watcher how a live run goes. What the watcher does has no effect on
-/// the run, and no clause speaks of it: the clauses are those of `log_forwarder`, which says what they mean.
+/// Does all that `log_forwarder` does, and shows a watcher how a live run goes. What the watcher does has no
+/// effect on the run, and no clause speaks of it: the clauses are those of `log_forwarder`, which says what
+/// they mean.
 pub fn watched_forwarder<D: Disk, F: Files, L: Loop, K: Keeper, S: Sink, T: Sink>(
     rt: &(impl Threads + Sync),
     alloc: Global,
@@ -284,27 +285,31 @@ pub fn log_forwarder<D: Disk, F: Files, L: Loop, K: Keeper, S: Sink, T: Sink>(
     tape: &mut T,
     turns: u64,
 ) -> Status
-    // Each field of `Forwards` says what it means. `Forwards.answers` has, by what the words ask for, what holds of a run:
-    // Each run that was made keeps the delivery guarantee (`Outcome.delivered`), up to its last whole turn if memory ran
-    // out in a live run: complete input is accepted, or refused and counted, or followed the drop of its connection;
-    // each chunk is, for each output that it matches, delivered in full, failed, out of retries, evicted, marked done
-    // before, or still pending and in the report; the bytes sent over each link are a prefix of the payload of its flush.
-    // Each batch is decided once, each reply is due, and a refusal, the end of retries and an eviction have their causes.
-    // If appends are fsynced, no crash loses a pending file-backed chunk (`Outcome.safe`): the next run of a schedule
-    // recovers it, whole, and pending for the same outputs; at each point of a run, even inside a call on the disk,
-    // whatever a crash leaves has the file of each such chunk. The next run that loads it finds each batch that was
-    // accepted before, and so each forward message that was answered before: whole, and pending for each output that
-    // matches it and hadn't resolved it.
-    // Each flush began with the records of its chunk, also if appends aren't fsynced (`Outcome.records`): all events that
-    // were accepted into it, in order, or those of its recovered file. For a live run this assumes that, when it began,
-    // each name had a file, or had none that a crash could bring back.
-    // Each offset of a followed file that is put has nothing lost before it (`Outcome.offsets`): each batch that was
-    // complete by then was accepted, or refused and counted, or has no events. The next run reads on from the offset that
-    // the keeper gives.
-    // A replay is the only one of its schedule (`Outcome.determined`), unless memory ran out.
-    // With `--record`, the same is said of the run, and each replay of what was recorded is this run again
-    // (`RecordedOutcome.replays`). The schedule has what the loop brought and answered and the disk calls that failed, and
-    // it is read back. `NotRecordable` comes if an input follows files or loading found one, and then nothing was started.
+    // Each field of `Forwards` says what it means. `Forwards.answers` has, by what the words ask for, what
+    // holds of a run:
+    // - Each run that was made keeps the delivery guarantee (`Outcome.delivered`), up to its last whole turn
+    //   if memory ran out in a live run: complete input is accepted, or refused and counted, or followed the
+    //   drop of its connection; each chunk is, for each output that it matches, delivered in full, failed,
+    //   out of retries, evicted, marked done before, or still pending and in the report; the bytes sent over
+    //   each link are a prefix of the payload of its flush.
+    // - Each batch is decided once, each reply is due, and a refusal, the end of retries and an eviction have
+    //   their causes.
+    // - If appends are fsynced, no crash loses a pending file-backed chunk (`Outcome.safe`): the next run of
+    //   a schedule recovers it, whole, and pending for the same outputs; at each point of a run, even inside
+    //   a call on the disk, whatever a crash leaves has the file of each such chunk. The next run that loads
+    //   it finds each batch that was accepted before, and so each forward message that was answered before:
+    //   whole, and pending for each output that matches it and hadn't resolved it.
+    // - Each flush began with the records of its chunk, also if appends aren't fsynced (`Outcome.records`):
+    //   all events that were accepted into it, in order, or those of its recovered file. For a live run this
+    //   assumes that, when it began, each name had a file, or had none that a crash could bring back.
+    // - Each offset of a followed file that is put has nothing lost before it (`Outcome.offsets`): each batch
+    //   that was complete by then was accepted, or refused and counted, or has no events. The next run reads
+    //   on from the offset that the keeper gives.
+    // - A replay is the only one of its schedule (`Outcome.determined`), unless memory ran out.
+    // - With `--record`, the same is said of the run, and each replay of what was recorded is this run again
+    //   (`RecordedOutcome.replays`). The schedule has what the loop brought and answered and the disk calls
+    //   that failed, and it is read back. `NotRecordable` comes if an input follows files or loading found
+    //   one, and then nothing was started.
     ensures { Forwards words.now (environment env.now) turns
         (record {
           logs = record {

@@ -1,5 +1,5 @@
 use Rattle.fwd_replay.proofs.RecordedNotes.{schedule_stopped, schedule_unstopped}
-use Rattle.fwd_replay.proofs.recorded_run.schedule_told.Goals as goal
+use Rattle.fwd_replay.proofs.recorded_run.recorded_schedule.Goals as goal
 
 pub returns-in-Some : goal.returns-in-Some
 returns-in-Some g c = λ calls seen is by.
